@@ -55,7 +55,6 @@ use std::marker::Model;
 const ROOM: usize = 128;
 
 /// A pattern on a board under a rule.
-#[derive(Drop)]
 pub struct Board {
     at: Frame,
     answers: AnyRule,
@@ -70,7 +69,6 @@ pub struct Board {
 }
 
 /// The lists of a leap. They are kept from one to the next, since new ones each time would cost a tenth of all.
-#[derive(Drop)]
 struct Lists {
     rectangles: Vec<Bounds>,
     places: Vec<Place>,
@@ -88,6 +86,26 @@ impl Model for Board {
 
     ghost invariant = { λ b.
         IsSpannedBoard b.at b.answers.rule b.is_life b.words.items b.boxes.items b.holds_all b.spans.items };
+}
+
+// Written out, since a derived drop is proved anew wherever a board is given up.
+impl Drop for Board {
+    fn drop(self) {
+        let Board {
+            at: _,
+            answers: _,
+            is_life: _,
+            words,
+            spans,
+            boxes,
+            holds_all: _,
+            lists,
+        } = self;
+        drop(words);
+        drop(spans);
+        drop(boxes);
+        drop(lists);
+    }
 }
 
 impl Board {
@@ -349,6 +367,21 @@ impl Board {
     {
         let cells = self.cells(alloc, ROOM)?;
         Ok(Pattern::from_ordered(cells))
+    }
+}
+
+impl Drop for Lists {
+    fn drop(self) {
+        let Lists {
+            rectangles,
+            places,
+            held,
+            changes,
+        } = self;
+        drop(rectangles);
+        drop(places);
+        drop(held);
+        drop(changes);
     }
 }
 

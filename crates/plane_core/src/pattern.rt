@@ -32,7 +32,7 @@ impl<E: Into<OutOfMemory>> From<E> for FromCellsError {
 }
 
 /// A finite set of cells, each with coordinates at most [`BOUND`](crate::cell::BOUND) in size.
-#[derive(Debug, Drop)]
+#[derive(Debug)]
 pub struct Pattern {
     cells: Vec<Cell>,
 }
@@ -43,6 +43,14 @@ impl Model for Pattern {
     ghost view = { λ p. p.cells.items };
 
     ghost invariant = { λ p. IsPattern p.cells.items };
+}
+
+// Written out, since a derived drop is proved anew wherever a pattern is given up.
+impl Drop for Pattern {
+    fn drop(self) {
+        let Pattern { cells } = self;
+        drop(cells);
+    }
 }
 
 impl Pattern {

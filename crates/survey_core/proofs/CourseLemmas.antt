@@ -1,13 +1,12 @@
 -- A pattern that goes on from look to look.
-use Rattle.std.proofs.Common.{◌≡◌, ◌∙◌, ◌+◌, ◌-◌, ◌*◌, ◌/◌, ◌<◌, ◌≤◌, ◌⊎◌, ℕ, true, List, ap, arith, inl, inr, sym}
+use Rattle.std.proofs.Common.{◌≡◌, ◌∙◌, ◌+◌, ◌-◌, ◌<◌, ◌≤◌, ◌⊎◌, ℕ, true, List, ap, arith, inl, inr, sym}
 use Rattle.plane_core.specs.declared.cell.Cell.{Cell}
 use Rattle.plane_core.specs.Generations.{after, lies_within}
 use Rattle.plane_core.specs.Rules.{Numbers}
 use Rattle.plane_core.proofs.CaseLemmas.{less_or_not}
 use Rattle.plane_core.proofs.GenerationLemmas.{after-none}
 use Rattle.survey_core.specs.UnderWay.{StaysNear, survey_reach}
-use Rattle.survey_core.specs.Profiles.{Settling}
-use Rattle.survey_core.proofs.FindingLemmas.{after-then, is_checkpoint, one_more}
+use Rattle.survey_core.proofs.FindingLemmas.{after-then}
 use Rattle.survey_core.proofs.PlaneLemmas.{within_later}
 
 -- n generations in two parts
@@ -31,18 +30,11 @@ near_ahead rule cells ahead n few here near g low = go (less_or_not g ahead)
         ap (lies_within survey_reach) (sym (in_parts rule cells ahead (g - ahead) g (omega arith))) ∙ near (g - ahead) (omega arith)
 
 -- up to the next checkpoint a pattern stays near
-pub stays_near : (rule run : Numbers) (cells latest : List Cell) (profile : Settling) (place n : ℕ) → run ≡ rule
-    → latest ≡ after rule cells (place * profile.stride) → n ≡ profile.stride → lies_within 1000 cells ≡ true → 1 ≤ profile.stride
-    → profile.limit ≤ 100000 → place < profile.limit / profile.stride → StaysNear run latest n
-stays_near rule run cells latest profile place n same is stride_is near some most low g few =
-    (λ i. lies_within survey_reach (after (same i) (is i) g)) ∙ ap (lies_within survey_reach) (after-then rule cells (place * profile.stride) g)
-    ∙ within_later 1000 survey_reach rule cells (place * profile.stride + g) (omega (arith, last, next, stride_is)) near
-  where
-    last : (place + 1) * profile.stride ≤ profile.limit
-    last = (is_checkpoint profile (place + 1) some (omega arith)).within
-
-    next : (place + 1) * profile.stride ≡ place * profile.stride + profile.stride
-    next = one_more place profile.stride
+pub stays_near : (rule run : Numbers) (cells latest : List Cell) (t n : ℕ) → run ≡ rule → latest ≡ after rule cells t
+    → lies_within 1000 cells ≡ true → t + n ≤ 100000 → StaysNear run latest n
+stays_near rule run cells latest t n same is near most g few =
+    (λ i. lies_within survey_reach (after (same i) (is i) g)) ∙ ap (lies_within survey_reach) (after-then rule cells t g)
+    ∙ within_later 1000 survey_reach rule cells (t + g) (omega arith) near
 
 -- what n generations don't change, they don't change later
 pub still_ahead : (rule : Numbers) (cells : List Cell) (ahead n : ℕ) → after rule cells n ≡ cells

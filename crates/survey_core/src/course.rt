@@ -30,7 +30,6 @@ use std::alloc::Global;
 use std::marker::Model;
 
 /// A pattern on its way under a rule.
-#[derive(Drop)]
 pub(crate) struct Course {
     rule: Rule,
     place: Kept,
@@ -54,6 +53,14 @@ impl Model for Course {
     ghost view = { λ c. record { rule = c.rule; cells = kept c.place } };
 
     ghost invariant = { λ c. IsKept c.rule c.place };
+}
+
+// Written out, since a derived drop is proved anew wherever a course is given up.
+impl Drop for Course {
+    fn drop(self) {
+        let Course { rule: _, place } = self;
+        drop(place);
+    }
 }
 
 impl Course {
@@ -121,7 +128,8 @@ impl Course {
 
     /// Gives the board back on which the pattern was, for the next one.
     pub(crate) fn end(self, memo: &mut Memo) {
-        if let Kept::Shown(harbour, _) = self.place {
+        let Course { rule: _, place } = self;
+        if let Kept::Shown(harbour, _) = place {
             memo.board = Some(harbour.into_board());
         }
     }

@@ -119,23 +119,24 @@ pub fn survey_pattern_with(
     ensures finding { IfOk result (IsFinding rule.now profile.now pattern) }
     ensures few { IfOk result (λ finding. objects_in finding < 2 ^ 64) }
 {
+    let limit = profile.limit();
+    let stride = profile.stride();
     let mut course = Course::start(rule, pattern);
     let mut noes = Noes::none();
-    let last = profile.limit() / profile.stride();
-    for place in 0..last {
-        let checkpoint = place * profile.stride();
-        match look_at(alloc, profile, rule, checkpoint, &course, &mut noes, memo)? {
-            Some(finding) => {
-                course.end(memo);
-                return Ok(finding);
-            }
-            None => course = course.go_on(alloc, profile, memo)?,
+    let mut checkpoint = 0;
+    loop {
+        let found = look_at(alloc, profile, rule, checkpoint, &course, &mut noes, memo)?;
+        if let Some(finding) = found {
+            course.end(memo);
+            return Ok(finding);
         }
+        if limit - checkpoint < stride {
+            course.end(memo);
+            return Ok(Finding::Unsettled);
+        }
+        course = course.go_on(alloc, profile, memo)?;
+        checkpoint += stride;
     }
-    let checkpoint = last * profile.stride();
-    let finding = look_at(alloc, profile, rule, checkpoint, &course, &mut noes, memo)?;
-    course.end(memo);
-    Ok(finding.unwrap_or(Finding::Unsettled))
 }
 
 /// A law of all patterns: they have one finding.

@@ -41,7 +41,6 @@ const EVERY: u32 = 64;
 const SHORTEST_PERIOD: u32 = 4;
 
 /// A board, and the ships that have left it.
-#[derive(Drop)]
 pub(crate) struct Harbour {
     board: Board,
     ships: Vec<Ship>,
@@ -71,6 +70,19 @@ impl Model for Harbour {
     ghost invariant = { λ h. IsHarbour h.board.rule h.time h.board.cells h.ships.items };
 }
 
+// Written out, since a derived drop is proved anew wherever a harbour is given up.
+impl Drop for Harbour {
+    fn drop(self) {
+        let Harbour {
+            board,
+            ships,
+            time: _,
+        } = self;
+        drop(board);
+        drop(ships);
+    }
+}
+
 impl Harbour {
     /// A board that no ship has left.
     pub(crate) fn new(alloc: Global, board: Board) -> Harbour
@@ -87,7 +99,11 @@ impl Harbour {
 
     /// The board alone, for another pattern.
     pub(crate) fn into_board(self) -> Board {
-        let Harbour { board, .. } = self;
+        let Harbour {
+            board,
+            ships: _,
+            time: _,
+        } = self;
         board
     }
 

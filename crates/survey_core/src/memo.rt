@@ -46,7 +46,6 @@ const MOST_CELLS: usize = 64;
 
 /// What is remembered of clusters that came back, and a board for the next pattern. It serves any rule and profile, one
 /// after another, and changes no finding: only how long it takes.
-#[derive(Drop)]
 pub struct Memo {
     slots: Vec<Option<Known>>,
     /// A board for the next pattern, unless there is none yet, or a pattern is on it.
@@ -67,7 +66,6 @@ enum Size {
 }
 
 /// What is known of a shape.
-#[derive(Drop)]
 struct Known {
     rule: Rule,
     limit: u32,
@@ -85,6 +83,34 @@ impl Model for Known {
 
     ghost invariant = { λ k. IsKnown
         (record { rule = k.rule; limit = k.limit; shape = k.shape; sweep = k.sweep; code = k.code }) };
+}
+
+// Written out, since a derived drop is proved anew wherever a memo is given up.
+impl Drop for Memo {
+    fn drop(self) {
+        let Memo {
+            slots,
+            board,
+            size: _,
+            lacks_board: _,
+        } = self;
+        drop(slots);
+        drop(board);
+    }
+}
+
+impl Drop for Known {
+    fn drop(self) {
+        let Known {
+            rule: _,
+            limit: _,
+            shape,
+            sweep: _,
+            code,
+        } = self;
+        drop(shape);
+        drop(code);
+    }
 }
 
 impl Memo {

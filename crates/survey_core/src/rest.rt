@@ -122,8 +122,7 @@ fn group_keeps_apart(
     }
     let members = members(alloc, number, groups, clusters)?;
     let whole = union(alloc, members.as_slice())?;
-    let apart = keep_apart(alloc, rule, horizon, &whole, members.as_slice())?;
-    Ok(apart)
+    keep_apart(alloc, rule, horizon, whole, members.as_slice())
 }
 
 /// How many clusters the group with this number has.
@@ -171,24 +170,24 @@ fn keep_apart(
     alloc: Global,
     rule: &Rule,
     horizon: u32,
-    pattern: &Pattern,
+    mut whole: Pattern,
     clusters: &[Pattern],
 ) -> Result<bool, OutOfMemory>
     requires horizon { horizon ≤ 4096 }
-    requires near { lies_within survey_reach pattern.now ≡ true }
+    requires near { lies_within survey_reach whole ≡ true }
     requires each_near { All (λ cluster. lies_within survey_reach cluster ≡ true) clusters.now }
+    requires in_order { InOrder whole }
     requires order { All InOrder clusters.now }
-    requires parts { Partition pattern.now clusters.now }
+    requires parts { Partition whole clusters.now }
     ensures { IfOk result
-        (λ apart. IsTrue apart ↔ ((g : ℕ) → g ≤ horizon → KeepApart rule.now pattern.now clusters.now g)) }
+        (λ apart. IsTrue apart ↔ ((g : ℕ) → g ≤ horizon → KeepApart rule.now whole clusters.now g)) }
 {
-    let mut whole = pattern.copy(alloc)?;
-    let mut alone = copies(alloc, clusters)?;
     let stepped = next_of_each(alloc, rule, clusters)?;
     let first = stepped.as_slice();
+    // The clusters are always a generation ahead of the whole, until that is stepped too.
+    let mut alone = next_of_all(alloc, rule, clusters, first, clusters)?;
     for _ in 0..horizon {
         whole = next(alloc, rule, &whole)?;
-        alone = next_of_all(alloc, rule, clusters, first, alone.as_slice())?;
         let same = make_up(alloc, alone.as_slice(), &whole)?;
         if !same {
             return Ok(false);
@@ -197,6 +196,7 @@ fn keep_apart(
         if back {
             return Ok(true);
         }
+        alone = next_of_all(alloc, rule, clusters, first, alone.as_slice())?;
     }
     Ok(true)
 }
@@ -213,17 +213,6 @@ fn are_back(later: &[Pattern], patterns: &[Pattern]) -> bool
         }
     }
     true
-}
-
-/// The patterns once more.
-fn copies(alloc: Global, patterns: &[Pattern]) -> Result<Vec<Pattern>, OutOfMemory>
-    ensures { IfOk result (λ copies. copies.items ≡ patterns.now) }
-{
-    let mut copies = Vec::with_capacity(alloc, patterns.len())?;
-    for pattern in patterns {
-        copies.push(pattern.copy(alloc)?)?;
-    }
-    Ok(copies)
 }
 
 /// The next generation of each of the patterns, run alone.

@@ -1,8 +1,9 @@
-use Rattle.std.proofs.Common.{◌≡◌, ◌∙◌, ◌<◌, ◌≤◌, ◌↔◌, ap, sym, refl, subst, ℕ, IsTrue, List, All, true, arith, get_or, length}
+use Rattle.std.proofs.Common.{◌≡◌, ◌∙◌, ◌<◌, ◌≤◌, ◌↔◌, ap, sym, refl, subst, subst₂, ℕ, IfOk, IsTrue, List, All, true, arith, flat_map, get_or, length}
 use Rattle.plane_core.specs.declared.cell.Cell.{Cell}
 use Rattle.plane_core.specs.Cells.{InOrder}
 use Rattle.plane_core.specs.Clusters.{Partition}
 use Rattle.plane_core.specs.Generations.{lies_within}
+use Rattle.plane_core.proofs.SetLemmas.{in_order-set_of}
 use Rattle.survey_core.specs.Groups.{members, union_of}
 use Rattle.survey_core.specs.Rest.{KeepApart}
 use Rattle.survey_core.specs.UnderWay.{survey_reach}
@@ -51,12 +52,14 @@ keep_apart-requires-clause-parts c =
     (sym (c.in_ok-whole.ensures ∙ ap union_of (c.as_slice.ensures.value ∙ c.in_ok-members.ensures)))
     (members_partition c.args.number c.args.groups.now c.args.clusters.now c.requires.off))
 
+pub keep_apart-requires-clause-in_order : goal.keep_apart-requires-clause-in_order
+keep_apart-requires-clause-in_order c =
+    subst InOrder (sym c.in_ok-whole.ensures) (in_order-set_of (flat_map (λ (part : List Cell). part) c.as_slice.result.now))
+
 pub returns : goal.returns
 returns c =
     let whole : c.in_ok-whole.whole ≡ union_of (members c.args.number c.args.groups.now c.args.clusters.now) =
     c.in_ok-whole.ensures ∙ ap union_of (c.as_slice.ensures.value ∙ c.in_ok-members.ensures) in
-    subst (λ (w : List Cell). IsTrue c.in_ok-apart.apart
-    ↔ ((g : ℕ) → g ≤ c.args.horizon → KeepApart c.args.rule.now w (members c.args.number c.args.groups.now c.args.clusters.now) g)) whole
-    (subst (λ (parts : List (List Cell)). IsTrue c.in_ok-apart.apart
-    ↔ ((g : ℕ) → g ≤ c.args.horizon → KeepApart c.args.rule.now c.in_ok-whole.whole parts g)) (c.as_slice-2.ensures.value ∙ c.in_ok-members.ensures)
-    c.in_ok-apart.ensures)
+    subst₂ (λ (w : List Cell) (parts : List (List Cell)). IfOk c.keep_apart.result (λ apart. IsTrue apart
+    ↔ ((g : ℕ) → g ≤ c.args.horizon → KeepApart c.args.rule.now w parts g))) whole (c.as_slice-2.ensures.value ∙ c.in_ok-members.ensures)
+    c.keep_apart.ensures
