@@ -1,12 +1,12 @@
 -- Ships that are ahead of a pattern: nothing comes near them, and they and the rest go on alone.
 use Rattle.std.proofs.Common.{◌≡◌, ◌∙◌, ◌+◌, ◌*◌, ◌/◌, ◌%◌, ◌<◌, ◌≤◌, ◌⊎◌, ℕ, ℤ, pos, ◌+ℤ◌, ◌*ℤ◌, ◌≤ℤ◌, zero, suc, Bool, true, false, ◌||◌, ◌&&◌, not}
 use Rattle.std.proofs.Common.{zero-add}
-use Rattle.std.proofs.Common.{FitsSigned, IsTrue, int_le, of_z, to_z, w64, unsigned_abs, ◌-ℤ◌, IfSome, IsNone, Option, None, Some}
+use Rattle.std.proofs.Common.{FitsSigned, IsTrue, ◌^◌, int_le, of_z, to_z, w64, unsigned_abs, ◌-ℤ◌, IfSome, IsNone, Option, None, Some}
 use Rattle.std.proofs.Common.{List, [], ◌∷◌, All, Any, arith, ap, refl, sym, subst, inl, inr, get_or, length}
 use Rattle.std.proofs.Math.IntN.{suc_ℤ-*ℤ, zero-*ℤ}
 use Rattle.std.proofs.Math.Nat.{suc-mul, zero-mul}
 use Rattle.std.proofs.lemmas.Bool.{and_parts, false≢true}
-use Rattle.std.proofs.lemmas.Int.{ints, to_z-of_z}
+use Rattle.std.proofs.lemmas.Int.{fits_signed_from_abs, ints, to_z-of_z}
 use Rattle.std.proofs.lemmas.Nat.{div-add-mod'}
 use Rattle.std.proofs.lemmas.List.Elements.{All-cons, recursion_from_All}
 use Rattle.std.proofs.lemmas.List.Folds.{list_any_at}
@@ -247,6 +247,40 @@ both_turned o b s c (inl is) e w =
     subst (λ (p : Orientation). (pos 0 -ℤ s) ≤ℤ depth (turned_cell p c)) (sym is) (omega (arith, ints, e, w.right, w.bottom))
 both_turned o b s c (inr is) e w =
     subst (λ (p : Orientation). (pos 0 -ℤ s) ≤ℤ depth (turned_cell p c)) (sym is) (omega (arith, ints, e, w.right, w.bottom))
+
+-- or none, or one of them
+pub none_turned : (o : Orientation) (b : Bounds) (s : ℤ) (c : Cell) → (o ≡ Same) ⊎ (o ≡ Diagonal) → s ≡ b.left +ℤ b.top → IsWithin b c
+    → s ≤ℤ depth (turned_cell o c)
+none_turned o b s c (inl is) e w = subst (λ (p : Orientation). s ≤ℤ depth (turned_cell p c)) (sym is) (omega (arith, ints, e, w.left, w.top))
+none_turned o b s c (inr is) e w = subst (λ (p : Orientation). s ≤ℤ depth (turned_cell p c)) (sym is) (omega (arith, ints, e, w.left, w.top))
+
+pub bottom_turned : (o : Orientation) (b : Bounds) (s : ℤ) (c : Cell) → (o ≡ Quarter) ⊎ (o ≡ Flip) → s ≡ b.left -ℤ b.bottom → IsWithin b c
+    → s ≤ℤ depth (turned_cell o c)
+bottom_turned o b s c (inl is) e w = subst (λ (p : Orientation). s ≤ℤ depth (turned_cell p c)) (sym is) (omega (arith, ints, e, w.left, w.bottom))
+bottom_turned o b s c (inr is) e w = subst (λ (p : Orientation). s ≤ℤ depth (turned_cell p c)) (sym is) (omega (arith, ints, e, w.left, w.bottom))
+
+pub right_turned : (o : Orientation) (b : Bounds) (s : ℤ) (c : Cell) → (o ≡ ThreeQuarter) ⊎ (o ≡ Mirror) → s ≡ b.top -ℤ b.right → IsWithin b c
+    → s ≤ℤ depth (turned_cell o c)
+right_turned o b s c (inl is) e w = subst (λ (p : Orientation). s ≤ℤ depth (turned_cell p c)) (sym is) (omega (arith, ints, e, w.right, w.top))
+right_turned o b s c (inr is) e w = subst (λ (p : Orientation). s ≤ℤ depth (turned_cell p c)) (sym is) (omega (arith, ints, e, w.right, w.top))
+
+-- a sum that is small is what a word of 64 bits says
+pub is_told : (s : ℤ) → unsigned_abs s ≤ 2 ^ 33 → to_z w64 (of_z w64 s) ≡ s
+is_told s small = to_z-of_z w64 s (fits_signed_from_abs w64 s (omega (arith, small)))
+
+pub is_told_small : (s : ℤ) → unsigned_abs s ≤ 2 ^ 33 → unsigned_abs (to_z w64 (of_z w64 s)) ≤ 2 ^ 33
+is_told_small s small = subst (λ (v : ℤ). unsigned_abs v ≤ 2 ^ 33) (sym (is_told s small)) small
+
+pub minus_fits : (s : ℤ) → unsigned_abs s ≤ 2 ^ 33 → FitsSigned w64 (pos 0 -ℤ to_z w64 (of_z w64 s))
+minus_fits s small = subst (λ (v : ℤ). FitsSigned w64 (pos 0 -ℤ v)) (sym (is_told s small))
+    (fits_signed_from_abs w64 (pos 0 -ℤ s) (omega (arith, ints, small)))
+
+pub minus_small : (s : ℤ) → unsigned_abs s ≤ 2 ^ 33 → unsigned_abs (pos 0 -ℤ s) ≤ 2 ^ 33
+minus_small s small = omega (arith, ints, small)
+
+pub minus_told : (s : ℤ) → unsigned_abs s ≤ 2 ^ 33 → to_z w64 (of_z w64 (pos 0 -ℤ to_z w64 (of_z w64 s))) ≡ pos 0 -ℤ s
+minus_told s small =
+    ap (λ (v : ℤ). to_z w64 (of_z w64 (pos 0 -ℤ v))) (is_told s small) ∙ is_told (pos 0 -ℤ s) (minus_small s small)
 
 -- a sweep that begins far enough past m
 pub ahead_by_sweep : (rule : Numbers) (limit : ℕ) (cells : List Cell) (sweep : Sweep) (way : Orientation) (m : ℤ) → IsSweep rule limit cells sweep

@@ -173,8 +173,7 @@ fn later(
     }
 }
 
-/// Goes on from a list by so many generations: on the board of the memo, which is made first if there is none, if it
-/// has room.
+/// Goes on from a list by so many generations: on a board of the memo, if there is one with room.
 fn from_list(
     alloc: Global,
     rule: &Rule,
@@ -189,19 +188,12 @@ fn from_list(
 {
     // That a pattern's cells stand in order is known of them where they are asked for.
     let _in_order = pattern.cells();
-    memo.make_board(alloc, rule);
-    let Some(mut board) = memo.board.take() else {
+    let Some(board) = memo.board_with(alloc, rule, &pattern)? else {
         let later = run_on(alloc, rule, generations, &pattern)?;
         return Ok(Kept::Listed(later));
     };
-    let has_room = board.show(rule, &pattern)?;
-    if has_room {
-        let harbour = Harbour::new(alloc, board);
-        return on_board(alloc, rule, harbour, generations, memo);
-    }
-    memo.outgrow(board);
-    let later = run_on(alloc, rule, generations, &pattern)?;
-    Ok(Kept::Listed(later))
+    let harbour = Harbour::new(alloc, board);
+    on_board(alloc, rule, harbour, generations, memo)
 }
 
 /// Goes on by so many generations from what a board and its ships are. Where the board has no room, it goes back to the

@@ -138,8 +138,31 @@ impl Memo {
         }
     }
 
+    /// A board that shows the pattern. It is `None` where there is no memory for a board, or the board has no room for the
+    /// pattern.
+    pub(crate) fn board_with(
+        &mut self,
+        alloc: Global,
+        rule: &Rule,
+        pattern: &Pattern,
+    ) -> Result<Option<Board>, OutOfMemory>
+        ensures rule { IfOk result (λ shown. IfSome shown (λ board. board.rule ≡ rule.now)) }
+        ensures cells { IfOk result (λ shown. IfSome shown (λ board. board.cells ≡ pattern.now)) }
+    {
+        self.make_board(alloc, rule);
+        let Some(mut board) = self.board.take() else {
+            return Ok(None);
+        };
+        let has_room = board.show(rule, pattern)?;
+        if has_room {
+            return Ok(Some(board));
+        }
+        self.outgrow(board);
+        Ok(None)
+    }
+
     /// Makes a board, if there is none and there is memory for it.
-    pub(crate) fn make_board(&mut self, alloc: Global, rule: &Rule) {
+    fn make_board(&mut self, alloc: Global, rule: &Rule) {
         if self.board.is_some() || self.lacks_board {
             return;
         }

@@ -40,3 +40,32 @@ loop-preserved c = record {
   whole = c.in_ok-leave.ensures.whole ∙ c.loop.invariant.whole;
   clusters = c.in_ok-leave.ensures.clusters;
 }
+
+-- none has left in this turn
+pub invariant_of-result : goal.invariant_of-result
+invariant_of-result c =
+    subst (λ (r : Numbers). IsHarbour r c.self.inside.time c.leave.new.board.cells c.leave.new.ships.items)
+    (sym (c.in_ok-leave.ensures.rule ∙ c.loop.invariant.rule)) c.in_ok-leave.ensures.harbour
+
+pub returns-then-len-count-clause-rule : goal.returns-then-len-count-clause-rule
+returns-then-len-count-clause-rule c = c.in_ok-leave.ensures.rule ∙ c.loop.invariant.rule ∙ sym c.requires.rule
+
+pub returns-then-len-count-clause-cells : goal.returns-then-len-count-clause-cells
+returns-then-len-count-clause-cells c =
+    let rule = c.in_ok-leave.ensures.rule ∙ c.loop.invariant.rule in
+    ap (λ (r : Numbers). whole_at r c.self.inside.time c.leave.new.board.cells c.leave.new.ships.items) rule
+    ∙ c.in_ok-leave.ensures.whole ∙ c.loop.invariant.whole
+
+-- or there were as many turns as clusters
+pub invariant_of-result-2 : goal.invariant_of-result-2
+invariant_of-result-2 c =
+    subst (λ (r : Numbers). IsHarbour r c.self.inside.time c.loop.board.cells c.loop.ships.items)
+    (sym c.loop.invariant.rule) c.loop.invariant.harbour
+
+pub returns-clause-rule : goal.returns-clause-rule
+returns-clause-rule c = c.loop.invariant.rule ∙ sym c.requires.rule
+
+pub returns-clause-cells : goal.returns-clause-cells
+returns-clause-cells c =
+    ap (λ (r : Numbers). whole_at r c.self.inside.time c.loop.board.cells c.loop.ships.items) c.loop.invariant.rule
+    ∙ c.loop.invariant.whole
