@@ -56,19 +56,14 @@ pub(crate) fn clusters_at_rest(
     // That a pattern's cells stand in order is known of them where they are asked for.
     let _in_order = pattern.cells();
     let limit = profile.period();
+    let horizon = profile.horizon();
     let clusters = pattern.clusters(alloc)?;
-    let sweeps = match memo.sweeps(alloc, rule, limit, clusters.as_slice())? {
-        Some(sweeps) => sweeps,
-        None => return Ok(None),
+    let parts = clusters.as_slice();
+    let Some(sweeps) = memo.sweeps(alloc, rule, limit, parts)? else {
+        return Ok(None);
     };
-    let groups = groups(alloc, profile.horizon(), sweeps.as_slice())?;
-    let apart = groups_keep_apart(
-        alloc,
-        rule,
-        profile.horizon(),
-        clusters.as_slice(),
-        groups.as_slice(),
-    )?;
+    let groups = groups(alloc, horizon, sweeps.as_slice())?;
+    let apart = groups_keep_apart(alloc, rule, horizon, parts, groups.as_slice())?;
     if !apart {
         return Ok(None);
     }
@@ -188,15 +183,16 @@ fn keep_apart(
     let mut alone = next_of_all(alloc, rule, clusters, first, clusters)?;
     for _ in 0..horizon {
         whole = next(alloc, rule, &whole)?;
-        let same = make_up(alloc, alone.as_slice(), &whole)?;
+        let parts = alone.as_slice();
+        let same = make_up(alloc, parts, &whole)?;
         if !same {
             return Ok(false);
         }
-        let back = are_back(alone.as_slice(), clusters);
+        let back = are_back(parts, clusters);
         if back {
             return Ok(true);
         }
-        alone = next_of_all(alloc, rule, clusters, first, alone.as_slice())?;
+        alone = next_of_all(alloc, rule, clusters, first, parts)?;
     }
     Ok(true)
 }

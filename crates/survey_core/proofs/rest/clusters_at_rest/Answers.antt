@@ -16,31 +16,31 @@ use Rattle.survey_core.proofs.rest.clusters_at_rest.Goals as goal
 
 pub sweeps-requires-clause-some : goal.sweeps-requires-clause-some
 sweeps-requires-clause-some c =
-    subst (All (λ (part : List Cell). part ≢ [])) (sym c.as_slice.ensures.value)
+    subst (All (λ (part : List Cell). part ≢ [])) (sym c.as_slice-parts.ensures.value)
     (clusters_some c.args.pattern.now c.in_ok-clusters.clusters.items c.in_ok-clusters.ensures.clusters)
 
 pub sweeps-requires-clause-near : goal.sweeps-requires-clause-near
 sweeps-requires-clause-near c =
-    subst (All (λ (part : List Cell). lies_within survey_reach part ≡ true)) (sym c.as_slice.ensures.value)
+    subst (All (λ (part : List Cell). lies_within survey_reach part ≡ true)) (sym c.as_slice-parts.ensures.value)
     (clusters_near survey_reach c.args.pattern.now c.in_ok-clusters.clusters.items c.in_ok-clusters.ensures.clusters c.requires)
 
 -- some cluster doesn't come back
-pub returns-in-None-clause-moves : goal.returns-in-None-clause-moves
-returns-in-None-clause-moves c = λ rest.
+pub returns-in_default-clause-moves : goal.returns-in_default-clause-moves
+returns-in_default-clause-moves c = λ rest.
     let same : RestsAs c.args.rule.now c.args.profile.now c.args.pattern.now c.in_ok-clusters.clusters.items =
     same_clusters c.args.rule.now c.args.profile.now c.args.pattern.now c.in_ok-clusters.clusters.items c.in_ok-clusters.ensures.clusters rest in
-    let never : ¬ All (ComesBack c.args.rule.now c.period-limit.result) c.as_slice.result.now = rw c.in-None.is at c.in_ok-sweeps.ensures.never in
-    never (subst (λ (p : ℕ). All (ComesBack c.args.rule.now p) c.as_slice.result.now) (sym c.period-limit.ensures.period)
-    (subst (All (ComesBack c.args.rule.now c.args.profile.now.period)) (sym c.as_slice.ensures.value) same.back))
+    let never : ¬ All (ComesBack c.args.rule.now c.period-limit.result) c.as_slice-parts.result.now = rw c.in_default.is at c.in_ok-sweeps.ensures.never in
+    never (subst (λ (p : ℕ). All (ComesBack c.args.rule.now p) c.as_slice-parts.result.now) (sym c.period-limit.ensures.period)
+    (subst (All (ComesBack c.args.rule.now c.args.profile.now.period)) (sym c.as_slice-parts.ensures.value) same.back))
 
 pub groups_keep_apart-requires-clause-near : goal.groups_keep_apart-requires-clause-near
 groups_keep_apart-requires-clause-near c =
-    subst (All (λ (part : List Cell). lies_within survey_reach part ≡ true)) (sym c.as_slice-3.ensures.value)
+    subst (All (λ (part : List Cell). lies_within survey_reach part ≡ true)) (sym c.as_slice-parts.ensures.value)
     (clusters_near survey_reach c.args.pattern.now c.in_ok-clusters.clusters.items c.in_ok-clusters.ensures.clusters c.requires)
 
 pub groups_keep_apart-requires-clause-off : goal.groups_keep_apart-requires-clause-off
 groups_keep_apart-requires-clause-off c =
-    subst ShareNoCell (sym c.as_slice-3.ensures.value)
+    subst ShareNoCell (sym c.as_slice-parts.ensures.value)
     (clusters_off c.args.pattern.now c.in_ok-clusters.clusters.items c.in_ok-clusters.ensures.clusters)
 
 -- or those of a group don't keep apart
@@ -48,18 +48,18 @@ pub returns-then-not-apart-clause-moves : goal.returns-then-not-apart-clause-mov
 returns-then-not-apart-clause-moves c = λ rest.
     let found : AreSweeps c.args.rule.now c.args.profile.now.period c.in_ok-clusters.clusters.items c.in-Some.sweeps.items =
     subst (λ (p : ℕ). AreSweeps c.args.rule.now p c.in_ok-clusters.clusters.items c.in-Some.sweeps.items) c.period-limit.ensures.period
-    (subst (λ (parts : List (List Cell)). AreSweeps c.args.rule.now c.period-limit.result parts c.in-Some.sweeps.items) c.as_slice.ensures.value
+    (subst (λ (parts : List (List Cell)). AreSweeps c.args.rule.now c.period-limit.result parts c.in-Some.sweeps.items) c.as_slice-parts.ensures.value
     (rw c.in-Some.is at c.in_ok-sweeps.ensures.sweeps)) in
     let right : AreGroups c.args.profile.now.horizon c.in-Some.sweeps.items c.in_ok-groups.groups.items =
-    subst (λ (h : ℕ). AreGroups h c.in-Some.sweeps.items c.in_ok-groups.groups.items) c.horizon.ensures.horizon
-    (subst (λ (sweeps : List Sweep). AreGroups c.horizon.result sweeps c.in_ok-groups.groups.items) c.as_slice-2.ensures.value c.in_ok-groups.ensures) in
+    subst (λ (h : ℕ). AreGroups h c.in-Some.sweeps.items c.in_ok-groups.groups.items) c.horizon-horizon.ensures.horizon
+    (subst (λ (sweeps : List Sweep). AreGroups c.horizon-horizon.result sweeps c.in_ok-groups.groups.items) c.as_slice.ensures.value c.in_ok-groups.ensures) in
     let order : InOrder c.args.pattern.now = c.cells-in_order.ensures.pattern.in_order in
     let same : RestsAs c.args.rule.now c.args.profile.now c.args.pattern.now c.in_ok-clusters.clusters.items =
     same_clusters c.args.rule.now c.args.profile.now c.args.pattern.now c.in_ok-clusters.clusters.items c.in_ok-clusters.ensures.clusters rest in
     false≢true (sym c.if-not-apart.true ∙ c.in_ok-apart.ensures.1 (λ k low.
-    subst (λ (h : ℕ). GroupKeeps c.args.rule.now c.as_slice-4.result.now c.as_slice-3.result.now h k) (sym c.horizon-2.ensures.horizon)
-    (subst (λ (parts : List (List Cell)). GroupKeeps c.args.rule.now c.as_slice-4.result.now parts c.args.profile.now.horizon k) (sym c.as_slice-3.ensures.value)
-    (subst (λ (gs : List ℕ). GroupKeeps c.args.rule.now gs c.in_ok-clusters.clusters.items c.args.profile.now.horizon k) (sym c.as_slice-4.ensures.value)
+    subst (λ (h : ℕ). GroupKeeps c.args.rule.now c.as_slice-2.result.now c.as_slice-parts.result.now h k) (sym c.horizon-horizon.ensures.horizon)
+    (subst (λ (parts : List (List Cell)). GroupKeeps c.args.rule.now c.as_slice-2.result.now parts c.args.profile.now.horizon k) (sym c.as_slice-parts.ensures.value)
+    (subst (λ (gs : List ℕ). GroupKeeps c.args.rule.now gs c.in_ok-clusters.clusters.items c.args.profile.now.horizon k) (sym c.as_slice-2.ensures.value)
     (groups_of_rest c.args.rule.now c.args.profile.now c.args.pattern.now c.in_ok-clusters.clusters.items c.in-Some.sweeps.items
     c.in_ok-groups.groups.items order found right same k)))))
 
@@ -67,19 +67,19 @@ pub returns-clause-rest : goal.returns-clause-rest
 returns-clause-rest c =
     let found : AreSweeps c.args.rule.now c.args.profile.now.period c.in_ok-clusters.clusters.items c.in-Some.sweeps.items =
     subst (λ (p : ℕ). AreSweeps c.args.rule.now p c.in_ok-clusters.clusters.items c.in-Some.sweeps.items) c.period-limit.ensures.period
-    (subst (λ (parts : List (List Cell)). AreSweeps c.args.rule.now c.period-limit.result parts c.in-Some.sweeps.items) c.as_slice.ensures.value
+    (subst (λ (parts : List (List Cell)). AreSweeps c.args.rule.now c.period-limit.result parts c.in-Some.sweeps.items) c.as_slice-parts.ensures.value
     (rw c.in-Some.is at c.in_ok-sweeps.ensures.sweeps)) in
     let right : AreGroups c.args.profile.now.horizon c.in-Some.sweeps.items c.in_ok-groups.groups.items =
-    subst (λ (h : ℕ). AreGroups h c.in-Some.sweeps.items c.in_ok-groups.groups.items) c.horizon.ensures.horizon
-    (subst (λ (sweeps : List Sweep). AreGroups c.horizon.result sweeps c.in_ok-groups.groups.items) c.as_slice-2.ensures.value c.in_ok-groups.ensures) in
+    subst (λ (h : ℕ). AreGroups h c.in-Some.sweeps.items c.in_ok-groups.groups.items) c.horizon-horizon.ensures.horizon
+    (subst (λ (sweeps : List Sweep). AreGroups c.horizon-horizon.result sweeps c.in_ok-groups.groups.items) c.as_slice.ensures.value c.in_ok-groups.ensures) in
     let order : InOrder c.args.pattern.now = c.cells-in_order.ensures.pattern.in_order in
     let each = c.in_ok-apart.ensures.0 c.if-not-apart.false in
     rest_by_groups c.args.rule.now c.args.profile.now c.args.pattern.now c.in_ok-clusters.clusters.items c.in-Some.sweeps.items
     c.in_ok-groups.groups.items order c.in_ok-clusters.ensures.clusters found right (λ k low.
-    subst (λ (h : ℕ). GroupKeeps c.args.rule.now c.in_ok-groups.groups.items c.in_ok-clusters.clusters.items h k) c.horizon-2.ensures.horizon
-    (subst (λ (parts : List (List Cell)). GroupKeeps c.args.rule.now c.in_ok-groups.groups.items parts c.horizon-2.result k) c.as_slice-3.ensures.value
-    (subst (λ (gs : List ℕ). GroupKeeps c.args.rule.now gs c.as_slice-3.result.now c.horizon-2.result k) c.as_slice-4.ensures.value
-    (each k (subst (λ (parts : List (List Cell)). k < length parts) (sym c.as_slice-3.ensures.value) low)))))
+    subst (λ (h : ℕ). GroupKeeps c.args.rule.now c.in_ok-groups.groups.items c.in_ok-clusters.clusters.items h k) c.horizon-horizon.ensures.horizon
+    (subst (λ (parts : List (List Cell)). GroupKeeps c.args.rule.now c.in_ok-groups.groups.items parts c.horizon-horizon.result k) c.as_slice-parts.ensures.value
+    (subst (λ (gs : List ℕ). GroupKeeps c.args.rule.now gs c.as_slice-parts.result.now c.horizon-horizon.result k) c.as_slice-2.ensures.value
+    (each k (subst (λ (parts : List (List Cell)). k < length parts) (sym c.as_slice-parts.ensures.value) low)))))
 
 pub sweeps-requires-clause-least : goal.sweeps-requires-clause-least
 sweeps-requires-clause-least c =
@@ -91,27 +91,27 @@ sweeps-requires-clause-most c =
 
 pub sweeps-requires-clause-order : goal.sweeps-requires-clause-order
 sweeps-requires-clause-order c =
-    subst (All InOrder) (sym c.as_slice.ensures.value) (λ k d low. (c.in_ok-clusters.ensures.patterns k d low).in_order)
+    subst (All InOrder) (sym c.as_slice-parts.ensures.value) (λ k d low. (c.in_ok-clusters.ensures.patterns k d low).in_order)
 
 pub groups-requires : goal.groups-requires
-groups-requires c = subst (λ n. n ≤ 4096) (sym c.horizon.ensures.horizon) c.horizon.ensures.profile.horizon
+groups-requires c = subst (λ n. n ≤ 4096) (sym c.horizon-horizon.ensures.horizon) c.horizon-horizon.ensures.profile.horizon
 
 pub groups_keep_apart-requires-clause-horizon : goal.groups_keep_apart-requires-clause-horizon
 groups_keep_apart-requires-clause-horizon c =
-    subst (λ n. n ≤ 4096) (sym c.horizon-2.ensures.horizon) c.horizon-2.ensures.profile.horizon
+    subst (λ n. n ≤ 4096) (sym c.horizon-horizon.ensures.horizon) c.horizon-horizon.ensures.profile.horizon
 
 pub groups_keep_apart-requires-clause-order : goal.groups_keep_apart-requires-clause-order
 groups_keep_apart-requires-clause-order c =
-    subst (All InOrder) (sym c.as_slice-3.ensures.value)
+    subst (All InOrder) (sym c.as_slice-parts.ensures.value)
     (λ k d low. (c.in_ok-clusters.ensures.patterns k d low).in_order)
 
 pub groups_keep_apart-requires-clause-count : goal.groups_keep_apart-requires-clause-count
 groups_keep_apart-requires-clause-count c =
-    let found : AreSweeps c.args.rule.now c.period-limit.result c.as_slice.result.now c.in-Some.sweeps.items =
+    let found : AreSweeps c.args.rule.now c.period-limit.result c.as_slice-parts.result.now c.in-Some.sweeps.items =
     rw c.in-Some.is at c.in_ok-sweeps.ensures.sweeps in
-    ap length c.as_slice-4.ensures.value ∙ c.in_ok-groups.ensures.numbers.count ∙ ap length c.as_slice-2.ensures.value
+    ap length c.as_slice-2.ensures.value ∙ c.in_ok-groups.ensures.numbers.count ∙ ap length c.as_slice.ensures.value
     ∙ found.count
-    ∙ ap length (c.as_slice.ensures.value ∙ sym c.as_slice-3.ensures.value)
+    ∙ ap length (c.as_slice-parts.ensures.value ∙ sym c.as_slice-parts.ensures.value)
 
 pub returns-in_err-clusters-clause-rest : goal.returns-in_err-clusters-clause-rest
 returns-in_err-clusters-clause-rest c = IfOk-from_err _ _ c.from_residual.ensures.0

@@ -45,30 +45,30 @@ next-requires c =
 
 pub make_up-requires-clause-in_order : goal.make_up-requires-clause-in_order
 make_up-requires-clause-in_order c =
-    subst (All InOrder) (sym (c.as_slice.ensures.value ∙ c.loop.invariant.alone))
+    subst (All InOrder) (sym (c.as_slice-parts.ensures.value ∙ c.loop.invariant.alone))
     (alone_in_order c.args.rule.now c.args.clusters.now (c.loop.counter + 1) c.requires.order)
 
 pub make_up-requires-clause-near : goal.make_up-requires-clause-near
 make_up-requires-clause-near c =
     let low : c.loop.counter < c.args.horizon = c.loop-test.true in
     let most : c.args.horizon ≤ 4096 = c.requires.horizon in
-    subst (All (λ part. lies_within 999999 part ≡ true)) (sym (c.as_slice.ensures.value ∙ c.loop.invariant.alone))
+    subst (All (λ part. lies_within 999999 part ≡ true)) (sym (c.as_slice-parts.ensures.value ∙ c.loop.invariant.alone))
     (alone_near c.args.rule.now c.args.clusters.now (c.loop.counter + 1) c.requires.each_near (omega arith))
 
 pub are_back-back-requires : goal.are_back-back-requires
-are_back-back-requires c = ap length (c.as_slice-in-loop.ensures.value ∙ c.loop.invariant.alone) ∙ length-map _ _
+are_back-back-requires c = ap length (c.as_slice-parts.ensures.value ∙ c.loop.invariant.alone) ∙ length-map _ _
 
 pub next_of_all-requires-in-loop-clause-first : goal.next_of_all-requires-in-loop-clause-first
 next_of_all-requires-in-loop-clause-first c = c.as_slice-first.ensures.value ∙ c.in_ok-stepped.ensures
 
 pub next_of_all-requires-in-loop-clause-long : goal.next_of_all-requires-in-loop-clause-long
-next_of_all-requires-in-loop-clause-long c = ap length (c.as_slice-in-loop-2.ensures.value ∙ c.loop.invariant.alone) ∙ length-map _ _
+next_of_all-requires-in-loop-clause-long c = ap length (c.as_slice-parts.ensures.value ∙ c.loop.invariant.alone) ∙ length-map _ _
 
 pub next_of_all-requires-in-loop-clause-near : goal.next_of_all-requires-in-loop-clause-near
 next_of_all-requires-in-loop-clause-near c =
     let low : c.loop.counter < c.args.horizon = c.loop-test.true in
     let most : c.args.horizon ≤ 4096 = c.requires.horizon in
-    subst (All (λ part. lies_within 999999 part ≡ true)) (sym (c.as_slice-in-loop-2.ensures.value ∙ c.loop.invariant.alone))
+    subst (All (λ part. lies_within 999999 part ≡ true)) (sym (c.as_slice-parts.ensures.value ∙ c.loop.invariant.alone))
     (alone_near c.args.rule.now c.args.clusters.now (c.loop.counter + 1) c.requires.each_near (omega arith))
 
 -- a generation in which they don't keep apart
@@ -79,8 +79,8 @@ returns-then-not-same c =
     c.in_ok-whole.ensures ∙ ap (next c.args.rule.now) c.loop.invariant.whole ∙ sym (after-more c.args.rule.now c.args.whole c.loop.counter) in (
       λ e. absurd (false≢true e),
       λ apart. absurd (false≢true (sym c.if-not-same.true ∙ c.in_ok-same.ensures.1
-          (apart_now c.args.rule.now c.args.whole c.args.clusters.now (c.loop.counter + 1) c.in_ok-whole.whole c.as_slice.result.now whole
-          (c.as_slice.ensures.value ∙ c.loop.invariant.alone) (apart (c.loop.counter + 1) low)))),
+          (apart_now c.args.rule.now c.args.whole c.args.clusters.now (c.loop.counter + 1) c.in_ok-whole.whole c.as_slice-parts.result.now whole
+          (c.as_slice-parts.ensures.value ∙ c.loop.invariant.alone) (apart (c.loop.counter + 1) low)))),
     )
 
 -- each cluster is itself again, so what follows has been seen
@@ -88,11 +88,11 @@ pub returns-then-back : goal.returns-then-back
 returns-then-back c =
     let whole : c.in_ok-whole.whole ≡ after c.args.rule.now c.args.whole (c.loop.counter + 1) =
     c.in_ok-whole.ensures ∙ ap (next c.args.rule.now) c.loop.invariant.whole ∙ sym (after-more c.args.rule.now c.args.whole c.loop.counter) in
-    let back : c.loop.alone.items ≡ c.args.clusters.now = sym c.as_slice-in-loop.ensures.value ∙ c.are_back-back.ensures.0 c.if-back.true in (
+    let back : c.loop.alone.items ≡ c.args.clusters.now = sym c.as_slice-parts.ensures.value ∙ c.are_back-back.ensures.0 c.if-back.true in (
       λ e g low. apart_once_back c.args.rule.now c.args.whole c.args.clusters.now c.loop.alone.items (c.loop.counter + 1) (omega arith)
           c.requires.in_order c.requires.parts c.loop.invariant.alone back
-          (apart_more c.args.rule.now c.args.whole c.args.clusters.now c.loop.counter c.in_ok-whole.whole c.as_slice.result.now whole
-          (c.as_slice.ensures.value ∙ c.loop.invariant.alone) c.loop.invariant.apart (c.in_ok-same.ensures.0 c.if-not-same.false)) g,
+          (apart_more c.args.rule.now c.args.whole c.args.clusters.now c.loop.counter c.in_ok-whole.whole c.as_slice-parts.result.now whole
+          (c.as_slice-parts.ensures.value ∙ c.loop.invariant.alone) c.loop.invariant.apart (c.in_ok-same.ensures.0 c.if-not-same.false)) g,
       λ apart. refl,
     )
 
@@ -102,10 +102,10 @@ loop-preserved c =
     c.in_ok-whole.ensures ∙ ap (next c.args.rule.now) c.loop.invariant.whole ∙ sym (after-more c.args.rule.now c.args.whole c.loop.counter) in
     record {
       whole = whole;
-      alone = c.in_ok-alone-2.ensures ∙ ap (map (next c.args.rule.now)) (c.as_slice-in-loop-2.ensures.value ∙ c.loop.invariant.alone)
+      alone = c.in_ok-alone-2.ensures ∙ ap (map (next c.args.rule.now)) (c.as_slice-parts.ensures.value ∙ c.loop.invariant.alone)
           ∙ alone_later c.args.rule.now c.args.clusters.now (c.loop.counter + 1);
-      apart = apart_more c.args.rule.now c.args.whole c.args.clusters.now c.loop.counter c.in_ok-whole.whole c.as_slice.result.now whole
-          (c.as_slice.ensures.value ∙ c.loop.invariant.alone) c.loop.invariant.apart (c.in_ok-same.ensures.0 c.if-not-same.false);
+      apart = apart_more c.args.rule.now c.args.whole c.args.clusters.now c.loop.counter c.in_ok-whole.whole c.as_slice-parts.result.now whole
+          (c.as_slice-parts.ensures.value ∙ c.loop.invariant.alone) c.loop.invariant.apart (c.in_ok-same.ensures.0 c.if-not-same.false);
     }
 
 -- no generation is left
