@@ -1,7 +1,33 @@
-use Rattle.std.proofs.Common.{◌∙◌, sym}
+use Rattle.std.proofs.Common.{◌∙◌, IfNone, IfSome, List, ap, subst, sym}
+use Rattle.plane_core.specs.declared.cell.Cell.{Cell}
+use Rattle.plane_core.specs.Generations.{lies_within}
+use Rattle.plane_core.specs.Rules.{Numbers}
+use Rattle.survey_core.specs.Findings.{SettlesAt}
+use Rattle.survey_core.specs.Rest.{IsAtRest}
+use Rattle.survey_core.specs.UnderWay.{survey_reach}
 use Rattle.survey_core.proofs.NoesLemmas.{known_now}
 use Rattle.survey_core.proofs.finding.look_at.Goals as goal
 
 pub returns-then-has-clause-moves : goal.returns-then-has-clause-moves
 returns-then-has-clause-moves c =
     known_now c.args.rule.now c.args.profile.now c.args.course.now.cells c.args.checkpoint c.args.noes.now c.requires.noes (sym c.has.ensures ∙ c.if-has.true)
+
+pub returns-then-is_seen_to_move-clause-moves : goal.returns-then-is_seen_to_move-clause-moves
+returns-then-is_seen_to_move-clause-moves c =
+    subst (λ (r : Numbers). ¬ IsAtRest r c.args.profile.now c.args.course.now.cells) c.requires.rule (c.is_seen_to_move.ensures c.if-is_seen_to_move.true)
+
+pub finding_at-requires : goal.finding_at-requires
+finding_at-requires c = ap (lies_within survey_reach) c.in_ok-latest.ensures ∙ c.requires.near
+
+pub returns-clause-settled : goal.returns-clause-settled
+returns-clause-settled c =
+    subst (λ (S : List Cell). IfSome c.in_ok-found.found (SettlesAt c.args.rule.now c.args.profile.now S c.args.checkpoint))
+    c.in_ok-latest.ensures c.in_ok-found.ensures.settled
+
+pub returns-clause-moves : goal.returns-clause-moves
+returns-clause-moves c =
+    subst (λ (S : List Cell). IfNone c.in_ok-found.found (¬ IsAtRest c.args.rule.now c.args.profile.now S))
+    c.in_ok-latest.ensures c.in_ok-found.ensures.moves
+
+pub returns-clause-few : goal.returns-clause-few
+returns-clause-few c = c.in_ok-found.ensures.few

@@ -31,6 +31,12 @@ ship_of-requires-clause-near c =
     (board_near survey_reach c.args.rule.now c.args.time c.loop-cluster.board.cells c.loop-cluster.ships.items
     (ap (lies_within survey_reach) c.loop-cluster.invariant.whole ∙ c.requires.near)) (ship_of-requires-clause-part c)
 
+pub ship_of-requires-clause-least : goal.ship_of-requires-clause-least
+ship_of-requires-clause-least c = c.requires.least
+
+pub ship_of-requires-clause-most : goal.ship_of-requires-clause-most
+ship_of-requires-clause-most c = c.requires.most
+
 pub loop-cluster-init : goal.loop-cluster-init
 loop-cluster-init c = record { rule = refl; harbour = c.requires.harbour; whole = refl; clusters = c.requires.clusters }
 
@@ -71,3 +77,18 @@ returns-clause-harbour c = c.loop-cluster.invariant.harbour
 
 pub returns-clause-clusters : goal.returns-clause-clusters
 returns-clause-clusters c = c.loop-cluster.invariant.clusters
+
+pub returns-clause-rule : goal.returns-clause-rule
+returns-clause-rule c = c.loop-cluster.invariant.rule
+
+pub returns-clause-whole : goal.returns-clause-whole
+returns-clause-whole c = c.loop-cluster.invariant.whole
+
+pub returns-in_err-ship-clause-rule : goal.returns-in_err-ship-clause-rule
+returns-in_err-ship-clause-rule c = c.loop-cluster.invariant.rule
+
+pub returns-in_err-take_out-clause-rule : goal.returns-in_err-take_out-clause-rule
+returns-in_err-take_out-clause-rule c = c.take_out.ensures.rule ∙ c.loop-cluster.invariant.rule
+
+pub returns-in_err-push-clause-rule : goal.returns-in_err-push-clause-rule
+returns-in_err-push-clause-rule c = c.in_ok-take_out.ensures.rule ∙ c.loop-cluster.invariant.rule
