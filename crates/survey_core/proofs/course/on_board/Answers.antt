@@ -1,6 +1,7 @@
 use Rattle.std.proofs.Common.{◌≡◌, ◌∙◌, ◌+◌, ◌-◌, ◌%◌, ◌≤◌, ℕ, List, ap, arith}
 use Rattle.plane_core.specs.declared.cell.Cell.{Cell}
 use Rattle.plane_core.specs.Generations.{after, lies_within}
+use Rattle.plane_core.specs.Rules.{Numbers}
 use Rattle.survey_core.specs.UnderWay.{survey_reach}
 use Rattle.survey_core.proofs.CourseLemmas.{in_parts}
 use Rattle.survey_core.proofs.course.on_board.Goals as goal
@@ -11,6 +12,24 @@ both_parts n = omega arith
 
 rest_made : (made n : ℕ) → made ≤ n - n % 2 → made + (n - made) ≡ n
 rest_made made n low = omega arith
+
+is_even : (n : ℕ) → (n - n % 2) % 2 ≡ 0
+is_even n = omega arith
+
+part_low : (n : ℕ) → n - n % 2 ≤ n
+part_low n = omega arith
+
+part_few : (n : ℕ) → n ≤ 10001 → n - n % 2 ≤ 10001
+part_few n few = omega arith
+
+part_within : (n g : ℕ) → g ≤ n - n % 2 → g ≤ n
+part_within n g low = omega arith
+
+rest_few : (n made : ℕ) → n ≤ 10001 → n - made ≤ 10001
+rest_few n made few = omega arith
+
+at_most_one : (n : ℕ) → n % 2 ≤ 1
+at_most_one n = omega arith
 
 pub returns-in-Ok-clause-cells : goal.returns-in-Ok-clause-cells
 returns-in-Ok-clause-cells c =
@@ -31,3 +50,33 @@ returns-in_ok-later-in-Err-clause-cells c =
 pub returns-in_ok-later-in-Err-clause-kept : goal.returns-in_ok-later-in-Err-clause-kept
 returns-in_ok-later-in-Err-clause-kept c =
     ap (lies_within survey_reach) (returns-in_ok-later-in-Err-clause-cells c) ∙ c.requires.near c.args.generations (omega arith)
+
+pub advance-requires-clause-even : goal.advance-requires-clause-even
+advance-requires-clause-even c = is_even c.args.generations
+
+pub advance-requires-clause-few : goal.advance-requires-clause-few
+advance-requires-clause-few c = part_few c.args.generations c.requires.few
+
+pub advance-requires-clause-near : goal.advance-requires-clause-near
+advance-requires-clause-near c g low =
+    ap (λ (r : Numbers). lies_within survey_reach (after r c.args.harbour.cells g)) c.requires.rule
+    ∙ c.requires.near g (part_within c.args.generations g low)
+
+pub overflow_sub-generations-in-Err : goal.overflow_sub-generations-in-Err
+overflow_sub-generations-in-Err c = part_within c.args.generations c.in-Err.stop.made (rw c.in-Err.is at c.in_ok-harbour.ensures.made)
+
+pub run_on-requires-clause-near : goal.run_on-requires-clause-near
+run_on-requires-clause-near c =
+    ap (lies_within survey_reach) (rw c.in-Err.is at c.in_ok-harbour.ensures.stopped)
+    ∙ c.requires.near c.in-Err.stop.made (part_within c.args.generations c.in-Err.stop.made (rw c.in-Err.is at c.in_ok-harbour.ensures.made))
+
+pub run_on-requires-clause-few : goal.run_on-requires-clause-few
+run_on-requires-clause-few c = rest_few c.args.generations c.in-Err.stop.made c.requires.few
+
+pub returns-in-Ok-clause-kept : goal.returns-in-Ok-clause-kept
+returns-in-Ok-clause-kept c =
+    let n = c.args.generations in (
+      rw c.in-Ok.is at c.in_ok-harbour.ensures.rule,
+      at_most_one n,
+      ap (lies_within survey_reach) (rw c.in-Ok.is at c.in_ok-harbour.ensures.cells) ∙ c.requires.near (n - n % 2) (part_low n),
+    )

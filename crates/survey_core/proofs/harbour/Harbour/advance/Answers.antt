@@ -1,4 +1,4 @@
-use Rattle.std.proofs.Common.{◌≡◌, ◌∙◌, ◌+◌, ◌≤◌, All, List, ap, subst, sym}
+use Rattle.std.proofs.Common.{◌≡◌, ◌∙◌, ◌+◌, ◌≤◌, All, List, ap, arith, subst, sym}
 use Rattle.plane_core.specs.Cells.{InOrder}
 use Rattle.plane_core.specs.Generations.{after, lies_within}
 use Rattle.plane_core.proofs.RunLemmas.{in_order-after}
@@ -39,3 +39,36 @@ whole-requires-clause-near c =
     ∙ ap (lies_within survey_reach) (whole_gone_on h.board.rule h.time made h.board.cells c.advance.new.self.cells c.args.self.cells h.ships.items
     c.self.invariant (ap (λ (u : UnderWay). u.cells) c.self.view_is) c.in_ok-made.ensures.after)
     ∙ (λ i. lies_within survey_reach (after (rule i) c.args.self.cells made)) ∙ c.requires.near made low
+
+pub overflow_add-later : goal.overflow_add-later
+overflow_add-later c = omega (arith, c.self.invariant.early, c.in_ok-made.ensures.most, c.requires.few)
+
+pub whole-requires-clause-early : goal.whole-requires-clause-early
+whole-requires-clause-early c = omega (arith, c.self.invariant.early, c.in_ok-made.ensures.most, c.requires.few)
+
+pub returns-then-later-le-LATEST_TIME-clause-rule : goal.returns-then-later-le-LATEST_TIME-clause-rule
+returns-then-later-le-LATEST_TIME-clause-rule c =
+    c.in_ok-made.ensures.rule ∙ ap (λ (u : UnderWay). u.rule) c.self.view_is ∙ c.requires.rule
+
+pub returns-then-later-le-LATEST_TIME-clause-cells : goal.returns-then-later-le-LATEST_TIME-clause-cells
+returns-then-later-le-LATEST_TIME-clause-cells c =
+    let h = c.self.inside in
+    let rule = ap (λ (u : UnderWay). u.rule) c.self.view_is ∙ c.requires.rule in
+    ap (λ (r : Numbers). whole_at r (h.time + c.in_ok-made.made) c.advance.new.self.cells h.ships.items) c.in_ok-made.ensures.rule
+    ∙ whole_gone_on h.board.rule h.time c.in_ok-made.made h.board.cells c.advance.new.self.cells c.args.self.cells h.ships.items
+    c.self.invariant (ap (λ (u : UnderWay). u.cells) c.self.view_is) c.in_ok-made.ensures.after
+    ∙ (λ i. after (rule i) c.args.self.cells (c.if-made-most.true i))
+
+pub returns-clause-made : goal.returns-clause-made
+returns-clause-made c = c.in_ok-made.ensures.most
+
+pub returns-clause-stopped : goal.returns-clause-stopped
+returns-clause-stopped c =
+    let h = c.self.inside in
+    let t = h.time + c.in_ok-made.made in
+    let rule = ap (λ (u : UnderWay). u.rule) c.self.view_is ∙ c.requires.rule in
+    c.in_ok-pattern.ensures
+    ∙ (λ i. whole_at (sym rule i) t c.advance.new.self.cells (c.as_slice.ensures.value i))
+    ∙ whole_gone_on h.board.rule h.time c.in_ok-made.made h.board.cells c.advance.new.self.cells c.args.self.cells h.ships.items
+    c.self.invariant (ap (λ (u : UnderWay). u.cells) c.self.view_is) c.in_ok-made.ensures.after
+    ∙ (λ i. after (rule i) c.args.self.cells c.in_ok-made.made)
