@@ -4,6 +4,7 @@ use Rattle.std.proofs.Common.{eq-or-lt_of_le, inl, inr, ◌⊎◌, true, Bool, O
 use Rattle.std.proofs.lemmas.Bool.{false≢true}
 use Rattle.std.proofs.lemmas.Bool.Decides.{leb_tells}
 use Rattle.std.proofs.lemmas.List.FromFn.{map-range_with_len_more}
+use Rattle.memory.specs.Evidence.{out_of_memory}
 use Rattle.plane_core.specs.declared.cell.Cell.{Cell}
 use Rattle.plane_core.specs.declared.generation.StepError.{StepError}
 use Rattle.plane_core.specs.declared.generation.StepError.TheVariants.{Edge, Memory}
@@ -109,6 +110,9 @@ pub step_refused : (cells : List Cell) (y : StepError) → RefusesStep cells y �
 step_refused cells Edge refused e = refused
 step_refused cells (Memory error) refused e = cc
 
+memory_is_no_edge : ◌≡◌ {A = StepError} (Memory out_of_memory) Edge → ⊥
+memory_is_no_edge e = cc
+
 -- ---- how a search ends
 
 module _ {X : Type 0} (F : X → Type 0) (rule : Numbers) (cells : List Cell) (limit : ℕ) where
@@ -160,6 +164,11 @@ module _ {X : Type 0} (F : X → Type 0) (rule : Numbers) (cells : List Cell) (l
     where
       is_edge : ◌≡◌ {A = Result (Option X) StepError} (Err z) (Err Edge) → y ≡ Edge
       is_edge e = cc
+
+  -- or memory ran out
+  pub ends_by_memory : (r : Result (Option X) StepError) → IsErrAnd r (λ e. e ≡ Memory out_of_memory) → touches_edge cells ≡ false
+      → SearchEnds F rule cells limit r
+  ends_by_memory r told off = ends_refused r (Memory out_of_memory) told (λ e. absurd (memory_is_no_edge e)) off
 
 module _ {X Y : Type 0} (F : X → Type 0) (G : Y → Type 0) (rule : Numbers) (cells : List Cell) (limit : ℕ) where
   -- a search that ended well didn't begin on the edge

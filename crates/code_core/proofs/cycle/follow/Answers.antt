@@ -3,7 +3,7 @@ use Rattle.plane_core.specs.Bounds.{shifted}
 use Rattle.plane_core.specs.Generations.{touches_edge}
 use Rattle.code_core.specs.declared.recurrence.Recurrence.{Recurrence}
 use Rattle.code_core.specs.Recurrences.{Recurs}
-use Rattle.code_core.proofs.RecurrenceLemmas.{ends_at_once, ends_found, ends_refused, ends_without, follows-none, follows-more}
+use Rattle.code_core.proofs.RecurrenceLemmas.{ends_at_once, ends_by_memory, ends_found, ends_refused, ends_without, follows-none, follows-more}
 use Rattle.code_core.proofs.RecurrenceLemmas.{inside_then, phases_then, recurs_then, step_refused}
 use Rattle.code_core.proofs.cycle.follow.Goals as goal
 
@@ -61,3 +61,14 @@ pub returns : goal.returns
 returns c =
     ends_without _ c.args.rule.now c.args.pattern.now c.args.limit (λ p dx dy some low. c.loop-age.invariant.new p dx dy some (omega arith))
     (λ g low new. c.loop-age.invariant.inside g (omega arith)) (sym c.touches_edge.ensures ∙ c.if-touches_edge.false)
+
+-- memory ran out
+pub returns-in_err-latest : goal.returns-in_err-latest
+returns-in_err-latest c =
+    ends_by_memory _ c.args.rule.now c.args.pattern.now c.args.limit c.from_residual.result c.from_residual.ensures.1
+    (sym c.touches_edge.ensures ∙ c.if-touches_edge.false)
+
+pub returns-in_err-keep : goal.returns-in_err-keep
+returns-in_err-keep c =
+    ends_by_memory _ c.args.rule.now c.args.pattern.now c.args.limit c.from_residual-in_err-keep.result c.from_residual-in_err-keep.ensures.1
+    (sym c.touches_edge.ensures ∙ c.if-touches_edge.false)
