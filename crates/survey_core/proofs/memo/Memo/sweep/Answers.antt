@@ -24,3 +24,33 @@ returns-in_err-keep-clause-sweep c = IfOk-from_err _ _ c.from_residual-in_err-ke
 
 pub returns-in_err-keep-clause-never : goal.returns-in_err-keep-clause-never
 returns-in_err-keep-clause-never c = IfOk-from_err _ _ c.from_residual-in_err-keep.ensures.0
+
+pub find-requires-clause-least : goal.find-requires-clause-least
+find-requires-clause-least c = c.requires.least
+
+pub find-requires-clause-most : goal.find-requires-clause-most
+find-requires-clause-most c = c.requires.most
+
+pub find-requires-clause-some : goal.find-requires-clause-some
+find-requires-clause-some c = c.requires.some
+
+pub find-requires-clause-near : goal.find-requires-clause-near
+find-requires-clause-near c = c.requires.near
+
+pub find-requires-clause-order : goal.find-requires-clause-order
+find-requires-clause-order c = c.requires.order
+
+pub keep-requires-clause-least : goal.keep-requires-clause-least
+keep-requires-clause-least c = c.requires.least
+
+pub keep-requires-clause-most : goal.keep-requires-clause-most
+keep-requires-clause-most c = c.requires.most
+
+pub keep-requires-clause-some : goal.keep-requires-clause-some
+keep-requires-clause-some c = c.requires.some
+
+pub keep-requires-clause-near : goal.keep-requires-clause-near
+keep-requires-clause-near c = c.requires.near
+
+pub returns-else-population-le-MOST_CELLS-clause-sweep : goal.returns-else-population-le-MOST_CELLS-clause-sweep
+returns-else-population-le-MOST_CELLS-clause-sweep c = rw c.in-Some-2.is at c.in_ok-sweep.ensures.sweep

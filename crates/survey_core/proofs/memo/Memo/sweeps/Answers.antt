@@ -70,3 +70,9 @@ returns-in_err-push-in-Some-clause-sweeps c = IfOk-from_err _ _ c.from_residual-
 
 pub returns-in_err-push-in-Some-clause-never : goal.returns-in_err-push-in-Some-clause-never
 returns-in_err-push-in-Some-clause-never c = IfOk-from_err _ _ c.from_residual-in_err-push-in-Some.ensures.0
+
+pub sweep-requires-clause-least : goal.sweep-requires-clause-least
+sweep-requires-clause-least c = c.requires.least
+
+pub sweep-requires-clause-most : goal.sweep-requires-clause-most
+sweep-requires-clause-most c = c.requires.most
