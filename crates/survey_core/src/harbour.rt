@@ -292,27 +292,11 @@ fn whole(
     if ships.is_empty() {
         return Ok(pattern);
     }
-    let parts = parts(alloc, rule, time, pattern, ships)?;
-    union(alloc, parts.as_slice())
-}
-
-/// A pattern, and where the ships are at a time.
-fn parts(
-    alloc: Global,
-    rule: &Rule,
-    time: u32,
-    pattern: Pattern,
-    ships: &[Ship],
-) -> Result<Vec<Pattern>, OutOfMemory>
-    requires traced { All (IsTraced rule.now time) ships.now }
-    requires early { time ≤ latest_time + 10001 }
-    ensures { IfOk result (λ parts. parts.items ≡ pattern ∷ map (ship_at rule.now time) ships.now) }
-{
     let mut parts = Vec::new(alloc);
     parts.push(pattern)?;
     for ship in ships {
         let cells = at_time(alloc, rule, ship, time)?;
         parts.push(cells)?;
     }
-    Ok(parts)
+    union(alloc, parts.as_slice())
 }
