@@ -80,7 +80,6 @@ impl<E: Into<OutOfMemory>> From<E> for OpenError {
 ///
 /// A haul is opened for a job, a set of soup numbers and some workers. It takes each number of its set at most once.
 /// Contracts see what it was opened for, whether it is closed, and the worker and number of each report taken.
-#[derive(Drop)]
 pub struct Haul {
     alloc: Global,
     job: Job,
@@ -112,6 +111,27 @@ impl Model for Haul {
           taken = h.taken.items;
         }) h.count h.worker_of.entries
         (record { scores = h.totals.scores.entries; unsettled = h.totals.unsettled; for_good = h.totals.for_good }) };
+}
+
+// Written out, since a derived drop is proved anew wherever a haul is given up.
+impl Drop for Haul {
+    fn drop(self) {
+        let Haul {
+            alloc: _,
+            job: _,
+            ranges,
+            count: _,
+            workers: _,
+            closed: _,
+            taken,
+            worker_of,
+            totals,
+        } = self;
+        drop(ranges);
+        drop(taken);
+        drop(worker_of);
+        drop(totals);
+    }
 }
 
 impl Haul {
