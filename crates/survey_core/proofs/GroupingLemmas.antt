@@ -1,6 +1,6 @@
 -- Groups as they are joined.
 use Rattle.std.proofs.Common.{◌≡◌, ◌≢◌, ◌==◌, ◌∙◌, ◌<◌, ap, sym, refl, subst, ℕ, Bool, true, false, List, All, arith, cond, get_or, inl, inr, length, map}
-use Rattle.std.proofs.Common.{[], ◌∷◌, eq-or-lt_of_le, nat_lt, ◌≤◌}
+use Rattle.std.proofs.Common.{[], ◌∷◌, ◌+◌, eq-or-lt_of_le, get_or-set_other, get_or-set_same, nat_lt, set, ◌≤◌}
 use Rattle.std.proofs.lemmas.Bool.{ltb-false, ltb-true}
 use Rattle.std.proofs.lemmas.Bool.Decides.{Decides-eqb}
 use Rattle.std.proofs.lemmas.List.{get_or-map, get_or_default, length-map}
@@ -13,7 +13,7 @@ use Rattle.plane_core.specs.Rules.{Numbers}
 use Rattle.plane_core.proofs.ClusterLaws.{partition_law}
 use Rattle.plane_core.proofs.PartLemmas.{turned}
 use Rattle.survey_core.specs.declared.sweep.Sweep.{Sweep}
-use Rattle.survey_core.specs.Grouping.{AreGroups, AreNumbers, Coarser}
+use Rattle.survey_core.specs.Grouping.{AreGroups, AreNumbers, AreRenamed, Coarser, PairIsRight}
 use Rattle.survey_core.specs.Groups.{GroupKeeps, GroupsStayApart, renamed}
 use Rattle.survey_core.specs.Profiles.{Settling}
 use Rattle.survey_core.specs.Rest.{RestsAs}
@@ -44,31 +44,60 @@ renamed_below from to k n low there = go (k == from)
     go true = low
     go false = there
 
-pub renamed_numbers : (sweeps : List Sweep) (groups later slice : List ℕ) (from to : ℕ) → later ≡ map (renamed from to) slice → slice ≡ groups
+le_of_lt_one : (k i : ℕ) → k < i + 1 → k ≤ i
+le_of_lt_one k i low = omega arith
+
+below_differs : (k i : ℕ) → k < i → k ≢ i
+below_differs k i low = omega arith
+
+above_differs : (k i : ℕ) → i + 1 ≤ k → k ≢ i
+above_differs k i low = omega arith
+
+-- one group of the list more has its number
+pub renamed_more : (from to i : ℕ) (old now : List ℕ) (number : ℕ) → i < length now → number ≡ renamed from to (get_or now i 0)
+    → ((k : ℕ) → k < i → get_or now k 0 ≡ renamed from to (get_or old k 0)) → ((k : ℕ) → i ≤ k → get_or now k 0 ≡ get_or old k 0)
+    → (k : ℕ) → k < i + 1 → get_or (set now i number) k 0 ≡ renamed from to (get_or old k 0)
+renamed_more from to i old now number there is done left k low = elim (eq-or-lt_of_le (le_of_lt_one k i low)) [
+  | inl same ↦ ap (λ (j : ℕ). get_or (set now i number) j 0) same ∙ get_or-set_same now i number 0 there ∙ is
+      ∙ ap (renamed from to) (left i (omega arith) ∙ ap (λ (j : ℕ). get_or old j 0) (sym same))
+  | inr before ↦ get_or-set_other now i k number 0 (below_differs k i before) ∙ done k before
+]
+
+pub left_after : (i : ℕ) (old now : List ℕ) (number : ℕ) → ((k : ℕ) → i ≤ k → get_or now k 0 ≡ get_or old k 0)
+    → (k : ℕ) → i + 1 ≤ k → get_or (set now i number) k 0 ≡ get_or old k 0
+left_after i old now number left k low = get_or-set_other now i k number 0 (above_differs k i low) ∙ left k (omega (arith, low))
+
+pub renamed_numbers : (sweeps : List Sweep) (groups later : List ℕ) (from to : ℕ) → AreRenamed from to groups later → length later ≡ length groups
     → to < length sweeps → AreNumbers sweeps groups → AreNumbers sweeps later
-renamed_numbers sweeps groups later slice from to made is low are = record {
-  count = ap length made ∙ length-map slice (renamed from to) ∙ ap length is ∙ are.count;
-  below = subst (All (λ k. k < length sweeps)) (sym made)
-      (All-map (λ k. k < length sweeps) (renamed from to) slice
-      (λ i d there. renamed_below from to (get_or slice i d) (length sweeps) low
-      (subst (λ (gs : List ℕ). All (λ k. k < length sweeps) gs) (sym is) are.below i d there)));
+renamed_numbers sweeps groups later from to made long low are = record {
+  count = long ∙ are.count;
+  below = λ i d there.
+      let old : i < length groups = subst (λ (n : ℕ). i < n) long there in
+      subst (λ (k : ℕ). k < length sweeps) (sym (made i old) ∙ get_or_default later i 0 d there)
+      (renamed_below from to (get_or groups i 0) (length sweeps) low (are.below i 0 old));
 }
 
-at_later : (groups later slice : List ℕ) (from to i : ℕ) → later ≡ map (renamed from to) slice → slice ≡ groups → i < length groups
-    → get_or later i 0 ≡ renamed from to (get_or groups i 0)
-at_later groups later slice from to i made is low =
-    ap (λ (gs : List ℕ). get_or gs i 0) (made ∙ ap (map (renamed from to)) is) ∙ get_or-map (renamed from to) groups i 0 0 low
-
-pub renamed_coarser : (groups later slice : List ℕ) (from to : ℕ) → later ≡ map (renamed from to) slice → slice ≡ groups → Coarser groups later
-renamed_coarser groups later slice from to made is a b low there ne = λ same.
-    ne (at_later groups later slice from to a made is low ∙ ap (renamed from to) same ∙ sym (at_later groups later slice from to b made is there))
+pub renamed_coarser : (groups later : List ℕ) (from to : ℕ) → AreRenamed from to groups later → Coarser groups later
+renamed_coarser groups later from to made a b low there ne = λ same.
+    ne (made a low ∙ ap (renamed from to) same ∙ sym (made b there))
 
 -- the two are in one group then
-pub renamed_pair : (groups later slice : List ℕ) (from to i j : ℕ) → later ≡ map (renamed from to) slice → slice ≡ groups → i < length groups
-    → j < length groups → get_or groups i 0 ≡ from → get_or groups j 0 ≡ to → get_or later i 0 ≡ get_or later j 0
-renamed_pair groups later slice from to i j made is low there one other =
-    at_later groups later slice from to i made is low ∙ renamed_from from to (get_or groups i 0) one
-    ∙ sym (at_later groups later slice from to j made is there ∙ renamed_to from to (get_or groups j 0) other)
+pub renamed_pair : (groups later : List ℕ) (from to i j : ℕ) → AreRenamed from to groups later → i < length groups → j < length groups
+    → get_or groups i 0 ≡ from → get_or groups j 0 ≡ to → get_or later i 0 ≡ get_or later j 0
+renamed_pair groups later from to i j made low there one other =
+    made i low ∙ renamed_from from to (get_or groups i 0) one ∙ sym (made j there ∙ renamed_to from to (get_or groups j 0) other)
+
+-- the groups of one cluster more are right
+pub pairs_more : (horizon : ℕ) (sweeps : List Sweep) (old new : List ℕ) (place : ℕ) → place < length sweeps → length old ≡ length sweeps
+    → Coarser old new → ((i j : ℕ) → j < i → i < place → PairIsRight horizon sweeps old i j)
+    → ((j : ℕ) → j < place → PairIsRight horizon sweeps new place j) → (i j : ℕ) → j < i → i < place + 1 → PairIsRight horizon sweeps new i j
+pairs_more horizon sweeps old new place there count coarser before here i j lt low = elim (eq-or-lt_of_le (le_of_lt_one i place low)) [
+  | inl is ↦ subst (λ (k : ℕ). PairIsRight horizon sweeps new k j) (sym is) (here j (subst (λ (k : ℕ). j < k) is lt))
+  | inr less ↦ λ d ne. before i j lt less d (coarser i j (in_old i less) (in_old j (omega (arith, lt, less))) ne)
+]
+  where
+    in_old : (k : ℕ) → k < place → k < length old
+    in_old k less = subst (λ (n : ℕ). k < n) (sym count) (omega (arith, less, there))
 
 -- an element of a list that has one
 pub first_of : (sweeps : List Sweep) (i : ℕ) → i < length sweeps → Sweep

@@ -1,6 +1,7 @@
 -- How groups are made from sweeps.
 use Rattle.std.specs.Prelude.{◌≡◌, ◌≢◌, ◌<◌, ℕ, List, All, get_or, length}
 use Rattle.survey_core.specs.declared.sweep.Sweep.{Sweep}
+use Rattle.survey_core.specs.Groups.{renamed}
 use Rattle.survey_core.specs.Sweeps.{StayApart}
 
 -- each sweep has the number of its group, which is that of a place
@@ -11,6 +12,10 @@ pub record AreNumbers (sweeps : List Sweep) (groups : List ℕ) : Type 0 where
 -- what was in one group still is
 abbrev pub Coarser : List ℕ → List ℕ → Type 0
 Coarser old new = (a b : ℕ) → a < length old → b < length old → get_or new a 0 ≢ get_or new b 0 → get_or old a 0 ≢ get_or old b 0
+
+-- each of the groups has its number, and the one that of the other
+abbrev pub AreRenamed : ℕ → ℕ → List ℕ → List ℕ → Type 0
+AreRenamed from to old new = (k : ℕ) → k < length old → get_or new k 0 ≡ renamed from to (get_or old k 0)
 
 -- the sweeps at these two places stay apart if they are of different groups
 abbrev pub PairIsRight : ℕ → List Sweep → List ℕ → ℕ → ℕ → Type 0

@@ -14,7 +14,7 @@
 
 ghost use Rattle.std.specs.Prelude.{◌≡◌, ◌≢◌, ◌<◌, ◌≤◌, ℕ, All, IfOk, get_or, length, map};
 ghost use Rattle.std.specs.List.{range_with_len};
-ghost use Rattle.survey_core.specs.Grouping.{AreGroups, AreNumbers, Coarser, PairIsRight};
+ghost use Rattle.survey_core.specs.Grouping.{AreGroups, AreNumbers, AreRenamed, Coarser, PairIsRight};
 ghost use Rattle.survey_core.specs.Groups.{renamed};
 
 use crate::sweep::{Sweep, stay_apart};
@@ -40,7 +40,7 @@ pub(crate) fn groups(
     }
     let mut groups = numbers(alloc, sweeps.len())?;
     for place in 0..sweeps.len() {
-        groups = joined(alloc, horizon, sweeps, place, groups)?;
+        join(horizon, sweeps, place, groups.as_mut_slice());
     }
     Ok(groups)
 }
@@ -69,68 +69,45 @@ fn numbers(alloc: Global, count: usize) -> Result<Vec<usize>, OutOfMemory>
     Ok(numbers)
 }
 
-/// The groups once that of the cluster at this place is joined with those of the clusters before it that it may meet.
-fn joined(
-    alloc: Global,
-    horizon: u32,
-    sweeps: &[Sweep],
-    place: usize,
-    groups: Vec<usize>,
-) -> Result<Vec<usize>, OutOfMemory>
+/// Joins the group of the cluster at this place with those of the clusters before it that it may meet.
+fn join(horizon: u32, sweeps: &[Sweep], place: usize, groups: &mut [usize])
     requires horizon { horizon ≤ 4096 }
     requires place { place < length sweeps.now }
-    requires numbers { AreNumbers sweeps.now groups.items }
-    ensures numbers { IfOk result (λ joined. AreNumbers sweeps.now joined.items) }
-    ensures coarser { IfOk result (λ joined. Coarser groups.items joined.items) }
-    ensures apart { IfOk result (λ joined. (j : ℕ) → j < place → PairIsRight horizon sweeps.now joined.items place j) }
+    requires numbers { AreNumbers sweeps.now groups.old }
+    ensures numbers { AreNumbers sweeps.now groups.new }
+    ensures coarser { Coarser groups.old groups.new }
+    ensures apart { (j : ℕ) → j < place → PairIsRight horizon sweeps.now groups.new place j }
 {
-    let mut latest = groups;
     for other in 0..place {
-        latest = joined_pair(alloc, horizon, sweeps, place, other, latest)?;
+        join_pair(horizon, sweeps, place, other, groups);
     }
-    Ok(latest)
 }
 
-/// The groups once those of these two clusters are joined, if the two may meet.
-fn joined_pair(
-    alloc: Global,
-    horizon: u32,
-    sweeps: &[Sweep],
-    one: usize,
-    other: usize,
-    groups: Vec<usize>,
-) -> Result<Vec<usize>, OutOfMemory>
+/// Joins the groups of these two clusters, if the two may meet.
+fn join_pair(horizon: u32, sweeps: &[Sweep], one: usize, other: usize, groups: &mut [usize])
     requires horizon { horizon ≤ 4096 }
     requires one { one < length sweeps.now }
     requires other { other < length sweeps.now }
-    requires numbers { AreNumbers sweeps.now groups.items }
-    ensures numbers { IfOk result (λ joined. AreNumbers sweeps.now joined.items) }
-    ensures coarser { IfOk result (λ joined. Coarser groups.items joined.items) }
-    ensures apart { IfOk result (λ joined. PairIsRight horizon sweeps.now joined.items one other) }
+    requires numbers { AreNumbers sweeps.now groups.old }
+    ensures numbers { AreNumbers sweeps.now groups.new }
+    ensures coarser { Coarser groups.old groups.new }
+    ensures apart { PairIsRight horizon sweeps.now groups.new one other }
 {
     let apart = stay_apart(horizon, &sweeps[one], &sweeps[other]);
     if apart {
-        return Ok(groups);
+        return;
     }
-    let numbers = groups.as_slice();
-    let later = renamed_all(alloc, numbers, numbers[one], numbers[other])?;
-    Ok(later)
+    let (from, to) = (groups[one], groups[other]);
+    rename(groups, from, to);
 }
 
-/// The numbers, where the one group has the number of the other.
-fn renamed_all(
-    alloc: Global,
-    groups: &[usize],
-    from: usize,
-    to: usize,
-) -> Result<Vec<usize>, OutOfMemory>
-    ensures { IfOk result (λ later. later.items ≡ map (renamed from to) groups.now) }
+/// Gives the one group the number of the other.
+fn rename(groups: &mut [usize], from: usize, to: usize)
+    ensures { AreRenamed from to groups.old groups.new }
 {
-    let mut later = Vec::with_capacity(alloc, groups.len())?;
-    for group in groups {
-        later.push(renamed(from, to, *group))?;
+    for group in groups.iter_mut() {
+        *group = renamed(from, to, *group);
     }
-    Ok(later)
 }
 
 /// The number of a group, where the one group has the number of the other.

@@ -1,21 +1,19 @@
-use Rattle.std.proofs.Common.{◌<◌, ◌≤◌, sym, subst, ℕ, arith, eq-or-lt_of_le, inl, inr, length}
-use Rattle.survey_core.specs.Grouping.{PairIsRight}
+use Rattle.std.proofs.Common.{◌≡◌, ◌∙◌, ◌<◌, ◌≤◌, List, ℕ, arith, length, subst}
+use Rattle.std.proofs.lemmas.List.{with_items_is}
+use Rattle.survey_core.specs.Grouping.{Coarser}
+use Rattle.survey_core.proofs.GroupingLemmas.{pairs_more}
 use Rattle.survey_core.proofs.groups.groups.Goals as goal
 
 pub loop-place-preserved : goal.loop-place-preserved
 loop-place-preserved c =
-    let place : c.loop-place.place < length c.args.sweeps.now = c.loop-place-test.true in
-    record {
-      numbers = c.in_ok-groups-2.ensures.numbers;
-      apart = λ i j lt low. let le : i ≤ c.loop-place.place = omega arith in
-          elim (eq-or-lt_of_le le) [
-            | inl is ↦ subst (λ (k : ℕ). PairIsRight c.args.horizon c.args.sweeps.now c.in_ok-groups-2.groups.items k j) (sym is)
-                (c.in_ok-groups-2.ensures.apart j (subst (λ (k : ℕ). j < k) is lt))
-            | inr less ↦ λ d ne. c.loop-place.invariant.apart i j lt less d
-                (c.in_ok-groups-2.ensures.coarser i j
-                (subst (λ (n : ℕ). i < n) (sym c.loop-place.invariant.numbers.count) (omega arith))
-                (subst (λ (n : ℕ). j < n) (sym c.loop-place.invariant.numbers.count) (omega arith)) ne)
-          ];
+    let old = c.loop-place.groups in
+    let new = c.join.new.groups in
+    let long : length new ≡ old.len = c.join.auto.groups ∙ c.as_mut_slice.ensures.len in
+    let coarser : Coarser old.items new = subst (λ (gs : List ℕ). Coarser gs new) c.as_mut_slice.ensures.value c.join.ensures.coarser in
+    rw (with_items_is old new long) record {
+      numbers = c.join.ensures.numbers;
+      apart = pairs_more c.args.horizon c.args.sweeps.now old.items new c.loop-place.place c.loop-place-test.true
+          c.loop-place.invariant.numbers.count coarser c.loop-place.invariant.apart c.join.ensures.apart;
     }
 
 pub returns : goal.returns
