@@ -1,8 +1,73 @@
-use Rattle.std.proofs.Common.{sym}
+use Rattle.std.proofs.Common.{◌∙◌, ap, length, refl, sym}
+use Rattle.std.proofs.lemmas.Bool.{false≢true}
+use Rattle.std.proofs.lemmas.Result.{IfOk-from_err}
 use Rattle.plane_core.specs.OnBoard.{cells_on}
 use Rattle.plane_core.proofs.AdvanceLemmas.{has_gone_on}
 use Rattle.plane_core.proofs.OnBoardLemmas.{cells_in_order, shows_cells}
 use Rattle.plane_core.proofs.board.leap_on.Goals as goal
+
+pub cover-requires : goal.cover-requires
+cover-requires g c = rw c.as_slice.ensures.value c.requires.ready.sides
+
+pub returns-in_err-cover-clause-stopped : goal.returns-in_err-cover-clause-stopped
+returns-in_err-cover-clause-stopped g c = IfOk-from_err _ _ c.from_residual.ensures.0
+
+pub returns-in_err-cover-clause-leapt : goal.returns-in_err-cover-clause-leapt
+returns-in_err-cover-clause-leapt g c = IfOk-from_err _ _ c.from_residual.ensures.0
+
+pub are_on_board-inside-requires : goal.are_on_board-inside-requires
+are_on_board-inside-requires g c = c.requires.ready.frame
+
+pub returns-then-not-inside-clause-stopped : goal.returns-then-not-inside-clause-stopped
+returns-then-not-inside-clause-stopped g c e = (refl, refl, refl)
+
+pub returns-then-not-inside-clause-leapt : goal.returns-then-not-inside-clause-leapt
+returns-then-not-inside-clause-leapt g c e = absurd (false≢true e)
+
+pub widen_by-requires-clause-frame : goal.widen_by-requires-clause-frame
+widen_by-requires-clause-frame g c = c.requires.ready.frame
+
+pub widen_by-requires-clause-on_board : goal.widen_by-requires-clause-on_board
+widen_by-requires-clause-on_board g c = c.are_on_board-inside.ensures.on_board c.if-not-inside.false
+
+pub widen_by-requires-clause-long : goal.widen_by-requires-clause-long
+widen_by-requires-clause-long g c = c.requires.ready.spanned.lanes
+
+pub leap-requires-clause-frame : goal.leap-requires-clause-frame
+leap-requires-clause-frame g c = c.requires.ready.frame
+
+pub leap-requires-clause-long : goal.leap-requires-clause-long
+leap-requires-clause-long g c = c.requires.ready.long
+
+pub leap-requires-clause-on_board : goal.leap-requires-clause-on_board
+leap-requires-clause-on_board g c = c.are_on_board-inside.ensures.on_board c.if-not-inside.false
+
+pub leap-requires-clause-some : goal.leap-requires-clause-some
+leap-requires-clause-some g c = c.requires.some
+
+pub leap-requires-clause-few : goal.leap-requires-clause-few
+leap-requires-clause-few g c = c.requires.few
+
+pub returns-in_err-leap-clause-stopped : goal.returns-in_err-leap-clause-stopped
+returns-in_err-leap-clause-stopped g c = IfOk-from_err _ _ c.from_residual-in_err-leap.ensures.0
+
+pub returns-in_err-leap-clause-leapt : goal.returns-in_err-leap-clause-leapt
+returns-in_err-leap-clause-leapt g c = IfOk-from_err _ _ c.from_residual-in_err-leap.ensures.0
+
+pub next_boxes-requires-clause-one_each : goal.next_boxes-requires-clause-one_each
+next_boxes-requires-clause-one_each g c = sym (ap length c.as_slice-2.ensures.value ∙ c.in_ok-leap.ensures.each)
+
+pub next_boxes-requires-clause-reach : goal.next_boxes-requires-clause-reach
+next_boxes-requires-clause-reach g c = c.are_on_board-inside.ensures.reach c.if-not-inside.false
+
+pub returns-in_err-next_boxes-clause-stopped : goal.returns-in_err-next_boxes-clause-stopped
+returns-in_err-next_boxes-clause-stopped g c = IfOk-from_err _ _ c.from_residual-in_err-next_boxes.ensures.0
+
+pub returns-in_err-next_boxes-clause-leapt : goal.returns-in_err-next_boxes-clause-leapt
+returns-in_err-next_boxes-clause-leapt g c = IfOk-from_err _ _ c.from_residual-in_err-next_boxes.ensures.0
+
+pub returns-clause-stopped : goal.returns-clause-stopped
+returns-clause-stopped g c e = absurd (false≢true (sym e))
 
 pub returns-clause-leapt : goal.returns-clause-leapt
 returns-clause-leapt g c e =
