@@ -4,7 +4,7 @@ use Rattle.plane_core.specs.declared.cell.Cell.{Cell}
 use Rattle.plane_core.specs.Bounds.{IsWithin}
 use Rattle.plane_core.specs.Boxes.{IsInOne}
 use Rattle.plane_core.specs.Cells.{is_within}
-use Rattle.plane_core.proofs.BoxLemmas.{passes_at, take_whole}
+use Rattle.plane_core.proofs.BoxLemmas.{passes_at, take_whole, wider_has}
 use Rattle.plane_core.proofs.SetLemmas.{has-all}
 use Rattle.plane_core.proofs.runs.boxes_round.Goals as goal
 
@@ -14,7 +14,7 @@ loop-cell-preserved c = record {
       (omega (arith, c.loop-cell-test.true))
       (All-weaker (λ (d : Cell). IsWithin c.loop-cell.run d ⊎ IsInOne c.loop-cell.boxes.items d)
       (λ (d : Cell). IsWithin c.in_ok-run.run' d ⊎ IsInOne c.next_run.new.boxes.items d)
-      (λ d h. elim h [ inl in_run ↦ c.in_ok-run.ensures.run d in_run | inr in_box ↦ inr (c.in_ok-run.ensures.kept d in_box) ])
+      (λ d h. elim h [ inl in_run ↦ c.in_ok-run.ensures.run d in_run | inr in_box ↦ inr (wider_has c.loop-cell.boxes.items c.next_run.new.boxes.items c.in_ok-run.ensures.wider d in_box) ])
       (take c.loop-cell.cell-index c.args.cells.now) c.loop-cell.invariant.held)
       (inl c.in_ok-run.ensures.cell);
   run_sides = λ n near.
@@ -25,11 +25,11 @@ loop-cell-preserved c = record {
 
 pub returns-clause-held : goal.returns-clause-held
 returns-clause-held c = λ d h.
-    has-all (λ (d : Cell). IsInOne c.put_run.new.boxes.items d) c.args.cells.now d
-    (recursion_from_All (λ (d : Cell). IsInOne c.put_run.new.boxes.items d) c.args.cells.now
+    has-all (λ (d : Cell). IsInOne c.put_in_box.new.boxes.items d) c.args.cells.now d
+    (recursion_from_All (λ (d : Cell). IsInOne c.put_in_box.new.boxes.items d) c.args.cells.now
     (All-weaker (λ (d : Cell). IsWithin c.loop-cell.run d ⊎ IsInOne c.loop-cell.boxes.items d)
-    (λ (d : Cell). IsInOne c.put_run.new.boxes.items d)
-    (λ d h. elim h [ inl in_run ↦ c.in_ok-put_run.ensures.held d in_run | inr in_box ↦ c.in_ok-put_run.ensures.kept d in_box ]) c.args.cells.now
+    (λ (d : Cell). IsInOne c.put_in_box.new.boxes.items d)
+    (λ d h. elim h [ inl in_run ↦ c.in_ok-put_in_box.ensures.held d in_run | inr in_box ↦ wider_has c.loop-cell.boxes.items c.put_in_box.new.boxes.items c.put_in_box.ensures.wider d in_box ]) c.args.cells.now
     (All-same (λ (d : Cell). IsWithin c.loop-cell.run d ⊎ IsInOne c.loop-cell.boxes.items d) c.args.cells.now
     (take c.loop-cell.cell-index c.args.cells.now)
     (sym (take_whole c.args.cells.now c.loop-cell.cell-index (omega (arith, c.loop-cell-test.false)) (omega (arith, c.loop-cell-test.false))))
@@ -37,4 +37,4 @@ returns-clause-held c = λ d h.
 
 pub returns-clause-sides : goal.returns-clause-sides
 returns-clause-sides c = λ n near.
-    c.in_ok-put_run.ensures.sides n (c.loop-cell.invariant.run_sides n near) (c.loop-cell.invariant.sides n near)
+    c.in_ok-put_in_box.ensures.sides n (c.loop-cell.invariant.run_sides n near) (c.loop-cell.invariant.sides n near)

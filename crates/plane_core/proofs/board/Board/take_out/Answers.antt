@@ -12,7 +12,7 @@ invariant_of-self c =
     wider_board inside.at inside.answers.rule inside.is_life inside.words.items inside.boxes.items c.put_in_boxes.new.boxes.items inside.holds_all
     inside.spans.items c.self.invariant
     (c.put_in_boxes.ensures.sides box_bound (rw c.cells-gone.ensures.cells (lies_in_bound c.args.cells.now c.cells-gone.ensures.pattern))
-    c.self.invariant.board.sides) c.put_in_boxes.ensures.near
+    c.self.invariant.board.sides) c.put_in_boxes.ensures.wider
 
 pub invariant_of-self-2 : goal.invariant_of-self-2
 invariant_of-self-2 c =
@@ -26,4 +26,4 @@ invariant_of-self-2 c =
     inside.holds_all inside.spans.items gone c.self.invariant (kept ∙ ap length c.as_mut_slice.ensures.value)
     (c.take_off.ensures.cells ∙ ap (λ (words : List ℕ). without (cells_on inside.at words) gone) c.as_mut_slice.ensures.value)
     (c.put_in_boxes.ensures.sides box_bound (rw c.cells-gone.ensures.cells (lies_in_bound c.args.cells.now c.cells-gone.ensures.pattern))
-    c.self.invariant.board.sides) c.put_in_boxes.ensures.near c.in_ok-put_in_boxes.ensures.held)
+    c.self.invariant.board.sides) c.put_in_boxes.ensures.wider c.in_ok-put_in_boxes.ensures.held)
