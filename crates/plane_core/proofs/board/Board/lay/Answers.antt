@@ -1,4 +1,4 @@
-use Rattle.std.proofs.Common.{◌≡◌, ◌∙◌, ℕ, List, ap, arith, length, slice_index, subst, sym}
+use Rattle.std.proofs.Common.{◌≡◌, ◌∙◌, ℕ, List, ap, length, slice_index, subst, sym}
 use Rattle.std.proofs.lemmas.List.{length-replicate, with_items_is}
 use Rattle.plane_core.specs.declared.cell.Cell.{Cell}
 use Rattle.plane_core.specs.Boxes.{HoldAll}
@@ -12,12 +12,12 @@ invariant_of-result c =
     let at = c.args.at in
     let new = c.fill.new.words in
     let spans = c.widen_by_cells.new.spans in
-    let kept : length new ≡ length c.as_mut_slice.result.now = c.fill.ensures.long in
-    let long : length new ≡ c.in_ok-words.words.len = omega (arith, kept, c.as_mut_slice.ensures.len) in
-    let held : length spans ≡ length c.as_mut_slice-2.result.now = c.widen_by_cells.ensures.long in
-    let lanes : length spans ≡ c.in_ok-spans.spans.len = omega (arith, held, c.as_mut_slice-2.ensures.len) in
+    let kept : length new ≡ length c.as_mut_slice.result.now = c.fill.auto.words in
+    let long : length new ≡ c.in_ok-words.words.len = kept ∙ c.as_mut_slice.ensures.len in
+    let held : length spans ≡ length c.as_mut_slice-2.result.now = c.widen_by_cells.auto.spans in
+    let lanes : length spans ≡ c.in_ok-spans.spans.len = held ∙ c.as_mut_slice-2.ensures.len in
     let is = only_cells at new c.cells-2.result.now (rw c.cells-2.ensures.cells c.cells-2.ensures.pattern.in_order)
-    (rw c.cells-2.ensures.cells c.requires.on) c.fill.ensures.shown in
+    (rw c.cells-2.ensures.cells c.requires.on) c.fill.ensures in
     let same = c.cells-2.ensures.cells ∙ sym c.cells.ensures.cells in
     let here = c.cells-2.ensures.cells ∙ sym c.cells-3.ensures.cells in
     rw (with_items_is c.in_ok-words.words new long, with_items_is c.in_ok-spans.spans spans lanes) record {
@@ -38,8 +38,8 @@ invariant_of-result c =
 pub returns-clause-cells : goal.returns-clause-cells
 returns-clause-cells c =
     let new = c.fill.new.words in
-    let kept : length new ≡ length c.as_mut_slice.result.now = c.fill.ensures.long in
-    let long : length new ≡ c.in_ok-words.words.len = omega (arith, kept, c.as_mut_slice.ensures.len) in
+    let kept : length new ≡ length c.as_mut_slice.result.now = c.fill.auto.words in
+    let long : length new ≡ c.in_ok-words.words.len = kept ∙ c.as_mut_slice.ensures.len in
     let is = only_cells c.args.at new c.cells-2.result.now (rw c.cells-2.ensures.cells c.cells-2.ensures.pattern.in_order)
-    (rw c.cells-2.ensures.cells c.requires.on) c.fill.ensures.shown in
+    (rw c.cells-2.ensures.cells c.requires.on) c.fill.ensures in
     rw (with_items_is c.in_ok-words.words new long) (is ∙ c.cells-2.ensures.cells)

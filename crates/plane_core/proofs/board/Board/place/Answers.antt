@@ -1,4 +1,4 @@
-use Rattle.std.proofs.Common.{◌≡◌, ◌∙◌, ◌*◌, List, ap, arith, length, subst, sym}
+use Rattle.std.proofs.Common.{◌≡◌, ◌∙◌, ◌*◌, List, ap, length, subst, sym}
 use Rattle.std.proofs.lemmas.List.{with_items_is}
 use Rattle.plane_core.specs.declared.cell.Cell.{Cell}
 use Rattle.plane_core.specs.Boards.{Running}
@@ -22,15 +22,15 @@ invariant_of-self c =
     let at = c.in-Some.at in
     let new = c.fill.new.words in
     let spans = c.widen_by_cells.new.spans in
-    let kept : length new ≡ length c.as_mut_slice.result.now = c.fill.ensures.long in
-    let long : length new ≡ inside.words.len = omega (arith, kept, c.as_mut_slice.ensures.len) in
-    let held : length spans ≡ length c.as_mut_slice-in-Ok.result.now = c.widen_by_cells.ensures.long in
-    let lanes : length spans ≡ inside.spans.len = omega (arith, held, c.as_mut_slice-in-Ok.ensures.len) in
+    let kept : length new ≡ length c.as_mut_slice.result.now = c.fill.auto.words in
+    let long : length new ≡ inside.words.len = kept ∙ c.as_mut_slice.ensures.len in
+    let held : length spans ≡ length c.as_mut_slice-in-Ok.result.now = c.widen_by_cells.auto.spans in
+    let lanes : length spans ≡ inside.spans.len = held ∙ c.as_mut_slice-in-Ok.ensures.len in
     let wide : at.lanes ≡ inside.at.lanes = c.in-Some.ensures.lanes in
     let high : at.rows ≡ inside.at.rows = c.in-Some.ensures.rows in
     let all : at.lanes * at.rows ≡ inside.at.lanes * inside.at.rows = λ i. wide i * high i in
     let is = only_cells at new c.cells-in-Ok.result.now (rw c.cells-in-Ok.ensures.cells c.cells-in-Ok.ensures.pattern.in_order)
-    (rw c.cells-in-Ok.ensures.cells c.in-Some.ensures.on) c.fill.ensures.shown in
+    (rw c.cells-in-Ok.ensures.cells c.in-Some.ensures.on) c.fill.ensures in
     let same = c.cells-in-Ok.ensures.cells ∙ sym c.cells.ensures.cells in
     let here = c.cells-in-Ok.ensures.cells ∙ sym c.cells-in-Ok-2.ensures.cells in
     rw (with_items_is inside.words new long, with_items_is inside.spans spans lanes) record {
@@ -61,8 +61,8 @@ pub returns-in-Ok-clause-placed : goal.returns-in-Ok-clause-placed
 returns-in-Ok-clause-placed c is_placed =
     let inside = c.self.inside in
     let new = c.fill.new.words in
-    let kept : length new ≡ length c.as_mut_slice.result.now = c.fill.ensures.long in
-    let long : length new ≡ inside.words.len = omega (arith, kept, c.as_mut_slice.ensures.len) in
+    let kept : length new ≡ length c.as_mut_slice.result.now = c.fill.auto.words in
+    let long : length new ≡ inside.words.len = kept ∙ c.as_mut_slice.ensures.len in
     let is = only_cells c.in-Some.at new c.cells-in-Ok.result.now (rw c.cells-in-Ok.ensures.cells c.cells-in-Ok.ensures.pattern.in_order)
-    (rw c.cells-in-Ok.ensures.cells c.in-Some.ensures.on) c.fill.ensures.shown in
+    (rw c.cells-in-Ok.ensures.cells c.in-Some.ensures.on) c.fill.ensures in
     rw (with_items_is inside.words new long) (is ∙ c.cells-in-Ok.ensures.cells)
