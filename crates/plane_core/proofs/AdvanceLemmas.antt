@@ -206,3 +206,22 @@ pub box_sides : (S cells : List Cell) (boxes : List Bounds) → cells ≡ S → 
 unfolding on_plane
 box_sides S cells boxes is pattern sides k b low =
     fewer_sides plane_bound box_bound _ (omega arith) (sides plane_bound (ap (λ (T : List Cell). lies_within plane_bound T) is ∙ pattern.on_plane) k b low)
+
+-- a board on which a pattern was laid, and what it shows
+pub laid_spanned : (rule : Numbers) (at : Frame) (is_life : Bool) (words : List ℕ) (boxes : List Bounds) (spans : List Span) (S cells : List Cell)
+    → cells ≡ S → IsPattern S → IsFrame at → AreSidesWithin plane_bound (bounds_of at) → (is_life ≡ true → rule ≡ life) → FillsFrame at words
+    → length spans ≡ at.lanes → LieOn at S → Shows at words cells → LieInSpans at spans cells → HoldAll boxes cells
+    → ((n : ℕ) → lies_within n cells ≡ true → All (AreSidesWithin n) boxes)
+    → IsSpannedBoard at rule is_life words boxes true spans × (cells_on at words ≡ S)
+laid_spanned rule at is_life words boxes spans S cells same pattern frame plane is long wide on shown live held sides = (
+  record {
+    board = laid_board at rule is_life words boxes frame is long (box_sides S cells boxes same pattern sides)
+        (subst (λ (T : List Cell). HoldAll boxes T) (same ∙ sym shows) held);
+    spanned = record { lanes = wide; live = subst (λ (T : List Cell). LieInSpans at spans T) (same ∙ sym shows) live };
+    plane = plane;
+  },
+  shows,
+)
+  where
+    shows : cells_on at words ≡ S
+    shows = only_cells at words S pattern.in_order on (subst (λ (T : List Cell). Shows at words T) same shown)

@@ -134,9 +134,10 @@ impl Board {
         let mut words = vec![in alloc; 0u64; at.count()]?;
         let mut spans = vec![in alloc; Span::empty(); at.lanes]?;
         let mut boxes = Vec::new(alloc);
-        boxes_round(pattern.cells(), &mut boxes)?;
-        fill(at, words.as_mut_slice(), pattern.cells());
-        widen_by_cells(at, spans.as_mut_slice(), pattern.cells());
+        let cells = pattern.cells();
+        boxes_round(cells, &mut boxes)?;
+        fill(at, words.as_mut_slice(), cells);
+        widen_by_cells(at, spans.as_mut_slice(), cells);
         Ok(Board {
             at,
             answers: AnyRule::new(rule),
@@ -212,12 +213,13 @@ impl Board {
         let Some(at) = self.at.centred(pattern) else {
             return Ok(false);
         };
-        match boxes_round(pattern.cells(), &mut self.boxes) {
+        let cells = pattern.cells();
+        match boxes_round(cells, &mut self.boxes) {
             Ok(()) => {
                 self.at = at;
                 self.holds_all = true;
-                fill(at, self.words.as_mut_slice(), pattern.cells());
-                widen_by_cells(at, self.spans.as_mut_slice(), pattern.cells());
+                fill(at, self.words.as_mut_slice(), cells);
+                widen_by_cells(at, self.spans.as_mut_slice(), cells);
                 Ok(true)
             }
             Err(error) => {
