@@ -1,5 +1,5 @@
 -- Windows over rectangles: what a union has in it, and that windows side by side leave no gap.
-use Rattle.std.proofs.Common.{◌/◌, ◌%◌, ◌-◌, ◌<◌, ◌-ℤ◌, ◌≡◌, ◌+◌, ◌*◌, ◌≤◌, ℕ, ℤ, pos, ◌+ℤ◌, ◌≤ℤ◌, ◌<ℤ◌, List, length, get_or, unsigned_abs}
+use Rattle.std.proofs.Common.{◌/◌, ◌%◌, ◌-◌, ◌<◌, ◌-ℤ◌, ◌≡◌, ◌+◌, ◌*◌, ◌^◌, ◌≤◌, ℕ, ℤ, pos, ◌+ℤ◌, ◌≤ℤ◌, ◌<ℤ◌, List, length, get_or, unsigned_abs}
 use Rattle.std.proofs.Common.{arith, sym, subst, inl, inr, ◌⊎◌}
 use Rattle.std.specs.Int.{int_max, int_min}
 use Rattle.std.specs.List.{swap_remove}
@@ -10,7 +10,7 @@ use Rattle.plane_core.specs.declared.cell.Cell.{Cell}
 use Rattle.plane_core.specs.declared.cover.Spans.{Spans}
 use Rattle.plane_core.specs.declared.place.Place.{Place}
 use Rattle.plane_core.specs.Bounds.{IsRoundBoth, IsWithin}
-use Rattle.plane_core.specs.Boxes.{IsInOne}
+use Rattle.plane_core.specs.Boxes.{IsInOne, rectangle_bound}
 use Rattle.plane_core.specs.Cells.{distance}
 use Rattle.plane_core.specs.Covers.{AreSideBySide, BeginsAt, IsInRow}
 use Rattle.plane_core.specs.Bounds.{AreSidesWithin}
@@ -170,3 +170,30 @@ side_by_side_is first last begin size length some is at = record {
 
     reach : last ≤ℤ (first +ℤ pos length)
     reach = omega (arith, ints)
+
+-- ---- how far spans reach
+
+pub spans_begin : (first last : ℤ) (size : ℕ) (spans : Spans) → AreSideBySide first last size spans → size ≤ 64 → unsigned_abs first ≤ rectangle_bound
+    → unsigned_abs spans.first ≤ 2 ^ 25
+spans_begin first last size spans is low near =
+    let s = is.start in
+    let n = is.near in
+    omega (arith, ints)
+
+pub few_rows : (first last : ℤ) (spans : Spans) → AreSideBySide first last 32 spans → unsigned_abs first ≤ rectangle_bound
+    → unsigned_abs last ≤ rectangle_bound → spans.count ≤ 2 ^ 20
+few_rows first last spans is near far =
+    let s = is.small in
+    omega (arith, ints)
+
+pub few_columns : (first last : ℤ) (spans : Spans) → AreSideBySide first last 56 spans → unsigned_abs first ≤ rectangle_bound
+    → unsigned_abs last ≤ rectangle_bound → spans.count ≤ 2 ^ 20
+few_columns first last spans is near far =
+    let s = is.small in
+    omega (arith, ints)
+
+pub row_near : (first row : ℤ) (i : ℕ) → unsigned_abs first ≤ 2 ^ 25 → i ≤ 2 ^ 20 → row ≡ first +ℤ pos (32 * i) → unsigned_abs row ≤ 2 ^ 26
+row_near first row i near few is = omega (arith, ints, is)
+
+pub wider_bound : (first : ℤ) → unsigned_abs first ≤ 2 ^ 25 → unsigned_abs first ≤ 2 ^ 26
+wider_bound first near = omega arith

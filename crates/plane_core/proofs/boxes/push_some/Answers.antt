@@ -1,0 +1,25 @@
+use Rattle.std.proofs.Common.{inl}
+use Rattle.std.proofs.lemmas.Result.{IfOk-from_err}
+use Rattle.plane_core.specs.declared.bounds.Bounds.{Bounds}
+use Rattle.plane_core.specs.Bounds.{IsWithin}
+use Rattle.plane_core.proofs.BoxLemmas.{any_pushed}
+use Rattle.plane_core.proofs.boxes.push_some.Goals as goal
+
+pub returns-in_err-push-clause-kept : goal.returns-in_err-push-clause-kept
+returns-in_err-push-clause-kept c = IfOk-from_err _ _ c.from_residual.ensures.0
+
+pub returns-in_err-push-clause-added : goal.returns-in_err-push-clause-added
+returns-in_err-push-clause-added c = IfOk-from_err _ _ c.from_residual.ensures.0
+
+pub returns-in_err-push-clause-sides : goal.returns-in_err-push-clause-sides
+returns-in_err-push-clause-sides c = IfOk-from_err _ _ c.from_residual.ensures.0
+
+pub returns-in_ok-push-clause-kept : goal.returns-in_ok-push-clause-kept
+returns-in_ok-push-clause-kept c d some =
+    any_pushed (λ (b : Bounds). IsWithin b d) c.args.boxes.now.items c.push.new.self.items c.in-Some.bounds c.in_ok-push.ensures.items (inl some)
+
+pub returns-in_default-clause-kept : goal.returns-in_default-clause-kept
+returns-in_default-clause-kept c d some = some
+
+pub returns-in_default-clause-sides : goal.returns-in_default-clause-sides
+returns-in_default-clause-sides c here all = all
