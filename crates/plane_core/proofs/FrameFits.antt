@@ -1,5 +1,5 @@
 -- That the numbers from which a frame is made fit their types.
-use Rattle.std.proofs.Common.{◌≡◌, ◌+◌, ◌-◌, ◌*◌, ◌/◌, ◌^◌, ◌<◌, ◌≤◌, ℕ, ℤ, pos, ◌+ℤ◌, ◌≤ℤ◌, ◌<ℤ◌, Fits, FitsSigned, true, false, leb, arith, unsigned_abs}
+use Rattle.std.proofs.Common.{◌≡◌, ◌+◌, ◌-◌, ◌*◌, ◌/◌, ◌^◌, ◌<◌, ◌≤◌, ℕ, ℤ, pos, ◌+ℤ◌, ◌-ℤ◌, ◌≤ℤ◌, ◌<ℤ◌, Fits, FitsSigned, true, false, leb, arith, unsigned_abs}
 use Rattle.std.proofs.Common.{of_z, subst, sym, to_z, w32, w64}
 use Rattle.std.proofs.lemmas.Bool.{leb-true}
 use Rattle.std.proofs.lemmas.Int.{ints, to_z-of_z}
@@ -32,8 +32,17 @@ fits_around at frame =
 
 -- ---- how far apart the sides of a box are
 
-pub apart_small : (a b : ℤ) (n : ℕ) → unsigned_abs a ≤ plane_bound → unsigned_abs b ≤ plane_bound → n ≡ distance a b → n ≤ 2000000
-apart_small a b n near far is = omega (arith, ints, is)
+-- the distance of two numbers that were passed on
+pub apart_is : (a b : ℤ) (n : ℕ) → FitsSigned w32 a → FitsSigned w32 b → n ≡ distance (to_z w32 (of_z w32 a)) (to_z w32 (of_z w32 b))
+    → n ≡ distance a b
+apart_is a b n fits other is = rw (to_z-of_z w32 a fits, to_z-of_z w32 b other) at is
+
+pub apart_small : (a b : ℤ) (n : ℕ) → FitsSigned w32 a → FitsSigned w32 b → unsigned_abs a ≤ plane_bound → unsigned_abs b ≤ plane_bound
+    → n ≡ distance (to_z w32 (of_z w32 a)) (to_z w32 (of_z w32 b)) → n ≤ 2000000
+apart_small a b n fits other near far is = let e = apart_is a b n fits other is in small e
+  where
+    small : n ≡ distance a b → n ≤ 2000000
+    small e = omega (arith, ints, e, near, far)
 
 pub fits_more : (n k : ℕ) → n ≤ 2000000 → k ≤ 10000 → Fits w32 (n + k)
 fits_more n k low few = record { fits = omega arith }
@@ -76,10 +85,9 @@ room_sides at b room = fewer_sides (plane_bound - (64 * at.lanes + at.rows)) pla
 pub sides_near : (far around : ℕ) (b : Bounds) → AreSidesWithin far b → far ≤ plane_bound - around → AreSidesWithin plane_bound b
 sides_near far around b sides low = fewer_sides far plane_bound b (omega (arith, low)) sides
 
--- the distance of two numbers that were passed on
-pub apart_is : (a b : ℤ) (n : ℕ) → FitsSigned w32 a → FitsSigned w32 b → n ≡ distance (to_z w32 (of_z w32 a)) (to_z w32 (of_z w32 b))
-    → n ≡ distance a b
-apart_is a b n fits other is = rw (to_z-of_z w32 a fits, to_z-of_z w32 b other) at is
+-- the number so many back from one that was passed on
+pub back_is : (a : ℤ) (n : ℕ) (b : ℤ) → FitsSigned w32 a → b ≡ to_z w32 (of_z w32 a) -ℤ pos n → b ≡ a -ℤ pos n
+back_is a n b fits is = rw (to_z-of_z w32 a fits) at is
 
 pub half_near : (n k m : ℕ) → n + m ≤ plane_bound → (n - k) / 2 ≤ plane_bound
 half_near n k m low = omega (arith, low)
@@ -146,3 +154,77 @@ corner_small at lane x frame low is =
     let h = frame.lanes in
     let k = frame.left in
     omega (arith, ints, is)
+
+-- ---- cells off the frame
+
+pub before_left : (at : Frame) (c : Cell) → FitsSigned w32 c.x → IsFrame at → lt_z (to_z w32 (of_z w32 c.x)) (to_z w32 (of_z w32 at.left)) ≡ true
+    → IsWithin (bounds_of at) c → ⊥
+before_left at c fits frame less within =
+    let k = frame.left in
+    let h = within.left in
+    omega (arith, ints, less)
+
+pub past_right : (at : Frame) (c : Cell) → FitsSigned w32 c.x → IsFrame at
+    → le_z (to_z w32 (of_z w32 (to_z w32 (of_z w32 at.left) +ℤ to_z w32 (64 * at.lanes)))) (to_z w32 (of_z w32 c.x)) ≡ true
+    → IsWithin (bounds_of at) c → ⊥
+past_right at c fits frame past within =
+    let k = frame.left in
+    let l = frame.lanes in
+    let h = within.right in
+    omega (arith, ints, past)
+
+pub before_top : (at : Frame) (c : Cell) → FitsSigned w32 c.y → IsFrame at → lt_z (to_z w32 (of_z w32 c.y)) (to_z w32 (of_z w32 at.top)) ≡ true
+    → IsWithin (bounds_of at) c → ⊥
+before_top at c fits frame less within =
+    let k = frame.top in
+    let h = within.top in
+    omega (arith, ints, less)
+
+pub past_bottom : (at : Frame) (c : Cell) → FitsSigned w32 c.y → IsFrame at
+    → le_z (to_z w32 (of_z w32 (to_z w32 (of_z w32 at.top) +ℤ to_z w32 at.rows))) (to_z w32 (of_z w32 c.y)) ≡ true
+    → IsWithin (bounds_of at) c → ⊥
+past_bottom at c fits frame past within =
+    let k = frame.top in
+    let l = frame.rows in
+    let h = within.bottom in
+    omega (arith, ints, past)
+
+-- and cells on it
+pub in_frame : (at : Frame) (c : Cell) → FitsSigned w32 c.x → FitsSigned w32 c.y → IsFrame at
+    → lt_z (to_z w32 (of_z w32 c.x)) (to_z w32 (of_z w32 at.left)) ≡ false
+    → le_z (to_z w32 (of_z w32 (to_z w32 (of_z w32 at.left) +ℤ to_z w32 (64 * at.lanes)))) (to_z w32 (of_z w32 c.x)) ≡ false
+    → lt_z (to_z w32 (of_z w32 c.y)) (to_z w32 (of_z w32 at.top)) ≡ false
+    → le_z (to_z w32 (of_z w32 (to_z w32 (of_z w32 at.top) +ℤ to_z w32 at.rows))) (to_z w32 (of_z w32 c.y)) ≡ false
+    → IsWithin (bounds_of at) c
+in_frame at c x y frame left right top bottom =
+    let k = frame.left in
+    let l = frame.lanes in
+    let m = frame.top in
+    let r = frame.rows in
+    record {
+      left = omega (arith, ints, left);
+      top = omega (arith, ints, top);
+      right = omega (arith, ints, right);
+      bottom = omega (arith, ints, bottom);
+    }
+
+pub fits_frame_columns : (at : Frame) → IsFrame at → Fits w64 (64 * at.lanes)
+fits_frame_columns at frame = let h = frame.lanes in record { fits = omega arith }
+
+pub fits_signed_columns : (at : Frame) → IsFrame at → FitsSigned w32 (pos (64 * at.lanes))
+fits_signed_columns at frame = let h = frame.lanes in omega (arith, ints)
+
+pub fits_right : (at : Frame) → IsFrame at → FitsSigned w32 (to_z w32 (of_z w32 at.left) +ℤ to_z w32 (64 * at.lanes))
+fits_right at frame =
+    let h = frame.lanes in
+    let k = frame.left in
+    omega (arith, ints)
+
+pub fits_signed_rows : (at : Frame) → IsFrame at → FitsSigned w32 (pos at.rows)
+fits_signed_rows at frame = let h = frame.rows in omega (arith, ints)
+
+pub fits_bottom : (at : Frame) → IsFrame at → FitsSigned w32 (to_z w32 (of_z w32 at.top) +ℤ to_z w32 at.rows)
+fits_bottom at frame =
+    let h = frame.rows in
+    let k = frame.top in
+    omega (arith, ints)

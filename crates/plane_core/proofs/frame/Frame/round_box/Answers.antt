@@ -1,6 +1,8 @@
 use Rattle.std.proofs.Common.{ap, ℕ, ◌+◌, ◌*◌, ◌/◌, rules, w32, FitsSigned}
 use Rattle.std.proofs.lemmas.Int.{to_z-of_z}
 use Rattle.plane_core.proofs.CellLemmas.{passed_within}
+use Rattle.plane_core.proofs.FrameFits.{apart_is, apart_small, back_is, fits_bands, fits_more, fits_new_lanes, fits_new_rows, fits_one_more, fits_twice}
+use Rattle.plane_core.proofs.FrameFits.{fits_wide_lanes, fits_wide_rows, margin_small, twice_small}
 use Rattle.plane_core.proofs.FrameLemmas.{IsRoundBox, round_is_frame, round_has_on, round_on_plane, sides_on_plane}
 use Rattle.plane_core.proofs.frame.Frame.round_box.Goals as goal
 
@@ -10,17 +12,14 @@ is_round : (c : goal.After-back-2) → IsRoundBox c.args.bounds c.args.margin (r
   lanes = (c.apart.result + 2 * c.args.margin + 1) / 64 + 1;
   rows = (c.apart-2.result + 2 * c.args.margin + 1) / 8 * 8 + 8;
 })
-is_round c =
-    let left : FitsSigned w32 c.args.bounds.left = search rules in
-    let top : FitsSigned w32 c.args.bounds.top = search rules in
-    let right : FitsSigned w32 c.args.bounds.right = search rules in
-    let bottom : FitsSigned w32 c.args.bounds.bottom = search rules in
-    record {
-      left = simp to_z-of_z at c.back.ensures;
-      top = simp to_z-of_z at c.back-2.ensures;
-      lanes = ap (λ (n : ℕ). (n + 2 * c.args.margin + 1) / 64 + 1) (simp to_z-of_z at c.apart.ensures);
-      rows = ap (λ (n : ℕ). (n + 2 * c.args.margin + 1) / 8 * 8 + 8) (simp to_z-of_z at c.apart-2.ensures);
-    }
+is_round c = record {
+  left = back_is c.args.bounds.left c.args.margin c.back.result (search rules) c.back.ensures;
+  top = back_is c.args.bounds.top c.args.margin c.back-2.result (search rules) c.back-2.ensures;
+  lanes = ap (λ (n : ℕ). (n + 2 * c.args.margin + 1) / 64 + 1)
+      (apart_is c.args.bounds.left c.args.bounds.right c.apart.result (search rules) (search rules) c.apart.ensures);
+  rows = ap (λ (n : ℕ). (n + 2 * c.args.margin + 1) / 8 * 8 + 8)
+      (apart_is c.args.bounds.top c.args.bounds.bottom c.apart-2.result (search rules) (search rules) c.apart-2.ensures);
+}
 
 pub returns-clause-frame : goal.returns-clause-frame
 returns-clause-frame c =
@@ -57,3 +56,78 @@ back-requires-clause-from c = passed_within c.args.bounds.left (search rules) (s
 
 pub back-requires-2-clause-from : goal.back-requires-2-clause-from
 back-requires-2-clause-from c = passed_within c.args.bounds.top (search rules) (sides_on_plane c.args.bounds c.args.margin c.requires.sides).top
+
+pub overflow_mul-width : goal.overflow_mul-width
+overflow_mul-width c = fits_twice c.args.margin c.requires.margin
+
+pub overflow_add-width : goal.overflow_add-width
+overflow_add-width c =
+    fits_more c.apart.result (2 * c.args.margin)
+    (apart_small c.args.bounds.left c.args.bounds.right c.apart.result (search rules) (search rules) (sides_on_plane c.args.bounds c.args.margin c.requires.sides).left
+    (sides_on_plane c.args.bounds c.args.margin c.requires.sides).right c.apart.ensures)
+    (twice_small c.args.margin c.requires.margin)
+
+pub overflow_add-width-2 : goal.overflow_add-width-2
+overflow_add-width-2 c =
+    fits_one_more c.apart.result (2 * c.args.margin)
+    (apart_small c.args.bounds.left c.args.bounds.right c.apart.result (search rules) (search rules) (sides_on_plane c.args.bounds c.args.margin c.requires.sides).left
+    (sides_on_plane c.args.bounds c.args.margin c.requires.sides).right c.apart.ensures)
+    (twice_small c.args.margin c.requires.margin)
+
+pub overflow_add-result : goal.overflow_add-result
+overflow_add-result c =
+    fits_new_lanes c.apart.result (2 * c.args.margin)
+    (apart_small c.args.bounds.left c.args.bounds.right c.apart.result (search rules) (search rules) (sides_on_plane c.args.bounds c.args.margin c.requires.sides).left
+    (sides_on_plane c.args.bounds c.args.margin c.requires.sides).right c.apart.ensures)
+    (twice_small c.args.margin c.requires.margin)
+
+pub overflow_cast-result : goal.overflow_cast-result
+overflow_cast-result c =
+    fits_wide_lanes c.apart.result (2 * c.args.margin)
+    (apart_small c.args.bounds.left c.args.bounds.right c.apart.result (search rules) (search rules) (sides_on_plane c.args.bounds c.args.margin c.requires.sides).left
+    (sides_on_plane c.args.bounds c.args.margin c.requires.sides).right c.apart.ensures)
+    (twice_small c.args.margin c.requires.margin)
+
+pub overflow_mul-height : goal.overflow_mul-height
+overflow_mul-height c = fits_twice c.args.margin c.requires.margin
+
+pub overflow_add-height : goal.overflow_add-height
+overflow_add-height c =
+    fits_more c.apart-2.result (2 * c.args.margin)
+    (apart_small c.args.bounds.top c.args.bounds.bottom c.apart-2.result (search rules) (search rules) (sides_on_plane c.args.bounds c.args.margin c.requires.sides).top
+    (sides_on_plane c.args.bounds c.args.margin c.requires.sides).bottom c.apart-2.ensures)
+    (twice_small c.args.margin c.requires.margin)
+
+pub overflow_add-height-2 : goal.overflow_add-height-2
+overflow_add-height-2 c =
+    fits_one_more c.apart-2.result (2 * c.args.margin)
+    (apart_small c.args.bounds.top c.args.bounds.bottom c.apart-2.result (search rules) (search rules) (sides_on_plane c.args.bounds c.args.margin c.requires.sides).top
+    (sides_on_plane c.args.bounds c.args.margin c.requires.sides).bottom c.apart-2.ensures)
+    (twice_small c.args.margin c.requires.margin)
+
+pub overflow_mul-result : goal.overflow_mul-result
+overflow_mul-result c =
+    fits_bands c.apart-2.result (2 * c.args.margin)
+    (apart_small c.args.bounds.top c.args.bounds.bottom c.apart-2.result (search rules) (search rules) (sides_on_plane c.args.bounds c.args.margin c.requires.sides).top
+    (sides_on_plane c.args.bounds c.args.margin c.requires.sides).bottom c.apart-2.ensures)
+    (twice_small c.args.margin c.requires.margin)
+
+pub overflow_add-result-2 : goal.overflow_add-result-2
+overflow_add-result-2 c =
+    fits_new_rows c.apart-2.result (2 * c.args.margin)
+    (apart_small c.args.bounds.top c.args.bounds.bottom c.apart-2.result (search rules) (search rules) (sides_on_plane c.args.bounds c.args.margin c.requires.sides).top
+    (sides_on_plane c.args.bounds c.args.margin c.requires.sides).bottom c.apart-2.ensures)
+    (twice_small c.args.margin c.requires.margin)
+
+pub overflow_cast-result-2 : goal.overflow_cast-result-2
+overflow_cast-result-2 c =
+    fits_wide_rows c.apart-2.result (2 * c.args.margin)
+    (apart_small c.args.bounds.top c.args.bounds.bottom c.apart-2.result (search rules) (search rules) (sides_on_plane c.args.bounds c.args.margin c.requires.sides).top
+    (sides_on_plane c.args.bounds c.args.margin c.requires.sides).bottom c.apart-2.ensures)
+    (twice_small c.args.margin c.requires.margin)
+
+pub back-requires-clause-cells : goal.back-requires-clause-cells
+back-requires-clause-cells c = margin_small c.args.margin c.requires.margin
+
+pub back-requires-2-clause-cells : goal.back-requires-2-clause-cells
+back-requires-2-clause-cells c = margin_small c.args.margin c.requires.margin
