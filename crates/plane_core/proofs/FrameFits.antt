@@ -32,14 +32,20 @@ fits_around at frame =
 
 -- ---- how far apart the sides of a box are
 
--- the distance of two numbers that were passed on
-pub apart_is : (a b : ℤ) (n : ℕ) → FitsSigned w32 a → FitsSigned w32 b → n ≡ distance (to_z w32 (of_z w32 a)) (to_z w32 (of_z w32 b))
-    → n ≡ distance a b
-apart_is a b n fits other is = rw (to_z-of_z w32 a fits, to_z-of_z w32 b other) at is
+fits_near : (x : ℤ) → unsigned_abs x ≤ plane_bound → FitsSigned w32 x
+fits_near x near = omega (arith, ints)
 
-pub apart_small : (a b : ℤ) (n : ℕ) → FitsSigned w32 a → FitsSigned w32 b → unsigned_abs a ≤ plane_bound → unsigned_abs b ≤ plane_bound
+-- a number that is passed on is what it was
+pub passed_near : (x : ℤ) → unsigned_abs x ≤ plane_bound → unsigned_abs (to_z w32 (of_z w32 x)) ≤ plane_bound
+passed_near x near = rw (to_z-of_z w32 x (fits_near x near)) near
+
+pub apart_is : (a b : ℤ) (n : ℕ) → unsigned_abs a ≤ plane_bound → unsigned_abs b ≤ plane_bound
+    → n ≡ distance (to_z w32 (of_z w32 a)) (to_z w32 (of_z w32 b)) → n ≡ distance a b
+apart_is a b n near far is = rw (to_z-of_z w32 a (fits_near a near), to_z-of_z w32 b (fits_near b far)) at is
+
+pub apart_small : (a b : ℤ) (n : ℕ) → unsigned_abs a ≤ plane_bound → unsigned_abs b ≤ plane_bound
     → n ≡ distance (to_z w32 (of_z w32 a)) (to_z w32 (of_z w32 b)) → n ≤ 2000000
-apart_small a b n fits other near far is = let e = apart_is a b n fits other is in small e
+apart_small a b n near far is = small (apart_is a b n near far is)
   where
     small : n ≡ distance a b → n ≤ 2000000
     small e = omega (arith, ints, e, near, far)
@@ -86,8 +92,14 @@ pub sides_near : (far around : ℕ) (b : Bounds) → AreSidesWithin far b → fa
 sides_near far around b sides low = fewer_sides far plane_bound b (omega (arith, low)) sides
 
 -- the number so many back from one that was passed on
-pub back_is : (a : ℤ) (n : ℕ) (b : ℤ) → FitsSigned w32 a → b ≡ to_z w32 (of_z w32 a) -ℤ pos n → b ≡ a -ℤ pos n
-back_is a n b fits is = rw (to_z-of_z w32 a fits) at is
+pub back_is : (a : ℤ) (n : ℕ) (b : ℤ) → unsigned_abs a ≤ plane_bound → b ≡ to_z w32 (of_z w32 a) -ℤ pos n → b ≡ a -ℤ pos n
+back_is a n b near is = rw (to_z-of_z w32 a (fits_near a near)) at is
+
+pub fits_back : (a : ℤ) (n : ℕ) (b : ℤ) → unsigned_abs a ≤ plane_bound → n ≤ plane_bound → b ≡ to_z w32 (of_z w32 a) -ℤ pos n → FitsSigned w32 b
+fits_back a n b near low is = fits (back_is a n b near is)
+  where
+    fits : b ≡ a -ℤ pos n → FitsSigned w32 b
+    fits e = omega (arith, ints, e, near, low)
 
 pub half_near : (n k m : ℕ) → n + m ≤ plane_bound → (n - k) / 2 ≤ plane_bound
 half_near n k m low = omega (arith, low)
