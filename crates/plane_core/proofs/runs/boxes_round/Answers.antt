@@ -1,5 +1,6 @@
-use Rattle.std.proofs.Common.{arith, sym, take, inl, inr, ◌⊎◌}
+use Rattle.std.proofs.Common.{sym, take, inl, inr, ◌⊎◌}
 use Rattle.std.proofs.lemmas.List.Elements.{All-more, All-same, All-weaker, recursion_from_All}
+use Rattle.std.proofs.lemmas.Result.{IfOk-from_err}
 use Rattle.plane_core.specs.declared.cell.Cell.{Cell}
 use Rattle.plane_core.specs.Bounds.{IsWithin}
 use Rattle.plane_core.specs.Boxes.{IsInOne}
@@ -11,14 +12,14 @@ use Rattle.plane_core.proofs.runs.boxes_round.Goals as goal
 pub loop-cell-preserved : goal.loop-cell-preserved
 loop-cell-preserved c = record {
   held = All-more (λ (d : Cell). IsWithin c.in_ok-run.run' d ⊎ IsInOne c.next_run.new.boxes.items d) c.args.cells.now c.loop-cell.cell-index _
-      (omega (arith, c.loop-cell-test.true))
+      c.loop-cell-test.true
       (All-weaker (λ (d : Cell). IsWithin c.loop-cell.run d ⊎ IsInOne c.loop-cell.boxes.items d)
       (λ (d : Cell). IsWithin c.in_ok-run.run' d ⊎ IsInOne c.next_run.new.boxes.items d)
       (λ d h. elim h [ inl in_run ↦ c.in_ok-run.ensures.run d in_run | inr in_box ↦ inr (wider_has c.loop-cell.boxes.items c.next_run.new.boxes.items c.in_ok-run.ensures.wider d in_box) ])
       (take c.loop-cell.cell-index c.args.cells.now) c.loop-cell.invariant.held)
       (inl c.in_ok-run.ensures.cell);
   run_sides = λ n near.
-      c.in_ok-run.ensures.run_sides n (passes_at (is_within n) c.args.cells.now c.loop-cell.cell-index _ (omega (arith, c.loop-cell-test.true)) near)
+      c.in_ok-run.ensures.run_sides n (passes_at (is_within n) c.args.cells.now c.loop-cell.cell-index _ c.loop-cell-test.true near)
       (c.loop-cell.invariant.run_sides n near);
   sides = λ n near. c.in_ok-run.ensures.sides n (c.loop-cell.invariant.run_sides n near) (c.loop-cell.invariant.sides n near);
 }
@@ -32,9 +33,21 @@ returns-clause-held c = λ d h.
     (λ d h. elim h [ inl in_run ↦ c.in_ok-put_in_box.ensures.held d in_run | inr in_box ↦ wider_has c.loop-cell.boxes.items c.put_in_box.new.boxes.items c.put_in_box.ensures.wider d in_box ]) c.args.cells.now
     (All-same (λ (d : Cell). IsWithin c.loop-cell.run d ⊎ IsInOne c.loop-cell.boxes.items d) c.args.cells.now
     (take c.loop-cell.cell-index c.args.cells.now)
-    (sym (take_whole c.args.cells.now c.loop-cell.cell-index (omega (arith, c.loop-cell-test.false)) (omega (arith, c.loop-cell-test.false))))
+    (sym (take_whole c.args.cells.now c.loop-cell.cell-index c.loop-cell.auto.cell-index-end c.loop-cell-test.false))
     c.loop-cell.invariant.held))) h
 
 pub returns-clause-sides : goal.returns-clause-sides
 returns-clause-sides c = λ n near.
     c.in_ok-put_in_box.ensures.sides n (c.loop-cell.invariant.run_sides n near) (c.loop-cell.invariant.sides n near)
+
+pub returns-in_err-run-clause-held : goal.returns-in_err-run-clause-held
+returns-in_err-run-clause-held c = IfOk-from_err _ _ c.from_residual.ensures.0
+
+pub returns-in_err-run-clause-sides : goal.returns-in_err-run-clause-sides
+returns-in_err-run-clause-sides c = IfOk-from_err _ _ c.from_residual.ensures.0
+
+pub returns-in_err-put_in_box-clause-held : goal.returns-in_err-put_in_box-clause-held
+returns-in_err-put_in_box-clause-held c = IfOk-from_err _ _ c.from_residual-in_err-put_in_box.ensures.0
+
+pub returns-in_err-put_in_box-clause-sides : goal.returns-in_err-put_in_box-clause-sides
+returns-in_err-put_in_box-clause-sides c = IfOk-from_err _ _ c.from_residual-in_err-put_in_box.ensures.0
