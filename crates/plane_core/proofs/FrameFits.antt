@@ -240,3 +240,16 @@ fits_bottom at frame =
     let h = frame.rows in
     let k = frame.top in
     omega (arith, ints)
+
+-- ---- how far from its first side a cell is
+
+pub offset_fits : (x l : ℤ) (n : ℕ) → unsigned_abs l ≤ 2 ^ 21 → n ≤ 2 ^ 22 → l ≤ℤ x → x ≤ℤ (l +ℤ (pos n -ℤ pos 1))
+    → FitsSigned w32 (to_z w32 (of_z w32 x) -ℤ to_z w32 (of_z w32 l))
+offset_fits x l n near few low high = omega (arith, ints, low, high)
+
+pub offset_is : (x l : ℤ) (n : ℕ) → unsigned_abs l ≤ 2 ^ 21 → n ≤ 2 ^ 22 → l ≤ℤ x → x ≤ℤ (l +ℤ (pos n -ℤ pos 1))
+    → pos (unsigned_abs (to_z w32 (of_z w32 (to_z w32 (of_z w32 x) -ℤ to_z w32 (of_z w32 l))))) ≡ x -ℤ l
+offset_is x l n near few low high = omega (arith, ints, low, high)
+
+pub columns_low : (at : Frame) → IsFrame at → 64 * at.lanes ≤ 2 ^ 22
+columns_low at frame = let h = frame.lanes in omega arith
