@@ -150,26 +150,16 @@ impl Board {
         })
     }
 
-    /// An empty board.
+    /// An empty board: one that shows the empty pattern.
     fn blank(alloc: Global, rule: &Rule, at: Frame) -> Result<Board, OutOfMemory>
         requires frame { IsFrame at }
         requires plane { AreSidesWithin plane_bound (bounds_of at) }
+        requires words { HasFewWords at [] }
         ensures rule { IfOk result (λ board. board.rule ≡ rule.now) }
         ensures cells { IfOk result (λ board. board.cells ≡ []) }
     {
-        let words = vec![in alloc; 0u64; at.count()]?;
-        let spans = vec![in alloc; Span::empty(); at.lanes]?;
-        let boxes = Vec::new(alloc);
-        Ok(Board {
-            at,
-            answers: AnyRule::new(rule),
-            is_life: is_life(rule),
-            words,
-            spans,
-            boxes,
-            holds_all: true,
-            lists: Lists::new(alloc),
-        })
+        let none = Pattern::from_ordered(Vec::new(alloc));
+        Board::lay(alloc, rule, at, &none)
     }
 
     /// Shows another pattern under a rule, in the middle of the board. If it has no room there, the board shows
