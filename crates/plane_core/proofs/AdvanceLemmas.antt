@@ -1,6 +1,6 @@
 -- A leap of a board: what it shows afterwards, and its boxes.
 use Rattle.std.proofs.Common.{◌≡◌, ◌≢◌, ◌==◌, ◌*◌, ◌/◌, ◌%◌, ◌≤◌, ℕ, ℤ, zero, suc, ◌≤ℤ◌, ◌<ℤ◌, Bool, true, List, [], ◌∷◌}
-use Rattle.std.proofs.Common.{arith, refl, ap, ◌∙◌, sym, subst, inl, inr, ◌⊎◌, length, slice_index}
+use Rattle.std.proofs.Common.{Fits, w32, arith, refl, ap, ◌∙◌, sym, subst, inl, inr, ◌⊎◌, length, slice_index}
 use Rattle.std.specs.List.{All}
 use Rattle.std.proofs.lemmas.Bool.{eqb-true, false≢true}
 use Rattle.std.proofs.lemmas.Int.{ints, by_lt_z}
@@ -225,3 +225,8 @@ laid_spanned rule at is_life words boxes spans S cells same pattern frame plane 
   where
     shows : cells_on at words ≡ S
     shows = only_cells at words S pattern.in_order on (subst (λ (T : List Cell). Shows at words T) same shown)
+
+-- ---- counts of generations
+
+pub fits_below : (n most : ℕ) → n ≤ most → Fits w32 most → Fits w32 n
+fits_below n most low fits = let h = fits.fits in record { fits = omega arith }

@@ -1,14 +1,12 @@
-use Rattle.std.proofs.Common.{◌+◌, ◌-◌, ◌≤◌, ◌∙◌, Fits, ℕ, arith, w32}
+use Rattle.std.proofs.Common.{◌+◌, ◌-◌, ◌≤◌, ◌∙◌, ℕ, arith}
 use Rattle.std.proofs.lemmas.Result.{IfOk-from_err}
 use Rattle.plane_core.specs.Generations.{after}
+use Rattle.plane_core.proofs.AdvanceLemmas.{fits_below}
 use Rattle.plane_core.proofs.RunLemmas.{after-plus}
 use Rattle.plane_core.proofs.board.Board.advance.Goals as goal
 
 both : (most odd even : ℕ) → odd ≤ most → even ≤ most - odd → odd + even ≤ most
 both most odd even low few = omega arith
-
-fits_below : (n most : ℕ) → n ≤ most → Fits w32 most → Fits w32 n
-fits_below n most low fits = let h = fits.fits in record { fits = omega arith }
 
 pub returns-clause-after : goal.returns-clause-after
 returns-clause-after c =

@@ -1,6 +1,7 @@
-use Rattle.std.proofs.Common.{◌≡◌, ◌∙◌, ◌+◌, ◌-◌, ◌*◌, ◌/◌, ◌%◌, ◌<◌, ◌≤◌, Fits, ℕ, ap, arith, refl, sym, w32}
+use Rattle.std.proofs.Common.{◌≡◌, ◌∙◌, ◌+◌, ◌-◌, ◌*◌, ◌/◌, ◌%◌, ◌<◌, ◌≤◌, ℕ, ap, arith, refl, sym}
 use Rattle.std.proofs.lemmas.Result.{IfOk-from_err}
 use Rattle.plane_core.specs.Generations.{after}
+use Rattle.plane_core.proofs.AdvanceLemmas.{fits_below}
 use Rattle.plane_core.proofs.GenerationLemmas.{after-none}
 use Rattle.plane_core.proofs.RunLemmas.{after-plus}
 use Rattle.plane_core.proofs.board.Board.advance_even.Goals as goal
@@ -8,9 +9,6 @@ use Rattle.plane_core.proofs.board.Board.advance_even.Goals as goal
 -- no number is above the most
 halves : (most : ℕ) → most / 2 * 2 ≤ most
 halves most = omega arith
-
-fits_below : (n most : ℕ) → n ≤ most → Fits w32 most → Fits w32 n
-fits_below n most low fits = let h = fits.fits in record { fits = omega arith }
 
 fewer_left : (most made count : ℕ) → 1 ≤ count → count ≤ most - made → most - (made + count) < most - made
 fewer_left most made count some few = omega arith
