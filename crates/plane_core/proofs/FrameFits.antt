@@ -1,6 +1,6 @@
 -- That the numbers from which a frame is made fit their types.
-use Rattle.std.proofs.Common.{◌≡◌, ◌+◌, ◌-◌, ◌*◌, ◌/◌, ◌^◌, ◌<◌, ◌≤◌, ℕ, ℤ, pos, ◌+ℤ◌, ◌-ℤ◌, ◌≤ℤ◌, ◌<ℤ◌, Fits, FitsSigned, true, false, leb, arith, unsigned_abs}
-use Rattle.std.proofs.Common.{of_z, subst, sym, to_z, w32, w64}
+use Rattle.std.proofs.Common.{◌≡◌, ◌+◌, ◌-◌, ◌*◌, ◌/◌, ◌^◌, ◌<◌, ◌≤◌, ℕ, ℤ, pos, ◌+ℤ◌, ◌-ℤ◌, ◌≤ℤ◌, Fits, FitsSigned, true, false, leb, arith, unsigned_abs}
+use Rattle.std.proofs.Common.{of_z, subst, to_z, w32, w64}
 use Rattle.std.proofs.lemmas.Bool.{leb-true}
 use Rattle.std.proofs.lemmas.Int.{ints, to_z-of_z}
 use lib.Signed.{le_z, lt_z}
@@ -9,9 +9,8 @@ use Rattle.plane_core.specs.declared.cell.Cell.{Cell}
 use Rattle.plane_core.specs.declared.frame.Frame.{Frame}
 use Rattle.plane_core.specs.Bounds.{AreSidesWithin, IsWithin}
 use Rattle.plane_core.specs.Cells.{distance, plane_bound}
-use Rattle.plane_core.specs.Frames.{HasRoom, IsFrame, board_cell, bounds_of}
+use Rattle.plane_core.specs.Frames.{HasRoom, IsFrame, bounds_of}
 use Rattle.plane_core.proofs.BoxRoundLemmas.{fewer_sides}
-use Rattle.plane_core.proofs.CellLemmas.{same_cells}
 
 -- ---- columns and rows
 

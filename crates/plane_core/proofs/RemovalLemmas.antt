@@ -5,7 +5,6 @@ use Rattle.std.proofs.Common.{get_or-set_other, slice_index, bit_and, w64, leb, 
 use Rattle.std.specs.Int.{bit_at, bit_not}
 use Rattle.std.specs.List.{All}
 use Rattle.std.proofs.lemmas.Bool.{and_from, and_parts, leb-true, le-leb}
-use Rattle.std.proofs.lemmas.Int.{ints}
 use Rattle.std.proofs.lemmas.List.{take_more}
 use Rattle.std.proofs.lemmas.Nat.Bits.{bit_at_clear_other, bit_at_clear_same}
 use Rattle.plane_core.specs.declared.bounds.Bounds.{Bounds}

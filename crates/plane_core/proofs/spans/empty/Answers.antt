@@ -1,4 +1,4 @@
-use Rattle.std.proofs.Common.{◌≡◌, ◌≢◌, ◌∙◌, ◌<◌, [], arith, get_or-set_other, inl, refl, subst, sym}
+use Rattle.std.proofs.Common.{◌≡◌, ◌≢◌, ◌∙◌, [], arith, get_or-set_other, inl, refl, subst, sym}
 use Rattle.std.proofs.lemmas.Bool.{false≢true}
 use Rattle.plane_core.specs.declared.spans.Span.{Span}
 use Rattle.plane_core.specs.Spans.{HasRow}
