@@ -1,11 +1,15 @@
-use Rattle.std.proofs.Common.{sym, take, inl, inr, ◌⊎◌}
-use Rattle.std.proofs.lemmas.List.Elements.{All-more, All-same, All-weaker, recursion_from_All}
+use Rattle.std.proofs.Common.{◌≡◌, ◌<◌, ◌≤◌, ℕ, List, [], ◌∷◌, arith, get_or, length, subst, true, sym, take, inl, inr, ◌⊎◌}
+use Rattle.std.specs.List.{All}
+use Rattle.std.proofs.lemmas.Bool.{false≢true}
+use Rattle.std.proofs.lemmas.List.Elements.{All-nil, All-more, All-same, All-weaker, recursion_from_All}
 use Rattle.std.proofs.lemmas.Result.{IfOk-from_err}
+use Rattle.plane_core.specs.declared.bounds.Bounds.{Bounds}
 use Rattle.plane_core.specs.declared.cell.Cell.{Cell}
-use Rattle.plane_core.specs.Bounds.{IsWithin}
+use Rattle.plane_core.specs.Bounds.{AreSidesWithin, IsWithin, box_at}
 use Rattle.plane_core.specs.Boxes.{IsInOne}
-use Rattle.plane_core.specs.Cells.{is_within}
-use Rattle.plane_core.proofs.BoxLemmas.{passes_at, take_whole, wider_has}
+use Rattle.plane_core.specs.Cells.{has, is_within}
+use Rattle.plane_core.specs.Generations.{lies_within}
+use Rattle.plane_core.proofs.BoxLemmas.{cell_box_sides, passes_at, take_whole, wider_has}
 use Rattle.plane_core.proofs.SetLemmas.{has-all}
 use Rattle.plane_core.proofs.runs.boxes_round.Goals as goal
 
@@ -51,3 +55,31 @@ returns-in_err-put_in_box-clause-held c = IfOk-from_err _ _ c.from_residual-in_e
 
 pub returns-in_err-put_in_box-clause-sides : goal.returns-in_err-put_in_box-clause-sides
 returns-in_err-put_in_box-clause-sides c = IfOk-from_err _ _ c.from_residual-in_err-put_in_box.ensures.0
+
+no_boxes_sides : (n : ℕ) (boxes : List Bounds) → boxes ≡ [] → All (AreSidesWithin n) boxes
+no_boxes_sides n boxes none = subst (λ (bs : List Bounds). All (AreSidesWithin n) bs) (sym none) (All-nil (AreSidesWithin n))
+
+-- the first cell lies where all do
+first_sides : (n : ℕ) (cells : List Cell) (first : Cell) (run : Bounds) → run ≡ box_at first → first ≡ get_or cells 0 first → 0 < length cells
+    → lies_within n cells ≡ true → AreSidesWithin n run
+first_sides n cells first run is same low near =
+    subst (λ (b : Bounds). AreSidesWithin n b) (sym is)
+    (cell_box_sides n first (subst (λ (c : Cell). is_within n c ≡ true) (sym same) (passes_at (is_within n) cells 0 first low near)))
+
+pub loop-cell-init : goal.loop-cell-init
+loop-cell-init c = record {
+  held = λ k d low. absurd (omega (arith, low));
+  run_sides = λ n near.
+      first_sides n c.args.cells.now c.in-Some.first.now c.at-run.result c.at-run.ensures c.in-Some.ensures.item.1 c.in-Some.ensures.item.3.0 near;
+  sides = λ n near. no_boxes_sides n c.clear.new.self.items c.clear.ensures.items;
+}
+
+pub returns-in_default-clause-sides : goal.returns-in_default-clause-sides
+returns-in_default-clause-sides c n near = no_boxes_sides n c.clear.new.self.items c.clear.ensures.items
+
+none_has : (cells : List Cell) (d : Cell) → length cells ≤ 0 → has cells d ≡ true → ⊥
+none_has [] d low e = false≢true e
+none_has (x ∷ xs) d low e = absurd (omega (arith, low))
+
+pub returns-in_default-clause-held : goal.returns-in_default-clause-held
+returns-in_default-clause-held c d e = absurd (none_has c.args.cells.now d c.in_default.ensures.item.3 e)
