@@ -10,7 +10,7 @@
 //! |..X. |
 //! +-----+
 //! ```
-ghost use Rattle.std.specs.Prelude.{◌≡◌, ◌<◌, ℕ, true, All, IfSome, IsSomeAnd, List, OnOk, length};
+ghost use Rattle.std.specs.Prelude.{◌≡◌, ◌<◌, ℕ, true, All, IfSome, List, OnOk, length};
 ghost use Rattle.plane_core.specs.Bounds.{IsWithin};
 ghost use Rattle.plane_core.specs.Boxes.{AreWider, HoldAll, HoldChanges, HoldDifferences, IsInOne, IsInReach};
 ghost use Rattle.plane_core.specs.Boxes.{box_bound};
@@ -42,23 +42,9 @@ pub(crate) fn next_boxes(
 {
     boxes.clear();
     for i in 0..places.len() {
-        let found = changes[i].bounds(places[i]);
-        push_some(found, boxes)?;
-    }
-    Ok(())
-}
-
-/// Puts a box, if there is one, after the others.
-#[inline(always)]
-fn push_some(found: Option<Bounds>, boxes: &mut Vec<Bounds>) -> Result<(), OutOfMemory>
-    ensures kept { OnOk result ((c : Cell) → IsInOne boxes.old.items c → IsInOne boxes.new.items c) }
-    ensures added { OnOk result
-        ((c : Cell) → IsSomeAnd found (λ b. IsWithin b c) → IsInOne boxes.new.items c) }
-    ensures sides { OnOk result
-        (IfSome found (AreSidesWithin box_bound) → All (AreSidesWithin box_bound) boxes.old.items
-        → All (AreSidesWithin box_bound) boxes.new.items) }
-{
-    if let Some(bounds) = found {
+        let Some(bounds) = changes[i].bounds(places[i]) else {
+            continue;
+        };
         boxes.push(bounds)?;
     }
     Ok(())
