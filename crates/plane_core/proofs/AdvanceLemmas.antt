@@ -1,33 +1,36 @@
 -- A leap of a board: what it shows afterwards, and its boxes.
 use Rattle.std.proofs.Common.{◌≡◌, ◌≢◌, ◌==◌, ◌*◌, ◌/◌, ◌%◌, ◌≤◌, ℕ, ℤ, zero, suc, ◌≤ℤ◌, ◌<ℤ◌, Bool, true, List, [], ◌∷◌}
-use Rattle.std.proofs.Common.{arith, refl, ap, ◌∙◌, sym, subst, inl, inr, ◌⊎◌, length, slice_index}
+use Rattle.std.proofs.Common.{Fits, w32, arith, refl, ap, ◌∙◌, sym, subst, inl, inr, ◌⊎◌, length, slice_index}
 use Rattle.std.specs.List.{All}
-use Rattle.std.proofs.lemmas.Bool.{eqb-true, false≢true}
+use Rattle.std.proofs.lemmas.Bool.{eqb-true}
 use Rattle.std.proofs.lemmas.Int.{ints, by_lt_z}
-use Rattle.std.proofs.lemmas.List.Elements.{All-nil}
 use Rattle.plane_core.specs.declared.bounds.Bounds.{Bounds}
 use Rattle.plane_core.specs.declared.cell.Cell.{Cell}
 use Rattle.plane_core.specs.declared.frame.Frame.{Frame}
 use Rattle.plane_core.specs.declared.place.Place.{Place}
+use Rattle.plane_core.specs.declared.spans.Span.{Span}
 use Rattle.plane_core.specs.Bounds.{IsWithin}
 use Rattle.plane_core.specs.Boxes.{AreCovered, HoldAll, HoldDifferences, IsNearOne, IsQuiet, IsStillOutside, box_bound}
 use Rattle.plane_core.specs.Cells.{InOrder, IsPattern, on_plane, plane_bound}
 use Rattle.plane_core.specs.Frames.{FillsFrame, IsFrame, LieOn, Shows, bounds_of}
 use Rattle.plane_core.specs.Generations.{after, lies_within}
-use Rattle.plane_core.specs.Boards.{AreRightFor, HasGoneOn, IsBoard}
+use Rattle.plane_core.specs.Boards.{AreRightFor, HasGoneOn, IsBoard, IsReady, IsSpannedBoard}
+use Rattle.plane_core.specs.Leaps.{HasLeapt}
 use Rattle.plane_core.specs.OnBoard.{cells_on}
 use Rattle.plane_core.specs.Places.{IsCovered, IsInnerCell, IsOnBoard, compared_with}
 use Rattle.plane_core.specs.Bounds.{AreSidesWithin}
 use Rattle.plane_core.specs.Rules.{Numbers}
+use Rattle.plane_core.specs.Spans.{AreWidened, HoldCovered, LieInSpans}
 use Rattle.plane_core.specs.Words.{life}
+use Rattle.plane_core.proofs.BoardLemmas.{blank_board}
 use Rattle.plane_core.proofs.CaseLemmas.{same_or_not}
-use Rattle.plane_core.proofs.FillLemmas.{shown-empty}
 use Rattle.plane_core.proofs.GenerationLemmas.{after-none}
 use Rattle.plane_core.proofs.BoxRoundLemmas.{fewer_sides}
-use Rattle.plane_core.proofs.OnBoardLemmas.{cells_in_order, cells_lie_on, only_cells}
+use Rattle.plane_core.proofs.OnBoardLemmas.{cells_in_order, cells_lie_on, only_cells, shows_cells}
 use Rattle.plane_core.proofs.QuietLemmas.{boxed-next, quiet-next, quiet-start, still_outside-held, still_outside-quiet}
 use Rattle.plane_core.proofs.RunLemmas.{after-plus, in_order-after}
-use Rattle.plane_core.proofs.SetLemmas.{in_order-nil, same_lists}
+use Rattle.plane_core.proofs.SetLemmas.{same_lists}
+use Rattle.plane_core.proofs.SpanLemmas.{no_cells, spans_after, zero_spans}
 
 -- ---- the cells stay on the board
 
@@ -63,6 +66,10 @@ stays_on : (rule : Numbers) (at : Frame) (places : List Place) (S : List Cell) (
 stays_on rule at places S n inside still on c e =
     within_unless (bounds_of at) c (λ out. out (on c (sym (still c (λ covered. out (inside c covered))) ∙ e)))
 
+-- what windows on the board cover lies on it
+pub covered_on : (at : Frame) (places : List Place) → All (IsOnBoard at) places → (c : Cell) → IsCovered places c → IsWithin (bounds_of at) c
+covered_on at places on c (k, p, low, same, inner) = inner_on at p c (subst (λ (q : Place). IsOnBoard at q) same (on k p low)) inner
+
 -- ---- a leap
 
 odd_or_even : (n : ℕ) → (n % 2 ≡ 0) ⊎ (n % 2 ≡ 1)
@@ -80,28 +87,35 @@ still_for_leap rule S boxes places n o right covered low high = elim (odd_or_eve
   | inr odd ↦ still_outside-held rule S boxes places n (right.odd odd) covered high
 ]
 
--- so a board that shows the generation after the leap is one that has leapt
-pub has_gone_on : (rule : Numbers) (at : Frame) (n : ℕ) (old new : List ℕ) (boxes later : List Bounds) (places : List Place)
-    → AreRightFor rule (cells_on at old) boxes n → AreCovered places boxes → 1 ≤ n → n ≤ 4
-    → ((c : Cell) → IsCovered places c → IsWithin (bounds_of at) c) → Shows at new (after rule (cells_on at old) n)
+-- so a board whose windows were put back has gone on, with what differs as its boxes, and spans that hold the windows
+pub has_gone_on : (rule : Numbers) (at : Frame) (n : ℕ) (old new : List ℕ) (boxes later : List Bounds) (before wide : List Span) (places : List Place)
+    → IsReady rule at n old boxes before → AreCovered places boxes → 1 ≤ n → n ≤ 4 → All (IsOnBoard at) places → AreWidened before wide
+    → HoldCovered at wide places → HasLeapt at rule n places old new → All (AreSidesWithin box_bound) later
     → HoldDifferences places (after rule (cells_on at old) n) (compared_with rule (cells_on at old) n) later
-    → HasGoneOn rule at n old new later
-has_gone_on rule at n old new boxes later places right covered low high inside shown differ = record {
+    → HasGoneOn rule at n old new later wide
+has_gone_on rule at n old new boxes later before wide places ready covered low high inside widened held leapt sides differ = record {
   cells = is;
+  sides = sides;
   right = subst (λ (T : List Cell). AreRightFor rule T later n) (sym is) record {
-    even = λ even. quiet-next rule S boxes later places n (cells_in_order at old) (right.even even) covered low high even differ;
-    odd = λ odd. boxed-next rule S boxes later places n (right.odd odd) covered high odd differ;
+    even = λ even. quiet-next rule S boxes later places n o (ready.right.even even) covered low high even differ;
+    odd = λ odd. boxed-next rule S boxes later places n (ready.right.odd odd) covered high odd differ;
   };
+  live = subst (λ (T : List Cell). LieInSpans at wide T) (sym is) (spans_after rule at places S n before wide ready.spanned.live widened held still);
 }
   where
     S : List Cell
     S = cells_on at old
 
-    on : LieOn at (after rule S n)
-    on = stays_on rule at places S n inside (still_for_leap rule S boxes places n (cells_in_order at old) right covered low high) (cells_lie_on at old)
+    o : InOrder S
+    o = cells_in_order at old
+
+    still : IsStillOutside rule places S n
+    still = still_for_leap rule S boxes places n o ready.right covered low high
 
     is : cells_on at new ≡ after rule S n
-    is = only_cells at new (after rule S n) (in_order-after rule S n (cells_in_order at old)) on shown
+    is =
+        only_cells at new (after rule S n) (in_order-after rule S n o)
+        (stays_on rule at places S n (covered_on at places inside) still (cells_lie_on at old)) (leapt S o (shows_cells at old) still)
 
 -- ---- without boxes
 
@@ -129,10 +143,6 @@ pub no_boxes : (boxes : List Bounds) → length boxes ≡ 0 → boxes ≡ []
 no_boxes [] e = refl
 no_boxes (b ∷ bs) e = absurd (omega (arith, e))
 
--- what windows on the board cover lies on it
-pub covered_on : (at : Frame) (places : List Place) → All (IsOnBoard at) places → (c : Cell) → IsCovered places c → IsWithin (bounds_of at) c
-covered_on at places on c (k, p, low, same, inner) = inner_on at p c (subst (λ (q : Place). IsOnBoard at q) same (on k p low)) inner
-
 -- ---- the board's words and boxes
 
 pub laid_board : (at : Frame) (rule : Numbers) (is_life : Bool) (words : List ℕ) (boxes : List Bounds) → IsFrame at → (is_life ≡ true → rule ≡ life)
@@ -146,39 +156,47 @@ laid_board at rule is_life words boxes frame is long sides all = record {
   all = λ e. all;
 }
 
-pub empty_board : (at : Frame) (rule : Numbers) (is_life : Bool) (old words : List ℕ) (boxes none : List Bounds) (holds_all : Bool) → none ≡ []
-    → IsBoard at rule is_life old boxes holds_all → length words ≡ length old → ((i : ℕ) → slice_index words i ≡ 0)
-    → IsBoard at rule is_life words none true
-empty_board at rule is_life old words boxes none holds_all nothing board long zeros =
-    subst (λ (bs : List Bounds). IsBoard at rule is_life words bs true) (sym nothing)
-    (laid_board at rule is_life words [] board.frame board.life (long ∙ board.long) (All-nil (AreSidesWithin box_bound))
-    (subst (λ (S : List Cell). HoldAll [] S) (sym is) (λ c e. absurd (false≢true e))))
-  where
-    is : cells_on at words ≡ []
-    is = only_cells at words [] in_order-nil (λ c e. absurd (false≢true e)) (shown-empty at words zeros)
-
--- the boxes of a board are right for a leap
-pub right_for : (at : Frame) (rule : Numbers) (is_life : Bool) (words : List ℕ) (boxes : List Bounds) (holds_all : Bool) (n : ℕ)
-    → IsBoard at rule is_life words boxes holds_all → (n % 2 ≡ 1 → holds_all ≡ true) → AreRightFor rule (cells_on at words) boxes n
-right_for at rule is_life words boxes holds_all n board enough = record {
-  even = λ even. board.quiet;
-  odd = λ odd. board.all (enough odd);
+-- a board that was emptied
+pub empty_board : (rule : Numbers) (at : Frame) (is_life : Bool) (old words : List ℕ) (boxes none : List Bounds) (holds_all : Bool)
+    (before spans : List Span) → none ≡ [] → IsSpannedBoard at rule is_life old boxes holds_all before → length words ≡ length old
+    → length spans ≡ length before → ((i : ℕ) → slice_index words i ≡ 0) → IsSpannedBoard at rule is_life words none true spans
+empty_board rule at is_life old words boxes none holds_all before spans nothing was long wide zeros = record {
+  board = blank_board at rule is_life words none true was.board.frame was.board.life (long ∙ was.board.long) nothing (no_cells at words zeros);
+  spanned = zero_spans at words spans zeros (wide ∙ was.spanned.lanes);
+  plane = was.plane;
 }
 
+-- the boxes of a board are right for a leap by answers of its rule
+pub is_ready : (run rule : Numbers) (at : Frame) (n : ℕ) (is_life : Bool) (words : List ℕ) (boxes : List Bounds) (holds_all : Bool) (spans : List Span)
+    → run ≡ rule → IsSpannedBoard at rule is_life words boxes holds_all spans → (n % 2 ≡ 1 → holds_all ≡ true)
+    → IsReady run at n words boxes spans
+is_ready run rule at n is_life words boxes holds_all spans same spanned enough =
+    subst (λ (r : Numbers). IsReady r at n words boxes spans) (sym same) record {
+      frame = spanned.board.frame;
+      long = spanned.board.long;
+      sides = spanned.board.sides;
+      right = record { even = λ even. spanned.board.quiet; odd = λ odd. spanned.board.all (enough odd) };
+      spanned = spanned.spanned;
+    }
+
 -- and after it
-pub leapt_board : (at : Frame) (rule : Numbers) (is_life : Bool) (old new : List ℕ) (boxes later : List Bounds) (holds_all : Bool) (n : ℕ)
-    → IsBoard at rule is_life old boxes holds_all → length new ≡ length old → All (AreSidesWithin box_bound) later → HasGoneOn rule at n old new later
-    → IsBoard at rule is_life new later (n % 2 == 1)
-leapt_board at rule is_life old new boxes later holds_all n board long sides leapt = record {
-  frame = board.frame;
-  life = board.life;
-  long = long ∙ board.long;
-  sides = sides;
-  quiet = elim (odd_or_even n) [
-    | inl even ↦ leapt.right.even even
-    | inr odd ↦ quiet-start rule (cells_on at new) later (leapt.right.odd odd)
-  ];
-  all = λ e. leapt.right.odd (eqb-true (n % 2) 1 e);
+pub leapt_board : (run rule : Numbers) (at : Frame) (n : ℕ) (is_life : Bool) (old new : List ℕ) (boxes later : List Bounds) (holds_all : Bool)
+    (before spans : List Span) → run ≡ rule → IsSpannedBoard at rule is_life old boxes holds_all before → length new ≡ length old
+    → length spans ≡ length before → HasGoneOn run at n old new later spans → IsSpannedBoard at rule is_life new later (n % 2 == 1) spans
+leapt_board run rule at n is_life old new boxes later holds_all before spans same was long wide leapt = record {
+  board = record {
+    frame = was.board.frame;
+    life = was.board.life;
+    long = long ∙ was.board.long;
+    sides = leapt.sides;
+    quiet = elim (odd_or_even n) [
+      | inl even ↦ subst (λ (r : Numbers). IsQuiet r (cells_on at new) later) same (leapt.right.even even)
+      | inr odd ↦ quiet-start rule (cells_on at new) later (leapt.right.odd odd)
+    ];
+    all = λ e. leapt.right.odd (eqb-true (n % 2) 1 e);
+  };
+  spanned = record { lanes = wide ∙ was.spanned.lanes; live = leapt.live };
+  plane = was.plane;
 }
 
 -- the boxes round a pattern lie on the plane
@@ -187,3 +205,27 @@ pub box_sides : (S cells : List Cell) (boxes : List Bounds) → cells ≡ S → 
 unfolding on_plane
 box_sides S cells boxes is pattern sides k b low =
     fewer_sides plane_bound box_bound _ (omega arith) (sides plane_bound (ap (λ (T : List Cell). lies_within plane_bound T) is ∙ pattern.on_plane) k b low)
+
+-- a board on which a pattern was laid, and what it shows
+pub laid_spanned : (rule : Numbers) (at : Frame) (is_life : Bool) (words : List ℕ) (boxes : List Bounds) (spans : List Span) (S cells : List Cell)
+    → cells ≡ S → IsPattern S → IsFrame at → AreSidesWithin plane_bound (bounds_of at) → (is_life ≡ true → rule ≡ life) → FillsFrame at words
+    → length spans ≡ at.lanes → LieOn at S → Shows at words cells → LieInSpans at spans cells → HoldAll boxes cells
+    → ((n : ℕ) → lies_within n cells ≡ true → All (AreSidesWithin n) boxes)
+    → IsSpannedBoard at rule is_life words boxes true spans × (cells_on at words ≡ S)
+laid_spanned rule at is_life words boxes spans S cells same pattern frame plane is long wide on shown live held sides = (
+  record {
+    board = laid_board at rule is_life words boxes frame is long (box_sides S cells boxes same pattern sides)
+        (subst (λ (T : List Cell). HoldAll boxes T) (same ∙ sym shows) held);
+    spanned = record { lanes = wide; live = subst (λ (T : List Cell). LieInSpans at spans T) (same ∙ sym shows) live };
+    plane = plane;
+  },
+  shows,
+)
+  where
+    shows : cells_on at words ≡ S
+    shows = only_cells at words S pattern.in_order on (subst (λ (T : List Cell). Shows at words T) same shown)
+
+-- ---- counts of generations
+
+pub fits_below : (n most : ℕ) → n ≤ most → Fits w32 most → Fits w32 n
+fits_below n most low fits = let h = fits.fits in record { fits = omega arith }

@@ -14,8 +14,8 @@ use Rattle.std.proofs.lemmas.List.Quantifiers.{Any-push, any-set}
 use Rattle.plane_core.specs.declared.bounds.Bounds.{Bounds}
 use Rattle.plane_core.specs.declared.cell.Cell.{Cell}
 use Rattle.plane_core.specs.declared.place.Place.{Place}
-use Rattle.plane_core.specs.Bounds.{IsWithin, enlarged, widened}
-use Rattle.plane_core.specs.Boxes.{HoldDifferences, HoldsDifference, IsInOne, IsNearOne}
+use Rattle.plane_core.specs.Bounds.{IsRoundBoth, IsWithin, box_at, enlarged, widened}
+use Rattle.plane_core.specs.Boxes.{AreWider, HoldDifferences, HoldsDifference, IsInOne, IsNearOne}
 use Rattle.plane_core.specs.Cells.{distance, has, is_within, king_distance}
 use Rattle.plane_core.specs.Bounds.{AreSidesWithin}
 use Rattle.plane_core.specs.Places.{IsInnerCell}
@@ -220,20 +220,6 @@ widened_has c b = record { left = low c.x b.left; top = low c.y b.top; right = h
     high : (a l : ℤ) → a ≤ℤ int_max a l
     high a l = omega (arith, ints, clamps)
 
-pub widened_near : (n : ℕ) (c : Cell) (b : Bounds) (d : Cell) → IsWithin (enlarged n b) d → IsWithin (enlarged n (widened c b)) d
-widened_near n c b d h = record {
-  left = low c.x b.left d.x h.left;
-  top = low c.y b.top d.y h.top;
-  right = high c.x b.right d.x h.right;
-  bottom = high c.y b.bottom d.y h.bottom;
-}
-  where
-    low : (a l x : ℤ) → (l -ℤ pos n) ≤ℤ x → (int_min a l -ℤ pos n) ≤ℤ x
-    low a l x h = omega (arith, ints, clamps)
-
-    high : (a l x : ℤ) → x ≤ℤ (l +ℤ pos n) → x ≤ℤ (int_max a l +ℤ pos n)
-    high a l x h = omega (arith, ints, clamps)
-
 pub widened_sides : (n : ℕ) (c : Cell) (b : Bounds) → is_within n c ≡ true → AreSidesWithin n b → AreSidesWithin n (widened c b)
 widened_sides n c b e h = record {
   left = least c.x b.left x h.left;
@@ -281,3 +267,61 @@ hold_more n places one other boxes new found d less difference kept added first 
         let at : k ≡ n = omega arith in
         added c (difference c (subst (λ (p : Place). IsInnerCell p c)
         (ap (λ (m : ℕ). get_or places m q) at ∙ get_or_default places n q d less) inner) ne)
+
+-- ---- wider boxes
+
+in_itself : (boxes : List Bounds) (c : Cell) → IsNearOne 0 boxes c → IsInOne boxes c
+in_itself boxes c some =
+    any_weaker (λ (b : Bounds). IsWithin (enlarged 0 b) c) (λ (b : Bounds). IsWithin b c) boxes (λ b h. within b h) some
+  where
+    within : (b : Bounds) → IsWithin (enlarged 0 b) c → IsWithin b c
+    within b h = record {
+      left = let p = h.left in omega (arith, ints);
+      top = let p = h.top in omega (arith, ints);
+      right = let p = h.right in omega (arith, ints);
+      bottom = let p = h.bottom in omega (arith, ints);
+    }
+
+-- a cell of a box is one of a wider box
+pub wider_has : (boxes later : List Bounds) → AreWider boxes later → (c : Cell) → IsInOne boxes c → IsInOne later c
+wider_has boxes later wider c some = in_itself later c (wider 0 c (near_itself boxes c some))
+
+-- a box that was put in place of one, and has it in it
+pub joined_wider : (boxes : List Bounds) (i : ℕ) (one part wide : Bounds) → i < length boxes → one ≡ get_or boxes i one → IsRoundBoth one part wide
+    → AreWider boxes (set boxes i wide)
+joined_wider boxes i one part wide low same round n d some =
+    any_set_kept (λ (b : Bounds). IsWithin (enlarged n b) d) boxes i wide one low
+    (λ h. near (subst (λ (b : Bounds). IsWithin (enlarged n b) d) (sym same) h)) some
+  where
+    low_side : (a b x w : ℤ) → w ≡ int_min a b → (a -ℤ pos n) ≤ℤ x → (w -ℤ pos n) ≤ℤ x
+    low_side a b x w is h = omega (arith, ints, clamps, is)
+
+    high_side : (a b x w : ℤ) → w ≡ int_max a b → x ≤ℤ (a +ℤ pos n) → x ≤ℤ (w +ℤ pos n)
+    high_side a b x w is h = omega (arith, ints, clamps, is)
+
+    near : IsWithin (enlarged n one) d → IsWithin (enlarged n wide) d
+    near h = record {
+      left = low_side one.left part.left d.x wide.left round.left h.left;
+      top = low_side one.top part.top d.y wide.top round.top h.top;
+      right = high_side one.right part.right d.x wide.right round.right h.right;
+      bottom = high_side one.bottom part.bottom d.y wide.bottom round.bottom h.bottom;
+    }
+
+-- and one that was added
+pub pushed_wider : (boxes later : List Bounds) (part : Bounds) → later ≡ boxes ++ part ∷ [] → AreWider boxes later
+pushed_wider boxes later part is n d some = any_pushed (λ (b : Bounds). IsWithin (enlarged n b) d) boxes later part is (inl some)
+
+-- ---- the box of one cell
+
+pub cell_in_box : (c : Cell) → IsWithin (box_at c) c
+cell_in_box c = record { left = le c.x; top = le c.y; right = le c.x; bottom = le c.y }
+  where
+    le : (x : ℤ) → x ≤ℤ x
+    le x = omega (arith, ints)
+
+pub cell_box_sides : (n : ℕ) (c : Cell) → is_within n c ≡ true → AreSidesWithin n (box_at c)
+cell_box_sides n c e =
+    let both = and_parts (leb (unsigned_abs c.x) n) (leb (unsigned_abs c.y) n) e in
+    let x = leb-true (unsigned_abs c.x) n both.0 in
+    let y = leb-true (unsigned_abs c.y) n both.1 in
+    record { left = x; top = y; right = x; bottom = y }

@@ -1,6 +1,6 @@
 -- Windows over rectangles: what a union has in it, and that windows side by side leave no gap.
-use Rattle.std.proofs.Common.{◌/◌, ◌%◌, ◌-◌, ◌<◌, ◌-ℤ◌, ◌≡◌, ◌+◌, ◌*◌, ◌≤◌, ℕ, ℤ, pos, ◌+ℤ◌, ◌≤ℤ◌, ◌<ℤ◌, List, length, get_or, unsigned_abs}
-use Rattle.std.proofs.Common.{arith, sym, subst, inl, inr, ◌⊎◌}
+use Rattle.std.proofs.Common.{◌/◌, ◌%◌, ◌-◌, ◌<◌, ◌-ℤ◌, ◌≡◌, ◌+◌, ◌*◌, ◌^◌, ◌≤◌, ℕ, ℤ, pos, ◌+ℤ◌, ◌≤ℤ◌, ◌<ℤ◌, List, length, get_or, unsigned_abs}
+use Rattle.std.proofs.Common.{◌*ℤ◌, arith, sym, subst, inl, inr, ◌⊎◌, FitsSigned, of_z, to_z, w32}
 use Rattle.std.specs.Int.{int_max, int_min}
 use Rattle.std.specs.List.{swap_remove}
 use Rattle.std.proofs.lemmas.Nat.{div-add-mod', mod_below}
@@ -9,8 +9,8 @@ use Rattle.plane_core.specs.declared.bounds.Bounds.{Bounds}
 use Rattle.plane_core.specs.declared.cell.Cell.{Cell}
 use Rattle.plane_core.specs.declared.cover.Spans.{Spans}
 use Rattle.plane_core.specs.declared.place.Place.{Place}
-use Rattle.plane_core.specs.Bounds.{IsRoundBoth, IsWithin}
-use Rattle.plane_core.specs.Boxes.{IsInOne}
+use Rattle.plane_core.specs.Bounds.{IsRoundBoth, IsWithin, enlarged}
+use Rattle.plane_core.specs.Boxes.{IsInOne, box_bound, rectangle_bound}
 use Rattle.plane_core.specs.Cells.{distance}
 use Rattle.plane_core.specs.Covers.{AreSideBySide, BeginsAt, IsInRow}
 use Rattle.plane_core.specs.Bounds.{AreSidesWithin}
@@ -170,3 +170,79 @@ side_by_side_is first last begin size length some is at = record {
 
     reach : last ≤ℤ (first +ℤ pos length)
     reach = omega (arith, ints)
+
+-- ---- how far spans reach
+
+pub spans_begin : (first last : ℤ) (size : ℕ) (spans : Spans) → AreSideBySide first last size spans → size ≤ 64 → unsigned_abs first ≤ rectangle_bound
+    → unsigned_abs spans.first ≤ 2 ^ 25
+spans_begin first last size spans is low near =
+    let s = is.start in
+    let n = is.near in
+    omega (arith, ints)
+
+pub few_rows : (first last : ℤ) (spans : Spans) → AreSideBySide first last 32 spans → unsigned_abs first ≤ rectangle_bound
+    → unsigned_abs last ≤ rectangle_bound → spans.count ≤ 2 ^ 20
+few_rows first last spans is near far =
+    let s = is.small in
+    omega (arith, ints)
+
+pub few_columns : (first last : ℤ) (spans : Spans) → AreSideBySide first last 56 spans → unsigned_abs first ≤ rectangle_bound
+    → unsigned_abs last ≤ rectangle_bound → spans.count ≤ 2 ^ 20
+few_columns first last spans is near far =
+    let s = is.small in
+    omega (arith, ints)
+
+pub row_near : (first row : ℤ) (i : ℕ) → unsigned_abs first ≤ 2 ^ 25 → i ≤ 2 ^ 20 → row ≡ first +ℤ pos (32 * i) → unsigned_abs row ≤ 2 ^ 26
+row_near first row i near few is = omega (arith, ints, is)
+
+pub wider_bound : (first : ℤ) → unsigned_abs first ≤ 2 ^ 25 → unsigned_abs first ≤ 2 ^ 26
+wider_bound first near = omega arith
+
+-- ---- numbers that fit
+
+pub fits_count : (i count : ℕ) → i < count → count ≤ 2 ^ 20 → FitsSigned w32 (pos i)
+fits_count i count low few = omega (arith, ints)
+
+pub fits_columns : (i count : ℕ) → i < count → count ≤ 2 ^ 20 → FitsSigned w32 (pos 56 *ℤ to_z w32 i)
+fits_columns i count low few = omega (arith, ints)
+
+pub fits_column : (first : ℤ) (i count : ℕ) → i < count → count ≤ 2 ^ 20 → unsigned_abs first ≤ 2 ^ 26
+    → FitsSigned w32 (to_z w32 (of_z w32 first) +ℤ to_z w32 (of_z w32 (pos 56 *ℤ to_z w32 i)))
+fits_column first i count low few near = omega (arith, ints)
+
+pub column_is : (first : ℤ) (i count : ℕ) → i < count → count ≤ 2 ^ 20 → unsigned_abs first ≤ 2 ^ 26
+    → to_z w32 (of_z w32 (to_z w32 (of_z w32 first) +ℤ to_z w32 (of_z w32 (pos 56 *ℤ to_z w32 i)))) ≡ first +ℤ pos (56 * i)
+column_is first i count low few near = omega (arith, ints)
+
+pub column_near : (first column : ℤ) (i count : ℕ) → i < count → count ≤ 2 ^ 20 → unsigned_abs first ≤ 2 ^ 26 → column ≡ first +ℤ pos (56 * i)
+    → unsigned_abs column ≤ 2 ^ 28
+column_near first column i count low few near is = omega (arith, ints, is)
+
+pub top_near : (top : ℤ) → unsigned_abs top ≤ 2 ^ 26 → unsigned_abs (to_z w32 (of_z w32 top)) ≤ 2 ^ 28
+top_near top near = omega (arith, ints)
+
+pub fits_less : (x : ℤ) → unsigned_abs x ≤ box_bound → FitsSigned w32 (to_z w32 (of_z w32 x) -ℤ pos 4)
+fits_less x near = omega (arith, ints)
+
+pub fits_further : (x : ℤ) → unsigned_abs x ≤ box_bound → FitsSigned w32 (to_z w32 (of_z w32 x) +ℤ pos 4)
+fits_further x near = omega (arith, ints)
+
+pub less_is : (x : ℤ) → unsigned_abs x ≤ box_bound → to_z w32 (of_z w32 (to_z w32 (of_z w32 x) -ℤ pos 4)) ≡ x -ℤ pos 4
+less_is x near = omega (arith, ints)
+
+pub further_is : (x : ℤ) → unsigned_abs x ≤ box_bound → to_z w32 (of_z w32 (to_z w32 (of_z w32 x) +ℤ pos 4)) ≡ x +ℤ pos 4
+further_is x near = omega (arith, ints)
+
+pub margin_sides : (b : Bounds) → AreSidesWithin box_bound b → AreSidesWithin rectangle_bound (enlarged 4 b)
+margin_sides b sides = record {
+  left = less b.left sides.left;
+  top = less b.top sides.top;
+  right = further b.right sides.right;
+  bottom = further b.bottom sides.bottom;
+}
+  where
+    less : (x : ℤ) → unsigned_abs x ≤ box_bound → unsigned_abs (x -ℤ pos 4) ≤ rectangle_bound
+    less x near = omega (arith, ints)
+
+    further : (x : ℤ) → unsigned_abs x ≤ box_bound → unsigned_abs (x +ℤ pos 4) ≤ rectangle_bound
+    further x near = omega (arith, ints)

@@ -19,6 +19,7 @@ pub mod FillLemmas
 pub mod FloodLemmas
 pub mod FloodedLemmas
 pub mod ForestLemmas
+pub mod FrameFits
 pub mod FrameLemmas
 pub mod FrontierLemmas
 pub mod GatherLemmas

@@ -5,7 +5,6 @@ use Rattle.std.proofs.Common.{get_or-set_other, slice_index, bit_and, w64, leb, 
 use Rattle.std.specs.Int.{bit_at, bit_not}
 use Rattle.std.specs.List.{All}
 use Rattle.std.proofs.lemmas.Bool.{and_from, and_parts, leb-true, le-leb}
-use Rattle.std.proofs.lemmas.Int.{ints}
 use Rattle.std.proofs.lemmas.List.{take_more}
 use Rattle.std.proofs.lemmas.Nat.Bits.{bit_at_clear_other, bit_at_clear_same}
 use Rattle.plane_core.specs.declared.bounds.Bounds.{Bounds}
@@ -13,15 +12,15 @@ use Rattle.plane_core.specs.declared.cell.Cell.{Cell}
 use Rattle.plane_core.specs.declared.frame.Frame.{Frame}
 use Rattle.plane_core.specs.declared.spans.Span.{Span}
 use Rattle.plane_core.specs.Boards.{IsSpannedBoard}
-use Rattle.plane_core.specs.Bounds.{AreSidesWithin, IsWithin, enlarged}
-use Rattle.plane_core.specs.Boxes.{HoldAll, IsInOne, IsNearOne, box_bound}
+use Rattle.plane_core.specs.Bounds.{AreSidesWithin, IsWithin}
+use Rattle.plane_core.specs.Boxes.{AreWider, HoldAll, box_bound}
 use Rattle.plane_core.specs.Cells.{IsPattern, has, is_within, on_plane, plane_bound, same_cell}
 use Rattle.plane_core.specs.Frames.{Shows, bounds_of, board_cell, word_of}
 use Rattle.plane_core.specs.Generations.{lies_within}
 use Rattle.plane_core.specs.OnBoard.{cells_on}
 use Rattle.plane_core.specs.Rules.{Numbers}
 use Rattle.plane_core.specs.Without.{without}
-use Rattle.plane_core.proofs.BoxLemmas.{any_weaker, near_itself}
+use Rattle.plane_core.proofs.BoxLemmas.{wider_has}
 use Rattle.plane_core.proofs.CaseLemmas.{same_or_not}
 use Rattle.plane_core.proofs.CellLemmas.{same_cell-itself, same_cell-same}
 use Rattle.plane_core.proofs.FrameLemmas.{one_spot, one_word, spot_inside, spot_of, word-inside}
@@ -174,22 +173,6 @@ pub lies_in_bound : (S : List Cell) → IsPattern S → lies_within box_bound S 
 unfolding on_plane
 lies_in_bound S pattern = lies_wider S plane_bound box_bound (omega arith) pattern.on_plane
 
-in_itself : (boxes : List Bounds) (c : Cell) → IsNearOne 0 boxes c → IsInOne boxes c
-in_itself boxes c some =
-    any_weaker (λ (b : Bounds). IsWithin (enlarged 0 b) c) (λ (b : Bounds). IsWithin b c) boxes (λ b h. within b h) some
-  where
-    within : (b : Bounds) → IsWithin (enlarged 0 b) c → IsWithin b c
-    within b h = record {
-      left = let p = h.left in omega (arith, ints);
-      top = let p = h.top in omega (arith, ints);
-      right = let p = h.right in omega (arith, ints);
-      bottom = let p = h.bottom in omega (arith, ints);
-    }
-
--- boxes that have at least what others had
-abbrev pub AreWider : List Bounds → List Bounds → Type 0
-AreWider boxes later = (n : ℕ) (c : Cell) → IsNearOne n boxes c → IsNearOne n later c
-
 -- a board may have wider boxes
 pub wider_board : (at : Frame) (rule : Numbers) (is_life : Bool) (words : List ℕ) (boxes later : List Bounds) (holds_all : Bool) (spans : List Span)
     → IsSpannedBoard at rule is_life words boxes holds_all spans → All (AreSidesWithin box_bound) later → AreWider boxes later
@@ -201,7 +184,7 @@ wider_board at rule is_life words boxes later holds_all spans is sides wider = r
     long = is.board.long;
     sides = sides;
     quiet = λ c far. is.board.quiet c (λ near. far (wider 2 c near));
-    all = λ e c h. in_itself later c (wider 0 c (near_itself boxes c (is.board.all e c h)));
+    all = λ e c h. wider_has boxes later wider c (is.board.all e c h);
   };
   spanned = is.spanned;
   plane = is.plane;

@@ -1,6 +1,6 @@
 -- The rows of the lanes of a board that may have a live cell.
 use Rattle.std.proofs.Common.{◌≡◌, ◌≢◌, ◌==◌, ◌+◌, ◌/◌, ◌%◌, ◌<◌, ◌≤◌, ℕ, pos, ◌+ℤ◌, ◌-ℤ◌, true, List, [], ◌∷◌}
-use Rattle.std.proofs.Common.{arith, ap, ◌∙◌, sym, subst, inl, inr, ◌⊎◌, length, take, get_or}
+use Rattle.std.proofs.Common.{arith, ap, ◌∙◌, sym, subst, inl, inr, ◌⊎◌, length, take, get_or, get_or-set_other, get_or-set_same, set}
 use Rattle.std.proofs.Common.{slice_index, slice_index_or}
 use Rattle.std.specs.Int.{bit_at}
 use Rattle.std.proofs.lemmas.Bool.{false≢true, or_cases}
@@ -192,3 +192,20 @@ empty_spans at words spans none long = record {
 pub zero_spans : (at : Frame) (words : List ℕ) (spans : List Span) → ((i : ℕ) → slice_index words i ≡ 0) → length spans ≡ at.lanes
     → AreSpans at (cells_on at words) spans
 zero_spans at words spans zeros long = empty_spans at words spans (no_cells at words zeros) long
+
+-- one row of a lane more is emptied
+pub row_emptied : (at : Frame) (words : List ℕ) (lane row from i : ℕ) → i ≡ word_of at lane row → i < length words
+    → ((r : ℕ) → from ≤ r → r < row → slice_index words (word_of at lane r) ≡ 0) → (r : ℕ) → from ≤ r → r < row + 1
+    → slice_index (set words i 0) (word_of at lane r) ≡ 0
+row_emptied at words lane row from i is low before r past near = elim (same_or_not r row) [
+  | inl same ↦
+      subst (λ (m : ℕ). slice_index (set words i 0) m ≡ 0) (is ∙ ap (λ (n : ℕ). word_of at lane n) (sym same)) (get_or-set_same words i 0 0 low)
+  | inr apart ↦
+      get_or-set_other words i (word_of at lane r) 0 0 (λ e. omega (arith, is, apart, e)) ∙ before r past (omega (arith, near, apart))
+]
+
+pub zeroed_at : (old words : List ℕ) (i : ℕ) → i < length words → AreZeroed old words → AreZeroed old (set words i 0)
+zeroed_at old words i low before m = elim (same_or_not m i) [
+  | inl same ↦ inr (subst (λ (k : ℕ). slice_index (set words i 0) k ≡ 0) (sym same) (get_or-set_same words i 0 0 low))
+  | inr apart ↦ subst (λ (w : ℕ). (w ≡ slice_index old m) ⊎ (w ≡ 0)) (sym (get_or-set_other words i m 0 0 apart)) (before m)
+]

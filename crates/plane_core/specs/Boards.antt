@@ -24,11 +24,6 @@ pub record AreRightFor (rule : Numbers) (cells : List Cell) (boxes : List Bounds
   pub even : n % 2 ≡ 0 → IsQuiet rule cells boxes
   pub odd : n % 2 ≡ 1 → HoldAll boxes cells
 
--- a board that was led on by n generations, with its boxes
-pub record HasGoneOn (rule : Numbers) (at : Frame) (n : ℕ) (old new : List ℕ) (boxes : List Bounds) : Type 0 where
-  pub cells : cells_on at new ≡ after rule (cells_on at old) n
-  pub right : AreRightFor rule (cells_on at new) boxes n
-
 -- a board's words and boxes
 pub record IsBoard (at : Frame) (rule : Numbers) (is_life : Bool) (words : List ℕ) (boxes : List Bounds) (holds_all : Bool) : Type 0 where
   pub frame : IsFrame at
@@ -45,7 +40,17 @@ pub record IsSpannedBoard (at : Frame) (rule : Numbers) (is_life : Bool) (words 
   pub spanned : AreSpans at (cells_on at words) spans
   pub plane : AreSidesWithin plane_bound (bounds_of at)
 
--- a leap of n generations whose boxes are right leaves all live cells in the spans
-abbrev pub StayInSpans : Numbers → Frame → ℕ → List ℕ → List ℕ → List Bounds → List Span → List Span → Type 0
-StayInSpans rule at n old new boxes before later = AreRightFor rule (cells_on at old) boxes n
-    → LieInSpans at before (cells_on at old) → LieInSpans at later (cells_on at new)
+-- a board that is ready for a leap of n generations
+pub record IsReady (rule : Numbers) (at : Frame) (n : ℕ) (words : List ℕ) (boxes : List Bounds) (spans : List Span) : Type 0 where
+  pub frame : IsFrame at
+  pub long : FillsFrame at words
+  pub sides : All (AreSidesWithin box_bound) boxes
+  pub right : AreRightFor rule (cells_on at words) boxes n
+  pub spanned : AreSpans at (cells_on at words) spans
+
+-- a board that was led on by n generations, with its boxes and spans
+pub record HasGoneOn (rule : Numbers) (at : Frame) (n : ℕ) (old new : List ℕ) (boxes : List Bounds) (spans : List Span) : Type 0 where
+  pub cells : cells_on at new ≡ after rule (cells_on at old) n
+  pub sides : All (AreSidesWithin box_bound) boxes
+  pub right : AreRightFor rule (cells_on at new) boxes n
+  pub live : LieInSpans at spans (cells_on at new)

@@ -32,6 +32,10 @@ IsInOne boxes c = Any (λ b. IsWithin b c) boxes
 abbrev pub IsNearOne : ℕ → List Bounds → Cell → Type 0
 IsNearOne n boxes c = Any (λ b. IsWithin (enlarged n b) c) boxes
 
+-- boxes that have at least what others had
+abbrev pub AreWider : List Bounds → List Bounds → Type 0
+AreWider boxes later = (n : ℕ) (c : Cell) → IsNearOne n boxes c → IsNearOne n later c
+
 -- each cell that is not within 2 of a box is the same two generations on
 abbrev pub IsQuiet : Numbers → List Cell → List Bounds → Type 0
 IsQuiet rule cells boxes = (c : Cell) → ¬ IsNearOne 2 boxes c → has (after rule cells 2) c ≡ has cells c

@@ -22,7 +22,7 @@ ghost use Rattle.plane_core.specs.Frames.{FillsFrame, HasFewWords, IsFrame, LieO
 ghost use Rattle.plane_core.specs.Cells.{IsPattern, plane_bound};
 ghost use Rattle.plane_core.specs.Generations.{after};
 ghost use Rattle.plane_core.specs.Bounds.{AreSidesWithin};
-ghost use Rattle.plane_core.specs.Boards.{AreRightFor, HasGoneOn, StayInSpans};
+ghost use Rattle.plane_core.specs.Boards.{HasGoneOn, IsReady};
 ghost use Rattle.plane_core.specs.OnBoard.{cells_on};
 ghost use Rattle.plane_core.specs.Words.{life};
 
@@ -152,9 +152,10 @@ impl Board {
         let mut words = vec![in alloc; 0u64; at.count()]?;
         let mut spans = vec![in alloc; Span::empty(); at.lanes]?;
         let mut boxes = Vec::new(alloc);
-        boxes_round(pattern.cells(), &mut boxes)?;
-        fill(at, words.as_mut_slice(), pattern.cells());
-        widen_by_cells(at, spans.as_mut_slice(), pattern.cells());
+        let cells = pattern.cells();
+        boxes_round(cells, &mut boxes)?;
+        fill(at, words.as_mut_slice(), cells);
+        widen_by_cells(at, spans.as_mut_slice(), cells);
         Ok(Board {
             at,
             answers: AnyRule::new(rule),
@@ -167,26 +168,16 @@ impl Board {
         })
     }
 
-    /// An empty board.
+    /// An empty board: one that shows the empty pattern.
     fn blank(alloc: Global, rule: &Rule, at: Frame) -> Result<Board, OutOfMemory>
         requires frame { IsFrame at }
         requires plane { AreSidesWithin plane_bound (bounds_of at) }
+        requires words { HasFewWords at [] }
         ensures rule { IfOk result (λ board. board.rule ≡ rule.now) }
         ensures cells { IfOk result (λ board. board.cells ≡ []) }
     {
-        let words = vec![in alloc; 0u64; at.count()]?;
-        let spans = vec![in alloc; Span::empty(); at.lanes]?;
-        let boxes = Vec::new(alloc);
-        Ok(Board {
-            at,
-            answers: AnyRule::new(rule),
-            is_life: is_life(rule),
-            words,
-            spans,
-            boxes,
-            holds_all: true,
-            lists: Lists::new(alloc),
-        })
+        let none = Pattern::from_ordered(Vec::new(alloc));
+        Board::lay(alloc, rule, at, &none)
     }
 
     /// Shows another pattern under a rule, in the middle of the board. If it has no room there, the board shows
@@ -230,12 +221,13 @@ impl Board {
         let Some(at) = self.at.centred(pattern) else {
             return Ok(false);
         };
-        match boxes_round(pattern.cells(), &mut self.boxes) {
+        let cells = pattern.cells();
+        match boxes_round(cells, &mut self.boxes) {
             Ok(()) => {
                 self.at = at;
                 self.holds_all = true;
-                fill(at, self.words.as_mut_slice(), pattern.cells());
-                widen_by_cells(at, self.spans.as_mut_slice(), pattern.cells());
+                fill(at, self.words.as_mut_slice(), cells);
+                widen_by_cells(at, self.spans.as_mut_slice(), cells);
                 Ok(true)
             }
             Err(error) => {
@@ -314,13 +306,28 @@ impl Board {
         ensures leapt { IfOk result
             (λ leapt. leapt ≡ true → self.new.cells ≡ after self.old.rule self.old.cells count) }
     {
+        if self.is_life {
+            return self.leap_by(&Life, count);
+        }
+        let answers = self.answers;
+        self.leap_by(&answers, count)
+    }
+
+    /// Makes the leap by answers of the board's rule: by those of Life in a loop of their own.
+    fn leap_by<A: Answering>(&mut self, rule: &A, count: u32) -> Result<bool, OutOfMemory>
+        requires rule { A.rule rule.now ≡ self.old.rule }
+        requires some { 1 ≤ count }
+        requires few { count ≤ 4 }
+        ensures rule { self.new.rule ≡ self.old.rule }
+        ensures stopped { IfOk result (λ leapt. leapt ≡ false → self.new.cells ≡ self.old.cells) }
+        ensures leapt { IfOk result
+            (λ leapt. leapt ≡ true → self.new.cells ≡ after self.old.rule self.old.cells count) }
+    {
         if !are_enough(self.holds_all, count) {
             return Ok(false);
         }
-        let answers = self.answers;
-        let leapt = leap_by(
-            &answers,
-            self.is_life,
+        let leapt = leap_on(
+            rule,
             self.at,
             self.words.as_mut_slice(),
             self.spans.as_mut_slice(),
@@ -415,43 +422,6 @@ fn even_count(left: u32) -> u32
     if left < 4 { 2 } else { 4 }
 }
 
-/// Makes a leap by the answers of a rule: by those of Life in a loop of their own.
-fn leap_by(
-    answers: &AnyRule,
-    is_life: bool,
-    at: Frame,
-    words: &mut [u64],
-    spans: &mut [Span],
-    boxes: &mut Vec<Bounds>,
-    lists: &mut Lists,
-    count: u32,
-) -> Result<bool, OutOfMemory>
-    requires life { is_life ≡ true → answers.now.rule ≡ life }
-    requires frame { IsFrame at }
-    requires long { FillsFrame at words.old }
-    requires lanes { length spans.old ≡ at.lanes }
-    requires sides { All (AreSidesWithin box_bound) boxes.old.items }
-    requires some { 1 ≤ count }
-    requires few { count ≤ 4 }
-    ensures long { length words.new ≡ length words.old }
-    ensures lanes { length spans.new ≡ length spans.old }
-    ensures sides { OnOk result (All (AreSidesWithin box_bound) boxes.new.items) }
-    ensures stopped { IfOk result
-        (λ leapt. leapt ≡ false
-        → (words.new ≡ words.old) × (boxes.new.items ≡ boxes.old.items) × (spans.new ≡ spans.old)) }
-    ensures leapt { IfOk result
-        (λ leapt. leapt ≡ true → AreRightFor answers.now.rule (cells_on at words.old) boxes.old.items count
-        → HasGoneOn answers.now.rule at count words.old words.new boxes.new.items) }
-    ensures live { IfOk result
-        (λ leapt. leapt ≡ true
-        → StayInSpans answers.now.rule at count words.old words.new boxes.old.items spans.old spans.new) }
-{
-    if is_life {
-        return leap_on(&Life, at, words, spans, boxes, lists, count);
-    }
-    leap_on(answers, at, words, spans, boxes, lists, count)
-}
-
 /// Makes a leap of so many generations, unless a window would come too near to the border of the board. Returns whether
 /// it was made.
 fn leap_on<A: Answering>(
@@ -463,24 +433,15 @@ fn leap_on<A: Answering>(
     lists: &mut Lists,
     count: u32,
 ) -> Result<bool, OutOfMemory>
-    requires frame { IsFrame at }
-    requires long { FillsFrame at words.old }
-    requires lanes { length spans.old ≡ at.lanes }
-    requires sides { All (AreSidesWithin box_bound) boxes.old.items }
+    requires ready { IsReady (A.rule rule.now) at count words.old boxes.old.items spans.old }
     requires some { 1 ≤ count }
     requires few { count ≤ 4 }
-    ensures long { length words.new ≡ length words.old }
-    ensures lanes { length spans.new ≡ length spans.old }
-    ensures sides { OnOk result (All (AreSidesWithin box_bound) boxes.new.items) }
     ensures stopped { IfOk result
         (λ leapt. leapt ≡ false
         → (words.new ≡ words.old) × (boxes.new.items ≡ boxes.old.items) × (spans.new ≡ spans.old)) }
     ensures leapt { IfOk result
-        (λ leapt. leapt ≡ true → AreRightFor (A.rule rule.now) (cells_on at words.old) boxes.old.items count
-        → HasGoneOn (A.rule rule.now) at count words.old words.new boxes.new.items) }
-    ensures live { IfOk result
         (λ leapt. leapt ≡ true
-        → StayInSpans (A.rule rule.now) at count words.old words.new boxes.old.items spans.old spans.new) }
+        → HasGoneOn (A.rule rule.now) at count words.old words.new boxes.new.items spans.new) }
 {
     cover(boxes.as_slice(), &mut lists.rectangles, &mut lists.places)?;
     let places = lists.places.as_slice();

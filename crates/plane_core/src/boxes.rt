@@ -10,11 +10,10 @@
 //! |..X. |
 //! +-----+
 //! ```
-ghost use Rattle.std.specs.Prelude.{◌≡◌, ◌<◌, ℕ, true, All, IfSome, IsSomeAnd, List, OnOk, length};
+ghost use Rattle.std.specs.Prelude.{◌≡◌, ◌<◌, ℕ, true, All, IfSome, List, OnOk, length};
 ghost use Rattle.plane_core.specs.Bounds.{IsWithin};
-ghost use Rattle.plane_core.specs.Boxes.{HoldAll, HoldChanges, HoldDifferences, IsInOne, IsInReach, IsNearOne};
+ghost use Rattle.plane_core.specs.Boxes.{AreWider, HoldAll, HoldChanges, HoldDifferences, IsInOne, IsInReach};
 ghost use Rattle.plane_core.specs.Boxes.{box_bound};
-ghost use Rattle.plane_core.specs.Cells.{is_within};
 ghost use Rattle.plane_core.specs.Generations.{lies_within};
 ghost use Rattle.plane_core.specs.Bounds.{AreSidesWithin};
 ghost use Rattle.plane_core.specs.declared.cell.Cell.{Cell};
@@ -43,23 +42,9 @@ pub(crate) fn next_boxes(
 {
     boxes.clear();
     for i in 0..places.len() {
-        let found = changes[i].bounds(places[i]);
-        push_some(found, boxes)?;
-    }
-    Ok(())
-}
-
-/// Puts a box, if there is one, after the others.
-#[inline(always)]
-fn push_some(found: Option<Bounds>, boxes: &mut Vec<Bounds>) -> Result<(), OutOfMemory>
-    ensures kept { OnOk result ((c : Cell) → IsInOne boxes.old.items c → IsInOne boxes.new.items c) }
-    ensures added { OnOk result
-        ((c : Cell) → IsSomeAnd found (λ b. IsWithin b c) → IsInOne boxes.new.items c) }
-    ensures sides { OnOk result
-        (IfSome found (AreSidesWithin box_bound) → All (AreSidesWithin box_bound) boxes.old.items
-        → All (AreSidesWithin box_bound) boxes.new.items) }
-{
-    if let Some(bounds) = found {
+        let Some(bounds) = changes[i].bounds(places[i]) else {
+            continue;
+        };
         boxes.push(bounds)?;
     }
     Ok(())
@@ -68,36 +53,36 @@ fn push_some(found: Option<Bounds>, boxes: &mut Vec<Bounds>) -> Result<(), OutOf
 /// Widens the boxes of the list, and adds others to it, so that they have these cells in them as well. If memory runs
 /// out, they have at least what they had.
 pub(crate) fn put_in_boxes(cells: &[Cell], boxes: &mut Vec<Bounds>) -> Result<(), OutOfMemory>
-    ensures near { (n : ℕ) (c : Cell) → IsNearOne n boxes.old.items c → IsNearOne n boxes.new.items c }
+    ensures wider { AreWider boxes.old.items boxes.new.items }
     ensures held { OnOk result (HoldAll boxes.new.items cells.now) }
     ensures sides { (n : ℕ) → lies_within n cells.now ≡ true → All (AreSidesWithin n) boxes.old.items
         → All (AreSidesWithin n) boxes.new.items }
 {
     for cell in cells {
-        put_in_box(*cell, boxes)?;
+        put_in_box(Bounds::at(*cell), boxes)?;
     }
     Ok(())
 }
 
-/// Widens a box that is near the cell so that it has the cell in it. If there is none, the cell gets a new one.
-fn put_in_box(cell: Cell, boxes: &mut Vec<Bounds>) -> Result<(), OutOfMemory>
-    ensures kept { (c : Cell) → IsInOne boxes.old.items c → IsInOne boxes.new.items c }
-    ensures near { (n : ℕ) (c : Cell) → IsNearOne n boxes.old.items c → IsNearOne n boxes.new.items c }
-    ensures held { OnOk result (IsInOne boxes.new.items cell) }
-    ensures sides { (n : ℕ) → is_within n cell ≡ true → All (AreSidesWithin n) boxes.old.items
+/// Widens a box that is near the part so that it has the part in it. If there is none, the part is a box. If memory
+/// runs out, the boxes have at least what they had.
+pub(crate) fn put_in_box(part: Bounds, boxes: &mut Vec<Bounds>) -> Result<(), OutOfMemory>
+    ensures wider { AreWider boxes.old.items boxes.new.items }
+    ensures held { OnOk result ((c : Cell) → IsWithin part c → IsInOne boxes.new.items c) }
+    ensures sides { (n : ℕ) → AreSidesWithin n part → All (AreSidesWithin n) boxes.old.items
         → All (AreSidesWithin n) boxes.new.items }
 {
-    let Some(i) = box_near(boxes.as_slice(), Bounds::at(cell)) else {
-        boxes.push(Bounds::at(cell))?;
+    let Some(i) = box_near(boxes.as_slice(), part) else {
+        boxes.push(part)?;
         return Ok(());
     };
-    let widened = boxes[i].widened(cell);
-    boxes[i] = widened;
+    let wide = boxes[i].joined(part);
+    boxes[i] = wide;
     Ok(())
 }
 
 /// The last of the boxes that is near the part, if one of the last sixteen is. Mostly it is the last one.
-pub(crate) fn box_near(boxes: &[Bounds], part: Bounds) -> Option<usize>
+fn box_near(boxes: &[Bounds], part: Bounds) -> Option<usize>
     ensures { IfSome result (λ i. i < length boxes.now) }
 {
     let mut i = boxes.len();

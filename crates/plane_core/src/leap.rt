@@ -9,7 +9,7 @@
 //! ```
 //!
 //! So windows may overlap: what two of them put back is the same.
-ghost use Rattle.std.specs.Prelude.{◌≡◌, ◌+◌, ◌<◌, ◌≤◌, ℕ, All, IfErr, OnOk, [], length};
+ghost use Rattle.std.specs.Prelude.{◌≡◌, ◌+◌, ◌<◌, ◌≤◌, ℕ, All, OnOk, [], length};
 ghost use Rattle.plane_core.specs.Frames.{FillsFrame, IsFrame};
 ghost use Rattle.plane_core.specs.Leaps.{ArePutBack, AreRun, HasLeapt, IsRun, IsRunAt, TellsChanges};
 ghost use Rattle.plane_core.specs.Places.{IsOnBoard};
@@ -102,8 +102,7 @@ fn put_all(words: &mut [u64], at: Frame, places: &[Place], held: &[[u64; 40]])
     requires long { FillsFrame at words.old }
     requires on_board { All (IsOnBoard at) places.now }
     requires each { length held.now ≡ length places.now }
-    ensures put { ArePutBack at places.now held.now (length places.now) words.old words.new }
-    ensures long { length words.new ≡ length words.old }
+    ensures { ArePutBack at places.now held.now (length places.now) words.old words.new }
 {
     for k in 0..places.len() {
         let x = column_of(at, places[k]);
@@ -134,8 +133,6 @@ pub(crate) fn leap<A: Answering>(
     ensures each { OnOk result (length changes.new.items ≡ length places.now) }
     ensures changes { OnOk result
         (TellsChanges at (A.rule rule.now) count places.now words.old changes.new.items) }
-    ensures untouched { IfErr result (λ _. words.new ≡ words.old) }
-    ensures long { length words.new ≡ length words.old }
 {
     held.clear();
     changes.clear();

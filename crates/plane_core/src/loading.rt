@@ -12,8 +12,7 @@ fn put(at: Frame, words: &mut [u64], cell: Cell)
     requires frame { IsFrame at }
     requires within { IsWithin (bounds_of at) cell }
     requires long { FillsFrame at words.old }
-    ensures shown { (cells : List Cell) → Shows at words.old cells → Shows at words.new (cells ++ cell ∷ []) }
-    ensures long { length words.new ≡ length words.old }
+    ensures { (cells : List Cell) → Shows at words.old cells → Shows at words.new (cells ++ cell ∷ []) }
 {
     let across = at.across(cell);
     let i = at.index(across / 64, at.down(cell));
@@ -26,8 +25,7 @@ pub(crate) fn fill(at: Frame, words: &mut [u64], cells: &[Cell])
     requires on { LieOn at cells.now }
     requires long { FillsFrame at words.old }
     requires empty { Shows at words.old [] }
-    ensures shown { Shows at words.new cells.now }
-    ensures long { length words.new ≡ length words.old }
+    ensures { Shows at words.new cells.now }
 {
     for cell in cells {
         put(at, words, *cell);

@@ -10,13 +10,13 @@
 //! ```
 ghost use Rattle.std.specs.Prelude.{◌≡◌, ◌⊎◌, ℕ, true, All, IfOk, OnOk};
 ghost use Rattle.plane_core.specs.Bounds.{AreSidesWithin, IsWithin};
-ghost use Rattle.plane_core.specs.Boxes.{HoldAll, IsInOne};
+ghost use Rattle.plane_core.specs.Boxes.{AreWider, HoldAll, IsInOne};
 ghost use Rattle.plane_core.specs.Cells.{is_within};
 ghost use Rattle.plane_core.specs.Generations.{lies_within};
 ghost use Rattle.plane_core.specs.declared.cell.Cell.{Cell};
 
 use crate::bounds::Bounds;
-use crate::boxes::box_near;
+use crate::boxes::put_in_box;
 use crate::cell::Cell;
 use memory::OutOfMemory;
 
@@ -42,14 +42,14 @@ pub(crate) fn boxes_round(cells: &[Cell], boxes: &mut Vec<Bounds>) -> Result<(),
     for cell in cells {
         run = next_run(run, *cell, boxes)?;
     }
-    put_run(run, boxes)?;
+    put_in_box(run, boxes)?;
     Ok(())
 }
 
 /// The run with the cell, if this stands at its end. Else the run is put in a box, and the cell begins the next one.
 #[inline(always)]
 fn next_run(run: Bounds, cell: Cell, boxes: &mut Vec<Bounds>) -> Result<Bounds, OutOfMemory>
-    ensures kept { OnOk result ((c : Cell) → IsInOne boxes.old.items c → IsInOne boxes.new.items c) }
+    ensures wider { OnOk result (AreWider boxes.old.items boxes.new.items) }
     ensures run { IfOk result
         (λ next. (c : Cell) → IsWithin run c → IsWithin next c ⊎ IsInOne boxes.new.items c) }
     ensures cell { IfOk result (λ next. IsWithin next cell) }
@@ -62,7 +62,7 @@ fn next_run(run: Bounds, cell: Cell, boxes: &mut Vec<Bounds>) -> Result<Bounds, 
     if is_at_end(run, cell) {
         return Ok(run.widened(cell));
     }
-    put_run(run, boxes)?;
+    put_in_box(run, boxes)?;
     Ok(Bounds::at(cell))
 }
 
@@ -70,21 +70,4 @@ fn next_run(run: Bounds, cell: Cell, boxes: &mut Vec<Bounds>) -> Result<Bounds, 
 #[inline(always)]
 fn is_at_end(run: Bounds, cell: Cell) -> bool {
     cell.y == run.top && cell.x.abs_diff(run.right) <= GAP && cell.x.abs_diff(run.left) < LENGTH
-}
-
-/// Widens a box that is near the run so that it has the run in it. If there is none, the run is a box.
-fn put_run(run: Bounds, boxes: &mut Vec<Bounds>) -> Result<(), OutOfMemory>
-    ensures kept { OnOk result ((c : Cell) → IsInOne boxes.old.items c → IsInOne boxes.new.items c) }
-    ensures held { OnOk result ((c : Cell) → IsWithin run c → IsInOne boxes.new.items c) }
-    ensures sides { OnOk result
-        ((n : ℕ) → AreSidesWithin n run → All (AreSidesWithin n) boxes.old.items
-        → All (AreSidesWithin n) boxes.new.items) }
-{
-    let Some(i) = box_near(boxes.as_slice(), run) else {
-        boxes.push(run)?;
-        return Ok(());
-    };
-    let wide = boxes[i].joined(run);
-    boxes[i] = wide;
-    Ok(())
 }

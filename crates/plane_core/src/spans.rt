@@ -11,7 +11,7 @@
 ghost use Rattle.std.specs.Prelude.{◌≡◌, ◌+◌, ◌*◌, ◌/◌, ◌<◌, ◌≤◌, ◌^◌, ◌∷◌, ◌⊎◌};
 ghost use Rattle.std.specs.Prelude.{[], All, ℕ, IsTrue, length, slice_index};
 ghost use Rattle.plane_core.specs.Bounds.{IsWithin};
-ghost use Rattle.plane_core.specs.Frames.{FillsFrame, IsFrame, LieOn, Shows, bounds_of, board_cell, word_of};
+ghost use Rattle.plane_core.specs.Frames.{FillsFrame, IsFrame, LieOn, bounds_of, board_cell, word_of};
 ghost use Rattle.plane_core.specs.OnBoard.{cells_on};
 ghost use Rattle.plane_core.specs.Places.{IsOnBoard};
 ghost use Rattle.plane_core.specs.Spans.{AreWidened, HoldCovered, HoldInner, HoldsSpans};
@@ -78,7 +78,6 @@ pub(crate) fn widen(spans: &mut [Span], lane: usize, from: usize, end: usize)
     requires { lane < length spans.old }
     ensures kept { AreWidened spans.old spans.new }
     ensures held { (r : ℕ) → from ≤ r → r < end → IsInSpan spans.new lane r }
-    ensures long { length spans.new ≡ length spans.old }
 {
     spans[lane] = spans[lane].joined(Span { from, end });
 }
@@ -90,7 +89,6 @@ fn widen_by_one(at: Frame, spans: &mut [Span], place: Place)
     requires long { length spans.old ≡ at.lanes }
     ensures kept { AreWidened spans.old spans.new }
     ensures covered { HoldInner at spans.new place }
-    ensures long { length spans.new ≡ length spans.old }
 {
     let lane = column_of(at, place) / 64;
     let row = row_of(at, place);
@@ -105,7 +103,6 @@ pub(crate) fn widen_by(at: Frame, spans: &mut [Span], places: &[Place])
     requires long { length spans.old ≡ at.lanes }
     ensures kept { AreWidened spans.old spans.new }
     ensures covered { HoldCovered at spans.new places.now }
-    ensures long { length spans.new ≡ length spans.old }
 {
     for place in places {
         widen_by_one(at, spans, *place);
@@ -119,7 +116,6 @@ fn widen_by_cell(at: Frame, spans: &mut [Span], cell: Cell)
     requires long { length spans.old ≡ at.lanes }
     ensures kept { AreWidened spans.old spans.new }
     ensures held { LieInSpans at spans.new (cell ∷ []) }
-    ensures long { length spans.new ≡ length spans.old }
 {
     let lane = at.across(cell) / 64;
     let row = at.down(cell);
@@ -133,7 +129,6 @@ pub(crate) fn widen_by_cells(at: Frame, spans: &mut [Span], cells: &[Cell])
     requires long { length spans.old ≡ at.lanes }
     ensures kept { AreWidened spans.old spans.new }
     ensures held { LieInSpans at spans.new cells.now }
-    ensures long { length spans.new ≡ length spans.old }
 {
     for cell in cells {
         widen_by_cell(at, spans, *cell);
@@ -216,10 +211,7 @@ pub(crate) fn empty(at: Frame, words: &mut [u64], spans: &mut [Span])
     requires long { FillsFrame at words.old }
     requires lanes { length spans.old ≡ at.lanes }
     requires live { LieInSpans at spans.old (cells_on at words.old) }
-    ensures empty { Shows at words.new [] }
-    ensures cells { cells_on at words.new ≡ [] }
-    ensures long { length words.new ≡ length words.old }
-    ensures lanes { length spans.new ≡ length spans.old }
+    ensures { cells_on at words.new ≡ [] }
 {
     for lane in 0..at.lanes {
         empty_lane(at, words, lane, spans[lane]);
@@ -234,7 +226,6 @@ fn empty_lane(at: Frame, words: &mut [u64], lane: usize, span: Span)
     requires long { FillsFrame at words.old }
     ensures dead { (r : ℕ) → r < at.rows → HasRow span r → slice_index words.new (word_of at lane r) ≡ 0 }
     ensures others { (m : ℕ) → slice_index words.new m ≡ slice_index words.old m ⊎ slice_index words.new m ≡ 0 }
-    ensures long { length words.new ≡ length words.old }
 {
     for row in span.from..span.end.min(at.rows) {
         words[at.index(lane, row)] = 0;

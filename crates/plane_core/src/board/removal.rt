@@ -44,8 +44,7 @@ impl Board {
 fn take_off(at: Frame, words: &mut [u64], cells: &[Cell])
     requires frame { IsFrame at }
     requires long { FillsFrame at words.old }
-    ensures cells { cells_on at words.new ≡ without (cells_on at words.old) cells.now }
-    ensures long { length words.new ≡ length words.old }
+    ensures { cells_on at words.new ≡ without (cells_on at words.old) cells.now }
 {
     for cell in cells {
         take_off_one(at, words, *cell);
@@ -56,9 +55,8 @@ fn take_off(at: Frame, words: &mut [u64], cells: &[Cell])
 fn take_off_one(at: Frame, words: &mut [u64], cell: Cell)
     requires frame { IsFrame at }
     requires long { FillsFrame at words.old }
-    ensures shown { (cells others : List Cell) → Shows at words.old (without cells others)
+    ensures { (cells others : List Cell) → Shows at words.old (without cells others)
         → Shows at words.new (without cells (others ++ cell ∷ [])) }
-    ensures long { length words.new ≡ length words.old }
 {
     if !at.has(cell) {
         return;

@@ -1,36 +1,83 @@
-use Rattle.std.proofs.Common.{List, subst, sym}
+use Rattle.std.proofs.Common.{◌∙◌, ap, length, refl, sym}
+use Rattle.std.proofs.lemmas.Bool.{false≢true}
+use Rattle.std.proofs.lemmas.Result.{IfOk-from_err}
 use Rattle.plane_core.specs.OnBoard.{cells_on}
-use Rattle.plane_core.specs.declared.cell.Cell.{Cell}
-use Rattle.plane_core.specs.Boards.{HasGoneOn}
-use Rattle.plane_core.specs.Spans.{LieInSpans}
-use Rattle.plane_core.proofs.AdvanceLemmas.{covered_on, has_gone_on, still_for_leap}
+use Rattle.plane_core.proofs.AdvanceLemmas.{has_gone_on}
 use Rattle.plane_core.proofs.OnBoardLemmas.{cells_in_order, shows_cells}
-use Rattle.plane_core.proofs.SpanLemmas.{spans_after}
 use Rattle.plane_core.proofs.board.leap_on.Goals as goal
 
-pub returns-clause-leapt : goal.returns-clause-leapt
-returns-clause-leapt g c e right =
-    let at = c.args.at in
-    let old = c.args.words.now in
-    let rule = g.A.Answering.rule c.args.rule.now in
-    let places = c.as_slice-places.result.now in
-    let covered = rw (sym c.as_slice-places.ensures.value, c.as_slice.ensures.value) at c.in_ok-cover.ensures in
-    let S = cells_on at old in
-    let still = still_for_leap rule S c.args.boxes.now.items places c.args.count (cells_in_order at old) right covered c.requires.some c.requires.few in
-    has_gone_on rule at c.args.count old c.leap.new.words c.args.boxes.now.items c.next_boxes.new.boxes.items places right covered c.requires.some
-    c.requires.few (covered_on at places (c.are_on_board-inside.ensures.on_board c.if-not-inside.false))
-    (c.in_ok-leap.ensures.shown S (cells_in_order at old) (shows_cells at old) still)
-    (c.in_ok-next_boxes.ensures.differences _ _ (rw c.as_slice-2.ensures.value (c.in_ok-leap.ensures.changes S (cells_in_order at old) (shows_cells at old))))
+pub cover-requires : goal.cover-requires
+cover-requires g c = rw c.as_slice.ensures.value c.requires.ready.sides
 
-pub returns-clause-live : goal.returns-clause-live
-returns-clause-live g c e right live =
+pub returns-in_err-cover-clause-stopped : goal.returns-in_err-cover-clause-stopped
+returns-in_err-cover-clause-stopped g c = IfOk-from_err _ _ c.from_residual.ensures.0
+
+pub returns-in_err-cover-clause-leapt : goal.returns-in_err-cover-clause-leapt
+returns-in_err-cover-clause-leapt g c = IfOk-from_err _ _ c.from_residual.ensures.0
+
+pub are_on_board-inside-requires : goal.are_on_board-inside-requires
+are_on_board-inside-requires g c = c.requires.ready.frame
+
+pub returns-then-not-inside-clause-stopped : goal.returns-then-not-inside-clause-stopped
+returns-then-not-inside-clause-stopped g c e = (refl, refl, refl)
+
+pub returns-then-not-inside-clause-leapt : goal.returns-then-not-inside-clause-leapt
+returns-then-not-inside-clause-leapt g c e = absurd (false≢true e)
+
+pub widen_by-requires-clause-frame : goal.widen_by-requires-clause-frame
+widen_by-requires-clause-frame g c = c.requires.ready.frame
+
+pub widen_by-requires-clause-on_board : goal.widen_by-requires-clause-on_board
+widen_by-requires-clause-on_board g c = c.are_on_board-inside.ensures.on_board c.if-not-inside.false
+
+pub widen_by-requires-clause-long : goal.widen_by-requires-clause-long
+widen_by-requires-clause-long g c = c.requires.ready.spanned.lanes
+
+pub leap-requires-clause-frame : goal.leap-requires-clause-frame
+leap-requires-clause-frame g c = c.requires.ready.frame
+
+pub leap-requires-clause-long : goal.leap-requires-clause-long
+leap-requires-clause-long g c = c.requires.ready.long
+
+pub leap-requires-clause-on_board : goal.leap-requires-clause-on_board
+leap-requires-clause-on_board g c = c.are_on_board-inside.ensures.on_board c.if-not-inside.false
+
+pub leap-requires-clause-some : goal.leap-requires-clause-some
+leap-requires-clause-some g c = c.requires.some
+
+pub leap-requires-clause-few : goal.leap-requires-clause-few
+leap-requires-clause-few g c = c.requires.few
+
+pub returns-in_err-leap-clause-stopped : goal.returns-in_err-leap-clause-stopped
+returns-in_err-leap-clause-stopped g c = IfOk-from_err _ _ c.from_residual-in_err-leap.ensures.0
+
+pub returns-in_err-leap-clause-leapt : goal.returns-in_err-leap-clause-leapt
+returns-in_err-leap-clause-leapt g c = IfOk-from_err _ _ c.from_residual-in_err-leap.ensures.0
+
+pub next_boxes-requires-clause-one_each : goal.next_boxes-requires-clause-one_each
+next_boxes-requires-clause-one_each g c = sym (ap length c.as_slice-2.ensures.value ∙ c.in_ok-leap.ensures.each)
+
+pub next_boxes-requires-clause-reach : goal.next_boxes-requires-clause-reach
+next_boxes-requires-clause-reach g c = c.are_on_board-inside.ensures.reach c.if-not-inside.false
+
+pub returns-in_err-next_boxes-clause-stopped : goal.returns-in_err-next_boxes-clause-stopped
+returns-in_err-next_boxes-clause-stopped g c = IfOk-from_err _ _ c.from_residual-in_err-next_boxes.ensures.0
+
+pub returns-in_err-next_boxes-clause-leapt : goal.returns-in_err-next_boxes-clause-leapt
+returns-in_err-next_boxes-clause-leapt g c = IfOk-from_err _ _ c.from_residual-in_err-next_boxes.ensures.0
+
+pub returns-clause-stopped : goal.returns-clause-stopped
+returns-clause-stopped g c e = absurd (false≢true (sym e))
+
+pub returns-clause-leapt : goal.returns-clause-leapt
+returns-clause-leapt g c e =
     let at = c.args.at in
     let old = c.args.words.now in
     let rule = g.A.Answering.rule c.args.rule.now in
     let places = c.as_slice-places.result.now in
     let covered = rw (sym c.as_slice-places.ensures.value, c.as_slice.ensures.value) at c.in_ok-cover.ensures in
-    let S = cells_on at old in
-    let still = still_for_leap rule S c.args.boxes.now.items places c.args.count (cells_in_order at old) right covered c.requires.some c.requires.few in
-    let gone : HasGoneOn rule at c.args.count old c.leap.new.words c.next_boxes.new.boxes.items = returns-clause-leapt g c e right in
-    subst (λ (T : List Cell). LieInSpans at c.widen_by.new.spans T) (sym gone.cells)
-    (spans_after rule at places S c.args.count c.args.spans.now c.widen_by.new.spans live c.widen_by.ensures.kept c.widen_by.ensures.covered still)
+    has_gone_on rule at c.args.count old c.leap.new.words c.args.boxes.now.items c.next_boxes.new.boxes.items c.args.spans.now c.widen_by.new.spans places
+    c.requires.ready covered c.requires.some c.requires.few (c.are_on_board-inside.ensures.on_board c.if-not-inside.false) c.widen_by.ensures.kept
+    c.widen_by.ensures.covered c.in_ok-leap.ensures.shown c.in_ok-next_boxes.ensures.sides
+    (c.in_ok-next_boxes.ensures.differences _ _
+    (rw c.as_slice-2.ensures.value (c.in_ok-leap.ensures.changes (cells_on at old) (cells_in_order at old) (shows_cells at old))))

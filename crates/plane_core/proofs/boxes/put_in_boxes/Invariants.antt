@@ -1,7 +1,7 @@
 use Rattle.std.proofs.Common.{◌≡◌, ℕ, take, true}
 use Rattle.std.specs.List.{All}
 use Rattle.plane_core.specs.declared.cell.Cell.{Cell}
-use Rattle.plane_core.specs.Boxes.{IsInOne, IsNearOne}
+use Rattle.plane_core.specs.Boxes.{AreWider, IsInOne}
 use Rattle.plane_core.specs.Generations.{lies_within}
 use Rattle.plane_core.specs.Bounds.{AreSidesWithin}
 use Rattle.plane_core.proofs.boxes.put_in_boxes.Given as goal
@@ -9,6 +9,6 @@ use Rattle.plane_core.proofs.boxes.put_in_boxes.Given as goal
 abbrev pub invariant-loop-cell : goal.invariant-loop-cell
 invariant-loop-cell l = record {
   held : All (λ (c : Cell). IsInOne l.boxes.items c) (take l.cell-index l.cells);
-  near : (n : ℕ) (c : Cell) → IsNearOne n l.fn.boxes.items c → IsNearOne n l.boxes.items c;
+  wider : AreWider l.fn.boxes.items l.boxes.items;
   sides : (n : ℕ) → lies_within n l.cells ≡ true → All (AreSidesWithin n) l.fn.boxes.items → All (AreSidesWithin n) l.boxes.items;
 }

@@ -16,3 +16,12 @@ returns-clause-sides c =
     c.joined.ensures.sides rectangle_bound
     (subst (λ (b : Bounds). AreSidesWithin rectangle_bound b) (sym c.swap_remove-other.ensures.value)
     (c.requires.all_sides c.args.i c.swap_remove-other.result (omega (arith, c.args.rectangles.now.ok.0)))) c.requires.sides
+
+pub returns-then-not-saves_windows-clause-held : goal.returns-then-not-saves_windows-clause-held
+returns-then-not-saves_windows-clause-held c d h = h
+
+pub returns-then-not-saves_windows-clause-all_sides : goal.returns-then-not-saves_windows-clause-all_sides
+returns-then-not-saves_windows-clause-all_sides c = c.requires.all_sides
+
+pub returns-then-not-saves_windows-clause-sides : goal.returns-then-not-saves_windows-clause-sides
+returns-then-not-saves_windows-clause-sides c = c.requires.sides

@@ -1,7 +1,78 @@
-use Rattle.std.proofs.Common.{◌∙◌, arith, rules, w32, FitsSigned}
+use Rattle.std.proofs.Common.{◌∙◌, ◌<◌, ◌≤◌, ℕ, ℤ, arith, of_z, rules, to_z, unsigned_abs, w32, FitsSigned}
 use Rattle.std.proofs.lemmas.Int.{to_z-of_z}
-use Rattle.plane_core.proofs.CoverLemmas.{below_end, none_above, rows_more}
+use Rattle.std.proofs.lemmas.Result.{IfOk-from_err}
+use Rattle.plane_core.specs.Boxes.{rectangle_bound}
+use Rattle.plane_core.proofs.CoverLemmas.{below_end, few_columns, few_rows, none_above, row_near, rows_more, spans_begin, wider_bound}
 use Rattle.plane_core.proofs.cover.lay.Goals as goal
+use borrow.Author.Count.{falls}
+
+-- a number that is passed on is what it was
+passed : (x : ℤ) (n : ℕ) → FitsSigned w32 x → unsigned_abs x ≤ n → unsigned_abs (to_z w32 (of_z w32 x)) ≤ n
+passed x n fits low = rw (to_z-of_z w32 x fits) low
+
+pub side_by_side-across-requires-clause-first : goal.side_by_side-across-requires-clause-first
+side_by_side-across-requires-clause-first c = passed c.args.rectangle.left _ (search rules) c.requires.left
+
+pub side_by_side-across-requires-clause-last : goal.side_by_side-across-requires-clause-last
+side_by_side-across-requires-clause-last c = passed c.args.rectangle.right _ (search rules) c.requires.right
+
+pub side_by_side-down-requires-clause-first : goal.side_by_side-down-requires-clause-first
+side_by_side-down-requires-clause-first c = passed c.args.rectangle.top _ (search rules) c.requires.top
+
+pub side_by_side-down-requires-clause-last : goal.side_by_side-down-requires-clause-last
+side_by_side-down-requires-clause-last c = passed c.args.rectangle.bottom _ (search rules) c.requires.bottom
+
+columns : 56 ≤ 64
+columns = omega arith
+
+rows : 32 ≤ 64
+rows = omega arith
+
+up_to : (i n m : ℕ) → i < n → n ≤ m → i ≤ m
+up_to i n m low few = omega arith
+
+pub row_of-requires-clause-first : goal.row_of-requires-clause-first
+row_of-requires-clause-first c =
+    spans_begin _ _ 32 c.side_by_side-down.result c.side_by_side-down.ensures rows
+    (passed c.args.rectangle.top _ (search rules) c.requires.top)
+
+pub row_of-requires-clause-i : goal.row_of-requires-clause-i
+row_of-requires-clause-i c =
+    up_to c.loop-i.i c.side_by_side-down.result.count _ c.loop-i-test.true (few_rows _ _ c.side_by_side-down.result c.side_by_side-down.ensures
+    (passed c.args.rectangle.top _ (search rules) c.requires.top)
+    (passed c.args.rectangle.bottom _ (search rules) c.requires.bottom))
+
+pub lay_row-requires-clause-top : goal.lay_row-requires-clause-top
+lay_row-requires-clause-top c =
+    let down = c.side_by_side-down.result in
+    let top = passed c.args.rectangle.top rectangle_bound (search rules) c.requires.top in
+    let bottom = passed c.args.rectangle.bottom rectangle_bound (search rules) c.requires.bottom in
+    passed c.row_of.result _ (search rules)
+    (row_near down.first c.row_of.result c.loop-i.i (spans_begin _ _ 32 down c.side_by_side-down.ensures rows top)
+    (up_to c.loop-i.i down.count _ c.loop-i-test.true (few_rows _ _ down c.side_by_side-down.ensures top bottom)) c.row_of.ensures)
+
+pub lay_row-requires-clause-first : goal.lay_row-requires-clause-first
+lay_row-requires-clause-first c =
+    wider_bound c.side_by_side-across.result.first (spans_begin _ _ 56 c.side_by_side-across.result c.side_by_side-across.ensures columns
+    (passed c.args.rectangle.left _ (search rules) c.requires.left))
+
+pub lay_row-requires-clause-count : goal.lay_row-requires-clause-count
+lay_row-requires-clause-count c =
+    few_columns _ _ c.side_by_side-across.result c.side_by_side-across.ensures
+    (passed c.args.rectangle.left _ (search rules) c.requires.left)
+    (passed c.args.rectangle.right _ (search rules) c.requires.right)
+
+pub returns-in_err-lay_row-clause-kept : goal.returns-in_err-lay_row-clause-kept
+returns-in_err-lay_row-clause-kept c = IfOk-from_err _ _ c.from_residual.ensures.0
+
+pub returns-in_err-lay_row-clause-laid : goal.returns-in_err-lay_row-clause-laid
+returns-in_err-lay_row-clause-laid c = IfOk-from_err _ _ c.from_residual.ensures.0
+
+pub loop-i-smaller : goal.loop-i-smaller
+loop-i-smaller c = falls _ _ c.loop-i-test.true
+
+pub returns-clause-kept : goal.returns-clause-kept
+returns-clause-kept c = c.loop-i.invariant.kept
 
 pub loop-i-init : goal.loop-i-init
 loop-i-init c =
@@ -30,4 +101,4 @@ returns-clause-laid c = λ d within.
     let bottom : FitsSigned w32 c.args.rectangle.bottom = search rules in
     c.loop-i.invariant.laid d within
     (below_end d.y c.args.rectangle.bottom c.side_by_side-down.result.first c.side_by_side-down.result.count c.loop-i.i within.bottom
-    (simp to_z-of_z at c.side_by_side-down.ensures.end) (omega arith))
+    (simp to_z-of_z at c.side_by_side-down.ensures.end) c.loop-i-test.false)

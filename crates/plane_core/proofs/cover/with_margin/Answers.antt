@@ -1,12 +1,30 @@
-use Rattle.std.proofs.Common.{◌≡◌, pos, ◌+ℤ◌, ◌-ℤ◌, arith, w32, of_z, to_z}
-use Rattle.std.proofs.lemmas.Int.{ints}
+use Rattle.std.proofs.Common.{subst, sym}
+use Rattle.plane_core.specs.declared.bounds.Bounds.{Bounds}
+use Rattle.plane_core.specs.Bounds.{AreSidesWithin}
+use Rattle.plane_core.specs.Boxes.{rectangle_bound}
+use Rattle.plane_core.proofs.CoverLemmas.{fits_further, fits_less, further_is, less_is, margin_sides}
 use Rattle.plane_core.proofs.cover.with_margin.Goals as goal
 
+pub overflow_sub-result : goal.overflow_sub-result
+overflow_sub-result c = fits_less c.args.bounds.left c.requires.left
+
+pub overflow_sub-result-2 : goal.overflow_sub-result-2
+overflow_sub-result-2 c = fits_less c.args.bounds.top c.requires.top
+
+pub overflow_add-result : goal.overflow_add-result
+overflow_add-result c = fits_further c.args.bounds.right c.requires.right
+
+pub overflow_add-result-2 : goal.overflow_add-result-2
+overflow_add-result-2 c = fits_further c.args.bounds.bottom c.requires.bottom
+
 pub returns-clause-margin : goal.returns-clause-margin
-returns-clause-margin c =
-    let b = c.args.bounds in
-    let l : to_z w32 (of_z w32 (to_z w32 (of_z w32 b.left) -ℤ pos 4)) ≡ b.left -ℤ pos 4 = omega (arith, ints) in
-    let t : to_z w32 (of_z w32 (to_z w32 (of_z w32 b.top) -ℤ pos 4)) ≡ b.top -ℤ pos 4 = omega (arith, ints) in
-    let r : to_z w32 (of_z w32 (to_z w32 (of_z w32 b.right) +ℤ pos 4)) ≡ b.right +ℤ pos 4 = omega (arith, ints) in
-    let d : to_z w32 (of_z w32 (to_z w32 (of_z w32 b.bottom) +ℤ pos 4)) ≡ b.bottom +ℤ pos 4 = omega (arith, ints) in
-    λ i. record { left = l i; top = t i; right = r i; bottom = d i }
+returns-clause-margin c = λ i. record {
+  left = less_is c.args.bounds.left c.requires.left i;
+  top = less_is c.args.bounds.top c.requires.top i;
+  right = further_is c.args.bounds.right c.requires.right i;
+  bottom = further_is c.args.bounds.bottom c.requires.bottom i;
+}
+
+pub returns-clause-sides : goal.returns-clause-sides
+returns-clause-sides c =
+    subst (λ (b : Bounds). AreSidesWithin rectangle_bound b) (sym (returns-clause-margin c)) (margin_sides c.args.bounds c.requires)

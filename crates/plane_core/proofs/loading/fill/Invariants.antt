@@ -1,9 +1,6 @@
-use Rattle.std.proofs.Common.{◌≡◌, length, take}
+use Rattle.std.proofs.Common.{take}
 use Rattle.plane_core.specs.Frames.{Shows}
 use Rattle.plane_core.proofs.loading.fill.Given as goal
 
 abbrev pub invariant-loop-cell : goal.invariant-loop-cell
-invariant-loop-cell l = record {
-  shown : Shows l.at l.words (take l.cell-index l.cells);
-  long : length l.words ≡ length l.fn.words;
-}
+invariant-loop-cell l = Shows l.at l.words (take l.cell-index l.cells)

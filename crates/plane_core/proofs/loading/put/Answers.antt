@@ -3,10 +3,25 @@ use Rattle.plane_core.proofs.FrameLemmas.{spot_inside}
 use Rattle.std.proofs.Common.{◌<◌, subst, sym}
 use Rattle.plane_core.proofs.loading.put.Goals as goal
 
-pub returns-clause-shown : goal.returns-clause-shown
-returns-clause-shown c cells shown =
+pub returns : goal.returns
+returns c cells shown =
     put_shown c.args.at c.args.words.now cells c.args.cell _ _ _ c.requires.long c.requires.within c.across-across.ensures c.down.ensures
     c.index-i.ensures.index shown
+
+pub across-across-requires-clause-frame : goal.across-across-requires-clause-frame
+across-across-requires-clause-frame c = c.requires.frame
+
+pub across-across-requires-clause-within : goal.across-across-requires-clause-within
+across-across-requires-clause-within c = c.requires.within
+
+pub down-requires-clause-frame : goal.down-requires-clause-frame
+down-requires-clause-frame c = c.requires.frame
+
+pub down-requires-clause-within : goal.down-requires-clause-within
+down-requires-clause-within c = c.requires.within
+
+pub index-i-requires-clause-frame : goal.index-i-requires-clause-frame
+index-i-requires-clause-frame c = c.requires.frame
 
 pub index-i-requires-clause-lane : goal.index-i-requires-clause-lane
 index-i-requires-clause-lane c = (spot_inside c.args.at c.args.cell _ _ c.requires.within c.across-across.ensures c.down.ensures).0

@@ -1,40 +1,85 @@
-use Rattle.std.proofs.Common.{arith, sym, take, inl, inr, ◌⊎◌}
-use Rattle.std.proofs.lemmas.List.Elements.{All-more, All-same, All-weaker, recursion_from_All}
+use Rattle.std.proofs.Common.{◌≡◌, ◌<◌, ◌≤◌, ℕ, List, [], ◌∷◌, arith, get_or, length, subst, true, sym, take, inl, inr, ◌⊎◌}
+use Rattle.std.specs.List.{All}
+use Rattle.std.proofs.lemmas.Bool.{false≢true}
+use Rattle.std.proofs.lemmas.List.Elements.{All-nil, All-more, All-same, All-weaker, recursion_from_All}
+use Rattle.std.proofs.lemmas.Result.{IfOk-from_err}
+use Rattle.plane_core.specs.declared.bounds.Bounds.{Bounds}
 use Rattle.plane_core.specs.declared.cell.Cell.{Cell}
-use Rattle.plane_core.specs.Bounds.{IsWithin}
+use Rattle.plane_core.specs.Bounds.{AreSidesWithin, IsWithin, box_at}
 use Rattle.plane_core.specs.Boxes.{IsInOne}
-use Rattle.plane_core.specs.Cells.{is_within}
-use Rattle.plane_core.proofs.BoxLemmas.{passes_at, take_whole}
+use Rattle.plane_core.specs.Cells.{has, is_within}
+use Rattle.plane_core.specs.Generations.{lies_within}
+use Rattle.plane_core.proofs.BoxLemmas.{cell_box_sides, passes_at, take_whole, wider_has}
 use Rattle.plane_core.proofs.SetLemmas.{has-all}
 use Rattle.plane_core.proofs.runs.boxes_round.Goals as goal
 
 pub loop-cell-preserved : goal.loop-cell-preserved
 loop-cell-preserved c = record {
   held = All-more (λ (d : Cell). IsWithin c.in_ok-run.run' d ⊎ IsInOne c.next_run.new.boxes.items d) c.args.cells.now c.loop-cell.cell-index _
-      (omega (arith, c.loop-cell-test.true))
+      c.loop-cell-test.true
       (All-weaker (λ (d : Cell). IsWithin c.loop-cell.run d ⊎ IsInOne c.loop-cell.boxes.items d)
       (λ (d : Cell). IsWithin c.in_ok-run.run' d ⊎ IsInOne c.next_run.new.boxes.items d)
-      (λ d h. elim h [ inl in_run ↦ c.in_ok-run.ensures.run d in_run | inr in_box ↦ inr (c.in_ok-run.ensures.kept d in_box) ])
+      (λ d h. elim h [ inl in_run ↦ c.in_ok-run.ensures.run d in_run | inr in_box ↦ inr (wider_has c.loop-cell.boxes.items c.next_run.new.boxes.items c.in_ok-run.ensures.wider d in_box) ])
       (take c.loop-cell.cell-index c.args.cells.now) c.loop-cell.invariant.held)
       (inl c.in_ok-run.ensures.cell);
   run_sides = λ n near.
-      c.in_ok-run.ensures.run_sides n (passes_at (is_within n) c.args.cells.now c.loop-cell.cell-index _ (omega (arith, c.loop-cell-test.true)) near)
+      c.in_ok-run.ensures.run_sides n (passes_at (is_within n) c.args.cells.now c.loop-cell.cell-index _ c.loop-cell-test.true near)
       (c.loop-cell.invariant.run_sides n near);
   sides = λ n near. c.in_ok-run.ensures.sides n (c.loop-cell.invariant.run_sides n near) (c.loop-cell.invariant.sides n near);
 }
 
 pub returns-clause-held : goal.returns-clause-held
 returns-clause-held c = λ d h.
-    has-all (λ (d : Cell). IsInOne c.put_run.new.boxes.items d) c.args.cells.now d
-    (recursion_from_All (λ (d : Cell). IsInOne c.put_run.new.boxes.items d) c.args.cells.now
+    has-all (λ (d : Cell). IsInOne c.put_in_box.new.boxes.items d) c.args.cells.now d
+    (recursion_from_All (λ (d : Cell). IsInOne c.put_in_box.new.boxes.items d) c.args.cells.now
     (All-weaker (λ (d : Cell). IsWithin c.loop-cell.run d ⊎ IsInOne c.loop-cell.boxes.items d)
-    (λ (d : Cell). IsInOne c.put_run.new.boxes.items d)
-    (λ d h. elim h [ inl in_run ↦ c.in_ok-put_run.ensures.held d in_run | inr in_box ↦ c.in_ok-put_run.ensures.kept d in_box ]) c.args.cells.now
+    (λ (d : Cell). IsInOne c.put_in_box.new.boxes.items d)
+    (λ d h. elim h [ inl in_run ↦ c.in_ok-put_in_box.ensures.held d in_run | inr in_box ↦ wider_has c.loop-cell.boxes.items c.put_in_box.new.boxes.items c.put_in_box.ensures.wider d in_box ]) c.args.cells.now
     (All-same (λ (d : Cell). IsWithin c.loop-cell.run d ⊎ IsInOne c.loop-cell.boxes.items d) c.args.cells.now
     (take c.loop-cell.cell-index c.args.cells.now)
-    (sym (take_whole c.args.cells.now c.loop-cell.cell-index (omega (arith, c.loop-cell-test.false)) (omega (arith, c.loop-cell-test.false))))
+    (sym (take_whole c.args.cells.now c.loop-cell.cell-index c.loop-cell.auto.cell-index-end c.loop-cell-test.false))
     c.loop-cell.invariant.held))) h
 
 pub returns-clause-sides : goal.returns-clause-sides
 returns-clause-sides c = λ n near.
-    c.in_ok-put_run.ensures.sides n (c.loop-cell.invariant.run_sides n near) (c.loop-cell.invariant.sides n near)
+    c.in_ok-put_in_box.ensures.sides n (c.loop-cell.invariant.run_sides n near) (c.loop-cell.invariant.sides n near)
+
+pub returns-in_err-run-clause-held : goal.returns-in_err-run-clause-held
+returns-in_err-run-clause-held c = IfOk-from_err _ _ c.from_residual.ensures.0
+
+pub returns-in_err-run-clause-sides : goal.returns-in_err-run-clause-sides
+returns-in_err-run-clause-sides c = IfOk-from_err _ _ c.from_residual.ensures.0
+
+pub returns-in_err-put_in_box-clause-held : goal.returns-in_err-put_in_box-clause-held
+returns-in_err-put_in_box-clause-held c = IfOk-from_err _ _ c.from_residual-in_err-put_in_box.ensures.0
+
+pub returns-in_err-put_in_box-clause-sides : goal.returns-in_err-put_in_box-clause-sides
+returns-in_err-put_in_box-clause-sides c = IfOk-from_err _ _ c.from_residual-in_err-put_in_box.ensures.0
+
+no_boxes_sides : (n : ℕ) (boxes : List Bounds) → boxes ≡ [] → All (AreSidesWithin n) boxes
+no_boxes_sides n boxes none = subst (λ (bs : List Bounds). All (AreSidesWithin n) bs) (sym none) (All-nil (AreSidesWithin n))
+
+-- the first cell lies where all do
+first_sides : (n : ℕ) (cells : List Cell) (first : Cell) (run : Bounds) → run ≡ box_at first → first ≡ get_or cells 0 first → 0 < length cells
+    → lies_within n cells ≡ true → AreSidesWithin n run
+first_sides n cells first run is same low near =
+    subst (λ (b : Bounds). AreSidesWithin n b) (sym is)
+    (cell_box_sides n first (subst (λ (c : Cell). is_within n c ≡ true) (sym same) (passes_at (is_within n) cells 0 first low near)))
+
+pub loop-cell-init : goal.loop-cell-init
+loop-cell-init c = record {
+  held = λ k d low. absurd (omega (arith, low));
+  run_sides = λ n near.
+      first_sides n c.args.cells.now c.in-Some.first.now c.at-run.result c.at-run.ensures c.in-Some.ensures.item.1 c.in-Some.ensures.item.3.0 near;
+  sides = λ n near. no_boxes_sides n c.clear.new.self.items c.clear.ensures.items;
+}
+
+pub returns-in_default-clause-sides : goal.returns-in_default-clause-sides
+returns-in_default-clause-sides c n near = no_boxes_sides n c.clear.new.self.items c.clear.ensures.items
+
+none_has : (cells : List Cell) (d : Cell) → length cells ≤ 0 → has cells d ≡ true → ⊥
+none_has [] d low e = false≢true e
+none_has (x ∷ xs) d low e = absurd (omega (arith, low))
+
+pub returns-in_default-clause-held : goal.returns-in_default-clause-held
+returns-in_default-clause-held c d e = absurd (none_has c.args.cells.now d c.in_default.ensures.item.3 e)

@@ -1,6 +1,5 @@
-use Rattle.std.proofs.Common.{◌≡◌, ◌≢◌, ◌∙◌, ◌<◌, [], arith, get_or-set_other, inl, refl, subst, sym}
+use Rattle.std.proofs.Common.{◌≡◌, ◌≢◌, ◌∙◌, [], arith, get_or-set_other, inl, refl, subst, sym}
 use Rattle.std.proofs.lemmas.Bool.{false≢true}
-use Rattle.std.proofs.lemmas.List.{length-set}
 use Rattle.plane_core.specs.declared.spans.Span.{Span}
 use Rattle.plane_core.specs.Spans.{HasRow}
 use Rattle.plane_core.proofs.OnBoardLemmas.{only_cells}
@@ -10,21 +9,26 @@ use Rattle.plane_core.proofs.spans.empty.Goals as goal
 
 pub loop-lane-init : goal.loop-lane-init
 loop-lane-init c = record {
-  long = refl;
-  lanes = refl;
   kept = λ s low. refl;
   dead = λ s r i low. absurd (omega (arith, low));
   others = λ m. inl refl;
 }
 
+pub empty_lane-requires-clause-frame : goal.empty_lane-requires-clause-frame
+empty_lane-requires-clause-frame c = c.requires.frame
+
+pub empty_lane-requires-clause-lane : goal.empty_lane-requires-clause-lane
+empty_lane-requires-clause-lane c = c.loop-lane-test.true
+
+pub empty_lane-requires-clause-long : goal.empty_lane-requires-clause-long
+empty_lane-requires-clause-long c = c.loop-lane.auto.words ∙ c.requires.long
+
 pub loop-lane-preserved : goal.loop-lane-preserved
 loop-lane-preserved c =
     let before = c.loop-lane.invariant in
     let lane = c.loop-lane.lane in
-    let near : lane < c.args.at.lanes = omega arith in
+    let near = c.loop-lane-test.true in
     record {
-      long = c.empty_lane.ensures.long ∙ before.long;
-      lanes = length-set c.loop-lane.spans lane c.empty.result ∙ before.lanes;
       kept = λ s low.
           let apart : s ≢ lane = λ (e : s ≡ lane). omega (arith, low, e) in
           get_or-set_other c.loop-lane.spans lane s c.empty.result (record { from = 0; end = 0 }) apart ∙ before.kept s (omega (arith, low));
@@ -34,11 +38,7 @@ loop-lane-preserved c =
       others = zeroed_more c.args.words.now c.loop-lane.words c.empty_lane.new.words before.others c.empty_lane.ensures.others;
     }
 
-pub returns-clause-empty : goal.returns-clause-empty
-returns-clause-empty c =
-    shown_dead c.args.at c.loop-lane.words (λ s r i low. c.loop-lane.invariant.dead s r i (omega (arith, low)))
-
-pub returns-clause-cells : goal.returns-clause-cells
-returns-clause-cells c =
+pub returns : goal.returns
+returns c =
     only_cells c.args.at c.loop-lane.words [] in_order-nil (λ d e. absurd (false≢true e))
     (shown_dead c.args.at c.loop-lane.words (λ s r i low. c.loop-lane.invariant.dead s r i (omega (arith, low))))

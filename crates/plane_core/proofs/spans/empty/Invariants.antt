@@ -1,12 +1,10 @@
-use Rattle.std.proofs.Common.{◌≡◌, ◌≤◌, ℕ, length}
+use Rattle.std.proofs.Common.{◌≡◌, ◌≤◌, ℕ}
 use Rattle.plane_core.specs.Spans.{span_of}
 use Rattle.plane_core.proofs.SpanLemmas.{AreLanesDead, AreZeroed}
 use Rattle.plane_core.proofs.spans.empty.Given as goal
 
 abbrev pub invariant-loop-lane : goal.invariant-loop-lane
 invariant-loop-lane l = record {
-  long : length l.words ≡ length l.fn.words;
-  lanes : length l.spans ≡ length l.fn.spans;
   kept : (s : ℕ) → l.lane ≤ s → span_of l.spans s ≡ span_of l.fn.spans s;
   dead : AreLanesDead l.at l.words l.lane;
   others : AreZeroed l.fn.words l.words;

@@ -1,8 +1,17 @@
-use Rattle.std.proofs.Common.{◌≡◌, ◌∙◌, ◌+◌, ◌-◌, ◌*◌, ◌/◌, ◌%◌, ◌≤◌, ℕ, ap, arith, refl, sym}
+use Rattle.std.proofs.Common.{◌≡◌, ◌∙◌, ◌+◌, ◌-◌, ◌*◌, ◌/◌, ◌%◌, ◌<◌, ◌≤◌, ℕ, ap, arith, refl, sym}
+use Rattle.std.proofs.lemmas.Result.{IfOk-from_err}
 use Rattle.plane_core.specs.Generations.{after}
+use Rattle.plane_core.proofs.AdvanceLemmas.{fits_below}
 use Rattle.plane_core.proofs.GenerationLemmas.{after-none}
 use Rattle.plane_core.proofs.RunLemmas.{after-plus}
 use Rattle.plane_core.proofs.board.Board.advance_even.Goals as goal
+
+-- no number is above the most
+halves : (most : ℕ) → most / 2 * 2 ≤ most
+halves most = omega arith
+
+fewer_left : (most made count : ℕ) → 1 ≤ count → count ≤ most - made → most - (made + count) < most - made
+fewer_left most made count some few = omega arith
 
 pub loop-made-init : goal.loop-made-init
 loop-made-init c = record { rule = refl; most = omega arith; even = refl; after = sym (after-none c.args.self.now.rule c.args.self.now.cells) }
@@ -46,3 +55,63 @@ loop-made-preserved c =
       even = more_even made count before.even c.even_count-count.ensures.even;
       after = c.in_ok-leapt.ensures.leapt c.if-not-leapt.false ∙ (λ i. after (before.rule i) (before.after i) count) ∙ after-plus rule cells made count;
     }
+
+pub overflow_sub-most : goal.overflow_sub-most
+overflow_sub-most c = c.loop-made.invariant.most
+
+pub overflow_mul-result : goal.overflow_mul-result
+overflow_mul-result c = fits_below _ c.args.most (halves c.args.most) c.ranges.most
+
+pub returns-then-still-clause-rule : goal.returns-then-still-clause-rule
+returns-then-still-clause-rule c = c.loop-made.invariant.rule
+
+pub returns-then-still-clause-most : goal.returns-then-still-clause-most
+returns-then-still-clause-most c = halves c.args.most
+
+pub overflow_sub-most-in-loop-made : goal.overflow_sub-most-in-loop-made
+overflow_sub-most-in-loop-made c = c.loop-made.invariant.most
+
+pub even_count-count-requires : goal.even_count-count-requires
+even_count-count-requires c = c.loop-made-test.true
+
+pub leap-requires-clause-some : goal.leap-requires-clause-some
+leap-requires-clause-some c = c.even_count-count.ensures.some
+
+pub leap-requires-clause-few : goal.leap-requires-clause-few
+leap-requires-clause-few c = c.even_count-count.ensures.few
+
+pub returns-in_err-leapt-clause-rule : goal.returns-in_err-leapt-clause-rule
+returns-in_err-leapt-clause-rule c = c.leap.ensures.rule ∙ c.loop-made.invariant.rule
+
+pub returns-in_err-leapt-clause-most : goal.returns-in_err-leapt-clause-most
+returns-in_err-leapt-clause-most c = IfOk-from_err _ _ c.from_residual.ensures.0
+
+pub returns-in_err-leapt-clause-after : goal.returns-in_err-leapt-clause-after
+returns-in_err-leapt-clause-after c = IfOk-from_err _ _ c.from_residual.ensures.0
+
+pub returns-then-not-leapt-clause-rule : goal.returns-then-not-leapt-clause-rule
+returns-then-not-leapt-clause-rule c = c.leap.ensures.rule ∙ c.loop-made.invariant.rule
+
+pub returns-then-not-leapt-clause-most : goal.returns-then-not-leapt-clause-most
+returns-then-not-leapt-clause-most c = c.loop-made.invariant.most
+
+pub returns-then-not-leapt-clause-after : goal.returns-then-not-leapt-clause-after
+returns-then-not-leapt-clause-after c = c.in_ok-leapt.ensures.stopped c.if-not-leapt.true ∙ c.loop-made.invariant.after
+
+pub overflow_add-made : goal.overflow_add-made
+overflow_add-made c =
+    fits_below _ c.args.most (more_made c.args.most c.loop-made.made c.even_count-count.result c.loop-made.invariant.most
+    c.even_count-count.ensures.most) c.ranges.most
+
+pub loop-made-smaller : goal.loop-made-smaller
+loop-made-smaller c =
+    fewer_left c.args.most c.loop-made.made c.even_count-count.result c.even_count-count.ensures.some c.even_count-count.ensures.most
+
+pub returns-clause-rule : goal.returns-clause-rule
+returns-clause-rule c = c.loop-made.invariant.rule
+
+pub returns-clause-most : goal.returns-clause-most
+returns-clause-most c = c.loop-made.invariant.most
+
+pub returns-clause-after : goal.returns-clause-after
+returns-clause-after c = c.loop-made.invariant.after

@@ -1,25 +1,36 @@
-use Rattle.std.proofs.Common.{◌≡◌, ◌∙◌, ◌*◌, ℕ, List, ap, length, slice_index, true}
-use Rattle.std.proofs.lemmas.List.{length-replicate}
-use Rattle.plane_core.proofs.BoardLemmas.{blank_board}
-use Rattle.plane_core.proofs.FillLemmas.{zeros}
-use Rattle.plane_core.proofs.SpanLemmas.{no_cells, zero_spans}
+use Rattle.std.proofs.Common.{◌≡◌, ◌∙◌, List, [], refl, subst, sym}
+use Rattle.std.proofs.lemmas.Bool.{false≢true}
+use Rattle.std.proofs.lemmas.Result.{IfOk-weaker}
+use Rattle.plane_core.specs.declared.cell.Cell.{Cell}
+use Rattle.plane_core.specs.Cells.{IsPattern}
+use Rattle.plane_core.specs.Frames.{HasFewWords, LieOn}
+use Rattle.plane_core.proofs.SetLemmas.{in_order-nil}
 use Rattle.plane_core.proofs.board.Board.blank.Goals as goal
 
-pub invariant_of-result : goal.invariant_of-result
-invariant_of-result c =
-    let words = c.in_ok-words.words.items in
-    let spans = c.in_ok-spans.spans.items in
-    let zero = λ (i : ℕ). ap (λ (ws : List ℕ). slice_index ws i) (c.in_ok-words.ensures.items_if_clones_equal (λ y h. h)) ∙ zeros _ i in
-    let long : length words ≡ c.args.at.lanes * c.args.at.rows =
-    ap length (c.in_ok-words.ensures.items_if_clones_equal (λ y h. h)) ∙ length-replicate _ _ ∙ c.count.ensures.count in
-    record {
-      board = blank_board c.args.at c.new.result.rule c.is_life.result words c.new-boxes.result.items true c.requires.frame
-          (λ life. c.new.ensures ∙ c.is_life.ensures life) long c.new-boxes.ensures.items (no_cells c.args.at words zero);
-      spanned = zero_spans c.args.at words spans zero (ap length (c.in_ok-spans.ensures.items_if_clones_equal (λ y h. h)) ∙ length-replicate _ _);
-      plane = c.requires.plane;
-    }
+nothing : IsPattern []
+nothing = record { in_order = in_order-nil; on_plane = refl }
+
+pub from_ordered-none-requires : goal.from_ordered-none-requires
+from_ordered-none-requires c = subst (λ (cells : List Cell). IsPattern cells) (sym c.new.ensures.items) nothing
+
+pub lay-requires-clause-frame : goal.lay-requires-clause-frame
+lay-requires-clause-frame c = c.requires.frame
+
+pub lay-requires-clause-plane : goal.lay-requires-clause-plane
+lay-requires-clause-plane c = c.requires.plane
+
+pub lay-requires-clause-on : goal.lay-requires-clause-on
+lay-requires-clause-on c =
+    subst (λ (cells : List Cell). LieOn c.args.at cells) (sym (c.from_ordered-none.ensures ∙ c.new.ensures.items)) (λ d e. absurd (false≢true e))
+
+pub lay-requires-clause-words : goal.lay-requires-clause-words
+lay-requires-clause-words c =
+    subst (λ (cells : List Cell). HasFewWords c.args.at cells) (sym (c.from_ordered-none.ensures ∙ c.new.ensures.items)) c.requires.words
 
 pub returns-clause-cells : goal.returns-clause-cells
 returns-clause-cells c =
-    no_cells c.args.at c.in_ok-words.words.items
-    (λ i. ap (λ (ws : List ℕ). slice_index ws i) (c.in_ok-words.ensures.items_if_clones_equal (λ y h. h)) ∙ zeros _ i)
+    IfOk-weaker c.lay.result (λ board. board.cells ≡ c.from_ordered-none.result) (λ board. board.cells ≡ [])
+    (λ board is. is ∙ c.from_ordered-none.ensures ∙ c.new.ensures.items) c.lay.ensures.cells
+
+pub returns-clause-rule : goal.returns-clause-rule
+returns-clause-rule c = c.lay.ensures.rule

@@ -1,4 +1,4 @@
-use Rattle.std.proofs.Common.{◌≡◌, ◌∙◌, ap, arith, length}
+use Rattle.std.proofs.Common.{◌≡◌, ◌∙◌, ap, length}
 use Rattle.std.proofs.lemmas.List.{with_items_is}
 use Rattle.plane_core.proofs.BoardLemmas.{blank_board}
 use Rattle.plane_core.proofs.SpanLemmas.{empty_spans}
@@ -18,15 +18,15 @@ invariant_of-self c =
     let inside = c.self.inside in
     let new = c.empty.new.words in
     let spans = c.empty.new.spans in
-    let kept : length new ≡ length c.as_mut_slice.result.now = c.empty.ensures.long in
-    let long : length new ≡ inside.words.len = omega (arith, kept, c.as_mut_slice.ensures.len) in
-    let held : length spans ≡ length c.as_mut_slice-2.result.now = c.empty.ensures.lanes in
-    let lanes : length spans ≡ inside.spans.len = omega (arith, held, c.as_mut_slice-2.ensures.len) in
+    let kept : length new ≡ length c.as_mut_slice.result.now = c.empty.auto.words in
+    let long : length new ≡ inside.words.len = kept ∙ c.as_mut_slice.ensures.len in
+    let held : length spans ≡ length c.as_mut_slice-2.result.now = c.empty.auto.spans in
+    let lanes : length spans ≡ inside.spans.len = held ∙ c.as_mut_slice-2.ensures.len in
     rw (with_items_is inside.words new long, with_items_is inside.spans spans lanes) record {
       board = blank_board inside.at c.new-self-inside.result.rule c.is_life-self-inside.result new c.clear.new.self.items _ c.self.invariant.board.frame
           (λ life. c.new-self-inside.ensures ∙ c.is_life-self-inside.ensures life) (kept ∙ ap length c.as_mut_slice.ensures.value ∙ c.self.invariant.board.long)
-          c.clear.ensures.items c.empty.ensures.cells;
-      spanned = empty_spans inside.at new spans c.empty.ensures.cells
+          c.clear.ensures.items c.empty.ensures;
+      spanned = empty_spans inside.at new spans c.empty.ensures
           (held ∙ ap length c.as_mut_slice-2.ensures.value ∙ c.self.invariant.spanned.lanes);
       plane = c.self.invariant.plane;
     }
@@ -35,6 +35,6 @@ pub returns-clause-cells : goal.returns-clause-cells
 returns-clause-cells c =
     let inside = c.self.inside in
     let new = c.empty.new.words in
-    let kept : length new ≡ length c.as_mut_slice.result.now = c.empty.ensures.long in
-    let long : length new ≡ inside.words.len = omega (arith, kept, c.as_mut_slice.ensures.len) in
-    rw (with_items_is inside.words new long) c.empty.ensures.cells
+    let kept : length new ≡ length c.as_mut_slice.result.now = c.empty.auto.words in
+    let long : length new ≡ inside.words.len = kept ∙ c.as_mut_slice.ensures.len in
+    rw (with_items_is inside.words new long) c.empty.ensures

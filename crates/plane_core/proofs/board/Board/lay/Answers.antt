@@ -1,45 +1,78 @@
-use Rattle.std.proofs.Common.{◌≡◌, ◌∙◌, ℕ, List, ap, arith, length, slice_index, subst, sym}
+use Rattle.std.proofs.Common.{◌≡◌, ◌∙◌, ℕ, List, ap, length, slice_index, true}
 use Rattle.std.proofs.lemmas.List.{length-replicate, with_items_is}
-use Rattle.plane_core.specs.declared.cell.Cell.{Cell}
-use Rattle.plane_core.specs.Boxes.{HoldAll}
-use Rattle.plane_core.specs.Spans.{LieInSpans}
-use Rattle.plane_core.proofs.AdvanceLemmas.{box_sides, laid_board}
-use Rattle.plane_core.proofs.OnBoardLemmas.{only_cells}
+use Rattle.std.proofs.lemmas.Result.{IfOk-from_err}
+use Rattle.plane_core.specs.Boards.{IsSpannedBoard}
+use Rattle.plane_core.specs.OnBoard.{cells_on}
+use Rattle.plane_core.proofs.AdvanceLemmas.{laid_spanned}
+use Rattle.plane_core.proofs.FillLemmas.{shown-empty, zeros}
 use Rattle.plane_core.proofs.board.Board.lay.Goals as goal
+
+pub count-requires : goal.count-requires
+count-requires c = c.requires.frame
+
+pub returns-in_err-words-clause-rule : goal.returns-in_err-words-clause-rule
+returns-in_err-words-clause-rule c = IfOk-from_err _ _ c.from_residual.ensures.0
+
+pub returns-in_err-words-clause-cells : goal.returns-in_err-words-clause-cells
+returns-in_err-words-clause-cells c = IfOk-from_err _ _ c.from_residual.ensures.0
+
+pub returns-in_err-spans-clause-rule : goal.returns-in_err-spans-clause-rule
+returns-in_err-spans-clause-rule c = IfOk-from_err _ _ c.from_residual-in_err-spans.ensures.0
+
+pub returns-in_err-spans-clause-cells : goal.returns-in_err-spans-clause-cells
+returns-in_err-spans-clause-cells c = IfOk-from_err _ _ c.from_residual-in_err-spans.ensures.0
+
+pub returns-in_err-boxes_round-clause-rule : goal.returns-in_err-boxes_round-clause-rule
+returns-in_err-boxes_round-clause-rule c = IfOk-from_err _ _ c.from_residual-in_err-boxes_round.ensures.0
+
+pub returns-in_err-boxes_round-clause-cells : goal.returns-in_err-boxes_round-clause-cells
+returns-in_err-boxes_round-clause-cells c = IfOk-from_err _ _ c.from_residual-in_err-boxes_round.ensures.0
+
+pub fill-requires-clause-frame : goal.fill-requires-clause-frame
+fill-requires-clause-frame c = c.requires.frame
+
+pub fill-requires-clause-on : goal.fill-requires-clause-on
+fill-requires-clause-on c = rw c.cells-cells.ensures.cells c.requires.on
+
+pub fill-requires-clause-long : goal.fill-requires-clause-long
+fill-requires-clause-long c =
+    ap length (c.as_mut_slice.ensures.value ∙ c.in_ok-words.ensures.items_if_clones_equal (λ y h. h)) ∙ length-replicate _ _ ∙ c.count.ensures.count
+
+pub fill-requires-clause-empty : goal.fill-requires-clause-empty
+fill-requires-clause-empty c =
+    shown-empty c.args.at c.as_mut_slice.result.now
+    (λ i. ap (λ (ws : List ℕ). slice_index ws i) (c.as_mut_slice.ensures.value ∙ c.in_ok-words.ensures.items_if_clones_equal (λ y h. h)) ∙ zeros _ i)
+
+pub widen_by_cells-requires-clause-frame : goal.widen_by_cells-requires-clause-frame
+widen_by_cells-requires-clause-frame c = c.requires.frame
+
+pub widen_by_cells-requires-clause-on : goal.widen_by_cells-requires-clause-on
+widen_by_cells-requires-clause-on c = rw c.cells-cells.ensures.cells c.requires.on
+
+pub widen_by_cells-requires-clause-long : goal.widen_by_cells-requires-clause-long
+widen_by_cells-requires-clause-long c =
+    ap length (c.as_mut_slice-2.ensures.value ∙ c.in_ok-spans.ensures.items_if_clones_equal (λ y h. h)) ∙ length-replicate _ _
+
+laid : (c : goal.After-new-2) → IsSpannedBoard c.args.at c.new.result.rule c.is_life.result c.fill.new.words c.boxes_round.new.boxes.items true
+    c.widen_by_cells.new.spans × (cells_on c.args.at c.fill.new.words ≡ c.args.pattern.now)
+laid c =
+    laid_spanned c.new.result.rule c.args.at c.is_life.result c.fill.new.words c.boxes_round.new.boxes.items c.widen_by_cells.new.spans
+    c.args.pattern.now c.cells-cells.result.now c.cells-cells.ensures.cells c.cells-cells.ensures.pattern c.requires.frame c.requires.plane
+    (λ life. c.new.ensures ∙ c.is_life.ensures life) (c.fill.auto.words ∙ ap length (c.as_mut_slice.ensures.value ∙ c.in_ok-words.ensures.items_if_clones_equal (λ y h. h)) ∙ length-replicate _ _
+    ∙ c.count.ensures.count)
+    (c.widen_by_cells.auto.spans ∙ ap length (c.as_mut_slice-2.ensures.value ∙ c.in_ok-spans.ensures.items_if_clones_equal (λ y h. h))
+    ∙ length-replicate _ _) c.requires.on c.fill.ensures c.widen_by_cells.ensures.held
+    c.in_ok-boxes_round.ensures.held c.in_ok-boxes_round.ensures.sides
 
 pub invariant_of-result : goal.invariant_of-result
 invariant_of-result c =
-    let at = c.args.at in
-    let new = c.fill.new.words in
-    let spans = c.widen_by_cells.new.spans in
-    let kept : length new ≡ length c.as_mut_slice.result.now = c.fill.ensures.long in
-    let long : length new ≡ c.in_ok-words.words.len = omega (arith, kept, c.as_mut_slice.ensures.len) in
-    let held : length spans ≡ length c.as_mut_slice-2.result.now = c.widen_by_cells.ensures.long in
-    let lanes : length spans ≡ c.in_ok-spans.spans.len = omega (arith, held, c.as_mut_slice-2.ensures.len) in
-    let is = only_cells at new c.cells-2.result.now (rw c.cells-2.ensures.cells c.cells-2.ensures.pattern.in_order)
-    (rw c.cells-2.ensures.cells c.requires.on) c.fill.ensures.shown in
-    let same = c.cells-2.ensures.cells ∙ sym c.cells.ensures.cells in
-    let here = c.cells-2.ensures.cells ∙ sym c.cells-3.ensures.cells in
-    rw (with_items_is c.in_ok-words.words new long, with_items_is c.in_ok-spans.spans spans lanes) record {
-      board = laid_board at c.new.result.rule c.is_life.result new c.boxes_round.new.boxes.items c.requires.frame
-          (λ life. c.new.ensures ∙ c.is_life.ensures life)
-          (kept ∙ ap length c.as_mut_slice.ensures.value ∙ ap length (c.in_ok-words.ensures.items_if_clones_equal (λ y h. h)) ∙ length-replicate _ _
-          ∙ c.count.ensures.count)
-          (box_sides c.args.pattern.now c.cells.result.now c.boxes_round.new.boxes.items c.cells.ensures.cells c.cells.ensures.pattern
-          c.in_ok-boxes_round.ensures.sides)
-          (subst (λ (S : List Cell). HoldAll c.boxes_round.new.boxes.items S) (sym (is ∙ same)) c.in_ok-boxes_round.ensures.held);
-      spanned = record {
-        lanes = held ∙ ap length c.as_mut_slice-2.ensures.value ∙ ap length (c.in_ok-spans.ensures.items_if_clones_equal (λ y h. h)) ∙ length-replicate _ _;
-        live = subst (λ (S : List Cell). LieInSpans at spans S) (sym (is ∙ here)) c.widen_by_cells.ensures.held;
-      };
-      plane = c.requires.plane;
-    }
+    rw (
+      with_items_is c.in_ok-words.words c.fill.new.words (c.fill.auto.words ∙ c.as_mut_slice.ensures.len),
+      with_items_is c.in_ok-spans.spans c.widen_by_cells.new.spans (c.widen_by_cells.auto.spans ∙ c.as_mut_slice-2.ensures.len),
+    ) (laid c).0
+
+pub returns-clause-rule : goal.returns-clause-rule
+returns-clause-rule c = c.new.ensures
 
 pub returns-clause-cells : goal.returns-clause-cells
-returns-clause-cells c =
-    let new = c.fill.new.words in
-    let kept : length new ≡ length c.as_mut_slice.result.now = c.fill.ensures.long in
-    let long : length new ≡ c.in_ok-words.words.len = omega (arith, kept, c.as_mut_slice.ensures.len) in
-    let is = only_cells c.args.at new c.cells-2.result.now (rw c.cells-2.ensures.cells c.cells-2.ensures.pattern.in_order)
-    (rw c.cells-2.ensures.cells c.requires.on) c.fill.ensures.shown in
-    rw (with_items_is c.in_ok-words.words new long) (is ∙ c.cells-2.ensures.cells)
+returns-clause-cells c = rw (with_items_is c.in_ok-words.words c.fill.new.words (c.fill.auto.words ∙ c.as_mut_slice.ensures.len)) (laid c).1

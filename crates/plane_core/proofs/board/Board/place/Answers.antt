@@ -1,13 +1,36 @@
-use Rattle.std.proofs.Common.{◌≡◌, ◌∙◌, ◌*◌, List, ap, arith, length, subst, sym}
+use Rattle.std.proofs.Common.{◌≡◌, ◌∙◌, ◌*◌, ap, length, refl, sym, true}
+use Rattle.std.proofs.lemmas.Bool.{false≢true}
 use Rattle.std.proofs.lemmas.List.{with_items_is}
-use Rattle.plane_core.specs.declared.cell.Cell.{Cell}
-use Rattle.plane_core.specs.Boards.{Running}
-use Rattle.plane_core.specs.Boxes.{HoldAll}
-use Rattle.plane_core.specs.Spans.{LieInSpans}
-use Rattle.plane_core.proofs.AdvanceLemmas.{box_sides, laid_board}
+use Rattle.plane_core.specs.Boards.{IsSpannedBoard, Running}
+use Rattle.plane_core.specs.OnBoard.{cells_on}
+use Rattle.plane_core.proofs.AdvanceLemmas.{laid_spanned}
 use Rattle.plane_core.proofs.BoardLemmas.{blank_board, moved_empty}
-use Rattle.plane_core.proofs.OnBoardLemmas.{only_cells}
 use Rattle.plane_core.proofs.board.Board.place.Goals as goal
+
+pub centred-requires-clause-frame : goal.centred-requires-clause-frame
+centred-requires-clause-frame c = c.self.invariant.board.frame
+
+pub centred-requires-clause-plane : goal.centred-requires-clause-plane
+centred-requires-clause-plane c = c.self.invariant.plane
+
+pub returns-in_default-clause-rule : goal.returns-in_default-clause-rule
+returns-in_default-clause-rule c = refl
+
+pub returns-in_default-clause-placed : goal.returns-in_default-clause-placed
+returns-in_default-clause-placed c e = absurd (false≢true e)
+
+pub returns-in_default-clause-none : goal.returns-in_default-clause-none
+returns-in_default-clause-none c e = c.requires.empty
+
+pub fill-requires-clause-frame : goal.fill-requires-clause-frame
+fill-requires-clause-frame c = c.in-Some.ensures.frame
+
+pub fill-requires-clause-on : goal.fill-requires-clause-on
+fill-requires-clause-on c = rw c.cells-cells.ensures.cells c.in-Some.ensures.on
+
+pub fill-requires-clause-long : goal.fill-requires-clause-long
+fill-requires-clause-long c =
+    ap length c.as_mut_slice.ensures.value ∙ c.self.invariant.board.long ∙ sym (λ i. c.in-Some.ensures.lanes i * c.in-Some.ensures.rows i)
 
 pub fill-requires-clause-empty : goal.fill-requires-clause-empty
 fill-requires-clause-empty c =
@@ -16,35 +39,34 @@ fill-requires-clause-empty c =
     (moved_empty inside.at c.in-Some.at inside.words.items c.in-Some.ensures.lanes c.in-Some.ensures.rows
     (ap (λ (b : Running). b.cells) c.self.view_is ∙ c.requires.empty))
 
+pub widen_by_cells-requires-clause-frame : goal.widen_by_cells-requires-clause-frame
+widen_by_cells-requires-clause-frame c = c.in-Some.ensures.frame
+
+pub widen_by_cells-requires-clause-on : goal.widen_by_cells-requires-clause-on
+widen_by_cells-requires-clause-on c = rw c.cells-cells.ensures.cells c.in-Some.ensures.on
+
+pub widen_by_cells-requires-clause-long : goal.widen_by_cells-requires-clause-long
+widen_by_cells-requires-clause-long c =
+    ap length c.as_mut_slice-in-Ok.ensures.value ∙ c.self.invariant.spanned.lanes ∙ sym c.in-Some.ensures.lanes
+
+laid : (c : goal.After-self-in-Ok-2-1) → IsSpannedBoard c.in-Some.at c.self.inside.answers.rule c.self.inside.is_life c.fill.new.words
+    c.boxes_round.new.boxes.items true c.widen_by_cells.new.spans × (cells_on c.in-Some.at c.fill.new.words ≡ c.args.pattern.now)
+laid c =
+    laid_spanned c.self.inside.answers.rule c.in-Some.at c.self.inside.is_life c.fill.new.words c.boxes_round.new.boxes.items
+    c.widen_by_cells.new.spans c.args.pattern.now c.cells-cells.result.now c.cells-cells.ensures.cells c.cells-cells.ensures.pattern
+    c.in-Some.ensures.frame c.in-Some.ensures.plane c.self.invariant.board.life
+    (c.fill.auto.words ∙ ap length c.as_mut_slice.ensures.value ∙ c.self.invariant.board.long
+    ∙ sym (λ i. c.in-Some.ensures.lanes i * c.in-Some.ensures.rows i))
+    (c.widen_by_cells.auto.spans ∙ ap length c.as_mut_slice-in-Ok.ensures.value ∙ c.self.invariant.spanned.lanes ∙ sym c.in-Some.ensures.lanes) c.in-Some.ensures.on c.fill.ensures c.widen_by_cells.ensures.held
+    c.in-Ok.ensures.held c.in-Ok.ensures.sides
+
 pub invariant_of-self : goal.invariant_of-self
 invariant_of-self c =
     let inside = c.self.inside in
-    let at = c.in-Some.at in
-    let new = c.fill.new.words in
-    let spans = c.widen_by_cells.new.spans in
-    let kept : length new ≡ length c.as_mut_slice.result.now = c.fill.ensures.long in
-    let long : length new ≡ inside.words.len = omega (arith, kept, c.as_mut_slice.ensures.len) in
-    let held : length spans ≡ length c.as_mut_slice-in-Ok.result.now = c.widen_by_cells.ensures.long in
-    let lanes : length spans ≡ inside.spans.len = omega (arith, held, c.as_mut_slice-in-Ok.ensures.len) in
-    let wide : at.lanes ≡ inside.at.lanes = c.in-Some.ensures.lanes in
-    let high : at.rows ≡ inside.at.rows = c.in-Some.ensures.rows in
-    let all : at.lanes * at.rows ≡ inside.at.lanes * inside.at.rows = λ i. wide i * high i in
-    let is = only_cells at new c.cells-in-Ok.result.now (rw c.cells-in-Ok.ensures.cells c.cells-in-Ok.ensures.pattern.in_order)
-    (rw c.cells-in-Ok.ensures.cells c.in-Some.ensures.on) c.fill.ensures.shown in
-    let same = c.cells-in-Ok.ensures.cells ∙ sym c.cells.ensures.cells in
-    let here = c.cells-in-Ok.ensures.cells ∙ sym c.cells-in-Ok-2.ensures.cells in
-    rw (with_items_is inside.words new long, with_items_is inside.spans spans lanes) record {
-      board = laid_board at inside.answers.rule inside.is_life new c.boxes_round.new.boxes.items c.in-Some.ensures.frame c.self.invariant.board.life
-          (kept ∙ ap length c.as_mut_slice.ensures.value ∙ c.self.invariant.board.long ∙ sym all)
-          (box_sides c.args.pattern.now c.cells.result.now c.boxes_round.new.boxes.items c.cells.ensures.cells c.cells.ensures.pattern
-          c.in-Ok.ensures.sides)
-          (subst (λ (S : List Cell). HoldAll c.boxes_round.new.boxes.items S) (sym (is ∙ same)) c.in-Ok.ensures.held);
-      spanned = record {
-        lanes = held ∙ ap length c.as_mut_slice-in-Ok.ensures.value ∙ c.self.invariant.spanned.lanes ∙ sym wide;
-        live = subst (λ (S : List Cell). LieInSpans at spans S) (sym (is ∙ here)) c.widen_by_cells.ensures.held;
-      };
-      plane = c.in-Some.ensures.plane;
-    }
+    rw (
+      with_items_is inside.words c.fill.new.words (c.fill.auto.words ∙ c.as_mut_slice.ensures.len),
+      with_items_is inside.spans c.widen_by_cells.new.spans (c.widen_by_cells.auto.spans ∙ c.as_mut_slice-in-Ok.ensures.len),
+    ) (laid c).0
 
 pub invariant_of-self-in-Err : goal.invariant_of-self-in-Err
 invariant_of-self-in-Err c =
@@ -57,12 +79,20 @@ invariant_of-self-in-Err c =
       plane = c.self.invariant.plane;
     }
 
+pub returns-in-Ok-clause-rule : goal.returns-in-Ok-clause-rule
+returns-in-Ok-clause-rule c = ap (λ (b : Running). b.rule) c.self.view_is
+
 pub returns-in-Ok-clause-placed : goal.returns-in-Ok-clause-placed
-returns-in-Ok-clause-placed c is_placed =
-    let inside = c.self.inside in
-    let new = c.fill.new.words in
-    let kept : length new ≡ length c.as_mut_slice.result.now = c.fill.ensures.long in
-    let long : length new ≡ inside.words.len = omega (arith, kept, c.as_mut_slice.ensures.len) in
-    let is = only_cells c.in-Some.at new c.cells-in-Ok.result.now (rw c.cells-in-Ok.ensures.cells c.cells-in-Ok.ensures.pattern.in_order)
-    (rw c.cells-in-Ok.ensures.cells c.in-Some.ensures.on) c.fill.ensures.shown in
-    rw (with_items_is inside.words new long) (is ∙ c.cells-in-Ok.ensures.cells)
+returns-in-Ok-clause-placed c e = rw (with_items_is c.self.inside.words c.fill.new.words (c.fill.auto.words ∙ c.as_mut_slice.ensures.len)) (laid c).1
+
+pub returns-in-Ok-clause-none : goal.returns-in-Ok-clause-none
+returns-in-Ok-clause-none c e = absurd (false≢true (sym e))
+
+pub returns-in-Err-clause-rule : goal.returns-in-Err-clause-rule
+returns-in-Err-clause-rule c = ap (λ (b : Running). b.rule) c.self.view_is
+
+pub returns-in-Err-clause-placed : goal.returns-in-Err-clause-placed
+returns-in-Err-clause-placed c = tt
+
+pub returns-in-Err-clause-none : goal.returns-in-Err-clause-none
+returns-in-Err-clause-none c = tt
