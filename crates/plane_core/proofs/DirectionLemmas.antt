@@ -363,3 +363,9 @@ all_seen at way words gone found seen some = record { most = most; some = some }
         subst (λ (d : Cell). IsReached found (depth_in way d)) (sym bit.3)
         (seen (k / 64 / at.rows) (k / 64 % at.rows) spot.lane spot.row (k % 64) (omega arith)
         (ap (λ (d : Cell). has (without (cells_on at words) gone) d) (sym bit.3) ∙ e))
+
+-- a cell that doesn't stand in a column of the row has no bit there
+pub no_bit : (first cell : Cell) (i : ℕ) → (first.y ≡ cell.y → first.x +ℤ pos i ≡ cell.x → ⊥)
+    → (bit_at 0 i == 1) ≡ same_cell (cell_at (first.x +ℤ pos i) first.y) cell
+no_bit first cell i apart = bit_is 0 first cell i (λ one. absurd (omega (arith, one, bit_at-zero i)))
+    (λ e. absurd (apart (ap (λ (c : Cell). c.y) e) (ap (λ (c : Cell). c.x) e)))

@@ -11,6 +11,7 @@ pub mod ChangeLemmas
 pub mod ClusterLaws
 pub mod ClusterLemmas
 pub mod CommuteLemmas
+pub mod CoordinateLemmas
 pub mod CoverLemmas
 pub mod DifferenceLemmas
 pub mod DirectionLemmas

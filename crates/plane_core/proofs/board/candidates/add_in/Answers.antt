@@ -1,4 +1,5 @@
 use Rattle.std.proofs.Common.{◌+ℤ◌, arith, pos, subst, sym, ℤ}
+use Rattle.std.proofs.lemmas.Result.{on_ok_weaker}
 use Rattle.plane_core.specs.Floods.{ShowsInRows}
 use Rattle.plane_core.specs.OnBoard.{cells_on}
 use Rattle.plane_core.proofs.FloodedLemmas.{shown_rows}
@@ -14,6 +15,6 @@ returns g c =
     let left = at.left +ℤ pos c.in-Some.view.x in
     let top = at.top +ℤ pos c.in-Some.view.y in
     let shows = shown_rows c.window-window.result rows left top 0 S (omega arith) c.unpacked.ensures c.window-window.ensures in
-    c.in_ok-add_grown.ensures S (cells_in_order at words)
+    on_ok_weaker c.add_grown.result (λ grown. grown S (cells_in_order at words)
     (subst (λ (z : ℤ). ShowsInRows z c.frame.result.top rows S) (sym c.frame.ensures.left)
-    (subst (λ (z : ℤ). ShowsInRows left z rows S) (sym c.frame.ensures.top) shows))
+    (subst (λ (z : ℤ). ShowsInRows left z rows S) (sym c.frame.ensures.top) shows))) c.add_grown.ensures
