@@ -34,6 +34,7 @@ pub mod NeighbourLemmas
 pub mod NeighbourhoodLemmas
 pub mod NeverBackLemmas
 pub mod OnBoardLemmas
+pub mod OrderLemmas
 pub mod OrientationLemmas
 pub mod OutLemmas
 pub mod PartLemmas

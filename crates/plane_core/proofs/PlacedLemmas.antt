@@ -210,3 +210,7 @@ pub read_in : (at : Frame) (words : List ℕ) (x y r most : ℕ) → FillsFrame 
 read_in at words x y r most long lane row low =
     let both = words_in at words x (y + r) long lane (omega (arith, row, low)) in
     (omega (arith, both.0), omega (arith, both.1))
+
+-- the word of a row of a lane
+pub index_in : (at : Frame) (words : List ℕ) (s r n : ℕ) → FillsFrame at words → s < at.lanes → r < at.rows → n ≡ word_of at s r → n < length words
+index_in at words s r n long lane row is = let inside = word-inside at s r lane row in omega (arith, long, is, inside)

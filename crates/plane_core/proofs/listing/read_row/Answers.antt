@@ -9,7 +9,7 @@ loop-lane-init c =
     let at = c.args.at in
     let words = c.args.words.now in
     let old = c.args.cells.now.items in
-    row-on at words c.args.row 0 c.args.first old old c.requires.left (row-none at words c.args.row old)
+    row-on at words c.args.row 0 c.args.lanes.from old old c.requires.left (row-none at words c.args.row old)
 
 pub loop-lane-preserved : goal.loop-lane-preserved
 loop-lane-preserved c =
@@ -22,7 +22,7 @@ returns c =
     let old = c.args.cells.now.items in
     let new = c.loop-lane.cells.items in
     let read = subst (λ (n : ℕ). HasReadRow c.args.at c.args.words.now c.args.row old n new) (omega arith) c.loop-lane.invariant in
-    row-on c.args.at c.args.words.now c.args.row c.args.end c.args.at.lanes old new c.requires.right read
+    row-on c.args.at c.args.words.now c.args.row c.args.lanes.end c.args.at.lanes old new c.requires.right read
 
 pub word_at-word-requires-clause-live : goal.word_at-word-requires-clause-live
 word_at-word-requires-clause-live c = λ i low bit.

@@ -5,22 +5,8 @@ use Rattle.plane_core.proofs.WindowLemmas.{AreAbove, AreHere, AreMade, AreOfVect
 use Rattle.plane_core.proofs.WindowLemmas.{made_next, made_more, all_made}
 use Rattle.std.proofs.Common.{◌≤◌, sym}
 use borrow.Author.Count.{falls}
+use Rattle.plane_core.proofs.OrderLemmas.{itself, last_low, next_low, one_at_least, this_low}
 use Rattle.plane_core.proofs.window.generation.Goals as goal
-
-one_at_least : (n : ℕ) → 0 < n → 1 ≤ n
-one_at_least n some = omega (arith, some)
-
-last_low : (n : ℕ) → 0 < n → n - 1 < n
-last_low n some = omega (arith, some)
-
-next_low : (k n : ℕ) → k < n - 1 → k + 1 < n
-next_low k n low = omega (arith, low)
-
-this_low : (k n : ℕ) → k < n - 1 → k < n
-this_low k n low = omega (arith, low)
-
-none_less : (k : ℕ) → k ≤ k
-none_less k = omega arith
 
 pub loop-k-init : goal.loop-k-init
 loop-k-init g c =
@@ -98,7 +84,7 @@ bounds-window-k-in-loop-k g c = this_low c.loop-k.k g.row.N c.loop-k-test.true
 
 pub answer-requires : goal.answer-requires
 answer-requires g c =
-    subst (AreBeside c.loop-k.here) (sym (c.loop-k.invariant.rest c.loop-k.k (none_less c.loop-k.k))) c.loop-k.invariant.beside
+    subst (AreBeside c.loop-k.here) (sym (c.loop-k.invariant.rest c.loop-k.k (itself c.loop-k.k))) c.loop-k.invariant.beside
 
 pub bounds-window-k-in-loop-k-2 : goal.bounds-window-k-in-loop-k-2
 bounds-window-k-in-loop-k-2 g c = this_low c.loop-k.k g.row.N c.loop-k-test.true

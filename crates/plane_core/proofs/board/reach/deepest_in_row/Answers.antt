@@ -28,3 +28,33 @@ returns-clause-seen c =
     subst (λ (z : ℤ). IsSeen c.args.at c.args.way S c.args.lane c.args.row (Some z)) (sym (to_z-of_z w32 c.deeper.result f))
     (row_seen c.args.at c.args.way S c.args.lane c.args.row c.row_without-word.result c.farthest.result deep c.deeper.result
     c.row_without-word.ensures c.farthest.ensures.far at_column c.deeper.ensures.least)
+
+pub row_without-word-requires-clause-frame : goal.row_without-word-requires-clause-frame
+row_without-word-requires-clause-frame c = c.requires.frame
+
+pub row_without-word-requires-clause-long : goal.row_without-word-requires-clause-long
+row_without-word-requires-clause-long c = c.requires.long
+
+pub row_without-word-requires-clause-lane : goal.row_without-word-requires-clause-lane
+row_without-word-requires-clause-lane c = c.requires.lane
+
+pub row_without-word-requires-clause-row : goal.row_without-word-requires-clause-row
+row_without-word-requires-clause-row c = c.requires.row
+
+pub returns-then-word-eq0-clause-deeper : goal.returns-then-word-eq0-clause-deeper
+returns-then-word-eq0-clause-deeper c = record { kept = λ z reached. reached; some = λ found. found }
+
+pub depth_at-depth-requires-clause-frame : goal.depth_at-depth-requires-clause-frame
+depth_at-depth-requires-clause-frame c = c.requires.frame
+
+pub depth_at-depth-requires-clause-plane : goal.depth_at-depth-requires-clause-plane
+depth_at-depth-requires-clause-plane c = c.requires.plane
+
+pub depth_at-depth-requires-clause-lane : goal.depth_at-depth-requires-clause-lane
+depth_at-depth-requires-clause-lane c = c.requires.lane
+
+pub depth_at-depth-requires-clause-row : goal.depth_at-depth-requires-clause-row
+depth_at-depth-requires-clause-row c = c.requires.row
+
+pub depth_at-depth-requires-clause-column : goal.depth_at-depth-requires-clause-column
+depth_at-depth-requires-clause-column c = c.farthest.ensures.small
