@@ -9,12 +9,18 @@
 use crate::answers::Answering;
 use crate::flood::INSIDE;
 use crate::rows::unpacked;
-use crate::stray::Spot;
 use crate::window::generations;
 use std::simd::u64x4;
 
 /// The columns in the middle of a window, where a cell that changes is looked for first.
 const MIDDLE: u64 = 0x0000_0fff_fff0_0000;
+
+/// A row and a column of a window.
+#[derive(Clone, Copy)]
+pub(crate) struct Spot {
+    pub(crate) row: usize,
+    pub(crate) column: u32,
+}
 
 /// The live cells that are dead two generations on, of those from which a cluster may be grown.
 pub(crate) fn changing_cells<A: Answering>(window: &[u64x4; 16], rule: &A) -> [u64; 64] {

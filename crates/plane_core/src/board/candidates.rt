@@ -31,7 +31,6 @@ use crate::frame::Frame;
 use crate::pattern::Pattern;
 use crate::rows::unpacked;
 use crate::small::pattern_of;
-use crate::stray::Spot;
 use memory::OutOfMemory;
 use std::alloc::Global;
 
@@ -180,8 +179,8 @@ fn add_in<A: Answering>(
     )
 }
 
-/// Adds the clusters of the candidates in a window that lies here, if they are small. Their cells are no candidates any
-/// more.
+/// Adds the clusters of the candidates in a window that lies here, if they are small and not among the others yet: two
+/// boxes may lie near each other. Their cells are no candidates any more.
 fn add_grown(
     alloc: Global,
     at: Frame,
@@ -207,7 +206,10 @@ fn add_grown(
             continue;
         }
         let pattern = pattern_of(alloc, at, &cluster)?;
-        add(clusters, pattern)?;
+        if has(clusters.as_slice(), &pattern) {
+            continue;
+        }
+        clusters.push(pattern)?;
     }
     Ok(())
 }
@@ -230,17 +232,6 @@ fn is_small(cluster: &[u64; 64]) -> bool {
         left -= cells;
     }
     true
-}
-
-/// Puts a cluster after the others, unless it is one of them: two boxes may lie near each other.
-fn add(clusters: &mut Vec<Pattern>, cluster: Pattern) -> Result<(), OutOfMemory>
-    ensures { OnOk result ((cells : List Cell) → IsCluster cells cluster → All (IsCluster cells) clusters.old.items
-        → All (IsCluster cells) clusters.new.items) }
-{
-    if !has(clusters.as_slice(), &cluster) {
-        clusters.push(cluster)?;
-    }
-    Ok(())
 }
 
 /// Whether the cluster is one of the others.
