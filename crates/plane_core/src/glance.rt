@@ -15,7 +15,7 @@
 ghost use Rattle.std.specs.Prelude.{◌≡◌, ◌<◌, ◌≤◌, ℕ, ℤ, IfSome, IsTrue, List, false, true};
 ghost use Rattle.plane_core.specs.Cells.{InOrder, has};
 ghost use Rattle.plane_core.specs.Generations.{NeverBack, after, touches_edge};
-ghost use Rattle.plane_core.specs.Glances.{IsInland, IsNear, IsSpot, ShowsRows};
+ghost use Rattle.plane_core.specs.Glances.{IsInland, IsNear, IsSpot};
 ghost use Rattle.plane_core.specs.LonePatterns.{HasChanged, Holds, IsInWindow};
 ghost use Rattle.plane_core.specs.Refusing.{HasRestlessCluster, RefusesAll};
 ghost use Rattle.plane_core.specs.declared.cell.Cell.{Cell};
@@ -127,20 +127,12 @@ pub(crate) fn window_of(place: Place, cells: &[Cell]) -> [u64x4; 16]
     requires inside { (c : Cell) → has cells.now c ≡ true → IsInWindow 16 place.left place.top c }
     ensures { Holds 16 place.left place.top result cells.now }
 {
-    packed(&rows_of(place, cells))
-}
-
-/// The rows of the window at this place with these cells.
-fn rows_of(place: Place, cells: &[Cell]) -> [u64; 64]
-    requires { (c : Cell) → has cells.now c ≡ true → IsInWindow 16 place.left place.top c }
-    ensures { ShowsRows place result cells.now }
-{
     let mut rows = [0; 64];
     for cell in cells {
         let spot = spot_of(place, *cell);
         rows[spot.down] |= 1 << spot.across;
     }
-    rows
+    packed(&rows)
 }
 
 /// Where the cell is in the window.

@@ -1,7 +1,6 @@
-use Rattle.std.proofs.Common.{arith}
-use Rattle.plane_core.proofs.FloodLemmas.{all_flooded, grown_more, grown_none}
-use Rattle.std.proofs.Common.{ℕ, ◌<◌}
+use Rattle.std.proofs.Common.{ℕ, ◌<◌, ◌∙◌, arith, sym}
 use Rattle.std.proofs.lemmas.Bool.{false≢true}
+use Rattle.plane_core.proofs.FloodLemmas.{all_flooded, grown_more, grown_none}
 use Rattle.plane_core.proofs.flood.flood.Goals as goal
 
 within_64 : (n : ℕ) → n < 60 → n < 64
@@ -21,12 +20,15 @@ loop-preserved c = record {
   grown = grown_more c.args.rows.now c.begun.result c.loop.flood c.grow-new.new.flood c.loop.invariant.grown c.grow-new.ensures;
 }
 
-pub returns-then-new-eq0 : goal.returns-then-new-eq0
-returns-then-new-eq0 c = λ e.
+pub returns-then-lies_inside : goal.returns-then-lies_inside
+returns-then-lies_inside c = λ e.
     all_flooded c.args.rows.now c.begun.result c.grow-new.new.flood c.args.row c.args.column c.begun.ensures.start
     (c.may_begin.ensures.alive c.if-not-may_begin.false) (c.may_begin.ensures.place c.if-not-may_begin.false) c.begun.ensures.only
-    (grown_more c.args.rows.now c.begun.result c.loop.flood c.grow-new.new.flood c.loop.invariant.grown c.grow-new.ensures) (c.is_all.ensures.inside e)
-    (c.is_all.ensures.closed e)
+    (grown_more c.args.rows.now c.begun.result c.loop.flood c.grow-new.new.flood c.loop.invariant.grown c.grow-new.ensures)
+    (c.lies_inside.ensures c.if-lies_inside.true) (c.is_closed.ensures e)
+
+pub returns-else-lies_inside : goal.returns-else-lies_inside
+returns-else-lies_inside c = λ e. absurd (false≢true (sym c.if-lies_inside.false ∙ e))
 
 pub returns-then-not-may_begin : goal.returns-then-not-may_begin
 returns-then-not-may_begin c = λ e. absurd (false≢true e)

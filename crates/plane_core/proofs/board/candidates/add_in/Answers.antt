@@ -18,3 +18,36 @@ returns g c =
     on_ok_weaker c.add_grown.result (λ grown. grown S (cells_in_order at words)
     (subst (λ (z : ℤ). ShowsInRows z c.frame.result.top rows S) (sym c.frame.ensures.left)
     (subst (λ (z : ℤ). ShowsInRows left z rows S) (sym c.frame.ensures.top) shows))) c.add_grown.ensures
+
+pub window-window-requires-clause-long : goal.window-window-requires-clause-long
+window-window-requires-clause-long g c = c.requires.long
+
+pub window-window-requires-clause-lanes : goal.window-window-requires-clause-lanes
+window-window-requires-clause-lanes g c = c.in-Some.ensures.lanes
+
+pub window-window-requires-clause-rows : goal.window-window-requires-clause-rows
+window-window-requires-clause-rows g c = c.in-Some.ensures.rows
+
+pub frame-requires-clause-frame : goal.frame-requires-clause-frame
+frame-requires-clause-frame g c = c.requires.frame
+
+pub frame-requires-clause-plane : goal.frame-requires-clause-plane
+frame-requires-clause-plane g c = c.requires.plane
+
+pub frame-requires-clause-lanes : goal.frame-requires-clause-lanes
+frame-requires-clause-lanes g c = c.in-Some.ensures.lanes
+
+pub frame-requires-clause-rows : goal.frame-requires-clause-rows
+frame-requires-clause-rows g c = c.in-Some.ensures.rows
+
+pub add_grown-requires-clause-frame : goal.add_grown-requires-clause-frame
+add_grown-requires-clause-frame g c = c.frame.ensures.frame
+
+pub add_grown-requires-clause-plane : goal.add_grown-requires-clause-plane
+add_grown-requires-clause-plane g c = c.frame.ensures.plane
+
+pub add_grown-requires-clause-lanes : goal.add_grown-requires-clause-lanes
+add_grown-requires-clause-lanes g c = c.frame.ensures.lanes
+
+pub add_grown-requires-clause-rows : goal.add_grown-requires-clause-rows
+add_grown-requires-clause-rows g c = c.frame.ensures.rows

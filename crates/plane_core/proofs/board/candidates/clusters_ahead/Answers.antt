@@ -8,3 +8,9 @@ add_in-requires g c = c.requires
 
 pub returns : goal.returns
 returns g c = c.loop-bounds.invariant
+
+pub loop-bounds-preserved-then-not-is_small_box : goal.loop-bounds-preserved-then-not-is_small_box
+loop-bounds-preserved-then-not-is_small_box g c = c.loop-bounds.invariant
+
+pub bounds-boxes-bounds-index : goal.bounds-boxes-bounds-index
+bounds-boxes-bounds-index g c = c.loop-bounds-test.true

@@ -1,3 +1,4 @@
+use Rattle.std.proofs.lemmas.Bool.{false≢true}
 use Rattle.std.proofs.Common.{arith, ◌+ℤ◌, pos}
 use Rattle.plane_core.specs.OnBoard.{cells_on}
 use Rattle.plane_core.proofs.OnBoardLemmas.{cells_in_order}
@@ -16,3 +17,15 @@ returns g c = λ e.
     let shown = c.generations.ensures S left top 0 (cells_in_order at words) c.window-window.ensures in
     c.refuses.ensures e (after rule S c.args.look.ahead) left top (in_order-after rule S c.args.look.ahead (cells_in_order at words))
     (λ r i a b d f. shown r i (omega arith) (omega arith) (omega arith) (omega arith))
+
+pub returns-in_default : goal.returns-in_default
+returns-in_default g c = λ e. absurd (false≢true e)
+
+pub window-window-requires-clause-long : goal.window-window-requires-clause-long
+window-window-requires-clause-long g c = c.requires.long
+
+pub window-window-requires-clause-lanes : goal.window-window-requires-clause-lanes
+window-window-requires-clause-lanes g c = c.in-Some.ensures.lanes
+
+pub window-window-requires-clause-rows : goal.window-window-requires-clause-rows
+window-window-requires-clause-rows g c = c.in-Some.ensures.rows
