@@ -296,7 +296,8 @@ pub(crate) fn first_row<const N: usize>(window: &[u64x4; N]) -> Option<usize>
 pub(crate) fn last_row<const N: usize>(window: &[u64x4; N]) -> Option<usize>
     requires some { 0 < N }
     requires few { N ≤ 16 }
-    ensures { IfSome result (λ r. r < 4 * N) }
+    ensures low { IfSome result (λ last. last < 4 * N) }
+    ensures none { IfSome result (λ last. (r : ℕ) → last < r → r < 4 * N → row_at N window.now r ≡ 0) }
 {
     for r in (0..4 * N).rev() {
         if row(window, r) != 0 {

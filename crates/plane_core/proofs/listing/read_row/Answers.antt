@@ -1,3 +1,4 @@
+use Rattle.plane_core.proofs.OrderLemmas.{below_too}
 use Rattle.std.proofs.Common.{◌<◌, ℕ, arith, subst}
 use Rattle.plane_core.specs.Listing.{HasReadRow}
 use Rattle.plane_core.proofs.ListingLemmas.{row-none, row-more, row-on}
@@ -29,3 +30,24 @@ word_at-word-requires-clause-live c = λ i low bit.
     let hs : c.loop-lane.lane < c.args.at.lanes = omega arith in
     c.requires.live c.loop-lane.lane c.args.row i hs c.requires.row low
     (live_bit c.args.at c.args.words.now c.loop-lane.lane c.args.row i hs c.requires.row low bit)
+
+pub word_at-word-requires-clause-frame : goal.word_at-word-requires-clause-frame
+word_at-word-requires-clause-frame c = c.requires.frame
+
+pub word_at-word-requires-clause-lane : goal.word_at-word-requires-clause-lane
+word_at-word-requires-clause-lane c = below_too _ _ _ c.loop-lane-test.true c.requires.end
+
+pub word_at-word-requires-clause-row : goal.word_at-word-requires-clause-row
+word_at-word-requires-clause-row c = c.requires.row
+
+pub word_at-word-requires-clause-long : goal.word_at-word-requires-clause-long
+word_at-word-requires-clause-long c = c.requires.long
+
+pub corner-requires-clause-frame : goal.corner-requires-clause-frame
+corner-requires-clause-frame c = c.requires.frame
+
+pub corner-requires-clause-lane : goal.corner-requires-clause-lane
+corner-requires-clause-lane c = below_too _ _ _ c.loop-lane-test.true c.requires.end
+
+pub corner-requires-clause-row : goal.corner-requires-clause-row
+corner-requires-clause-row c = c.requires.row

@@ -18,3 +18,9 @@ returns-then-astray-ne0 g c = λ _.
       lit = ap (λ (w : ℕ). bit_at w bit.i) (sym c.row-here.ensures) ∙ bit.lit;
       dark = ap (λ (w : ℕ). bit_at w bit.i) (sym c.row.ensures) ∙ bit.dark;
     }
+
+pub returns-then-columns_astray-inside-eq0 : goal.returns-then-columns_astray-inside-eq0
+returns-then-columns_astray-inside-eq0 g c = λ e. absurd (false≢true e)
+
+pub returns : goal.returns
+returns g c = λ e. absurd (false≢true e)

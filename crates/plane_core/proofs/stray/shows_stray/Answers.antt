@@ -1,3 +1,4 @@
+use Rattle.std.proofs.lemmas.Bool.{false≢true}
 use Rattle.std.proofs.Common.{◌+◌, ◌≡◌, ℕ, arith, subst}
 use Rattle.plane_core.specs.Refusing.{HasStray}
 use Rattle.plane_core.proofs.StrayLemmas.{made_more, made_none, stray_seen}
@@ -20,3 +21,9 @@ returns-then-has_stray g c = λ _.
     c.generation.ensures c.generation-in-loop-made.ensures in
     stray_seen (g.A.Answering.rule c.args.rule.now) g.row.N c.args.whole.now c.args.alone.now c.generation.new.window
     c.generation-in-loop-made.new.window c.args.depth (c.loop-made.made + 1) c.args.most more (omega arith) found
+
+pub returns-then-not-has_neighbours : goal.returns-then-not-has_neighbours
+returns-then-not-has_neighbours g c = λ e. absurd (false≢true e)
+
+pub returns : goal.returns
+returns g c = λ e. absurd (false≢true e)
