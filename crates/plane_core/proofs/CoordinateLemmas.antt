@@ -88,14 +88,23 @@ pub record IsSum (a b : ℤ) : Type 0 where
   pub fits : FitsSigned w32 (passed a +ℤ passed b)
   pub is : passed (passed a +ℤ passed b) ≡ a +ℤ b
 
-pub sum_of : (a b : ℤ) → unsigned_abs a ≤ plane_bound → unsigned_abs b ≤ plane_bound → IsSum a b
-sum_of a b la lb = record { fits = subst (FitsSigned w32) (sym whole) (small_fits (a +ℤ b) low); is = ap passed whole ∙ passed_is (a +ℤ b) low }
+pub sum_of_small : (a b : ℤ) → unsigned_abs a ≤ 8388608 → unsigned_abs b ≤ 8388608 → IsSum a b
+sum_of_small a b la lb = record {
+  fits = subst (FitsSigned w32) (sym whole) (small_fits (a +ℤ b) low);
+  is = ap passed whole ∙ passed_is (a +ℤ b) low;
+}
   where
     whole : passed a +ℤ passed b ≡ a +ℤ b
     whole = λ i. passed_is a (omega (arith, la)) i +ℤ passed_is b (omega (arith, lb)) i
 
     low : unsigned_abs (a +ℤ b) ≤ 16777216
     low = omega (arith, ints, la, lb)
+
+pub sum_of : (a b : ℤ) → unsigned_abs a ≤ plane_bound → unsigned_abs b ≤ plane_bound → IsSum a b
+sum_of a b la lb = sum_of_small a b (omega (arith, la)) (omega (arith, lb))
+
+pub step_of : (a b : ℤ) → unsigned_abs a ≤ plane_bound + 1 → unsigned_abs b ≤ 2 → IsSum a b
+step_of a b la lb = sum_of_small a b (omega (arith, la)) (omega (arith, lb))
 
 -- a coordinate so many cells to the right of one, or below it
 pub record IsMoved (a : ℤ) (n : ℕ) : Type 0 where
@@ -114,6 +123,49 @@ moved_by a n near few = record {
     whole = λ i. passed_is a (omega (arith, near)) i +ℤ to_z_pos w32 n (omega (arith, few)) i
 
     low : unsigned_abs (a +ℤ pos n) ≤ 16777216
+    low = omega (arith, ints, near, few)
+
+pub moved_on_plane : (a : ℤ) (n : ℕ) → unsigned_abs a ≤ plane_bound → n ≤ plane_bound → IsMoved a n
+moved_on_plane a n near few = moved_by a n (omega (arith, near)) (omega (arith, few))
+
+pub moved_in_reach : (a : ℤ) (n : ℕ) → unsigned_abs a ≤ 6291456 → n < 64 → IsMoved a n
+moved_in_reach a n near few = moved_by a n (omega (arith, near)) (omega (arith, few))
+
+-- ---- differences of coordinates of the plane
+
+pub record IsDifference (a b : ℤ) : Type 0 where
+  pub fits : FitsSigned w32 (passed a -ℤ passed b)
+  pub is : passed (passed a -ℤ passed b) ≡ a -ℤ b
+
+pub difference_of : (a b : ℤ) → unsigned_abs a ≤ plane_bound → unsigned_abs b ≤ plane_bound → IsDifference a b
+difference_of a b la lb = record {
+  fits = subst (FitsSigned w32) (sym whole) (small_fits (a -ℤ b) low);
+  is = ap passed whole ∙ passed_is (a -ℤ b) low;
+}
+  where
+    whole : passed a -ℤ passed b ≡ a -ℤ b
+    whole = λ i. passed_is a (omega (arith, la)) i -ℤ passed_is b (omega (arith, lb)) i
+
+    low : unsigned_abs (a -ℤ b) ≤ 16777216
+    low = omega (arith, ints, la, lb)
+
+-- so many cells to the left, or up
+pub record IsMovedBack (a : ℤ) (n : ℕ) : Type 0 where
+  pub step : FitsSigned w32 (pos n)
+  pub fits : FitsSigned w32 (passed a -ℤ to_z w32 n)
+  pub is : passed (passed a -ℤ to_z w32 n) ≡ a -ℤ pos n
+
+pub moved_back : (a : ℤ) (n : ℕ) → unsigned_abs a ≤ plane_bound → n ≤ plane_bound → IsMovedBack a n
+moved_back a n near few = record {
+  step = small_fits (pos n) (omega (arith, few));
+  fits = subst (FitsSigned w32) (sym whole) (small_fits (a -ℤ pos n) low);
+  is = ap passed whole ∙ passed_is (a -ℤ pos n) low;
+}
+  where
+    whole : passed a -ℤ to_z w32 n ≡ a -ℤ pos n
+    whole = λ i. passed_is a (omega (arith, near)) i -ℤ to_z_pos w32 n (omega (arith, few)) i
+
+    low : unsigned_abs (a -ℤ pos n) ≤ 16777216
     low = omega (arith, ints, near, few)
 
 -- ---- a view of a board

@@ -3,6 +3,7 @@ use Rattle.plane_core.proofs.AgainLemmas.{IsChanging, changed-fewer, changing_en
 use Rattle.plane_core.proofs.never_back.never_back.Goals.{then-made-eq1, else-made-eq1}
 use Rattle.std.proofs.lemmas.Bool.{false≢true}
 use borrow.Author.Count.{falls}
+use Rattle.plane_core.proofs.OrderLemmas.{few_vectors}
 use Rattle.plane_core.proofs.never_back.never_back.Goals as goal
 
 pub loop-made-init : goal.loop-made-init
@@ -55,3 +56,18 @@ returns-then-may_be_again g c = λ e. absurd (false≢true e)
 
 pub loop-made-smaller : goal.loop-made-smaller
 loop-made-smaller g c = falls c.args.most c.loop-made.made c.loop-made-test.true
+
+pub columns_of-from-requires : goal.columns_of-from-requires
+columns_of-from-requires g c = few_vectors g.row.N c.requires.few
+
+pub is_rim_clear-requires : goal.is_rim_clear-requires
+is_rim_clear-requires g c = (few_vectors g.row.N c.requires.few, (c.requires.some, (c.requires.few, c.loop-made.invariant.columns_are)))
+
+pub generation-requires : goal.generation-requires
+generation-requires g c = (few_vectors g.row.N c.requires.few, c.requires.some)
+
+pub columns_of-columns-requires : goal.columns_of-columns-requires
+columns_of-columns-requires g c = few_vectors g.row.N c.requires.few
+
+pub is_kept-requires : goal.is_kept-requires
+is_kept-requires g c = few_vectors g.row.N c.requires.few

@@ -2,6 +2,7 @@ use Rattle.std.proofs.Common.{◌≡◌, ◌+◌, ◌*◌, ◌-◌, ◌<◌, ◌
 use Rattle.std.specs.Int.{bit_at}
 use Rattle.std.proofs.lemmas.Bool.{false≢true}
 use Rattle.plane_core.proofs.StrayLemmas.{stray_bit}
+use Rattle.plane_core.proofs.OrderLemmas.{columns_deep, few_vectors, inner_low, rows_deep, ten_are_some}
 use Rattle.plane_core.proofs.stray.has_stray.Goals as goal
 
 pub returns-then-astray-ne0 : goal.returns-then-astray-ne0
@@ -24,3 +25,18 @@ returns-then-columns_astray-inside-eq0 g c = λ e. absurd (false≢true e)
 
 pub returns : goal.returns
 returns g c = λ e. absurd (false≢true e)
+
+pub columns_inside-inside-requires : goal.columns_inside-inside-requires
+columns_inside-inside-requires g c = columns_deep c.args.depth c.requires.depth
+
+pub columns_astray-requires : goal.columns_astray-requires
+columns_astray-requires g c = few_vectors g.row.N c.requires.few
+
+pub overflow_sub-r-end : goal.overflow_sub-r-end
+overflow_sub-r-end g c = rows_deep g.row.N c.args.depth c.requires.some c.requires.depth
+
+pub row-here-requires : goal.row-here-requires
+row-here-requires g c = (few_vectors g.row.N c.requires.few, (ten_are_some g.row.N c.requires.some, inner_low c.loop-r.r g.row.N c.args.depth c.loop-r-test.true))
+
+pub row-requires : goal.row-requires
+row-requires g c = (few_vectors g.row.N c.requires.few, (ten_are_some g.row.N c.requires.some, inner_low c.loop-r.r g.row.N c.args.depth c.loop-r-test.true))
