@@ -17,8 +17,8 @@ ghost use Rattle.plane_core.specs.Cells.{InOrder, cell_at};
 ghost use Rattle.plane_core.specs.Frames.{FillsFrame, IsFrame, LieOn, Shows, word_of};
 ghost use Rattle.plane_core.specs.OnBoard.{cells_on};
 ghost use Rattle.plane_core.specs.Spans.{HasRow, LieInLanes, LieInSpans};
-ghost use Rattle.plane_core.specs.Listing.{AreDead, HasRead, HasReadRow, HasReadRows, IsBandEmpty};
-ghost use Rattle.plane_core.specs.Listing.{IsLaneEmpty, IsNextAlive, IsRowEmpty};
+ghost use Rattle.plane_core.specs.Listing.{AreDead, HasRead, HasReadRows, IsBandEmpty};
+ghost use Rattle.plane_core.specs.Listing.{IsLaneEmpty, IsNextAlive};
 ghost use Rattle.plane_core.specs.declared.cell.Cell.{Cell};
 
 use crate::cell::Cell;
@@ -95,33 +95,6 @@ fn word_at(at: Frame, words: &[u64], span: Span, lane: usize, row: usize) -> u64
     words[at.index(lane, row)]
 }
 
-/// Reads the cells of a row from the left, and adds them to a list. All lie in these lanes.
-fn read_row(
-    at: Frame,
-    words: &[u64],
-    spans: &[Span],
-    row: usize,
-    lanes: Span,
-    cells: &mut Vec<Cell>,
-) -> Result<(), OutOfMemory>
-    requires frame { IsFrame at }
-    requires row { row < at.rows }
-    requires long { FillsFrame at words.now }
-    requires spans { length spans.now ≡ at.lanes }
-    requires live { LieInSpans at spans.now (cells_on at words.now) }
-    requires order { lanes.from ≤ lanes.end }
-    requires end { lanes.end ≤ at.lanes }
-    requires left { IsRowEmpty at words.now row 0 lanes.from }
-    requires right { IsRowEmpty at words.now row lanes.end at.lanes }
-    ensures { OnOk result (HasReadRow at words.now row cells.old.items at.lanes cells.new.items) }
-{
-    for lane in lanes.from..lanes.end {
-        let word = word_at(at, words, spans[lane], lane, row);
-        read_word(word, at.corner(lane, row), cells)?;
-    }
-    Ok(())
-}
-
 /// Reads the cells of a band of eight rows, row by row, and adds them to a list. All lie in these lanes.
 fn read_band(
     at: Frame,
@@ -148,7 +121,10 @@ fn read_band(
         return Ok(());
     }
     for row in 8 * band..8 * band + 8 {
-        read_row(at, words, spans, row, alive, cells)?;
+        for lane in alive.from..alive.end {
+            let word = word_at(at, words, spans[lane], lane, row);
+            read_word(word, at.corner(lane, row), cells)?;
+        }
     }
     Ok(())
 }
