@@ -65,7 +65,8 @@ impl Board {
     }
 }
 
-/// Candidates of the small boxes that lie ahead of the others, for as long as there are tries left.
+/// Candidates of the small boxes that lie ahead of the others, for as long as there are tries left. Of each box the view
+/// is looked at, if it lies on the board.
 fn clusters_ahead<A: Answering>(
     alloc: Global,
     words: &[u64],
@@ -88,7 +89,18 @@ fn clusters_ahead<A: Answering>(
             continue;
         }
         tries -= 1;
-        add_in(alloc, words, at, *bounds, rule, &mut clusters)?;
+        let Some(view) = View::round(at, *bounds) else {
+            continue;
+        };
+        let window = view.window(words, at);
+        let mut candidates = changing_cells(&window, rule);
+        add_grown(
+            alloc,
+            view.frame(at),
+            &unpacked(&window),
+            &mut candidates,
+            &mut clusters,
+        )?;
     }
     Ok(clusters)
 }
@@ -148,35 +160,6 @@ fn meets(one: Bounds, other: Bounds) -> bool {
         && other.left.saturating_sub(one.right) <= 1
         && one.top.saturating_sub(other.bottom) <= 1
         && other.top.saturating_sub(one.bottom) <= 1
-}
-
-/// Adds the candidates of one box, if the view of it lies on the board.
-fn add_in<A: Answering>(
-    alloc: Global,
-    words: &[u64],
-    at: Frame,
-    bounds: Bounds,
-    rule: &A,
-    clusters: &mut Vec<Pattern>,
-) -> Result<(), OutOfMemory>
-    requires frame { IsFrame at }
-    requires plane { AreSidesWithin plane_bound (bounds_of at) }
-    requires long { FillsFrame at words.now }
-    ensures { OnOk result (All (IsCluster (cells_on at words.now)) clusters.old.items
-        → All (IsCluster (cells_on at words.now)) clusters.new.items) }
-{
-    let Some(view) = View::round(at, bounds) else {
-        return Ok(());
-    };
-    let window = view.window(words, at);
-    let mut candidates = changing_cells(&window, rule);
-    add_grown(
-        alloc,
-        view.frame(at),
-        &unpacked(&window),
-        &mut candidates,
-        clusters,
-    )
 }
 
 /// Adds the clusters of the candidates in a window that lies here, if they are small and not among the others yet: two
