@@ -12,7 +12,7 @@
 //! ```
 //!
 //! A lone ship has a small box, so only these are looked at, and of these only those that lie ahead of all others.
-ghost use Rattle.std.specs.Prelude.{◌≡◌, ◌≤◌, ℕ, All, IfOk, IfSome, List, OnOk};
+ghost use Rattle.std.specs.Prelude.{◌≡◌, All, IfOk, List, OnOk};
 ghost use Rattle.plane_core.specs.Bounds.{AreSidesWithin};
 ghost use Rattle.plane_core.specs.Cells.{InOrder, plane_bound};
 ghost use Rattle.plane_core.specs.Clusters.{IsCluster};
