@@ -1,5 +1,5 @@
 -- Coordinates as they are passed on: numbers of 32 bits, whose bits are read back.
-use Rattle.std.proofs.Common.{◌≡◌, ◌+◌, ◌-◌, ◌*◌, ◌/◌, ◌<◌, ◌≤◌, ℕ, ℤ, pos, negsuc, ◌+ℤ◌, ◌-ℤ◌, ◌≤ℤ◌, ◌<ℤ◌, true}
+use Rattle.std.proofs.Common.{◌≡◌, ◌+◌, ◌/◌, ◌<◌, ◌≤◌, ℕ, ℤ, pos, negsuc, ◌+ℤ◌, ◌-ℤ◌, ◌≤ℤ◌, ◌<ℤ◌, true}
 use Rattle.std.proofs.Common.{arith, ap, ◌∙◌, sym, subst, Fits, FitsSigned, of_z, to_z, unsigned_abs, nat_le, w32, w64}
 use Rattle.std.proofs.lemmas.Int.{ints, to_z-of_z, to_z_pos}
 use lib.Dec.{T, ltb}
@@ -18,7 +18,7 @@ use Rattle.plane_core.specs.Places.{IsOnBoard}
 abbrev pub passed : ℤ → ℤ
 passed z = to_z w32 (of_z w32 z)
 
-pub small_fits : (z : ℤ) → unsigned_abs z ≤ 16777216 → FitsSigned w32 z
+small_fits : (z : ℤ) → unsigned_abs z ≤ 16777216 → FitsSigned w32 z
 small_fits (pos n) small = record { sfits = omega (arith, small) }
 small_fits (negsuc n) small = record { sfits = omega (arith, small) }
 
@@ -45,7 +45,7 @@ pub record AreApart (a b : ℤ) (n : ℕ) : Type 0 where
   pub count : unsigned_abs (taken a b) ≡ n
   pub is : a ≡ b +ℤ pos (unsigned_abs (taken a b))
 
-pub apart_by : (a b : ℤ) (n : ℕ) → FitsSigned w32 a → FitsSigned w32 b → a ≡ b +ℤ pos n → n ≤ 16777216 → AreApart a b n
+apart_by : (a b : ℤ) (n : ℕ) → FitsSigned w32 a → FitsSigned w32 b → a ≡ b +ℤ pos n → n ≤ 16777216 → AreApart a b n
 apart_by a b n fa fb is small = record {
   fits = subst (FitsSigned w32) (sym whole) (small_fits (pos n) small);
   counts = subst (λ (z : ℤ). T (non_neg z) × Fits w64 (unsigned_abs z)) (sym all) (tt, record { fits = omega (arith, small) });
@@ -88,7 +88,7 @@ pub record IsSum (a b : ℤ) : Type 0 where
   pub fits : FitsSigned w32 (passed a +ℤ passed b)
   pub is : passed (passed a +ℤ passed b) ≡ a +ℤ b
 
-pub sum_of_small : (a b : ℤ) → unsigned_abs a ≤ 8388608 → unsigned_abs b ≤ 8388608 → IsSum a b
+sum_of_small : (a b : ℤ) → unsigned_abs a ≤ 8388608 → unsigned_abs b ≤ 8388608 → IsSum a b
 sum_of_small a b la lb = record {
   fits = subst (FitsSigned w32) (sym whole) (small_fits (a +ℤ b) low);
   is = ap passed whole ∙ passed_is (a +ℤ b) low;
@@ -203,6 +203,3 @@ module _ (at : Frame) (x y : ℕ) (view : Frame) (plane : AreSidesWithin plane_b
 
 pub not_below : (a b : ℕ) → b ≤ a → IsTrue (ltb a b) → ⊥
 not_below a b high e = let low : a < b = ltb-true a b e in omega (arith, high, low)
-
-pub at_most_itself : (z : ℤ) → FitsSigned w32 z → z ≤ℤ passed z
-at_most_itself z fits = subst (λ (y : ℤ). z ≤ℤ y) (sym (to_z-of_z w32 z fits)) (omega (arith, ints))

@@ -1,5 +1,5 @@
 -- The rows of a window in which a cluster lies, as a window of their own.
-use Rattle.std.proofs.Common.{◌≡◌, ◌==◌, ◌+◌, ◌-◌, ◌*◌, ◌/◌, ◌<◌, ◌≤◌, ◌⊎◌, ℕ, ℤ, ◌+ℤ◌, pos, List, ap, ◌∙◌, sym, refl, arith, inl, inr, min}
+use Rattle.std.proofs.Common.{◌≡◌, ◌==◌, ◌+◌, ◌-◌, ◌/◌, ◌<◌, ◌≤◌, ℕ, ℤ, ◌+ℤ◌, pos, List, ap, ◌∙◌, sym, refl, arith, inl, inr, min}
 use Rattle.std.specs.Int.{bit_at}
 use Rattle.std.proofs.lemmas.Int.{ints}
 use Rattle.plane_core.proofs.CaseLemmas.{less_or_not}

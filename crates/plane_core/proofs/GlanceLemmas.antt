@@ -46,7 +46,7 @@ place_is_inland b width height p sides is =
     }
 
 -- a side far from the edge, as it is passed
-pub near_fits : (x : ℤ) → unsigned_abs x ≤ 900000 → FitsSigned w32 x
+near_fits : (x : ℤ) → unsigned_abs x ≤ 900000 → FitsSigned w32 x
 near_fits (pos n) near = record { sfits = omega (arith, near) }
 near_fits (negsuc n) near = record { sfits = omega (arith, near) }
 

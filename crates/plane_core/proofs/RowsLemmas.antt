@@ -53,21 +53,6 @@ other_rows n k j m rows a b c d small low apart =
     off : (q : ℕ) → j * n + m ≢ q * n + k
     off q e = apart (sym (mod-mul-add j n m low) ∙ ap (λ (r : ℕ). r % n) e ∙ mod-mul-add q n k small)
 
--- ---- where the rows of a vector lie
-
-module _ (k n rows : ℕ) (low : k < n) (all : rows ≡ 4 * n) where
-  pub lane_row_0 : k < rows
-  lane_row_0 = omega (arith, low, all)
-
-  pub lane_row_1 : n + k < rows
-  lane_row_1 = omega (arith, low, all)
-
-  pub lane_row_2 : 2 * n + k < rows
-  lane_row_2 = omega (arith, low, all)
-
-  pub lane_row_3 : 3 * n + k < rows
-  lane_row_3 = omega (arith, low, all)
-
 -- the rows of the vector itself
 module _ (n k : ℕ) (rows v : List ℕ) (small : k < n) (long : length rows ≡ 4 * n) where
   abbrev pub one : List ℕ

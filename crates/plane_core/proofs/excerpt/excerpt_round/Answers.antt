@@ -1,4 +1,4 @@
-use Rattle.std.proofs.Common.{◌+◌, ◌-◌, ◌/◌, ◌<◌, ◌∙◌, ℕ, ap, min, subst}
+use Rattle.std.proofs.Common.{◌/◌, ◌<◌, ◌∙◌, ℕ, ap, min, subst}
 use Rattle.plane_core.proofs.ExcerptLemmas.{lies_in}
 use Rattle.plane_core.proofs.excerpt.excerpt_round.Goals as goal
 

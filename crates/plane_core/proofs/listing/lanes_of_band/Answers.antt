@@ -1,5 +1,5 @@
 use Rattle.plane_core.proofs.OrderLemmas.{below_too}
-use Rattle.std.proofs.Common.{◌≤◌, ◌<◌, ◌+◌, ◌-◌, ℕ, arith}
+use Rattle.std.proofs.Common.{arith}
 use Rattle.plane_core.proofs.ListingLemmas.{band-less, band-more, band_missed}
 use Rattle.plane_core.proofs.listing.lanes_of_band.Goals as goal
 

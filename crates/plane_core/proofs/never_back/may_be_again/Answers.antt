@@ -16,9 +16,28 @@ returns-then-from-columns g c cells left top dx dy hx hy = absurd (c.if-from-col
     (begins g.row.N left top c.args.now.now _ c.args.columns c.requires.some hy c.requires.whole_now c.requires.columns (omega arith) c.ranges.columns.fits)))
 
 pub are_rows_again-requires : goal.are_rows_again-requires
-are_rows_again-requires g c =
-    (few_vectors g.row.N c.requires.few, (c.requires.some, (c.requires.few, (c.requires.alive, (omega (arith, c.if-columns-eq0.false), (c.requires.from, (c.requires.columns,
-    (c.requires.whole, c.requires.whole_now))))))))
+are_rows_again-requires g c = (
+  few_vectors g.row.N c.requires.few,
+  (
+    c.requires.some,
+    (
+      c.requires.few,
+      (
+        c.requires.alive,
+        (
+          omega (arith, c.if-columns-eq0.false),
+          (
+            c.requires.from,
+            (
+              c.requires.columns,
+              (c.requires.whole, c.requires.whole_now),
+            ),
+          ),
+        ),
+      ),
+    ),
+  ),
+)
 
 pub returns : goal.returns
 returns g c = c.are_rows_again.ensures

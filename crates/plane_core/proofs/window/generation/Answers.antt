@@ -3,7 +3,7 @@ use Rattle.std.proofs.lemmas.List.{get_or-set_other}
 use Rattle.plane_core.specs.Lanes.{row_sum, AreBeside}
 use Rattle.plane_core.proofs.WindowLemmas.{AreAbove, AreHere, AreMade, AreOfVector, above_start, above_step, here_at, below_step, below_stop}
 use Rattle.plane_core.proofs.WindowLemmas.{made_next, made_more, all_made}
-use Rattle.std.proofs.Common.{◌≤◌, sym}
+use Rattle.std.proofs.Common.{sym}
 use borrow.Author.Count.{falls}
 use Rattle.plane_core.proofs.OrderLemmas.{itself, last_low, next_low, one_at_least, this_low}
 use Rattle.plane_core.proofs.window.generation.Goals as goal
@@ -97,9 +97,6 @@ overflow_sub-answer g c = one_at_least g.row.N c.requires
 
 pub bounds-window-2 : goal.bounds-window-2
 bounds-window-2 g c = last_low g.row.N c.requires
-
-pub overflow_sub-t-35 : goal.overflow_sub-t-35
-overflow_sub-t-35 g c = one_at_least g.row.N c.requires
 
 pub bounds-window-3 : goal.bounds-window-3
 bounds-window-3 g c = last_low g.row.N c.requires
