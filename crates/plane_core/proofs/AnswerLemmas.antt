@@ -1,5 +1,6 @@
 -- The answers of a rule in each lane.
 use Rattle.std.proofs.Common.{◌≡◌, ◌==◌, ◌+◌, ◌-◌, ◌*◌, ◌%◌, ◌<◌, ◌≤◌, ℕ, zero, suc, Bool, true, false, cond, List, length, replicate, slice_index}
+use Rattle.std.proofs.Common.{◌≢◌, ◌⊎◌, inl, inr, get_or, set, get_or-set_same, get_or-set_other}
 use Rattle.std.proofs.Common.{arith, refl, ap, ◌∙◌, sym, bit_and, bit_or, bit_xor, max, min}
 use Rattle.std.specs.Int.{bit_at}
 use Rattle.std.proofs.lemmas.Nat.Bits.{bit_at_and, bit_at_or, bit_at_xor, bit_at-lt}
@@ -11,6 +12,7 @@ use Rattle.plane_core.specs.Words.{one_if, life}
 use Rattle.plane_core.specs.declared.lanes.RowSums.{RowSums}
 use Rattle.plane_core.specs.declared.lanes.Sum.{Sum}
 use Rattle.plane_core.specs.declared.lanes.Total.{Total}
+use Rattle.plane_core.proofs.CaseLemmas.{same_or_not}
 use Rattle.plane_core.proofs.LaneLemmas.{lane_of, four_lanes}
 use Rattle.plane_core.proofs.WordLemmas.{life_digits, one_of_four}
 use lib.Lanes.{zip2}
@@ -149,3 +151,18 @@ pub answers_rows : (rule : Numbers) (total : Total) (up here down : Sum) (now ne
 answers_rows rule total up here down now next sum is j i low inside =
     let at : total_of total j i ≡ sum_of up j i + sum_of here j i + sum_of down j i = sum j i low in
     is j i low inside (omega (arith, sums_small up here down j i)) ∙ ap (λ (n : ℕ). one_if (lives_by rule n (bit_of now j i == 1))) at
+
+-- ---- the words for each total
+
+-- a word more
+pub words_more : (f : ℕ → ℕ) (words : List ℕ) (n word : ℕ) → n < length words
+    → ((m i : ℕ) → m < n → i < 64 → bit_at (get_or words m 0) i ≡ f m) → ((i : ℕ) → i < 64 → bit_at word i ≡ f n)
+    → (m i : ℕ) → m < n + 1 → i < 64 → bit_at (get_or (set words n word) m 0) i ≡ f m
+words_more f words n word within before here m i low inside = split (same_or_not m n)
+  where
+    split : (m ≡ n) ⊎ (m ≢ n) → bit_at (get_or (set words n word) m 0) i ≡ f m
+    split (inl same) =
+        ap (λ (k : ℕ). bit_at (get_or (set words n word) k 0) i) same ∙ ap (λ (w : ℕ). bit_at w i) (get_or-set_same words n word 0 within)
+        ∙ here i inside ∙ ap f (sym same)
+    split (inr apart) =
+        ap (λ (w : ℕ). bit_at w i) (get_or-set_other words n m word 0 apart) ∙ before m i (omega (arith, low, apart)) inside

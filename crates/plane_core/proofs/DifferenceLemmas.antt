@@ -1,6 +1,6 @@
 -- Where two windows differ.
 use Rattle.std.proofs.Common.{◌≡◌, ◌+◌, ◌-◌, ◌*◌, ◌/◌, ◌%◌, ◌<◌, ◌≤◌, ℕ, List, length, ◌^◌, Bool, true, false, not, cond, map, replicate, w64}
-use Rattle.std.proofs.Common.{slice_index, get_or, inl, inr, ◌⊎◌}
+use Rattle.std.proofs.Common.{zero, suc, max, slice_index, get_or, inl, inr, ◌⊎◌}
 use Rattle.std.proofs.Common.{arith, refl, ap, ◌∙◌, sym, subst, bit_and, bit_or, bit_xor}
 use Rattle.std.specs.Int.{bit_at}
 use Rattle.std.proofs.lemmas.Nat.Bits.{bit_at_and, bit_at_or, bit_at_xor, bit_at-lt, bit_at-zero}
@@ -39,8 +39,15 @@ neither one other j i lo lt low none =
     ∙ none in
     (omega (arith, bit_at_or (slice_index one j) (slice_index other j) i), omega (arith, bit_at_or (slice_index one j) (slice_index other j) i))
 
-pub neither_word : (a b i : ℕ) → bit_at (bit_or a b) i ≡ 0 → (bit_at a i ≡ 0) × (bit_at b i ≡ 0)
-neither_word a b i none = (omega (arith, bit_at_or a b i), omega (arith, bit_at_or a b i))
+-- a bit that is in no lane
+pub in_no_lane : (v : List ℕ) (word : ℕ)
+    → ((i : ℕ) → bit_at word i ≡ max (max (bit_of v 0 i) (bit_of v 1 i)) (max (bit_of v 2 i) (bit_of v 3 i)))
+    → (j i : ℕ) → j < 4 → bit_at word i ≡ 0 → bit_of v j i ≡ 0
+in_no_lane v word is zero i low none = omega (arith, is i, none)
+in_no_lane v word is (suc zero) i low none = omega (arith, is i, none)
+in_no_lane v word is (suc (suc zero)) i low none = omega (arith, is i, none)
+in_no_lane v word is (suc (suc (suc zero))) i low none = omega (arith, is i, none)
+in_no_lane v word is (suc (suc (suc (suc j)))) i low none = absurd (omega (arith, low))
 
 -- ---- rows that are marked
 

@@ -363,3 +363,26 @@ all_seen at way words gone found seen some = record { most = most; some = some }
         subst (λ (d : Cell). IsReached found (depth_in way d)) (sym bit.3)
         (seen (k / 64 / at.rows) (k / 64 % at.rows) spot.lane spot.row (k % 64) (omega arith)
         (ap (λ (d : Cell). has (without (cells_on at words) gone) d) (sym bit.3) ∙ e))
+
+-- a cell that doesn't stand in a column of the row has no bit there
+pub no_bit : (first cell : Cell) (i : ℕ) → (first.y ≡ cell.y → first.x +ℤ pos i ≡ cell.x → ⊥)
+    → (bit_at 0 i == 1) ≡ same_cell (cell_at (first.x +ℤ pos i) first.y) cell
+no_bit first cell i apart = bit_is 0 first cell i (λ one. absurd (omega (arith, one, bit_at-zero i)))
+    (λ e. absurd (apart (ap (λ (c : Cell). c.y) e) (ap (λ (c : Cell). c.x) e)))
+
+-- ---- a row without the cells that are gone
+
+pub row_left : (at : Frame) (words : List ℕ) (gone : List Cell) (s r index bits : ℕ) (first : Cell) → s < at.lanes → r < at.rows → bits < 2 ^ 64
+    → index ≡ word_of at s r → first ≡ board_cell at s r 0
+    → ((i : ℕ) → i < 64 → (bit_at bits i == 1) ≡ has gone (cell_at (first.x +ℤ pos i) first.y))
+    → IsRow at (without (cells_on at words) gone) s r (bit_and (slice_index words index) (bit_not w64 bits))
+row_left at words gone s r index bits first hs hr small is begins here i low =
+    row_without at words gone s r (slice_index words index) bits i hs hr low small (ap (slice_index words) is)
+    (here i low ∙ ap (λ (d : Cell). has gone d) (cell_along at s r i first _ begins refl))
+
+pub none_seen : (at : Frame) (way : Direction) (cells : List Cell) (s r word : ℕ) (found : Option ℤ) → IsRow at cells s r word → word ≡ 0
+    → IsSeen at way cells s r found
+none_seen at way cells s r word found is none i low alive =
+    let one = eqb-true _ 1 (is i low ∙ alive) in
+    let zero : bit_at word i ≡ 0 = ap (λ (n : ℕ). bit_at n i) none ∙ bit_at-zero i in
+    absurd (omega (arith, one, zero))

@@ -1,5 +1,5 @@
 -- The rows of a window in which a cluster lies, as a window of their own.
-use Rattle.std.proofs.Common.{◌≡◌, ◌==◌, ◌+◌, ◌-◌, ◌<◌, ◌≤◌, ◌⊎◌, ℕ, ℤ, ◌+ℤ◌, pos, List, ap, ◌∙◌, sym, refl, arith, inl, inr}
+use Rattle.std.proofs.Common.{◌≡◌, ◌==◌, ◌+◌, ◌-◌, ◌/◌, ◌<◌, ◌≤◌, ℕ, ℤ, ◌+ℤ◌, pos, List, ap, ◌∙◌, sym, refl, arith, inl, inr, min}
 use Rattle.std.specs.Int.{bit_at}
 use Rattle.std.proofs.lemmas.Int.{ints}
 use Rattle.plane_core.proofs.CaseLemmas.{less_or_not}
@@ -14,41 +14,14 @@ use Rattle.plane_core.proofs.WindowLemmas.{same_cell_at}
 
 -- ---- which rows are empty
 
--- the first of the rows outside of an excerpt have no cell
-pub record AreEmptyOutside (window : List (List ℕ)) (from k : ℕ) : Type 0 where
-  pub above : (q : ℕ) → q < k → q < from → row_at 16 window q ≡ 0
-  pub below : (q : ℕ) → q < k → from ≤ q → row_at 16 window (q + 40) ≡ 0
-
-pub empty_none : (window : List (List ℕ)) (from : ℕ) → AreEmptyOutside window from 0
-empty_none window from = record { above = λ q low. absurd (omega arith); below = λ q low. absurd (omega arith) }
-
-pub empty_more : (window : List (List ℕ)) (from k r word : ℕ) → AreEmptyOutside window from k → (k < from → r ≡ k) → (from ≤ k → r ≡ k + 40)
-    → word ≡ row_at 16 window r → word ≡ 0 → AreEmptyOutside window from (k + 1)
-empty_more window from k r word are above below is none = record {
-  above = λ q low near. first q near (less_or_not q k) low;
-  below = λ q low far. second q far (less_or_not q k) low;
-}
-  where
-    first : (q : ℕ) → q < from → (q < k) ⊎ (k ≤ q) → q < k + 1 → row_at 16 window q ≡ 0
-    first q near (inl less) low = are.above q less near
-    first q near (inr not_less) low =
-        let same : q ≡ k = omega arith in
-        let at : q ≡ r = same ∙ sym (above (omega (arith, same, near))) in
-        ap (row_at 16 window) at ∙ sym is ∙ none
-
-    second : (q : ℕ) → from ≤ q → (q < k) ⊎ (k ≤ q) → q < k + 1 → row_at 16 window (q + 40) ≡ 0
-    second q far (inl less) low = are.below q less far
-    second q far (inr not_less) low =
-        let same : q ≡ k = omega arith in
-        let at : q + 40 ≡ r = ap (λ (m : ℕ). m + 40) same ∙ sym (below (omega (arith, same, far))) in
-        ap (row_at 16 window) at ∙ sym is ∙ none
-
-pub lies_in : (window : List (List ℕ)) (from k : ℕ) → from ≤ 24 → k ≡ 24 → AreEmptyOutside window from k → LiesInExcerpt from window
-lies_in window from k low all are = record {
-  low = low;
-  above = λ r near. are.above r (omega arith) near;
-  below = λ r far last.
-      let at : r ≡ r - 40 + 40 = omega arith in ap (row_at 16 window) at ∙ are.below (r - 40) (omega arith) (omega arith);
+-- a cluster of few rows lies in the rows round its middle
+pub lies_in : (window : List (List ℕ)) (first last from : ℕ) → ((r : ℕ) → r < first → row_at 16 window r ≡ 0)
+    → ((r : ℕ) → last < r → r < 64 → row_at 16 window r ≡ 0) → last < 64 → last - first < 32 → from ≡ min ((first + last - 39) / 2) 24
+    → LiesInExcerpt from window
+lies_in window first last from above below high few is = record {
+  low = omega (arith, is);
+  above = λ r near. above r (omega (arith, near, few, is));
+  below = λ r far low. below r (omega (arith, far, few, high, is)) low;
 }
 
 -- ---- what an excerpt shows

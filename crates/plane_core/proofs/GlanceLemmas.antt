@@ -1,8 +1,8 @@
 -- Where the window of a glance lies, and what is put into it.
-use Rattle.std.proofs.Common.{◌≡◌, ◌≢◌, ◌==◌, ◌+◌, ◌-◌, ◌*◌, ◌/◌, ◌%◌, ◌^◌, ◌<◌, ◌≤◌, ℕ}
-use Rattle.std.proofs.Common.{zero, suc, pos, ◌+ℤ◌, ◌-ℤ◌, Bool, true, false, ◌||◌, List, [], ◌∷◌, ◌++◌}
+use Rattle.std.proofs.Common.{◌≡◌, ◌≢◌, ◌==◌, ◌+◌, ◌-◌, ◌*◌, ◌/◌, ◌%◌, ◌^◌, ◌<◌, ◌≤◌, ℕ, ℤ}
+use Rattle.std.proofs.Common.{zero, suc, negsuc, pos, ◌+ℤ◌, ◌-ℤ◌, Bool, true, false, ◌||◌, List, [], ◌∷◌, ◌++◌}
 use Rattle.std.proofs.Common.{arith, refl, ap, ◌∙◌, sym, subst, inl, inr, ◌⊎◌}
-use Rattle.std.proofs.Common.{slice_index, unsigned_abs, get_or, set, length, take, bit_or, w64, leb, replicate}
+use Rattle.std.proofs.Common.{FitsSigned, of_z, slice_index, to_z, unsigned_abs, get_or, set, length, take, bit_or, w32, w64, leb, replicate}
 use Rattle.std.proofs.Common.{get_or-set_same, get_or-set_other}
 use Rattle.std.specs.Int.{bit_at}
 use Rattle.std.proofs.lemmas.Bool.{le-leb, and_from}
@@ -14,13 +14,13 @@ use Rattle.plane_core.specs.declared.bounds.Bounds.{Bounds}
 use Rattle.plane_core.specs.declared.cell.Cell.{Cell}
 use Rattle.plane_core.specs.declared.place.Place.{Place}
 use Rattle.plane_core.specs.Bounds.{IsLeastBox, IsWithin}
-use Rattle.plane_core.specs.Cells.{InOrder, cell_at, distance, has, is_within, same_cell}
+use Rattle.plane_core.specs.Cells.{InOrder, cell_at, distance, has, is_within, plane_bound, same_cell}
 use Rattle.plane_core.specs.Generations.{touches_edge}
 use Rattle.plane_core.specs.Glances.{IsInland, IsNear, IsSpot, ShowsRows}
 use Rattle.plane_core.specs.LonePatterns.{Holds, IsInWindow}
 use Rattle.plane_core.specs.Windows.{IsShownInside, row_at}
 use Rattle.plane_core.proofs.CaseLemmas.{same_or_not}
-use Rattle.plane_core.proofs.CellLemmas.{same_cell-itself, same_cell-same}
+use Rattle.plane_core.proofs.CellLemmas.{passed_within, same_cell-itself, same_cell-same}
 use Rattle.plane_core.proofs.SearchLemmas.{has-list_all}
 use Rattle.plane_core.proofs.SetLemmas.{has-all, has-append, has-head}
 use Rattle.plane_core.proofs.SpeedLemmas.{inside_edge}
@@ -44,6 +44,17 @@ place_is_inland b width height p sides is =
       left = let q = is.left in omega (arith, ints);
       top = let q = is.top in omega (arith, ints);
     }
+
+-- a side far from the edge, as it is passed
+near_fits : (x : ℤ) → unsigned_abs x ≤ 900000 → FitsSigned w32 x
+near_fits (pos n) near = record { sfits = omega (arith, near) }
+near_fits (negsuc n) near = record { sfits = omega (arith, near) }
+
+pub near_side : (x : ℤ) → unsigned_abs x ≤ 900000 → unsigned_abs (to_z w32 (of_z w32 x)) ≤ plane_bound
+near_side x near = passed_within x (near_fits x near) (omega (arith, near))
+
+pub half_within : (n : ℕ) → (63 - n) / 2 ≤ plane_bound
+half_within n = omega arith
 
 pub place_has_cells : (b : Bounds) (width height : ℕ) (p : Place) (S : List Cell) → IsPlacedRound b width height p → IsLeastBox S b
     → (c : Cell) → has S c ≡ true → IsInWindow 16 p.left p.top c

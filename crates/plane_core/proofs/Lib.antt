@@ -11,6 +11,7 @@ pub mod ChangeLemmas
 pub mod ClusterLaws
 pub mod ClusterLemmas
 pub mod CommuteLemmas
+pub mod CoordinateLemmas
 pub mod CoverLemmas
 pub mod DifferenceLemmas
 pub mod DirectionLemmas
@@ -34,6 +35,7 @@ pub mod NeighbourLemmas
 pub mod NeighbourhoodLemmas
 pub mod NeverBackLemmas
 pub mod OnBoardLemmas
+pub mod OrderLemmas
 pub mod OrientationLemmas
 pub mod OutLemmas
 pub mod PartLemmas

@@ -6,10 +6,10 @@ use Rattle.std.proofs.lemmas.Bool.{cases_eq, cases_lt}
 use Rattle.std.proofs.lemmas.List.{get_or-set_same, get_or-set_other}
 use Rattle.std.proofs.lemmas.Nat.Bits.{bit_at_mask_above, bit_at_mask_below, bit_at_mask_inside}
 use Rattle.plane_core.specs.declared.frame.Frame.{Frame}
-use Rattle.plane_core.specs.Frames.{word_of}
+use Rattle.plane_core.specs.Frames.{FillsFrame, word_of}
 use Rattle.plane_core.specs.Placed.{bit_on, inner_mask, AreRowsRead, IsReadAt, IsInnerColumn, IsInner, IsRowPut, IsPutBack}
 use Rattle.plane_core.specs.Windows.{row_at}
-use Rattle.plane_core.proofs.FrameLemmas.{one_word as same_spot}
+use Rattle.plane_core.proofs.FrameLemmas.{one_word as same_spot, word-inside}
 
 -- ---- reading
 
@@ -190,3 +190,27 @@ put_more at x y end rows old mid new least put row u v hu hv = split (row u v hu
 
 pub none_put : (at : Frame) (x y : ℕ) (rows old : List ℕ) → IsPutBack at x y 4 rows old old
 none_put at x y rows old u v hu hv = inr (λ c. let low = c.row.low in let high = c.row.high in absurd (omega arith), refl)
+
+-- ---- words
+
+pub column_low : (x : ℕ) → x % 64 < 64
+column_low x = omega arith
+
+-- the two words of a row that begins in column x
+pub words_in : (at : Frame) (words : List ℕ) (x y : ℕ) → FillsFrame at words → x / 64 + 1 < at.lanes → y < at.rows
+    → (x / 64 * at.rows + y < length words) × (x / 64 * at.rows + y + at.rows < length words)
+words_in at words x y long lane row =
+    let first : x / 64 * at.rows + y < at.lanes * at.rows = word-inside at (x / 64) y (omega (arith, lane)) row in
+    let second : (x / 64 + 1) * at.rows + y < at.lanes * at.rows = word-inside at (x / 64 + 1) y lane row in
+    (omega (arith, long, first), omega (arith, long, second))
+
+-- the two words of a row further on
+pub read_in : (at : Frame) (words : List ℕ) (x y r most : ℕ) → FillsFrame at words → x / 64 + 1 < at.lanes → y + most ≤ at.rows → r < most
+    → (x / 64 * at.rows + y + r < length words) × (x / 64 * at.rows + y + at.rows + r < length words)
+read_in at words x y r most long lane row low =
+    let both = words_in at words x (y + r) long lane (omega (arith, row, low)) in
+    (omega (arith, both.0), omega (arith, both.1))
+
+-- the word of a row of a lane
+pub index_in : (at : Frame) (words : List ℕ) (s r n : ℕ) → FillsFrame at words → s < at.lanes → r < at.rows → n ≡ word_of at s r → n < length words
+index_in at words s r n long lane row is = let inside = word-inside at s r lane row in omega (arith, long, is, inside)

@@ -1,6 +1,6 @@
 -- The rows of a window, one after another and in vectors.
-use Rattle.std.proofs.Common.{◌≡◌, ◌≢◌, ◌+◌, ◌*◌, ◌/◌, ◌%◌, ◌<◌, ◌⊎◌, ℕ, List, [], arith, ap, ◌∙◌, sym, inl, inr, get_or, set, slice_index}
-use Rattle.std.proofs.lemmas.List.{get_or-set_other}
+use Rattle.std.proofs.Common.{zero, suc, length, length-set, ◌≡◌, ◌≢◌, ◌+◌, ◌*◌, ◌/◌, ◌%◌, ◌<◌, ◌⊎◌, ℕ, List, [], arith, ap, ◌∙◌, sym, inl, inr, get_or, set, slice_index}
+use Rattle.std.proofs.lemmas.List.{get_or-set_other, get_or-set_same}
 use Rattle.std.proofs.lemmas.Nat.{div-add-mod', div_below, mod-mul-add, mod_below}
 use Rattle.plane_core.specs.Windows.{lane_at, row_at}
 use Rattle.plane_core.proofs.CaseLemmas.{same_or_not}
@@ -52,3 +52,48 @@ other_rows n k j m rows a b c d small low apart =
   where
     off : (q : ℕ) → j * n + m ≢ q * n + k
     off q e = apart (sym (mod-mul-add j n m low) ∙ ap (λ (r : ℕ). r % n) e ∙ mod-mul-add q n k small)
+
+-- the rows of the vector itself
+module _ (n k : ℕ) (rows v : List ℕ) (small : k < n) (long : length rows ≡ 4 * n) where
+  abbrev pub one : List ℕ
+  one = set rows k (get_or v 0 0)
+
+  abbrev pub two : List ℕ
+  two = set one (n + k) (get_or v 1 0)
+
+  abbrev pub three : List ℕ
+  three = set two (2 * n + k) (get_or v 2 0)
+
+  abbrev pub four : List ℕ
+  four = set three (3 * n + k) (get_or v 3 0)
+
+  own_0 : get_or four k 0 ≡ get_or v 0 0
+  own_0 =
+      get_or-set_other three (3 * n + k) k (get_or v 3 0) 0 (λ e. omega (arith, e, small))
+      ∙ get_or-set_other two (2 * n + k) k (get_or v 2 0) 0 (λ e. omega (arith, e, small))
+      ∙ get_or-set_other one (n + k) k (get_or v 1 0) 0 (λ e. omega (arith, e, small))
+      ∙ get_or-set_same rows k (get_or v 0 0) 0 (omega (arith, small, long))
+
+  own_1 : get_or four (n + k) 0 ≡ get_or v 1 0
+  own_1 =
+      get_or-set_other three (3 * n + k) (n + k) (get_or v 3 0) 0 (λ e. omega (arith, e, small))
+      ∙ get_or-set_other two (2 * n + k) (n + k) (get_or v 2 0) 0 (λ e. omega (arith, e, small))
+      ∙ get_or-set_same one (n + k) (get_or v 1 0) 0 (omega (arith, small, long, length-set rows k (get_or v 0 0)))
+
+  own_2 : get_or four (2 * n + k) 0 ≡ get_or v 2 0
+  own_2 =
+      get_or-set_other three (3 * n + k) (2 * n + k) (get_or v 3 0) 0 (λ e. omega (arith, e, small))
+      ∙ get_or-set_same two (2 * n + k) (get_or v 2 0) 0
+      (omega (arith, small, long, length-set rows k (get_or v 0 0), length-set one (n + k) (get_or v 1 0)))
+
+  own_3 : get_or four (3 * n + k) 0 ≡ get_or v 3 0
+  own_3 =
+      get_or-set_same three (3 * n + k) (get_or v 3 0) 0
+      (omega (arith, small, long, length-set rows k (get_or v 0 0), length-set one (n + k) (get_or v 1 0), length-set two (2 * n + k) (get_or v 2 0)))
+
+  pub own_rows : (j : ℕ) → j < 4 → slice_index four (j * n + k) ≡ slice_index v j
+  own_rows zero low = ap (λ (i : ℕ). get_or four i 0) (omega arith) ∙ own_0
+  own_rows (suc zero) low = ap (λ (i : ℕ). get_or four i 0) (omega arith) ∙ own_1
+  own_rows (suc (suc zero)) low = ap (λ (i : ℕ). get_or four i 0) (omega arith) ∙ own_2
+  own_rows (suc (suc (suc zero))) low = ap (λ (i : ℕ). get_or four i 0) (omega arith) ∙ own_3
+  own_rows (suc (suc (suc (suc j)))) low = absurd (omega (arith, low))

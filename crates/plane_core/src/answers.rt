@@ -15,7 +15,7 @@
 //! type of its own, so that each loop over windows is built once for Life and once for any rule.
 ghost use Rattle.std.specs.Prelude.{◌≡◌, ◌==◌, ◌+◌, ◌-◌, ◌*◌, ◌<◌, ◌≤◌, ◌%◌, IsTrue, true, ℕ, slice_index};
 ghost use Rattle.std.specs.Int.{bit_at};
-ghost use Rattle.plane_core.specs.Lanes.{AnswersNeighbours, AnswersRows, AnswersTotal, AreBeside, bit_of};
+ghost use Rattle.plane_core.specs.Lanes.{AnswersRows, AnswersTotal, AreBeside, bit_of};
 ghost use Rattle.plane_core.specs.Rules.{Numbers, is_birth, is_survival};
 ghost use Rattle.plane_core.specs.Tallies.{lives_by};
 ghost use Rattle.plane_core.specs.Words.{life, one_if};
@@ -43,18 +43,11 @@ impl Answering for Life {
 
     #[inline(always)]
     fn answer(&self, up: Sum, here: RowSums, down: Sum, now: u64x4) -> u64x4 {
-        life_answer(up, here.beside, down, now)
+        // By the eight neighbours: alive for three, and for two if the cell was alive. Their sum is two or three where
+        // exactly one of the digits that count twice is 1.
+        let low = added(up.ones, down.ones, here.beside.ones);
+        only_one(up.twos, down.twos, here.beside.twos, low.twos) & (low.ones | now)
     }
-}
-
-/// The answer of Life, by the eight neighbours: alive for three, and for two if the cell was alive. Their sum is two or
-/// three where exactly one of the digits that count twice is 1.
-#[inline(always)]
-fn life_answer(up: Sum, beside: Sum, down: Sum, now: u64x4) -> u64x4
-    ensures { AnswersNeighbours life up beside down now result }
-{
-    let low = added(up.ones, down.ones, beside.ones);
-    only_one(up.twos, down.twos, beside.twos, low.twos) & (low.ones | now)
 }
 
 /// The answers of any rule: for each total the answer of a dead cell, and where a live cell's answer differs.

@@ -9,18 +9,27 @@
 use crate::answers::Answering;
 use crate::flood::INSIDE;
 use crate::rows::unpacked;
-use crate::stray::Spot;
 use crate::window::generations;
 use std::simd::u64x4;
 
 /// The columns in the middle of a window, where a cell that changes is looked for first.
 const MIDDLE: u64 = 0x0000_0fff_fff0_0000;
 
-/// The live cells that are dead two generations on, of those from which a cluster may be grown.
+/// A row and a column of a window.
+#[derive(Clone, Copy)]
+pub(crate) struct Spot {
+    pub(crate) row: usize,
+    pub(crate) column: u32,
+}
+
+/// The live cells that are dead two generations on, of those in columns 4 to 59, from which a cluster may be grown.
 pub(crate) fn changing_cells<A: Answering>(window: &[u64x4; 16], rule: &A) -> [u64; 64] {
     let mut later = *window;
     generations(&mut later, rule, 2);
-    unpacked(&changed(window, &later))
+    for k in 0..16 {
+        later[k] = window[k] & (window[k] ^ later[k]) & u64x4::splat(INSIDE);
+    }
+    unpacked(&later)
 }
 
 /// One of the cells, if there is one four or more from the border, those in the middle before others.
@@ -34,15 +43,6 @@ pub(crate) fn first_cell(rows: &[u64; 64]) -> Option<Spot> {
         }
     }
     None
-}
-
-/// The cells of the one window that the other hasn't, in columns 4 to 59.
-fn changed(window: &[u64x4; 16], later: &[u64x4; 16]) -> [u64x4; 16] {
-    let mut cells = [u64x4::splat(0); 16];
-    for k in 0..16 {
-        cells[k] = window[k] & (window[k] ^ later[k]) & u64x4::splat(INSIDE);
-    }
-    cells
 }
 
 /// The first of the cells of a row, those in the middle before others.

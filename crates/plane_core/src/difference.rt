@@ -10,12 +10,12 @@
 //!                    columns  0 0 1 1
 //! ```
 ghost use Rattle.std.specs.Prelude.{◌≡◌, ◌+◌, ◌*◌, ◌<◌, ◌≤◌, IsTrue, ℕ};
-ghost use Rattle.std.specs.Int.{bit_at};
 ghost use Rattle.plane_core.specs.Lanes.{bit_of};
 ghost use Rattle.plane_core.specs.Placed.{inner_mask};
 ghost use Rattle.plane_core.specs.Differences.{DiffersOnlyIn};
 
 use crate::change::Change;
+use crate::never_back::in_any_lane;
 use crate::placed::INNER;
 use std::simd::cmp::SimdPartialEq;
 use std::simd::u64x4;
@@ -66,26 +66,6 @@ fn marked(places: u64x4, k: usize) -> u64x4
         .select(rows, u64x4::splat(0))
 }
 
-/// The bits of both words.
-#[inline(always)]
-fn either_word(one: u64, other: u64) -> u64
-    ensures { (i : ℕ) → bit_at result i ≡ 0 → (bit_at one i ≡ 0) × (bit_at other i ≡ 0) }
-{
-    one | other
-}
-
-/// The bits that any lane has.
-#[inline(always)]
-fn of_any_lane(vector: u64x4) -> u64
-    ensures { (j i : ℕ) → j < 4 → bit_at result i ≡ 0 → bit_of vector j i ≡ 0 }
-{
-    let lanes = vector.to_array();
-    either_word(
-        either_word(lanes[0], lanes[1]),
-        either_word(lanes[2], lanes[3]),
-    )
-}
-
 /// Where two windows differ in their inner parts.
 #[inline(always)]
 pub(crate) fn difference_of(one: &[u64x4; 10], other: &[u64x4; 10]) -> Change
@@ -99,7 +79,7 @@ pub(crate) fn difference_of(one: &[u64x4; 10], other: &[u64x4; 10]) -> Change
         rows = either(rows, marked(places, k));
     }
     Change {
-        columns: of_any_lane(columns),
-        rows: of_any_lane(rows),
+        columns: in_any_lane(columns),
+        rows: in_any_lane(rows),
     }
 }

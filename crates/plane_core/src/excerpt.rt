@@ -9,7 +9,7 @@
 //!  4  . . . . . . . .     . . . . . . . .   3
 //!  5  . . . . . . . .
 //! ```
-ghost use Rattle.std.specs.Prelude.{◌≡◌, ◌+◌, ◌<◌, ◌≤◌, IfSome, IsTrue};
+ghost use Rattle.std.specs.Prelude.{◌≤◌, IfSome};
 ghost use Rattle.plane_core.specs.Refusing.{IsExcerpt, LiesInExcerpt};
 
 use crate::never_back::{first_row, last_row, row};
@@ -24,46 +24,12 @@ const MOST: usize = 32;
 pub(crate) fn excerpt_round(alone: &[u64x4; 16]) -> Option<usize>
     ensures { IfSome result (λ from. LiesInExcerpt from alone.now) }
 {
-    let from = middle_of(alone)?;
-    if lies_in_excerpt(alone, from) {
-        return Some(from);
-    }
-    None
-}
-
-/// Where 40 rows begin in whose middle the cluster lies, if it isn't too large.
-fn middle_of(alone: &[u64x4; 16]) -> Option<usize> {
     let first = first_row(alone)?;
     let last = last_row(alone)?;
     if last.saturating_sub(first) >= MOST {
         return None;
     }
     Some(((first + last).saturating_sub(39) / 2).min(24))
-}
-
-/// Whether all live cells lie in the 40 rows from this one on.
-fn lies_in_excerpt(alone: &[u64x4; 16], from: usize) -> bool
-    ensures { IsTrue result → LiesInExcerpt from alone.now }
-{
-    if from > 24 {
-        return false;
-    }
-    for k in 0..24 {
-        if row(alone, row_outside(from, k)) != 0 {
-            return false;
-        }
-    }
-    true
-}
-
-/// One of the 24 rows that aren't among the 40 from this one on.
-#[inline(always)]
-fn row_outside(from: usize, k: usize) -> usize
-    requires { k < 24 }
-    ensures above { k < from → result ≡ k }
-    ensures below { from ≤ k → result ≡ k + 40 }
-{
-    if k < from { k } else { k + 40 }
 }
 
 /// The 40 rows from this one on, as a window of their own.

@@ -38,7 +38,7 @@ pub(crate) fn flood(rows: &[u64; 64], flood: &mut [u64; 64], row: usize, column:
         end = later_end(flood, end);
         let new = grow(rows, flood, first, end);
         if new == 0 {
-            return is_all(rows, flood);
+            return lies_inside(flood) && is_closed(rows, flood);
         }
     }
     false
@@ -110,31 +110,10 @@ fn grow(rows: &[u64; 64], flood: &mut [u64; 64], first: usize, end: usize) -> u6
     requires end { end ≤ 62 }
     ensures { HasGrown rows.now flood.old flood.new }
 {
-    let down = grow_down(rows, flood, first, end);
-    let up = grow_up(rows, flood, first, end);
-    down | up
-}
-
-/// Grows the flood in these rows, from the first one on.
-fn grow_down(rows: &[u64; 64], flood: &mut [u64; 64], first: usize, end: usize) -> u64
-    requires first { 2 ≤ first }
-    requires end { end ≤ 62 }
-    ensures { HasGrown rows.now flood.old flood.new }
-{
     let mut new = 0;
     for r in first..end {
         new |= grow_row(rows, flood, r);
     }
-    new
-}
-
-/// Grows the flood in these rows, from the last one on.
-fn grow_up(rows: &[u64; 64], flood: &mut [u64; 64], first: usize, end: usize) -> u64
-    requires first { 2 ≤ first }
-    requires end { end ≤ 62 }
-    ensures { HasGrown rows.now flood.old flood.new }
-{
-    let mut new = 0;
     for r in (first..end).rev() {
         new |= grow_row(rows, flood, r);
     }
@@ -182,14 +161,6 @@ fn beside(word: u64) -> u64
     ensures all { (i j : ℕ) → i < 64 → AreNear 1 i j → bit_at word j ≡ 1 → bit_at result i ≡ 1 }
 {
     word << 1 | word | word >> 1
-}
-
-/// Whether the flood is all there and lies well inside the window.
-fn is_all(rows: &[u64; 64], flood: &[u64; 64]) -> bool
-    ensures inside { IsTrue result → LiesInside flood.now }
-    ensures closed { IsTrue result → IsClosed rows.now flood.now }
-{
-    lies_inside(flood) && is_closed(rows, flood)
 }
 
 /// Whether the flood lies well inside the window. No branch depends on a row, so that four are looked at at once.

@@ -12,12 +12,12 @@
 //! ```
 //!
 //! Only the 'no' is sure: what may have come back, or has come to the rim, is run elsewhere.
-ghost use Rattle.std.specs.Prelude.{◌≡◌, ◌<◌, ◌≤◌, ℕ, ℤ, IfSome, IsTrue, List, false, true};
+ghost use Rattle.std.specs.Prelude.{◌≡◌, ◌<◌, ◌≤◌, ℕ, IfSome, IsTrue, false, true};
 ghost use Rattle.plane_core.specs.Cells.{InOrder, has};
 ghost use Rattle.plane_core.specs.Generations.{NeverBack, after, touches_edge};
-ghost use Rattle.plane_core.specs.Glances.{IsInland, IsNear, IsSpot, ShowsRows};
-ghost use Rattle.plane_core.specs.LonePatterns.{HasChanged, Holds, IsInWindow};
-ghost use Rattle.plane_core.specs.Refusing.{HasRestlessCluster, RefusesAll};
+ghost use Rattle.plane_core.specs.Glances.{IsInland, IsNear, IsSpot};
+ghost use Rattle.plane_core.specs.LonePatterns.{Holds, IsInWindow};
+ghost use Rattle.plane_core.specs.Refusing.{HasRestlessCluster};
 ghost use Rattle.plane_core.specs.declared.cell.Cell.{Cell};
 
 use crate::answers::{AnyRule, Life, is_life};
@@ -51,7 +51,12 @@ impl Pattern {
             return false;
         };
         let window = window_of(place, self.cells());
-        changes_in(&window, rule, generations)
+        // Life has a loop of its own.
+        if is_life(rule) {
+            never_back(&window, &Life, generations)
+        } else {
+            never_back(&window, &AnyRule::new(rule), generations)
+        }
     }
 
     /// Whether it is seen at a glance that the pattern is not at rest: one of its clusters strays from it within the
@@ -63,30 +68,11 @@ impl Pattern {
             return false;
         };
         let window = window_of(place, self.cells());
-        refuses_in(&window, rule, horizon, period)
-    }
-}
-
-/// Whether what the window shows is seen to change for so many generations. Life has a loop of its own.
-fn changes_in(window: &[u64x4; 16], rule: &Rule, generations: u32) -> bool
-    ensures { IsTrue result → (cells : List Cell) (left top : ℤ) → Holds 16 left top window.now cells
-        → HasChanged rule.now 16 left top cells generations }
-{
-    if is_life(rule) {
-        never_back(window, &Life, generations)
-    } else {
-        never_back(window, &AnyRule::new(rule), generations)
-    }
-}
-
-/// Whether it is seen that no pattern which the window shows is at rest. Life has a loop of its own.
-fn refuses_in(window: &[u64x4; 16], rule: &Rule, horizon: u32, period: u32) -> bool
-    ensures { IsTrue result → RefusesAll rule.now 16 window.now 0 horizon period }
-{
-    if is_life(rule) {
-        refuses(window, &Life, 0, horizon, period)
-    } else {
-        refuses(window, &AnyRule::new(rule), 0, horizon, period)
+        if is_life(rule) {
+            refuses(&window, &Life, 0, horizon, period)
+        } else {
+            refuses(&window, &AnyRule::new(rule), 0, horizon, period)
+        }
     }
 }
 
@@ -127,20 +113,12 @@ pub(crate) fn window_of(place: Place, cells: &[Cell]) -> [u64x4; 16]
     requires inside { (c : Cell) → has cells.now c ≡ true → IsInWindow 16 place.left place.top c }
     ensures { Holds 16 place.left place.top result cells.now }
 {
-    packed(&rows_of(place, cells))
-}
-
-/// The rows of the window at this place with these cells.
-fn rows_of(place: Place, cells: &[Cell]) -> [u64; 64]
-    requires { (c : Cell) → has cells.now c ≡ true → IsInWindow 16 place.left place.top c }
-    ensures { ShowsRows place result cells.now }
-{
     let mut rows = [0; 64];
     for cell in cells {
         let spot = spot_of(place, *cell);
         rows[spot.down] |= 1 << spot.across;
     }
-    rows
+    packed(&rows)
 }
 
 /// Where the cell is in the window.

@@ -17,8 +17,8 @@ ghost use Rattle.plane_core.specs.Cells.{InOrder, cell_at};
 ghost use Rattle.plane_core.specs.Frames.{FillsFrame, IsFrame, LieOn, Shows, word_of};
 ghost use Rattle.plane_core.specs.OnBoard.{cells_on};
 ghost use Rattle.plane_core.specs.Spans.{HasRow, LieInLanes, LieInSpans};
-ghost use Rattle.plane_core.specs.Listing.{AreDead, HasRead, HasReadRow, HasReadRows, IsBandEmpty};
-ghost use Rattle.plane_core.specs.Listing.{IsLaneEmpty, IsNextAlive, IsRowEmpty};
+ghost use Rattle.plane_core.specs.Listing.{AreDead, HasRead, HasReadRows, IsBandEmpty};
+ghost use Rattle.plane_core.specs.Listing.{IsLaneEmpty, IsNextAlive};
 ghost use Rattle.plane_core.specs.declared.cell.Cell.{Cell};
 
 use crate::cell::Cell;
@@ -95,35 +95,6 @@ fn word_at(at: Frame, words: &[u64], span: Span, lane: usize, row: usize) -> u64
     words[at.index(lane, row)]
 }
 
-/// Reads the cells of a row from the left, and adds them to a list. The lanes before the first and from the end on have
-/// none.
-fn read_row(
-    at: Frame,
-    words: &[u64],
-    spans: &[Span],
-    row: usize,
-    first: usize,
-    end: usize,
-    cells: &mut Vec<Cell>,
-) -> Result<(), OutOfMemory>
-    requires frame { IsFrame at }
-    requires row { row < at.rows }
-    requires long { FillsFrame at words.now }
-    requires spans { length spans.now ≡ at.lanes }
-    requires live { LieInSpans at spans.now (cells_on at words.now) }
-    requires order { first ≤ end }
-    requires end { end ≤ at.lanes }
-    requires left { IsRowEmpty at words.now row 0 first }
-    requires right { IsRowEmpty at words.now row end at.lanes }
-    ensures { OnOk result (HasReadRow at words.now row cells.old.items at.lanes cells.new.items) }
-{
-    for lane in first..end {
-        let word = word_at(at, words, spans[lane], lane, row);
-        read_word(word, at.corner(lane, row), cells)?;
-    }
-    Ok(())
-}
-
 /// Reads the cells of a band of eight rows, row by row, and adds them to a list. All lie in these lanes.
 fn read_band(
     at: Frame,
@@ -145,19 +116,22 @@ fn read_band(
         (HasReadRows at words.now (8 * band) cells.old.items
         → HasReadRows at words.now (8 * band + 8) cells.new.items) }
 {
-    let first = first_lane(at, words, spans, lanes, band);
-    if first == lanes.end {
+    let alive = lanes_of_band(at, words, spans, lanes, band);
+    if alive.from == alive.end {
         return Ok(());
     }
-    let end = end_of_lanes(at, words, spans, lanes, band, first);
     for row in 8 * band..8 * band + 8 {
-        read_row(at, words, spans, row, first, end, cells)?;
+        for lane in alive.from..alive.end {
+            let word = word_at(at, words, spans[lane], lane, row);
+            read_word(word, at.corner(lane, row), cells)?;
+        }
     }
     Ok(())
 }
 
-/// The first lane in which a cell of a band is alive. If there is none, it is the end of the lanes.
-fn first_lane(at: Frame, words: &[u64], spans: &[Span], lanes: Span, band: usize) -> usize
+/// The lanes from the first to the last in which a cell of a band is alive, of these lanes. If there is none, they end
+/// where they begin.
+fn lanes_of_band(at: Frame, words: &[u64], spans: &[Span], lanes: Span, band: usize) -> Span
     requires frame { IsFrame at }
     requires band { band < at.rows / 8 }
     requires long { FillsFrame at words.now }
@@ -166,43 +140,20 @@ fn first_lane(at: Frame, words: &[u64], spans: &[Span], lanes: Span, band: usize
     requires order { lanes.from ≤ lanes.end }
     requires most { lanes.end ≤ at.lanes }
     requires lanes { LieInLanes at spans.now lanes }
-    ensures most { result ≤ lanes.end }
-    ensures empty { IsBandEmpty at words.now band 0 result }
+    ensures order { result.from ≤ result.end }
+    ensures most { result.end ≤ at.lanes }
+    ensures left { IsBandEmpty at words.now band 0 result.from }
+    ensures right { IsBandEmpty at words.now band result.end at.lanes }
 {
-    let mut lane = lanes.from;
-    while lane < lanes.end && is_lane_empty(at, words, spans, lane, band) {
-        lane += 1;
+    let mut from = lanes.from;
+    while from < lanes.end && is_lane_empty(at, words, spans, from, band) {
+        from += 1;
     }
-    lane
-}
-
-/// One more than the last lane, from this one on, in which a cell of a band is alive.
-fn end_of_lanes(
-    at: Frame,
-    words: &[u64],
-    spans: &[Span],
-    lanes: Span,
-    band: usize,
-    first: usize,
-) -> usize
-    requires frame { IsFrame at }
-    requires band { band < at.rows / 8 }
-    requires long { FillsFrame at words.now }
-    requires spans { length spans.now ≡ at.lanes }
-    requires live { LieInSpans at spans.now (cells_on at words.now) }
-    requires order { lanes.from ≤ lanes.end }
-    requires most { lanes.end ≤ at.lanes }
-    requires lanes { LieInLanes at spans.now lanes }
-    requires first { first ≤ lanes.end }
-    ensures least { first ≤ result }
-    ensures most { result ≤ at.lanes }
-    ensures empty { IsBandEmpty at words.now band result at.lanes }
-{
     let mut end = lanes.end;
-    while end > first && is_lane_empty(at, words, spans, end - 1, band) {
+    while end > from && is_lane_empty(at, words, spans, end - 1, band) {
         end -= 1;
     }
-    end
+    Span { from, end }
 }
 
 /// Whether no cell of a band is alive in a lane.

@@ -61,7 +61,8 @@ pub(crate) fn never_back<const N: usize, A: Answering>(
         if may_be_again(start, from, &now, columns) {
             return false;
         }
-        if is_kept(&now, columns, &kept, kept_columns) {
+        // Mostly the columns with a live cell differ.
+        if columns == kept_columns && are_alike(&now, &kept) {
             return true;
         }
         // Most clusters that settle come to alternate, so every fourth generation is kept, and compared with the next
@@ -164,22 +165,6 @@ fn are_sides_clear(columns: u64) -> bool
         return false;
     }
     true
-}
-
-/// Whether the window has the same cells as the one that was kept. Mostly their columns with a live cell differ.
-#[inline(always)]
-fn is_kept<const N: usize>(
-    now: &[u64x4; N],
-    columns: u64,
-    kept: &[u64x4; N],
-    kept_columns: u64,
-) -> bool
-    ensures { IsTrue result → AreAlike N now.now kept.now }
-{
-    if columns != kept_columns {
-        return false;
-    }
-    are_alike(now, kept)
 }
 
 /// Whether two windows have the same cells.
@@ -296,7 +281,8 @@ pub(crate) fn first_row<const N: usize>(window: &[u64x4; N]) -> Option<usize>
 pub(crate) fn last_row<const N: usize>(window: &[u64x4; N]) -> Option<usize>
     requires some { 0 < N }
     requires few { N ≤ 16 }
-    ensures { IfSome result (λ r. r < 4 * N) }
+    ensures low { IfSome result (λ last. last < 4 * N) }
+    ensures none { IfSome result (λ last. (r : ℕ) → last < r → r < 4 * N → row_at N window.now r ≡ 0) }
 {
     for r in (0..4 * N).rev() {
         if row(window, r) != 0 {

@@ -12,12 +12,12 @@ ghost use Rattle.std.specs.Prelude.{◌≤◌, ℕ, IsTrue};
 ghost use Rattle.plane_core.specs.Refusing.{HoldsCluster, LiesInExcerpt, RefusesAll};
 
 use crate::answers::Answering;
-use crate::changing::{changing_cells, first_cell};
+use crate::changing::{Spot, changing_cells, first_cell};
 use crate::excerpt::{excerpt, excerpt_round};
 use crate::flood::flood;
 use crate::never_back::never_back;
 use crate::rows::{packed, unpacked};
-use crate::stray::{Spot, shows_stray};
+use crate::stray::shows_stray;
 use std::simd::u64x4;
 
 /// Whether it is seen that no pattern which the window shows at this depth is at rest: one of its clusters strays from

@@ -35,23 +35,11 @@ pub(crate) fn unpacked<const N: usize, const R: usize>(window: &[u64x4; N]) -> [
 {
     let mut rows = [0; R];
     for k in 0..N {
-        unpack_vector(window[k], N, k, &mut rows);
+        let lanes = window[k].to_array();
+        rows[k] = lanes[0];
+        rows[N + k] = lanes[1];
+        rows[2 * N + k] = lanes[2];
+        rows[3 * N + k] = lanes[3];
     }
     rows
-}
-
-/// Puts the four rows of vector k, one of n, in their places.
-#[inline(always)]
-fn unpack_vector<const R: usize>(vector: u64x4, n: usize, k: usize, rows: &mut [u64; R])
-    requires low { k < n }
-    requires rows { R ≡ 4 * n }
-    ensures at { (j : ℕ) → j < 4 → slice_index rows.new (j * n + k) ≡ slice_index vector j }
-    ensures others { (j m : ℕ) → j < 4 → m < n → m ≢ k
-        → slice_index rows.new (j * n + m) ≡ slice_index rows.old (j * n + m) }
-{
-    let lanes = vector.to_array();
-    rows[k] = lanes[0];
-    rows[n + k] = lanes[1];
-    rows[2 * n + k] = lanes[2];
-    rows[3 * n + k] = lanes[3];
 }

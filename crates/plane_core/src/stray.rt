@@ -9,7 +9,8 @@
 //! ```
 //!
 //! Both are run in windows, which are right a cell less far out with each generation.
-ghost use Rattle.std.specs.Prelude.{◌≤◌, ◌<◌, IsTrue};
+ghost use Rattle.std.specs.Prelude.{◌≡◌, ◌+◌, ◌≤◌, ◌<◌, ℕ, IsTrue};
+ghost use Rattle.std.specs.Int.{bit_at};
 ghost use Rattle.plane_core.specs.Refusing.{HasStray, ShowsStray};
 
 use crate::answers::Answering;
@@ -20,13 +21,6 @@ use std::simd::u64x4;
 /// How many columns or rows off another cell is looked for. What lies further off rarely meets a cluster in 15
 /// generations.
 const NEAR: usize = 5;
-
-/// A row and a column of a window.
-#[derive(Clone, Copy)]
-pub(crate) struct Spot {
-    pub(crate) row: usize,
-    pub(crate) column: u32,
-}
 
 /// Whether it is seen within so many generations, and within 15, that what one window shows alone strays from the whole
 /// that the other one shows, both right at this depth. `false` says nothing.
@@ -91,13 +85,18 @@ fn has_stray<const N: usize>(whole: &[u64x4; N], alone: &[u64x4; N], depth: usiz
     requires depth { depth < 20 }
     ensures { IsTrue result → HasStray N whole.now alone.now depth }
 {
-    if columns_astray(whole, alone) & columns_inside(depth) == 0 {
+    let inside = columns_inside(depth);
+    if columns_astray(whole, alone) & inside == 0 {
         return false;
     }
-    match find_stray(whole, alone, depth) {
-        Some(spot) => is_stray(whole, alone, depth, spot),
-        None => false,
+    for r in depth..4 * N - depth {
+        let here = row(alone, r);
+        let astray = here & (here ^ row(whole, r)) & inside;
+        if astray != 0 {
+            return true;
+        }
     }
+    false
 }
 
 /// The columns that have a cell alone which the whole hasn't.
@@ -112,49 +111,7 @@ fn columns_astray<const N: usize>(whole: &[u64x4; N], alone: &[u64x4; N]) -> u64
 /// The columns that are so deep inside.
 fn columns_inside(depth: usize) -> u64
     requires { depth < 32 }
+    ensures { (i : ℕ) → bit_at result i ≡ 1 → (depth ≤ i) × (i + depth < 64) }
 {
     u64::MAX >> (2 * depth) << depth
-}
-
-/// Where a stray may be.
-fn find_stray<const N: usize>(whole: &[u64x4; N], alone: &[u64x4; N], depth: usize) -> Option<Spot>
-    requires some { 10 ≤ N }
-    requires few { N ≤ 16 }
-    requires depth { depth < 20 }
-{
-    for r in depth..4 * N - depth {
-        let here = row(alone, r);
-        let cells = here & (here ^ row(whole, r)) & columns_inside(depth);
-        if cells != 0 {
-            return Some(Spot {
-                row: r,
-                column: cells.trailing_zeros(),
-            });
-        }
-    }
-    None
-}
-
-/// Whether there is a stray so deep inside.
-fn is_stray<const N: usize>(
-    whole: &[u64x4; N],
-    alone: &[u64x4; N],
-    depth: usize,
-    spot: Spot,
-) -> bool
-    requires some { 10 ≤ N }
-    requires few { N ≤ 16 }
-    requires depth { depth < 20 }
-    ensures { IsTrue result → HasStray N whole.now alone.now depth }
-{
-    if spot.row < depth || spot.row >= 4 * N - depth {
-        return false;
-    }
-    if (spot.column as usize) < depth || (spot.column as usize) >= 64 - depth {
-        return false;
-    }
-    if (row(alone, spot.row) >> spot.column) & 1 == 0 {
-        return false;
-    }
-    (row(whole, spot.row) >> spot.column) & 1 == 0
 }

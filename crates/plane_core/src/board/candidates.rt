@@ -12,7 +12,7 @@
 //! ```
 //!
 //! A lone ship has a small box, so only these are looked at, and of these only those that lie ahead of all others.
-ghost use Rattle.std.specs.Prelude.{◌≡◌, ◌≤◌, ℕ, All, IfOk, IfSome, List, OnOk};
+ghost use Rattle.std.specs.Prelude.{◌≡◌, All, IfOk, List, OnOk};
 ghost use Rattle.plane_core.specs.Bounds.{AreSidesWithin};
 ghost use Rattle.plane_core.specs.Cells.{InOrder, plane_bound};
 ghost use Rattle.plane_core.specs.Clusters.{IsCluster};
@@ -31,7 +31,6 @@ use crate::frame::Frame;
 use crate::pattern::Pattern;
 use crate::rows::unpacked;
 use crate::small::pattern_of;
-use crate::stray::Spot;
 use memory::OutOfMemory;
 use std::alloc::Global;
 
@@ -57,45 +56,53 @@ impl Board {
     pub fn small_clusters(&self, alloc: Global) -> Result<Vec<Pattern>, OutOfMemory>
         ensures { IfOk result (λ clusters. All (IsCluster self.now.cells) clusters.items) }
     {
-        let mut clusters = Vec::new(alloc);
         let words = self.words.as_slice();
         let boxes = self.boxes.as_slice();
         if self.is_life {
-            add_all(alloc, words, self.at, boxes, &Life, &mut clusters)?;
-            return Ok(clusters);
+            return clusters_ahead(alloc, words, self.at, boxes, &Life);
         }
-        add_all(alloc, words, self.at, boxes, &self.answers, &mut clusters)?;
-        Ok(clusters)
+        clusters_ahead(alloc, words, self.at, boxes, &self.answers)
     }
 }
 
-/// Adds candidates of the small boxes that lie ahead of the others, for as long as there are tries left.
-fn add_all<A: Answering>(
+/// Candidates of the small boxes that lie ahead of the others, for as long as there are tries left. Of each box the view
+/// is looked at, if it lies on the board.
+fn clusters_ahead<A: Answering>(
     alloc: Global,
     words: &[u64],
     at: Frame,
     boxes: &[Bounds],
     rule: &A,
-    clusters: &mut Vec<Pattern>,
-) -> Result<(), OutOfMemory>
+) -> Result<Vec<Pattern>, OutOfMemory>
     requires frame { IsFrame at }
     requires plane { AreSidesWithin plane_bound (bounds_of at) }
     requires long { FillsFrame at words.now }
-    ensures { OnOk result (All (IsCluster (cells_on at words.now)) clusters.old.items
-        → All (IsCluster (cells_on at words.now)) clusters.new.items) }
+    ensures { IfOk result (λ clusters. All (IsCluster (cells_on at words.now)) clusters.items) }
 {
+    let mut clusters = Vec::new(alloc);
     let mut tries = BOXES;
     for bounds in boxes {
         if tries == 0 {
-            return Ok(());
+            break;
         }
         if !is_small_box(*bounds) || !leads_somewhere(boxes, *bounds) {
             continue;
         }
         tries -= 1;
-        add_in(alloc, words, at, *bounds, rule, clusters)?;
+        let Some(view) = View::round(at, *bounds) else {
+            continue;
+        };
+        let window = view.window(words, at);
+        let mut candidates = changing_cells(&window, rule);
+        add_grown(
+            alloc,
+            view.frame(at),
+            &unpacked(&window),
+            &mut candidates,
+            &mut clusters,
+        )?;
     }
-    Ok(())
+    Ok(clusters)
 }
 
 /// Whether the box is so small that a ship and little else may change in it.
@@ -155,37 +162,8 @@ fn meets(one: Bounds, other: Bounds) -> bool {
         && other.top.saturating_sub(one.bottom) <= 1
 }
 
-/// Adds the candidates of one box, if the view of it lies on the board.
-fn add_in<A: Answering>(
-    alloc: Global,
-    words: &[u64],
-    at: Frame,
-    bounds: Bounds,
-    rule: &A,
-    clusters: &mut Vec<Pattern>,
-) -> Result<(), OutOfMemory>
-    requires frame { IsFrame at }
-    requires plane { AreSidesWithin plane_bound (bounds_of at) }
-    requires long { FillsFrame at words.now }
-    ensures { OnOk result (All (IsCluster (cells_on at words.now)) clusters.old.items
-        → All (IsCluster (cells_on at words.now)) clusters.new.items) }
-{
-    let Some(view) = View::round(at, bounds) else {
-        return Ok(());
-    };
-    let window = view.window(words, at);
-    let mut candidates = changing_cells(&window, rule);
-    add_grown(
-        alloc,
-        view.frame(at),
-        &unpacked(&window),
-        &mut candidates,
-        clusters,
-    )?;
-    Ok(())
-}
-
-/// Adds the clusters of the candidates in a window that lies here, if they are small.
+/// Adds the clusters of the candidates in a window that lies here, if they are small and not among the others yet: two
+/// boxes may lie near each other. Their cells are no candidates any more.
 fn add_grown(
     alloc: Global,
     at: Frame,
@@ -204,33 +182,17 @@ fn add_grown(
         let Some(spot) = first_cell(candidates) else {
             return Ok(());
         };
-        add_one(alloc, at, rows, candidates, spot, clusters)?;
-    }
-    Ok(())
-}
-
-/// Adds the cluster of this candidate, if it is small. Its cells are no candidates any more.
-fn add_one(
-    alloc: Global,
-    at: Frame,
-    rows: &[u64; 64],
-    candidates: &mut [u64; 64],
-    spot: Spot,
-    clusters: &mut Vec<Pattern>,
-) -> Result<(), OutOfMemory>
-    requires frame { IsFrame at }
-    requires plane { AreSidesWithin plane_bound (bounds_of at) }
-    requires lanes { at.lanes ≡ 1 }
-    requires rows { at.rows ≡ 64 }
-    ensures { OnOk result ((cells : List Cell) → InOrder cells → ShowsInRows at.left at.top rows.now cells
-        → All (IsCluster cells) clusters.old.items → All (IsCluster cells) clusters.new.items) }
-{
-    let mut cluster = [0; 64];
-    let whole = flood(rows, &mut cluster, spot.row, spot.column);
-    strike_out(candidates, &cluster);
-    if whole && is_small(&cluster) {
+        let mut cluster = [0; 64];
+        let whole = flood(rows, &mut cluster, spot.row, spot.column);
+        strike_out(candidates, &cluster);
+        if !whole || !is_small(&cluster) {
+            continue;
+        }
         let pattern = pattern_of(alloc, at, &cluster)?;
-        add(clusters, pattern)?;
+        if has(clusters.as_slice(), &pattern) {
+            continue;
+        }
+        clusters.push(pattern)?;
     }
     Ok(())
 }
@@ -255,20 +217,12 @@ fn is_small(cluster: &[u64; 64]) -> bool {
     true
 }
 
-/// Puts a cluster after the others, unless it is one of them: two boxes may lie near each other.
-fn add(clusters: &mut Vec<Pattern>, cluster: Pattern) -> Result<(), OutOfMemory>
-    ensures { OnOk result ((cells : List Cell) → IsCluster cells cluster → All (IsCluster cells) clusters.old.items
-        → All (IsCluster cells) clusters.new.items) }
-{
-    if !has(clusters.as_slice(), &cluster) {
-        clusters.push(cluster)?;
-    }
-    Ok(())
-}
-
 /// Whether the cluster is one of the others.
 fn has(clusters: &[Pattern], cluster: &Pattern) -> bool {
-    clusters
-        .iter()
-        .any(|other| other.cells() == cluster.cells())
+    for other in clusters {
+        if other.cells() == cluster.cells() {
+            return true;
+        }
+    }
+    false
 }

@@ -77,7 +77,8 @@ fn refuses_near<A: Answering>(
     refuses_by(words, at, boxes, rule, look, false, &mut tries)
 }
 
-/// Tries the boxes that are large, or those that aren't, for as long as there are tries left.
+/// Tries the boxes that are large, or those that aren't, for as long as there are tries left. Of each box the view is
+/// looked at, if it lies on the board.
 fn refuses_by<A: Answering>(
     words: &[u64],
     at: Frame,
@@ -96,33 +97,24 @@ fn refuses_by<A: Answering>(
         if *tries == 0 {
             return false;
         }
-        if is_large(*bounds) == large {
-            *tries -= 1;
-            if refuses_in(words, at, *bounds, rule, look) {
-                return true;
-            }
+        if is_large(*bounds) != large {
+            continue;
+        }
+        *tries -= 1;
+        let Some(view) = View::round(at, *bounds) else {
+            continue;
+        };
+        let mut window = view.window(words, at);
+        generations(&mut window, rule, look.ahead as usize);
+        if refuses(
+            &window,
+            rule,
+            look.ahead as usize,
+            look.horizon,
+            look.period,
+        ) {
+            return true;
         }
     }
     false
-}
-
-/// Tries one box, if the view of it lies on the board.
-fn refuses_in<A: Answering>(words: &[u64], at: Frame, bounds: Bounds, rule: &A, look: Look) -> bool
-    requires long { FillsFrame at words.now }
-    requires ahead { look.ahead ≤ 1 }
-    ensures { IsTrue result → HasRestlessCluster (A.rule rule.now)
-        (after (A.rule rule.now) (cells_on at words.now) look.ahead) look.horizon look.period }
-{
-    let Some(view) = View::round(at, bounds) else {
-        return false;
-    };
-    let mut window = view.window(words, at);
-    generations(&mut window, rule, look.ahead as usize);
-    refuses(
-        &window,
-        rule,
-        look.ahead as usize,
-        look.horizon,
-        look.period,
-    )
 }

@@ -187,7 +187,7 @@ fn deepest_in_row(
     ensures deeper { GoesDeeper way (without (cells_on at words.now) gone.now) found result }
     ensures seen { IsSeen at way (without (cells_on at words.now) gone.now) lane row result }
 {
-    let word = row_without(at, words, lane, row, gone);
+    let word = words[at.index(lane, row)] & !bits_of(gone, at.corner(lane, row));
     if word == 0 {
         return found;
     }
@@ -218,18 +218,6 @@ fn depth_at(at: Frame, lane: usize, row: usize, column: usize, way: Direction) -
     ensures { result ≡ depth_in way (board_cell at lane row column) }
 {
     way.depth(along(at.corner(lane, row), column))
-}
-
-/// The word of a row of a lane, less the cells that are gone.
-fn row_without(at: Frame, words: &[u64], lane: usize, row: usize, gone: &[Cell]) -> u64
-    requires frame { IsFrame at }
-    requires long { FillsFrame at words.now }
-    requires lane { lane < at.lanes }
-    requires row { row < at.rows }
-    ensures { (i : ℕ) → i < 64 → (bit_at result i == 1)
-        ≡ has (without (cells_on at words.now) gone.now) (board_cell at lane row i) }
-{
-    words[at.index(lane, row)] & !bits_of(gone, at.corner(lane, row))
 }
 
 /// The bits of those of the cells that stand in the 64 columns from this cell on, in its row.

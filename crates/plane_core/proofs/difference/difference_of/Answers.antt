@@ -1,5 +1,5 @@
 use Rattle.std.proofs.Common.{◌≡◌, ℕ, arith, subst}
-use Rattle.plane_core.proofs.DifferenceLemmas.{DifferInColumns, DifferInRows, HoldPlaces, columns_more, rows_more, differs_only}
+use Rattle.plane_core.proofs.DifferenceLemmas.{DifferInColumns, DifferInRows, HoldPlaces, columns_more, differs_only, in_no_lane, rows_more}
 use Rattle.plane_core.proofs.difference.difference_of.Goals as goal
 
 pub loop-k-init : goal.loop-k-init
@@ -28,4 +28,5 @@ returns c =
     let all : c.loop-k.k ≡ 10 = omega arith in
     differs_only one other c.loop-k.columns c.loop-k.rows _
     (subst (λ (k : ℕ). DifferInColumns one other c.loop-k.columns k) all c.loop-k.invariant.columns)
-    (subst (λ (k : ℕ). DifferInRows one other c.loop-k.rows k) all c.loop-k.invariant.rows) c.of_any_lane.ensures c.of_any_lane-2.ensures
+    (subst (λ (k : ℕ). DifferInRows one other c.loop-k.rows k) all c.loop-k.invariant.rows)
+    (in_no_lane c.loop-k.columns c.in_any_lane.result c.in_any_lane.ensures) (in_no_lane c.loop-k.rows c.in_any_lane-2.result c.in_any_lane-2.ensures)

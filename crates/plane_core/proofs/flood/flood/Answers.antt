@@ -1,6 +1,10 @@
-use Rattle.std.proofs.Common.{arith}
+use Rattle.std.proofs.Common.{ℕ, ◌<◌, ◌∙◌, arith, sym}
+use Rattle.std.proofs.lemmas.Bool.{false≢true}
 use Rattle.plane_core.proofs.FloodLemmas.{all_flooded, grown_more, grown_none}
 use Rattle.plane_core.proofs.flood.flood.Goals as goal
+
+within_64 : (n : ℕ) → n < 60 → n < 64
+within_64 n low = omega (arith, low)
 
 pub loop-init : goal.loop-init
 loop-init c =
@@ -16,9 +20,33 @@ loop-preserved c = record {
   grown = grown_more c.args.rows.now c.begun.result c.loop.flood c.grow-new.new.flood c.loop.invariant.grown c.grow-new.ensures;
 }
 
-pub returns-then-new-eq0 : goal.returns-then-new-eq0
-returns-then-new-eq0 c = λ e.
+pub returns-then-lies_inside : goal.returns-then-lies_inside
+returns-then-lies_inside c = λ e.
     all_flooded c.args.rows.now c.begun.result c.grow-new.new.flood c.args.row c.args.column c.begun.ensures.start
     (c.may_begin.ensures.alive c.if-not-may_begin.false) (c.may_begin.ensures.place c.if-not-may_begin.false) c.begun.ensures.only
-    (grown_more c.args.rows.now c.begun.result c.loop.flood c.grow-new.new.flood c.loop.invariant.grown c.grow-new.ensures) (c.is_all.ensures.inside e)
-    (c.is_all.ensures.closed e)
+    (grown_more c.args.rows.now c.begun.result c.loop.flood c.grow-new.new.flood c.loop.invariant.grown c.grow-new.ensures)
+    (c.lies_inside.ensures c.if-lies_inside.true) (c.is_closed.ensures e)
+
+pub returns-else-lies_inside : goal.returns-else-lies_inside
+returns-else-lies_inside c = λ e. absurd (false≢true (sym c.if-lies_inside.false ∙ e))
+
+pub returns-then-not-may_begin : goal.returns-then-not-may_begin
+returns-then-not-may_begin c = λ e. absurd (false≢true e)
+
+pub begun-requires-clause-row : goal.begun-requires-clause-row
+begun-requires-clause-row c = within_64 _ (c.may_begin.ensures.place c.if-not-may_begin.false).below
+
+pub earlier_first-first-requires-clause-low : goal.earlier_first-first-requires-clause-low
+earlier_first-first-requires-clause-low c = c.loop.invariant.least
+
+pub later_end-end-requires-clause-high : goal.later_end-end-requires-clause-high
+later_end-end-requires-clause-high c = c.loop.invariant.high
+
+pub grow-new-requires-clause-first : goal.grow-new-requires-clause-first
+grow-new-requires-clause-first c = c.earlier_first-first.ensures.low
+
+pub grow-new-requires-clause-end : goal.grow-new-requires-clause-end
+grow-new-requires-clause-end c = c.later_end-end.ensures.high
+
+pub returns : goal.returns
+returns c = λ e. absurd (false≢true e)

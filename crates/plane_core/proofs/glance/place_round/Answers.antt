@@ -1,6 +1,6 @@
-use Rattle.std.proofs.Common.{FitsSigned, rules, w32}
+use Rattle.std.proofs.Common.{◌≤◌, ℕ, FitsSigned, arith, rules, w32}
 use Rattle.std.proofs.lemmas.Int.{to_z-of_z}
-use Rattle.plane_core.proofs.GlanceLemmas.{IsPlacedRound, place_has_cells, place_is_inland}
+use Rattle.plane_core.proofs.GlanceLemmas.{IsPlacedRound, half_within, near_side, place_has_cells, place_is_inland}
 use Rattle.plane_core.proofs.glance.place_round.Goals as goal
 
 is_round : (c : goal.After-back-2) → IsPlacedRound c.in_ok-bounds.bounds c.apart-width.result c.apart-height.result
@@ -19,6 +19,9 @@ is_round c =
       high = c.if-height-gt61.false;
     }
 
+above_too : (n : ℕ) → n ≤ 61 → n ≤ 63
+above_too n low = omega arith
+
 pub returns-clause-inland : goal.returns-clause-inland
 returns-clause-inland c =
     let left : FitsSigned w32 c.back.result = search rules in
@@ -30,3 +33,33 @@ returns-clause-inside c =
     let left : FitsSigned w32 c.back.result = search rules in
     let top : FitsSigned w32 c.back-2.result = search rules in
     simp to_z-of_z (place_has_cells c.in_ok-bounds.bounds _ _ _ c.args.pattern.now (is_round c) c.in_ok-bounds.ensures.least)
+
+pub apart-width-requires-clause-a : goal.apart-width-requires-clause-a
+apart-width-requires-clause-a c = near_side c.in_ok-bounds.bounds.left (c.is_near.ensures c.if-not-is_near.false).left
+
+pub apart-width-requires-clause-b : goal.apart-width-requires-clause-b
+apart-width-requires-clause-b c = near_side c.in_ok-bounds.bounds.right (c.is_near.ensures c.if-not-is_near.false).right
+
+pub apart-height-requires-clause-a : goal.apart-height-requires-clause-a
+apart-height-requires-clause-a c = near_side c.in_ok-bounds.bounds.top (c.is_near.ensures c.if-not-is_near.false).top
+
+pub apart-height-requires-clause-b : goal.apart-height-requires-clause-b
+apart-height-requires-clause-b c = near_side c.in_ok-bounds.bounds.bottom (c.is_near.ensures c.if-not-is_near.false).bottom
+
+pub overflow_sub-width : goal.overflow_sub-width
+overflow_sub-width c = above_too _ c.if-width-gt61.false
+
+pub back-requires-clause-from : goal.back-requires-clause-from
+back-requires-clause-from c = near_side c.in_ok-bounds.bounds.left (c.is_near.ensures c.if-not-is_near.false).left
+
+pub back-requires-clause-cells : goal.back-requires-clause-cells
+back-requires-clause-cells c = half_within _
+
+pub overflow_sub-height : goal.overflow_sub-height
+overflow_sub-height c = above_too _ c.if-height-gt61.false
+
+pub back-requires-2-clause-from : goal.back-requires-2-clause-from
+back-requires-2-clause-from c = near_side c.in_ok-bounds.bounds.top (c.is_near.ensures c.if-not-is_near.false).top
+
+pub back-requires-2-clause-cells : goal.back-requires-2-clause-cells
+back-requires-2-clause-cells c = half_within _

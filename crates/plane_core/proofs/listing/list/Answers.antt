@@ -1,6 +1,8 @@
 use Rattle.std.proofs.Common.{◌∙◌, ℕ, arith, subst}
 use Rattle.plane_core.specs.Listing.{HasReadRows}
 use Rattle.plane_core.proofs.ListingLemmas.{bands_after, bands_before, read_all}
+use borrow.Author.Count.{falls}
+use Rattle.plane_core.proofs.OrderLemmas.{below_too}
 use Rattle.plane_core.proofs.listing.list.Goals as goal
 
 pub loop-band-init : goal.loop-band-init
@@ -22,3 +24,30 @@ returns c cells o fits shown =
     ∙ read_all c.args.at words cells c.loop-band.cells.items o fits shown
     (bands_after c.args.at words c.args.spans.now c.bands_on-bands.result c.loop-band.band c.loop-band.cells.items (omega arith) c.requires.live
     (λ s r hs hr inside. c.bands_on-bands.ensures.held r hr (c.hull_of-hull.ensures s r hs inside).row) c.loop-band.invariant)
+
+pub bands_on-bands-requires : goal.bands_on-bands-requires
+bands_on-bands-requires c = c.requires.frame
+
+pub read_band-requires-clause-frame : goal.read_band-requires-clause-frame
+read_band-requires-clause-frame c = c.requires.frame
+
+pub read_band-requires-clause-band : goal.read_band-requires-clause-band
+read_band-requires-clause-band c = below_too _ _ _ c.loop-band-test.true c.bands_on-bands.ensures.end
+
+pub read_band-requires-clause-long : goal.read_band-requires-clause-long
+read_band-requires-clause-long c = c.requires.long
+
+pub read_band-requires-clause-spans : goal.read_band-requires-clause-spans
+read_band-requires-clause-spans c = c.requires.spans
+
+pub read_band-requires-clause-live : goal.read_band-requires-clause-live
+read_band-requires-clause-live c = c.requires.live
+
+pub read_band-requires-clause-order : goal.read_band-requires-clause-order
+read_band-requires-clause-order c = c.lanes_on-lanes.ensures.order
+
+pub read_band-requires-clause-most : goal.read_band-requires-clause-most
+read_band-requires-clause-most c = c.lanes_on-lanes.ensures.most
+
+pub loop-band-smaller : goal.loop-band-smaller
+loop-band-smaller c = falls c.bands_on-bands.result.end c.loop-band.band c.loop-band-test.true

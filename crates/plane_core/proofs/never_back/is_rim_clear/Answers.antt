@@ -4,6 +4,8 @@ use Rattle.std.proofs.lemmas.Nat.Bits.{bit_at-lt}
 use Rattle.plane_core.specs.LonePatterns.{IsColumns}
 use Rattle.plane_core.specs.Windows.{row_at}
 use Rattle.plane_core.proofs.CaseLemmas.{same_or_not}
+use Rattle.std.proofs.lemmas.Bool.{false≢true}
+use Rattle.plane_core.proofs.OrderLemmas.{few_vectors, first_row_low, last_row_low}
 use Rattle.plane_core.proofs.never_back.is_rim_clear.Goals as goal
 
 -- a column that isn't among the live ones
@@ -20,3 +22,18 @@ returns g c = λ clear. let sides = c.are_sides_clear.ensures clear in record {
   left = λ r low. dark g.row.N c.args.window.now c.args.columns 0 r c.requires.columns sides.0 low;
   right = λ r low. dark g.row.N c.args.window.now c.args.columns 63 r c.requires.columns sides.1 low;
 }
+
+pub row-requires : goal.row-requires
+row-requires g c = (few_vectors g.row.N c.requires.few, (c.requires.some, first_row_low g.row.N c.requires.some))
+
+pub returns-then-row-ne0 : goal.returns-then-row-ne0
+returns-then-row-ne0 g c = λ e. absurd (false≢true e)
+
+pub overflow_sub-row : goal.overflow_sub-row
+overflow_sub-row g c = first_row_low g.row.N c.requires.some
+
+pub row-requires-2 : goal.row-requires-2
+row-requires-2 g c = (few_vectors g.row.N c.requires.few, (c.requires.some, last_row_low g.row.N c.requires.some))
+
+pub returns-then-row-ne0-2 : goal.returns-then-row-ne0-2
+returns-then-row-ne0-2 g c = λ e. absurd (false≢true e)

@@ -8,8 +8,8 @@ loop-made-init g c =
     changing_start (g.A.Answering.rule c.args.rule.now) g.row.N c.args.start.now c.columns_of-from.result c.columns_of-from.ensures.whole
     c.columns_of-from.ensures.columns
 
-pub returns-then-is_kept : goal.returns-then-is_kept
-returns-then-is_kept g c = λ _ cells left top holds.
+pub returns-then-are_alike : goal.returns-then-are_alike
+returns-then-are_alike g c = λ _ cells left top holds.
     let now = changing_more (g.A.Answering.rule c.args.rule.now) g.row.N c.args.start.now c.loop-made.now c.loop-made.kept
     c.generation.new.window c.loop-made.columns
     c.columns_of-columns.result c.loop-made.made c.may_be_again.result c.requires.some c.loop-made.invariant
@@ -18,7 +18,7 @@ returns-then-is_kept g c = λ _ cells left top holds.
     let old = c.loop-made.invariant.earlier in
     changing_ends (g.A.Answering.rule c.args.rule.now) g.row.N left top c.args.start.now c.generation.new.window c.loop-made.kept
     c.columns_of-columns.result c.loop-made.made
-    c.args.most cells now old.0 old.1 old.2 (c.is_kept.ensures c.if-is_kept.true) holds
+    c.args.most cells now old.0 old.1 old.2 (c.are_alike.ensures c.if-are_alike.true) holds
 
 pub loop-made-preserved : goal.loop-made-preserved
 loop-made-preserved g c =

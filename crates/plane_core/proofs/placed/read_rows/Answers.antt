@@ -2,6 +2,8 @@ use Rattle.std.proofs.Common.{◌≡◌, ℕ, arith, length, length-set, ◌∙�
 use Rattle.std.proofs.lemmas.List.{length-replicate}
 use Rattle.plane_core.specs.Placed.{AreRowsRead}
 use Rattle.plane_core.proofs.PlacedLemmas.{read_word, rows_more}
+use Rattle.plane_core.proofs.PlacedLemmas.{column_low, read_in}
+use borrow.Author.Count.{falls}
 use Rattle.plane_core.proofs.placed.read_rows.Goals as goal
 
 pub loop-r-init : goal.loop-r-init
@@ -23,3 +25,18 @@ pub returns : goal.returns
 returns g c =
     let all : c.loop-r.r ≡ g.row.R = omega arith in
     subst (λ (n : ℕ). AreRowsRead c.args.at c.args.words.now c.args.x c.args.y n c.loop-r.rows) all c.loop-r.invariant.read
+
+pub bounds-words-first : goal.bounds-words-first
+bounds-words-first g c = (read_in c.args.at c.args.words.now c.args.x c.args.y c.loop-r.r g.row.R c.requires.long c.requires.lanes c.requires.rows c.loop-r-test.true).0
+
+pub bounds-words-second : goal.bounds-words-second
+bounds-words-second g c = (read_in c.args.at c.args.words.now c.args.x c.args.y c.loop-r.r g.row.R c.requires.long c.requires.lanes c.requires.rows c.loop-r-test.true).1
+
+pub joined-requires : goal.joined-requires
+joined-requires g c = column_low c.args.x
+
+pub bounds-rows-r : goal.bounds-rows-r
+bounds-rows-r g c = c.loop-r-test.true
+
+pub loop-r-smaller : goal.loop-r-smaller
+loop-r-smaller g c = falls g.row.R c.loop-r.r c.loop-r-test.true

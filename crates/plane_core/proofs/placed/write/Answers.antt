@@ -1,5 +1,6 @@
 use Rattle.std.proofs.Common.{◌≡◌, ◌∙◌, ℕ, arith, refl, subst}
 use Rattle.plane_core.specs.Placed.{IsPutBack}
+use Rattle.plane_core.proofs.OrderLemmas.{below_too}
 use Rattle.plane_core.proofs.PlacedLemmas.{none_put, put_more}
 use Rattle.plane_core.proofs.placed.write.Goals as goal
 
@@ -17,3 +18,15 @@ pub returns-clause-put : goal.returns-clause-put
 returns-clause-put c =
     let all : c.loop-r.r ≡ 36 = omega arith in
     subst (λ (r : ℕ). IsPutBack c.args.at c.args.x c.args.y r c.args.rows.now c.args.words.now c.loop-r.words) all c.loop-r.invariant.put
+
+pub bounds-rows-r : goal.bounds-rows-r
+bounds-rows-r c = below_too _ _ _ c.loop-r-test.true (omega arith)
+
+pub write_row-requires-clause-lanes : goal.write_row-requires-clause-lanes
+write_row-requires-clause-lanes c = c.requires.lanes
+
+pub write_row-requires-clause-long : goal.write_row-requires-clause-long
+write_row-requires-clause-long c = c.loop-r.invariant.long ∙ c.requires.long
+
+pub returns-clause-long : goal.returns-clause-long
+returns-clause-long c = c.loop-r.invariant.long

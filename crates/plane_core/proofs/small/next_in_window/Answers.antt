@@ -1,4 +1,6 @@
-use Rattle.std.proofs.Common.{◌∙◌, ap, arith, refl}
+use Rattle.std.proofs.Common.{◌∙◌, List, ap, arith, refl, sym}
+use Rattle.plane_core.specs.declared.cell.Cell.{Cell}
+use Rattle.plane_core.specs.Cells.{has}
 use Rattle.plane_core.specs.Generations.{next}
 use Rattle.plane_core.proofs.NeverBackLemmas.{next_held}
 use Rattle.plane_core.proofs.SmallLemmas.{held_pattern}
@@ -15,3 +17,22 @@ returns c =
     ∙ held_pattern c.frame_of.result place c.step.new.window c.unpacked.result (next rule cells) c.frame_of.ensures.left c.frame_of.ensures.top
     c.frame_of.ensures.lanes c.frame_of.ensures.rows later c.unpacked.ensures
     ∙ ap (next rule) c.cells.ensures.cells
+
+pub window_of-window-requires-clause-inside : goal.window_of-window-requires-clause-inside
+window_of-window-requires-clause-inside c = λ d e.
+    c.in-Some.ensures.inside d (ap (λ (cells : List Cell). has cells d) (sym c.cells.ensures.cells) ∙ e)
+
+pub frame_of-requires : goal.frame_of-requires
+frame_of-requires c = c.in-Some.ensures.inland
+
+pub pattern_of-requires-clause-frame : goal.pattern_of-requires-clause-frame
+pattern_of-requires-clause-frame c = c.frame_of.ensures.frame
+
+pub pattern_of-requires-clause-plane : goal.pattern_of-requires-clause-plane
+pattern_of-requires-clause-plane c = c.frame_of.ensures.plane
+
+pub pattern_of-requires-clause-lanes : goal.pattern_of-requires-clause-lanes
+pattern_of-requires-clause-lanes c = c.frame_of.ensures.lanes
+
+pub pattern_of-requires-clause-rows : goal.pattern_of-requires-clause-rows
+pattern_of-requires-clause-rows c = c.frame_of.ensures.rows

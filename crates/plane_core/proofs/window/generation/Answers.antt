@@ -3,6 +3,9 @@ use Rattle.std.proofs.lemmas.List.{get_or-set_other}
 use Rattle.plane_core.specs.Lanes.{row_sum, AreBeside}
 use Rattle.plane_core.proofs.WindowLemmas.{AreAbove, AreHere, AreMade, AreOfVector, above_start, above_step, here_at, below_step, below_stop}
 use Rattle.plane_core.proofs.WindowLemmas.{made_next, made_more, all_made}
+use Rattle.std.proofs.Common.{sym}
+use borrow.Author.Count.{falls}
+use Rattle.plane_core.proofs.OrderLemmas.{itself, last_low, next_low, one_at_least, this_low}
 use Rattle.plane_core.proofs.window.generation.Goals as goal
 
 pub loop-k-init : goal.loop-k-init
@@ -60,3 +63,40 @@ returns g c =
     let whole : n - 1 + 1 ≡ n = omega arith in
     all_made rule n x (set y (n - 1) c.answer-2.result) some
     (subst (λ (k : ℕ). AreMade rule n x (set y (n - 1) c.answer-2.result) k) whole (made_more rule n x y c.answer-2.result (n - 1) (omega arith) made next))
+
+pub bounds-window-0 : goal.bounds-window-0
+bounds-window-0 g c = c.requires
+
+pub overflow_sub-across : goal.overflow_sub-across
+overflow_sub-across g c = one_at_least g.row.N c.requires
+
+pub bounds-window : goal.bounds-window
+bounds-window g c = last_low g.row.N c.requires
+
+pub overflow_sub-k-end : goal.overflow_sub-k-end
+overflow_sub-k-end g c = one_at_least g.row.N c.requires
+
+pub bounds-window-k : goal.bounds-window-k
+bounds-window-k g c = next_low c.loop-k.k g.row.N c.loop-k-test.true
+
+pub bounds-window-k-in-loop-k : goal.bounds-window-k-in-loop-k
+bounds-window-k-in-loop-k g c = this_low c.loop-k.k g.row.N c.loop-k-test.true
+
+pub answer-requires : goal.answer-requires
+answer-requires g c =
+    subst (AreBeside c.loop-k.here) (sym (c.loop-k.invariant.rest c.loop-k.k (itself c.loop-k.k))) c.loop-k.invariant.beside
+
+pub bounds-window-k-in-loop-k-2 : goal.bounds-window-k-in-loop-k-2
+bounds-window-k-in-loop-k-2 g c = this_low c.loop-k.k g.row.N c.loop-k-test.true
+
+pub loop-k-smaller : goal.loop-k-smaller
+loop-k-smaller g c = falls (g.row.N - 1) c.loop-k.k c.loop-k-test.true
+
+pub overflow_sub-answer : goal.overflow_sub-answer
+overflow_sub-answer g c = one_at_least g.row.N c.requires
+
+pub bounds-window-2 : goal.bounds-window-2
+bounds-window-2 g c = last_low g.row.N c.requires
+
+pub bounds-window-3 : goal.bounds-window-3
+bounds-window-3 g c = last_low g.row.N c.requires

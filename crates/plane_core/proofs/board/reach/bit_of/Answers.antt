@@ -1,8 +1,21 @@
 use Rattle.std.proofs.Common.{arith}
 use Rattle.std.proofs.lemmas.Int.{ints}
 use Rattle.plane_core.proofs.DirectionLemmas.{one_bit}
+use Rattle.std.proofs.Common.{ap, of_z, sym, w32}
+use Rattle.plane_core.proofs.DirectionLemmas.{no_bit}
+use Rattle.plane_core.proofs.board.reach.bit_of.Goals.{then-cell-first-via-then-cell-first, then-cell-first-via-else-cell-first+then-cell-first-2}
 use Rattle.plane_core.proofs.board.reach.bit_of.Goals as goal
 
 pub returns : goal.returns
 returns c = λ i low.
     one_bit c.args.first c.args.cell c.abs_diff-column.result i (omega arith) (omega (arith, ints)) (omega (arith, ints, c.abs_diff-column.ensures))
+
+pub returns-then-cell-first : goal.returns-then-cell-first
+returns-then-cell-first c i low =
+    no_bit c.args.first c.args.cell i (λ row across. elim c.then-cell-first.branch [
+      | then-cell-first-via-then-cell-first w ↦ absurd (w.if-cell-first.true (ap (of_z w32) (sym row)))
+      | then-cell-first-via-else-cell-first+then-cell-first-2 w ↦ omega (arith, ints, across, w.if-cell-first-2.true)
+    ])
+
+pub returns-then-column-ge64 : goal.returns-then-column-ge64
+returns-then-column-ge64 c i low = no_bit c.args.first c.args.cell i (λ row across. omega (arith, ints, across, low))

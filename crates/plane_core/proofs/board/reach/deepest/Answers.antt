@@ -1,4 +1,4 @@
-use Rattle.std.proofs.Common.{arith, subst, ℕ, ◌≡◌}
+use Rattle.std.proofs.Common.{arith, subst, sym, ℕ, ◌<◌, ◌≡◌}
 use Rattle.plane_core.specs.OnBoard.{cells_on}
 use Rattle.plane_core.specs.Without.{without}
 use Rattle.plane_core.proofs.DirectionLemmas.{AreLanesSeen, all_seen, goes_on, lanes_seen}
@@ -29,3 +29,18 @@ loop-lane-preserved-then-rows c =
           (goes_on c.args.way S c.loop-lane.found) (λ row from to. absurd (omega (arith, empty, from, to)));
       some = c.loop-lane.invariant.some;
     }
+
+pub bounds-spans-lane : goal.bounds-spans-lane
+bounds-spans-lane c = subst (λ (n : ℕ). c.loop-lane.lane < n) (sym c.requires.lanes) c.loop-lane-test.true
+
+pub deepest_in_lane-found-requires-clause-frame : goal.deepest_in_lane-found-requires-clause-frame
+deepest_in_lane-found-requires-clause-frame c = c.requires.frame
+
+pub deepest_in_lane-found-requires-clause-plane : goal.deepest_in_lane-found-requires-clause-plane
+deepest_in_lane-found-requires-clause-plane c = c.requires.plane
+
+pub deepest_in_lane-found-requires-clause-long : goal.deepest_in_lane-found-requires-clause-long
+deepest_in_lane-found-requires-clause-long c = c.requires.long
+
+pub deepest_in_lane-found-requires-clause-lane : goal.deepest_in_lane-found-requires-clause-lane
+deepest_in_lane-found-requires-clause-lane c = c.loop-lane-test.true

@@ -3,6 +3,7 @@ use Rattle.plane_core.specs.Directions.{IsSeen}
 use Rattle.plane_core.specs.OnBoard.{cells_on}
 use Rattle.plane_core.specs.Without.{without}
 use Rattle.plane_core.proofs.DirectionLemmas.{goes_deeper, lane_seen, rows_seen}
+use Rattle.plane_core.proofs.OrderLemmas.{below_too}
 use Rattle.plane_core.proofs.board.reach.deepest_in_lane.Goals as goal
 
 pub returns-then-step-end-clause-seen : goal.returns-then-step-end-clause-seen
@@ -24,3 +25,51 @@ loop-step-preserved c =
           (subst (λ (row : ℕ). IsSeen c.args.at c.args.way S c.args.lane row later) c.row_inwards-row.ensures.row
           c.deepest_in_row-deepest.ensures.seen);
     }
+
+pub rows_to_see-end-requires-clause-frame : goal.rows_to_see-end-requires-clause-frame
+rows_to_see-end-requires-clause-frame c = c.requires.frame
+
+pub rows_to_see-end-requires-clause-plane : goal.rows_to_see-end-requires-clause-plane
+rows_to_see-end-requires-clause-plane c = c.requires.plane
+
+pub rows_to_see-end-requires-clause-lane : goal.rows_to_see-end-requires-clause-lane
+rows_to_see-end-requires-clause-lane c = c.requires.lane
+
+pub rows_to_see-end-requires-clause-order : goal.rows_to_see-end-requires-clause-order
+rows_to_see-end-requires-clause-order c = c.requires.order
+
+pub rows_to_see-end-requires-clause-end : goal.rows_to_see-end-requires-clause-end
+rows_to_see-end-requires-clause-end c = c.requires.end
+
+pub next_live-step-requires-clause-frame : goal.next_live-step-requires-clause-frame
+next_live-step-requires-clause-frame c = c.requires.frame
+
+pub next_live-step-requires-clause-long : goal.next_live-step-requires-clause-long
+next_live-step-requires-clause-long c = c.requires.long
+
+pub next_live-step-requires-clause-lane : goal.next_live-step-requires-clause-lane
+next_live-step-requires-clause-lane c = c.requires.lane
+
+pub next_live-step-requires-clause-order : goal.next_live-step-requires-clause-order
+next_live-step-requires-clause-order c = c.requires.order
+
+pub next_live-step-requires-clause-rows : goal.next_live-step-requires-clause-rows
+next_live-step-requires-clause-rows c = c.requires.end
+
+pub next_live-step-requires-clause-end : goal.next_live-step-requires-clause-end
+next_live-step-requires-clause-end c = c.rows_to_see-end.ensures.most
+
+pub returns-then-step-end-clause-deeper : goal.returns-then-step-end-clause-deeper
+returns-then-step-end-clause-deeper c = c.loop-step.invariant.deeper
+
+pub row_inwards-row-requires : goal.row_inwards-row-requires
+row_inwards-row-requires c = below_too _ _ _ c.if-step-end.false c.rows_to_see-end.ensures.most
+
+pub deepest_in_row-deepest-requires-clause-long : goal.deepest_in_row-deepest-requires-clause-long
+deepest_in_row-deepest-requires-clause-long c = c.requires.long
+
+pub deepest_in_row-deepest-requires-clause-lane : goal.deepest_in_row-deepest-requires-clause-lane
+deepest_in_row-deepest-requires-clause-lane c = c.requires.lane
+
+pub deepest_in_row-deepest-requires-clause-row : goal.deepest_in_row-deepest-requires-clause-row
+deepest_in_row-deepest-requires-clause-row c = below_too _ _ _ c.row_inwards-row.ensures.high c.requires.end

@@ -34,3 +34,15 @@ returns-clause-sides c =
     (record { left = c.column.result; top = c.row.result; right = c.column-2.result; bottom = c.row-2.result })
     c.requires c.in_ok-across.ensures c.in_ok-down.ensures
     (record { left = c.column.ensures; top = c.row.ensures; right = c.column-2.ensures; bottom = c.row-2.ensures }))
+
+pub column-requires-clause-reach : goal.column-requires-clause-reach
+column-requires-clause-reach c = c.requires
+
+pub row-requires-clause-reach : goal.row-requires-clause-reach
+row-requires-clause-reach c = c.requires
+
+pub column-requires-2-clause-reach : goal.column-requires-2-clause-reach
+column-requires-2-clause-reach c = c.requires
+
+pub row-requires-2-clause-reach : goal.row-requires-2-clause-reach
+row-requires-2-clause-reach c = c.requires

@@ -1,0 +1,50 @@
+-- Plain facts on numbers in order, which say in a word what else would be looked for among all that is known.
+use Rattle.std.proofs.Common.{◌≡◌, ◌+◌, ◌-◌, ◌*◌, ◌<◌, ◌≤◌, ℕ, arith}
+
+pub below_too : (a b m : ℕ) → a < b → b ≤ m → a < m
+below_too a b m low most = omega (arith, low, most)
+
+pub not_both : (a b : ℕ) → a < b → b ≤ a → ⊥
+not_both a b low high = omega (arith, low, high)
+
+pub none_below : (a b : ℕ) → b ≡ 0 → a < b → ⊥
+none_below a b none low = omega (arith, none, low)
+
+pub itself : (a : ℕ) → a ≤ a
+itself a = omega arith
+
+pub one_at_least : (n : ℕ) → 0 < n → 1 ≤ n
+one_at_least n some = omega (arith, some)
+
+pub last_low : (n : ℕ) → 0 < n → n - 1 < n
+last_low n some = omega (arith, some)
+
+-- a number below the last one
+pub next_low : (k n : ℕ) → k < n - 1 → k + 1 < n
+next_low k n low = omega (arith, low)
+
+pub this_low : (k n : ℕ) → k < n - 1 → k < n
+this_low k n low = omega (arith, low)
+
+-- ---- windows of few vectors
+
+pub few_vectors : (n : ℕ) → n ≤ 16 → n * 32 < 9223372036854775808
+few_vectors n few = omega (arith, few)
+
+pub ten_are_some : (n : ℕ) → 10 ≤ n → 0 < n
+ten_are_some n some = omega (arith, some)
+
+pub first_row_low : (n : ℕ) → 0 < n → 0 < 4 * n
+first_row_low n some = omega (arith, some)
+
+pub last_row_low : (n : ℕ) → 0 < n → 4 * n - 1 < 4 * n
+last_row_low n some = omega (arith, some)
+
+pub inner_low : (r n depth : ℕ) → r < 4 * n - depth → r < 4 * n
+inner_low r n depth low = omega (arith, low)
+
+pub rows_deep : (n depth : ℕ) → 10 ≤ n → depth < 20 → depth ≤ 4 * n
+rows_deep n depth some low = omega (arith, some, low)
+
+pub columns_deep : (depth : ℕ) → depth < 20 → depth < 32
+columns_deep depth low = omega (arith, low)

@@ -1,8 +1,0 @@
-use Rattle.std.specs.List.{All}
-use Rattle.plane_core.specs.Clusters.{IsCluster}
-use Rattle.plane_core.specs.OnBoard.{cells_on}
-use Rattle.plane_core.proofs.board.candidates.add_all.Given as goal
-
-abbrev pub invariant-loop-bounds : goal.invariant-loop-bounds
-invariant-loop-bounds g l =
-    All (IsCluster (cells_on l.at l.words)) l.initial.clusters.items → All (IsCluster (cells_on l.at l.words)) l.clusters.items

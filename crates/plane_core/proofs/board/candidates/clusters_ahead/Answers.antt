@@ -1,0 +1,61 @@
+use Rattle.std.proofs.Common.{◌+ℤ◌, arith, pos, subst, sym, ℤ}
+use Rattle.plane_core.specs.Floods.{ShowsInRows}
+use Rattle.plane_core.specs.OnBoard.{cells_on}
+use Rattle.plane_core.proofs.FloodedLemmas.{shown_rows}
+use Rattle.plane_core.proofs.OnBoardLemmas.{cells_in_order}
+use Rattle.plane_core.proofs.board.candidates.clusters_ahead.Goals as goal
+
+pub bounds-boxes-bounds-index : goal.bounds-boxes-bounds-index
+bounds-boxes-bounds-index g c = c.loop-bounds-test.true
+
+pub loop-bounds-preserved-then-not-is_small_box : goal.loop-bounds-preserved-then-not-is_small_box
+loop-bounds-preserved-then-not-is_small_box g c = c.loop-bounds.invariant
+
+pub window-window-requires-clause-long : goal.window-window-requires-clause-long
+window-window-requires-clause-long g c = c.requires.long
+
+pub window-window-requires-clause-lanes : goal.window-window-requires-clause-lanes
+window-window-requires-clause-lanes g c = c.in-Some.ensures.lanes
+
+pub window-window-requires-clause-rows : goal.window-window-requires-clause-rows
+window-window-requires-clause-rows g c = c.in-Some.ensures.rows
+
+pub frame-requires-clause-frame : goal.frame-requires-clause-frame
+frame-requires-clause-frame g c = c.requires.frame
+
+pub frame-requires-clause-plane : goal.frame-requires-clause-plane
+frame-requires-clause-plane g c = c.requires.plane
+
+pub frame-requires-clause-lanes : goal.frame-requires-clause-lanes
+frame-requires-clause-lanes g c = c.in-Some.ensures.lanes
+
+pub frame-requires-clause-rows : goal.frame-requires-clause-rows
+frame-requires-clause-rows g c = c.in-Some.ensures.rows
+
+pub add_grown-requires-clause-frame : goal.add_grown-requires-clause-frame
+add_grown-requires-clause-frame g c = c.frame.ensures.frame
+
+pub add_grown-requires-clause-plane : goal.add_grown-requires-clause-plane
+add_grown-requires-clause-plane g c = c.frame.ensures.plane
+
+pub add_grown-requires-clause-lanes : goal.add_grown-requires-clause-lanes
+add_grown-requires-clause-lanes g c = c.frame.ensures.lanes
+
+pub add_grown-requires-clause-rows : goal.add_grown-requires-clause-rows
+add_grown-requires-clause-rows g c = c.frame.ensures.rows
+
+pub loop-bounds-preserved : goal.loop-bounds-preserved
+loop-bounds-preserved g c =
+    let at = c.args.at in
+    let words = c.args.words.now in
+    let S = cells_on at words in
+    let rows = c.unpacked.result in
+    let left = at.left +ℤ pos c.in-Some.view.x in
+    let top = at.top +ℤ pos c.in-Some.view.y in
+    let shows = shown_rows c.window-window.result rows left top 0 S (omega arith) c.unpacked.ensures c.window-window.ensures in
+    c.in_ok-add_grown.ensures S (cells_in_order at words)
+    (subst (λ (z : ℤ). ShowsInRows z c.frame.result.top rows S) (sym c.frame.ensures.left)
+    (subst (λ (z : ℤ). ShowsInRows left z rows S) (sym c.frame.ensures.top) shows)) c.loop-bounds.invariant
+
+pub returns : goal.returns
+returns g c = c.loop-bounds.invariant

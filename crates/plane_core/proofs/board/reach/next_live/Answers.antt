@@ -1,0 +1,38 @@
+use borrow.Author.Count.{falls}
+use Rattle.plane_core.proofs.PlacedLemmas.{index_in}
+use Rattle.plane_core.proofs.OrderLemmas.{below_too, not_both}
+use Rattle.plane_core.proofs.board.reach.next_live.Goals as goal
+
+pub row_inwards-requires : goal.row_inwards-requires
+row_inwards-requires c = below_too _ _ _ c.loop-step-test.true c.requires.end
+
+pub index-requires-clause-frame : goal.index-requires-clause-frame
+index-requires-clause-frame c = c.requires.frame
+
+pub index-requires-clause-lane : goal.index-requires-clause-lane
+index-requires-clause-lane c = c.requires.lane
+
+pub index-requires-clause-row : goal.index-requires-clause-row
+index-requires-clause-row c = below_too _ _ _ c.row_inwards.ensures.high c.requires.rows
+
+pub bounds-words-index : goal.bounds-words-index
+bounds-words-index c = index_in c.args.at c.args.words.now c.args.lane c.row_inwards.result c.index.result c.requires.long c.requires.lane
+    (below_too _ _ _ c.row_inwards.ensures.high c.requires.rows) c.index.ensures.index
+
+pub returns-then-words-index-ne0-clause-later : goal.returns-then-words-index-ne0-clause-later
+returns-then-words-index-ne0-clause-later c = c.loop-step.invariant.later
+
+pub returns-then-words-index-ne0-clause-dead : goal.returns-then-words-index-ne0-clause-dead
+returns-then-words-index-ne0-clause-dead c = c.loop-step.invariant.dead
+
+pub loop-step-smaller : goal.loop-step-smaller
+loop-step-smaller c = falls c.args.end c.loop-step.step c.loop-step-test.true
+
+pub returns-clause-later : goal.returns-clause-later
+returns-clause-later c = c.loop-step.invariant.later
+
+pub returns-clause-live : goal.returns-clause-live
+returns-clause-live c = λ low. absurd (not_both _ _ low c.loop-step-test.false)
+
+pub returns-clause-dead : goal.returns-clause-dead
+returns-clause-dead c = c.loop-step.invariant.dead

@@ -1,6 +1,0 @@
-use Rattle.std.proofs.Common.{◌≡◌, length, take}
-use Rattle.plane_core.specs.Glances.{ShowsRows}
-use Rattle.plane_core.proofs.glance.rows_of.Given as goal
-
-abbrev pub invariant-loop-cell : goal.invariant-loop-cell
-invariant-loop-cell l = record { long : length l.rows ≡ 64; shown : ShowsRows l.place l.rows (take l.cell-index l.cells) }
