@@ -1,5 +1,5 @@
 -- The places of a text line by line, and their first fault and their cells.
-use Rattle.std.proofs.Common.{◌≡◌, ◌==◌, ℕ, pos, ◌+◌, ◌<◌, true, false, not, List, [], ◌∷◌, ◌++◌, Option}
+use Rattle.std.proofs.Common.{◌≡◌, ◌==◌, ℕ, pos, ◌+◌, ◌<◌, ◌≤◌, true, false, not, List, [], ◌∷◌, ◌++◌, Option}
 use Rattle.std.proofs.Common.{Some, None, length, get_or, drop, map, filter, refl, sym, ap, ◌∙◌, arith}
 use Rattle.std.specs.Option.{option_or}
 use Rattle.std.specs.List.{slice_get, slice_split, filter_map, flat_map, enumerate_from}
@@ -136,3 +136,10 @@ no_cell_past_lines n y parts cells h = rw (no_place_past n y parts h) (append-ni
 -- a loop's step: what is done grows by what the rest loses
 pub moved_over : (done more new remainder later all : List Cell) → new ≡ done ++ more → remainder ≡ more ++ later → done ++ remainder ≡ all → new ++ later ≡ all
 moved_over done more new remainder later all g e h = ap (λ cs. cs ++ later) g ∙ append_assoc done more later ∙ ap (λ cs. done ++ cs) (sym e) ∙ h
+
+-- a loop has met no more rows than lines
+pub one_row_more : (y n : ℕ) → y ≤ n → y + 1 ≤ n + 1
+one_row_more y n h = omega arith
+
+pub one_line_more : (y n : ℕ) → y ≤ n → y ≤ n + 1
+one_line_more y n h = omega arith
