@@ -1,4 +1,4 @@
-use Rattle.std.proofs.Common.{◌≡◌, ◌++◌, ◌+ℤ◌, ◌≤ℤ◌, ◌<ℤ◌, ℤ, pos, [], Some, drop, arith, refl, ap, sym, ◌∙◌, w32, FitsSigned, to_z, of_z}
+use Rattle.std.proofs.Common.{◌≡◌, ◌++◌, ◌+ℤ◌, ◌≤ℤ◌, ◌<ℤ◌, ℤ, pos, [], Some, drop, arith, refl, ap, sym, Ok, Err, ◌∙◌, w32, FitsSigned, to_z, of_z}
 use Rattle.std.proofs.lemmas.Int.{ints, to_z-of_z}
 use Rattle.plane_core.specs.declared.bounds.Bounds.{Bounds}
 use Rattle.plane_core.specs.PlaintextWalk.{IsBox}
@@ -67,7 +67,7 @@ loop-y-preserved g c =
       (
         front.0 ++ row_text remainder b y,
         rows_remainder-at cells remainder b y front.0 (box_text (Some b) cells) l inv.3 front.1,
-        Writes_then front.2 c.in_ok-write_row.ensures,
+        Writes_then {r = Ok tt} front.2 c.in_ok-write_row.ensures,
       ),
     )
 
@@ -84,7 +84,7 @@ returns-in_err-write_row g c =
     let l : y <ℤ end = lt_z-true y end test in
     let front = inv.4 in
     Writes_as (sym (rows_remainder-at cells remainder b y front.0 (box_text (Some b) cells) l inv.3 front.1))
-    (Writes_stops (rows_remainder cells b (y +ℤ pos 1)) c.from_residual.ensures.0 (Writes_then front.2 c.in_err-write_row.ensures))
+    (Writes_stops (rows_remainder cells b (y +ℤ pos 1)) c.from_residual.ensures.0 (Writes_then {r = Err c.in_err-write_row.field-0.0} front.2 c.in_err-write_row.ensures))
 
 pub returns : goal.returns
 returns g c =
