@@ -39,7 +39,7 @@ pub enum StepError {
     #[error("a cell lies on the edge of the plane")]
     Edge,
     /// Memory ran out.
-    #[error("out of memory")]
+    #[error(transparent)]
     Memory(OutOfMemory),
 }
 

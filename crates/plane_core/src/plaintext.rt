@@ -68,7 +68,7 @@ pub enum PlaintextError {
     #[error(transparent)]
     Fault(PlaintextFault),
     /// Memory ran out.
-    #[error("out of memory")]
+    #[error(transparent)]
     Memory(OutOfMemory),
 }
 
