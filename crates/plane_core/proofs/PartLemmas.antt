@@ -312,3 +312,11 @@ far_patterns rule one other g o u far =
         (in_order-filter (others (has one)) (set_of (one ++ other)) (in_order-set_of (one ++ other))) u
         (λ c. has-filter (others (has one)) (set_of (one ++ other)) c ∙ ap (λ (a : Bool). a && not (has one c)) (has-both c)
         ∙ take_second (has one c) (has other c) (absent c))
+
+-- ---- the test of a cut
+
+pub is_cut : (cut : Cut) (band : ℕ) (S cells : List Cell) → cells ≡ S → InOrder S → list_all (leaves_band cut band) cells ≡ true → IsCut band S cut
+is_cut cut band S cells same order leaves = record {
+  in_order = order;
+  apart = apart_by_cut cut band S (ap (list_all (leaves_band cut band)) (sym same) ∙ leaves);
+}

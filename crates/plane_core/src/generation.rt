@@ -8,7 +8,7 @@
 //!
 //! step:  in a window, or on a board, or counted cell by cell
 //! ```
-ghost use Rattle.std.specs.Prelude.{◌≡◌, ◌≢◌, ℕ, ◌+◌, ◌-◌, ◌<◌, ◌≤◌, true, false, IfOk, IfErr, IfSome, OnOk, IsErrOf};
+ghost use Rattle.std.specs.Prelude.{◌≡◌, ◌≢◌, ℕ, ◌+◌, ◌-◌, ◌<◌, ◌≤◌, true, false, IfOk, IfErr, IfSome, OnOk, OnSome, IsErrOf};
 ghost use Rattle.memory.specs.Evidence.{out_of_memory};
 ghost use Rattle.plane_core.specs.Cells.{has, plane_bound};
 ghost use Rattle.plane_core.specs.Generations.{next, after, lives, touches_edge, lies_within, NextMoved, NextTurned};
@@ -90,19 +90,9 @@ impl Pattern {
         if let Some(pattern) = next_in_window(alloc, rule, self)? {
             return Ok(pattern);
         }
-        match self.next_on_board(alloc, rule)? {
+        match self.run_on(alloc, rule, Frame::for_a_step(self), 1)? {
             Some(pattern) => Ok(pattern),
             None => self.counted(alloc, rule),
-        }
-    }
-
-    /// The next generation, on a board if one is worth it.
-    fn next_on_board(&self, alloc: Global, rule: &Rule) -> Result<Option<Pattern>, OutOfMemory>
-        ensures { IfOk result (λ ran. IfSome ran (λ pattern. pattern ≡ next rule.now self.now)) }
-    {
-        match Frame::for_a_step(self) {
-            Some(at) => self.run_on(alloc, rule, at, 1),
-            None => Ok(None),
         }
     }
 
@@ -182,11 +172,8 @@ impl Pattern {
         requires cuts { cuts ≤ 40 }
         ensures { IfOk result (λ ran. IfSome ran (HasRun rule.now self.now generations)) }
     {
-        if cuts == 0 {
-            return self.run_whole(alloc, rule, generations);
-        }
-        let Some(cut) = Cut::find(alloc, self, 2 * generations)? else {
-            return self.run_whole(alloc, rule, generations);
+        let Some(cut) = Cut::find(alloc, self, 2 * generations, cuts)? else {
+            return self.run_on(alloc, rule, Frame::round(self, generations), generations);
         };
         let before = cut.side(alloc, self, true)?;
         let Some(before) = before.run_in_parts(alloc, rule, generations, cuts - 1)? else {
@@ -200,44 +187,30 @@ impl Pattern {
         Ok(Some(whole))
     }
 
-    /// The pattern after so many generations on one board, if one is worth it.
-    fn run_whole(
-        &self,
-        alloc: Global,
-        rule: &Rule,
-        generations: u32,
-    ) -> Result<Option<Pattern>, OutOfMemory>
-        requires { generations ≤ 1000 }
-        ensures { IfOk result (λ ran. IfSome ran (HasRun rule.now self.now generations)) }
-    {
-        match Frame::round(self, generations) {
-            Some(at) => self.run_on(alloc, rule, at, generations),
-            None => Ok(None),
-        }
-    }
-
-    /// The pattern after so many generations on a board, if there is room for them.
+    /// The pattern after so many generations on a board, if one is worth it and there is room for them.
     fn run_on(
         &self,
         alloc: Global,
         rule: &Rule,
-        at: Frame,
+        at: Option<Frame>,
         generations: u32,
     ) -> Result<Option<Pattern>, OutOfMemory>
-        requires frame { IsFrame at }
-        requires plane { AreSidesWithin plane_bound (bounds_of at) }
-        requires on { LieOn at self.now }
-        requires few { generations ≤ plane_bound }
-        requires inside { lies_within (plane_bound - generations) self.now ≡ true }
-        requires words { HasFewWords at self.now }
-        ensures { IfOk result (λ ran. IfSome ran (λ pattern. pattern ≡ after rule.now self.now generations)) }
+        requires frame { IfSome at IsFrame }
+        requires plane { IfSome at (λ at. AreSidesWithin plane_bound (bounds_of at)) }
+        requires on { IfSome at (λ at. LieOn at self.now) }
+        requires inside { OnSome at (lies_within (plane_bound - generations) self.now ≡ true) }
+        requires words { IfSome at (λ at. HasFewWords at self.now) }
+        ensures { IfOk result (λ ran. IfSome ran (HasRun rule.now self.now generations)) }
     {
+        let Some(at) = at else {
+            return Ok(None);
+        };
         let mut board = Board::lay(alloc, rule, at, self)?;
         let made = board.advance(generations)?;
         if made < generations {
             return Ok(None);
         }
-        let cells = board.cells(alloc, self.cells().len())?;
+        let cells = board.cells(alloc, self.population())?;
         Ok(Some(Pattern::from_ordered(cells)))
     }
 }

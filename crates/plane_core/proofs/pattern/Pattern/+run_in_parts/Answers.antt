@@ -11,18 +11,15 @@ returns t c =
     let S = c.args.self.now in
     let n = c.args.generations in
     let cut = c.in-Some.cut in
-    let is_cut : IsCut (2 * n) S cut = rw c.in-Some.is at c.in_ok-cut.ensures in
+    let is_cut : IsCut (2 * n) S cut = rw c.in-Some.is at c.in_ok-cut.ensures.cut in
     let one = rw c.in-Some-2.is at c.in_ok-before-2.ensures in
     let other = rw c.in-Some-3.is at c.in_ok-past-2.ensures in
     run_from_parts rule S cut n c.in-Some-2.before c.in-Some-3.past c.in_ok-whole.whole is_cut
     (subst (λ (T : List Cell). HasRun rule T n c.in-Some-2.before) c.in_ok-before.ensures one)
     (subst (λ (T : List Cell). HasRun rule T n c.in-Some-3.past) c.in_ok-past.ensures other) c.in_ok-whole.ensures
 
-pub returns-then-cuts-eq0 : goal.returns-then-cuts-eq0
-returns-then-cuts-eq0 t c = c.run_whole.ensures
-
 pub returns-in_default : goal.returns-in_default
-returns-in_default t c = c.run_whole-in_default.ensures
+returns-in_default t c = c.run_on.ensures
 
 pub returns-in_err-cut : goal.returns-in_err-cut
 returns-in_err-cut t c = IfOk-from_err _ _ c.from_residual.ensures.0
@@ -41,3 +38,19 @@ returns-in_err-past-2 t c = IfOk-from_err _ _ c.from_residual-in_err-past-2.ensu
 
 pub returns-in_err-whole : goal.returns-in_err-whole
 returns-in_err-whole t c = IfOk-from_err _ _ c.from_residual-in_err-whole.ensures.0
+
+-- the frame has all that a run on it asks for
+pub run_on-requires-clause-frame : goal.run_on-requires-clause-frame
+run_on-requires-clause-frame t c = c.round.ensures.frame
+
+pub run_on-requires-clause-plane : goal.run_on-requires-clause-plane
+run_on-requires-clause-plane t c = c.round.ensures.plane
+
+pub run_on-requires-clause-on : goal.run_on-requires-clause-on
+run_on-requires-clause-on t c = c.round.ensures.on
+
+pub run_on-requires-clause-inside : goal.run_on-requires-clause-inside
+run_on-requires-clause-inside t c = c.round.ensures.inside
+
+pub run_on-requires-clause-words : goal.run_on-requires-clause-words
+run_on-requires-clause-words t c = c.round.ensures.words
