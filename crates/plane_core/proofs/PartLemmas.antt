@@ -1,6 +1,7 @@
 -- A pattern in two parts that don't meet: each runs as if it were alone.
 use Rattle.std.proofs.Common.{◌≡◌, ◌==◌, ◌+◌, ◌-◌, ◌*◌, ◌<◌, ◌≤◌, ◌+ℤ◌, ◌<ℤ◌, ◌≤ℤ◌, ℕ, ℤ, pos, int_lt, ◌++◌, zero, suc, Bool, true, false, cond, not}
-use Rattle.std.proofs.Common.{◌&&◌, ◌||◌, List, [], ◌∷◌, filter, max}
+use Rattle.std.proofs.Common.{◌&&◌, ◌||◌, List, [], ◌∷◌, filter, max, Option, Some, None, Result, Ok, Err}
+use Rattle.std.specs.Prelude.{IfOk, IfSome}
 use Rattle.std.proofs.Common.{arith, refl, ap, ◌∙◌, sym, subst, inl, inr, ◌⊎◌, nat_lt}
 use Rattle.std.proofs.lemmas.Int.{ints}
 use Rattle.std.specs.List.{list_all}
@@ -10,7 +11,7 @@ use Rattle.plane_core.specs.declared.parts.Axis.{Axis}
 use Rattle.plane_core.specs.declared.parts.Axis.TheVariants.{Columns, Rows}
 use Rattle.plane_core.specs.declared.parts.Cut.{Cut}
 use Rattle.plane_core.specs.Cells.{has, same_cell, set_of, king_distance, distance, on_plane, plane_bound, is_within, InOrder, IsPattern}
-use Rattle.plane_core.specs.Generations.{around, lives, after}
+use Rattle.plane_core.specs.Generations.{around, lives, after, lies_within}
 use Rattle.plane_core.specs.Parts.{AreApart, FarPatternsRunAlone, HasRun, IsCut, is_before, leaves_band, place_on, side}
 use Rattle.plane_core.specs.Rules.{Numbers, is_birth, is_survival}
 use Rattle.plane_core.proofs.NeighbourhoodLemmas.{around-cons}
@@ -320,3 +321,11 @@ is_cut cut band S cells same order leaves = record {
   in_order = order;
   apart = apart_by_cut cut band S (ap (list_all (leaves_band cut band)) (sym same) ∙ leaves);
 }
+
+-- what a board showed, as a run of the pattern that was laid on it
+pub ran_on_board : {E : Type 0} (ran : Result (Option (List Cell)) E) (laid rule : Numbers) (T S : List Cell) (n : ℕ) → laid ≡ rule → T ≡ S
+    → lies_within (plane_bound - n) S ≡ true → IfOk ran (λ shown. IfSome shown (λ later. later ≡ after laid T n))
+    → IfOk ran (λ shown. IfSome shown (HasRun rule S n))
+ran_on_board (Ok (Some later)) laid rule T S n p q inside h = record { after = h ∙ (λ i. after (p i) (q i) n); inside = inside }
+ran_on_board (Ok None) laid rule T S n p q inside h = tt
+ran_on_board (Err e) laid rule T S n p q inside h = tt

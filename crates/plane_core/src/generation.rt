@@ -206,12 +206,7 @@ impl Pattern {
             return Ok(None);
         };
         let mut board = Board::lay(alloc, rule, at, self)?;
-        let made = board.advance(generations)?;
-        if made < generations {
-            return Ok(None);
-        }
-        let cells = board.cells(alloc, self.population())?;
-        Ok(Some(Pattern::from_ordered(cells)))
+        shown_after(alloc, &mut board, generations, self.population())
     }
 }
 
@@ -240,6 +235,24 @@ pub fn isotropy()
     ensures moved { NextMoved }
     ensures turned { NextTurned }
 {}
+
+/// What the board shows so many generations on, if it has room for them.
+fn shown_after(
+    alloc: Global,
+    board: &mut Board,
+    generations: u32,
+    room: usize,
+) -> Result<Option<Pattern>, OutOfMemory>
+    ensures { IfOk result
+        (λ shown. IfSome shown (λ pattern. pattern ≡ after board.old.rule board.old.cells generations)) }
+{
+    let made = board.advance(generations)?;
+    if made < generations {
+        return Ok(None);
+    }
+    let cells = board.cells(alloc, room)?;
+    Ok(Some(Pattern::from_ordered(cells)))
+}
 
 /// Whether a cell lies on the edge of the plane.
 fn touches(cells: &[Cell]) -> bool
