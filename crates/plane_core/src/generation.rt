@@ -15,7 +15,7 @@ ghost use Rattle.plane_core.specs.Generations.{next, after, lives, touches_edge,
 ghost use Rattle.plane_core.specs.Generations.{SpeedFromOrigin, SpeedOfCells, SpeedOfLight};
 ghost use Rattle.plane_core.specs.Bounds.{AreSidesWithin};
 ghost use Rattle.plane_core.specs.Frames.{HasFewWords, IsFrame, LieOn, bounds_of};
-ghost use Rattle.plane_core.specs.Parts.{FarPatternsRunAlone, HasRun};
+ghost use Rattle.plane_core.specs.Parts.{FarPatternsRunAlone, HasRun, side};
 ghost use Rattle.plane_core.specs.Refusals.{RefusesStep};
 ghost use Rattle.plane_core.specs.declared.cell.Cell.{Cell};
 ghost use Rattle.plane_core.specs.declared.generation.StepError.TheVariants.{Memory};
@@ -161,6 +161,7 @@ impl Pattern {
 
     /// The pattern after so many generations, each part that lies far from the others on a board of its own. It is
     /// `None` if a board isn't worth it for some part. At most so many cuts lead to a part.
+    #[cycle(run_in_parts)]
     fn run_in_parts(
         &self,
         alloc: Global,
@@ -175,16 +176,33 @@ impl Pattern {
         let Some(cut) = Cut::find(alloc, self, 2 * generations, cuts)? else {
             return self.run_on(alloc, rule, Frame::round(self, generations), generations);
         };
-        let before = cut.side(alloc, self, true)?;
-        let Some(before) = before.run_in_parts(alloc, rule, generations, cuts - 1)? else {
+        let Some(before) = self.run_side(alloc, rule, generations, cuts - 1, cut, true)? else {
             return Ok(None);
         };
-        let past = cut.side(alloc, self, false)?;
-        let Some(past) = past.run_in_parts(alloc, rule, generations, cuts - 1)? else {
+        let Some(past) = self.run_side(alloc, rule, generations, cuts - 1, cut, false)? else {
             return Ok(None);
         };
         let whole = before.united(alloc, &past)?;
         Ok(Some(whole))
+    }
+
+    /// What becomes of the cells before a cut, or of those past it.
+    #[cycle(run_in_parts)]
+    fn run_side(
+        &self,
+        alloc: Global,
+        rule: &Rule,
+        generations: u32,
+        cuts: u32,
+        cut: Cut,
+        before: bool,
+    ) -> Result<Option<Pattern>, OutOfMemory>
+        requires generations { generations ≤ 1000 }
+        requires cuts { cuts ≤ 40 }
+        ensures { IfOk result (λ ran. IfSome ran (HasRun rule.now (side cut before self.now) generations)) }
+    {
+        let side = cut.side(alloc, self, before)?;
+        side.run_in_parts(alloc, rule, generations, cuts)
     }
 
     /// The pattern after so many generations on a board, if one is worth it and there is room for them.
