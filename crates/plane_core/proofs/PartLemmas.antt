@@ -1,10 +1,11 @@
 -- A pattern in two parts that don't meet: each runs as if it were alone.
 use Rattle.std.proofs.Common.{◌≡◌, ◌==◌, ◌+◌, ◌-◌, ◌*◌, ◌<◌, ◌≤◌, ◌+ℤ◌, ◌<ℤ◌, ◌≤ℤ◌, ℕ, ℤ, pos, int_lt, ◌++◌, zero, suc, Bool, true, false, cond, not}
-use Rattle.std.proofs.Common.{◌&&◌, ◌||◌, List, [], ◌∷◌, filter, max, Option, Some, None, Result, Ok, Err}
+use Rattle.std.proofs.Common.{◌&&◌, ◌||◌, List, [], ◌∷◌, filter, max, length, take, get_or, Option, Some, None, Result, Ok, Err}
 use Rattle.std.specs.Prelude.{IfOk, IfSome}
 use Rattle.std.proofs.Common.{arith, refl, ap, ◌∙◌, sym, subst, inl, inr, ◌⊎◌, nat_lt}
 use Rattle.std.proofs.lemmas.Int.{ints}
 use Rattle.std.specs.List.{list_all}
+use Rattle.std.proofs.lemmas.List.Folds.{list_all_more}
 use Rattle.std.proofs.lemmas.Bool.{false≢true, eqb-true, ltb-true, ltb-false, and_parts}
 use Rattle.plane_core.specs.declared.cell.Cell.{Cell}
 use Rattle.plane_core.specs.declared.parts.Axis.{Axis}
@@ -329,3 +330,7 @@ pub ran_on_board : {E : Type 0} (ran : Result (Option (List Cell)) E) (laid rule
 ran_on_board (Ok (Some later)) laid rule T S n p q inside h = record { after = h ∙ (λ i. after (p i) (q i) n); inside = inside }
 ran_on_board (Ok None) laid rule T S n p q inside h = tt
 ran_on_board (Err e) laid rule T S n p q inside h = tt
+
+pub all_more : (test : Cell → Bool) (S : List Cell) (i : ℕ) (d : Cell) → i < length S → list_all test (take i S) ≡ true → test (get_or S i d) ≡ true
+    → list_all test (take (i + 1) S) ≡ true
+all_more test S i d l before here = list_all_more test S i d l ∙ (λ k. before k && here k)

@@ -3,7 +3,7 @@
 //! A cut between two columns, or two rows, parts a pattern in two if there is an empty band before it that is wide
 //! enough. Each part is cut again as long as there is such a band. So a spaceship that has left costs no more than a
 //! board of its own.
-ghost use Rattle.std.specs.Prelude.{◌≡◌, ◌<◌, ◌^◌, ◌++◌, ◌+ℤ◌, IfOk, IfSome, OnSome, pos};
+ghost use Rattle.std.specs.Prelude.{◌≡◌, ◌<◌, ◌^◌, ◌++◌, ◌+ℤ◌, IfOk, IfSome, OnSome, pos, true};
 ghost use Rattle.std.specs.List.{list_all};
 ghost use Rattle.plane_core.specs.Cells.{set_of};
 ghost use Rattle.plane_core.specs.Parts.{IsCut, is_before, is_on_side, leaves_band, place_on, side};
@@ -123,9 +123,14 @@ impl Cut {
 
     /// Whether no cell lies in the band of so many columns or rows before the cut.
     fn leaves_band(self, band: u32, cells: &[Cell]) -> bool
-        ensures { result ≡ list_all (leaves_band self band) cells.now }
+        ensures { result ≡ true → list_all (leaves_band self band) cells.now ≡ true }
     {
-        cells.iter().all(|cell| self.leaves_band_at(band, *cell))
+        for cell in cells {
+            if !self.leaves_band_at(band, *cell) {
+                return false;
+            }
+        }
+        true
     }
 
     /// The cells of a pattern that lie before the cut, or those past it.

@@ -277,7 +277,11 @@ fn row_len(cells: &[Cell], y: i32) -> usize
     ensures value { result ≡ prefix_len (λ c. int_eq c.y y) cells.now }
     ensures bound { result ≤ length cells.now }
 {
-    cells.iter().take_while(|cell| cell.y == y).count()
+    let mut len = 0;
+    while len < cells.len() && cells[len].y == y {
+        len += 1;
+    }
+    len
 }
 
 /// The cells after those of row y.
