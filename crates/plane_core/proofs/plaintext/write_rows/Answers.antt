@@ -8,7 +8,7 @@ use Rattle.plane_core.proofs.PlaintextWalks.{IsAhead-next, len_in_row, lt_z-true
 use Rattle.plane_core.proofs.PlaintextWriting.{Writes_as, box_text_is, rows_remainder, rows_remainder-at, rows_remainder-end, SameFrom-next}
 use Rattle.plane_core.proofs.plaintext.write_rows.Goals as goal
 
--- rows of a box, and those past a row and past the box
+-- rows of a box, and those past a row and the box
 top_fits : (b : Bounds) → IsBox b → FitsSigned w32 b.top
 top_fits b box = let top = box.top in let bottom = box.bottom in let high = box.high in omega (arith, ints)
 
