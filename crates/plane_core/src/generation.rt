@@ -15,7 +15,7 @@ ghost use Rattle.plane_core.specs.Generations.{next, after, lives, touches_edge,
 ghost use Rattle.plane_core.specs.Generations.{SpeedFromOrigin, SpeedOfCells, SpeedOfLight};
 ghost use Rattle.plane_core.specs.Bounds.{AreSidesWithin};
 ghost use Rattle.plane_core.specs.Frames.{HasFewWords, IsFrame, LieOn, bounds_of};
-ghost use Rattle.plane_core.specs.Parts.{FarPatternsRunAlone, HasRun, side};
+ghost use Rattle.plane_core.specs.Parts.{FarPatternsRunAlone, HasRun, IsStretch, side};
 ghost use Rattle.plane_core.specs.Refusals.{RefusesStep};
 ghost use Rattle.plane_core.specs.declared.cell.Cell.{Cell};
 ghost use Rattle.plane_core.specs.declared.generation.StepError.TheVariants.{Memory};
@@ -142,11 +142,7 @@ impl Pattern {
     /// The pattern some generations later, at most so many: on boards if they are worth it, and else after one step.
     fn stretch(&self, alloc: Global, rule: &Rule, most: u32) -> Result<Stretch, StepError>
         requires { 0 < most }
-        ensures some { IfOk result (λ stretch. 0 < stretch.count) }
-        ensures most { IfOk result (λ stretch. stretch.count ≤ most) }
-        ensures after { IfOk result (λ stretch. stretch.pattern ≡ after rule.now self.now stretch.count) }
-        ensures inside { IfOk result
-            (λ stretch. (g : ℕ) → g < stretch.count → touches_edge (after rule.now self.now g) ≡ false) }
+        ensures run { IfOk result (λ stretch. IsStretch rule.now self.now most stretch.count stretch.pattern) }
         ensures edge { IsErrOf result StepError.Edge → touches_edge self.now ≡ true }
     {
         let count = most.min(STRETCH);

@@ -24,10 +24,10 @@ loop-made-preserved c =
     let made = c.loop-made.made in
     let more = c.in_ok-stretch.stretch.count in
     record {
-      most = let low = c.in_ok-stretch.ensures.most in omega arith;
-      later = c.in_ok-stretch.ensures.after ∙ ap (λ (S : List Cell). after rule S more) before.later ∙ after-plus rule start made more;
+      most = let low = c.in_ok-stretch.ensures.run.within in omega arith;
+      later = c.in_ok-stretch.ensures.run.after ∙ ap (λ (S : List Cell). after rule S more) before.later ∙ after-plus rule start made more;
       inside = inside-more rule start made more before.inside
-          (λ g low. ap (λ (S : List Cell). touches_edge (after rule S g)) (sym before.later) ∙ c.in_ok-stretch.ensures.inside g low);
+          (λ g low. ap (λ (S : List Cell). touches_edge (after rule S g)) (sym before.later) ∙ c.in_ok-stretch.ensures.run.inside g low);
     }
 
 -- at the end all generations are made
