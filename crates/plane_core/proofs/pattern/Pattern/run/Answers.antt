@@ -1,4 +1,5 @@
-use Rattle.std.proofs.Common.{◌≡◌, ◌∙◌, ◌≤◌, ℕ, sym, ap, List, false, true, arith, rules, Err}
+use Rattle.std.proofs.Common.{◌≡◌, ◌∙◌, ◌≤◌, ℕ, sym, ap, List, false, true, arith, Err, Result}
+use Rattle.plane_core.specs.declared.generation.StepError.{StepError}
 use Rattle.std.proofs.lemmas.Bool.{false≢true}
 use Rattle.std.proofs.lemmas.Result.{err_from_is_err_and}
 use Rattle.plane_core.specs.declared.cell.Cell.{Cell}
@@ -42,11 +43,14 @@ returns-clause-after c =
 pub returns-clause-inside : goal.returns-clause-inside
 returns-clause-inside c g low = c.loop-made.invariant.inside g (let end = c.loop-made-test.false in omega arith)
 
+same_error : (ran : Result (List Cell) StepError) (x y z : StepError) → ran ≡ Err x → x ≡ y → ran ≡ Err z → y ≡ z
+same_error ran x y z p q r = cc
+
 -- a generation was on the edge
 pub returns-in_err-stretch-clause-edge : goal.returns-in_err-stretch-clause-edge
 returns-in_err-stretch-clause-edge c e =
     let told = err_from_is_err_and c.from_residual-in_err-stretch.result c.from_residual-in_err-stretch.ensures.1 in
-    let edge : c.in_err-stretch.field-0.0 ≡ Edge = cc in
+    let edge : c.in_err-stretch.field-0.0 ≡ Edge = same_error _ _ _ _ told.1 told.2 e in
     let on : touches_edge c.loop-made.pattern ≡ true = c.in_err-stretch.ensures.edge (ap Err edge) in
     (c.loop-made.made, c.loop-made-test.true, ap touches_edge (sym c.loop-made.invariant.later) ∙ on)
 
@@ -54,7 +58,7 @@ returns-in_err-stretch-clause-edge c e =
 pub returns-in_err-stretch-clause-never_edge : goal.returns-in_err-stretch-clause-never_edge
 returns-in_err-stretch-clause-never_edge c reach h far e =
     let told = err_from_is_err_and c.from_residual-in_err-stretch.result c.from_residual-in_err-stretch.ensures.1 in
-    let edge : c.in_err-stretch.field-0.0 ≡ Edge = cc in
+    let edge : c.in_err-stretch.field-0.0 ≡ Edge = same_error _ _ _ _ told.1 told.2 e in
     let on : touches_edge c.loop-made.pattern ≡ true = c.in_err-stretch.ensures.edge (ap Err edge) in
     let off : touches_edge c.loop-made.pattern ≡ false =
     ap touches_edge c.loop-made.invariant.later
@@ -64,11 +68,11 @@ returns-in_err-stretch-clause-never_edge c reach h far e =
 -- no generation before the first: the pattern itself is at the edge
 pub returns-then-touches-clause-never_edge : goal.returns-then-touches-clause-never_edge
 returns-then-touches-clause-never_edge c = λ reach h far e.
-    let on : touches_edge c.args.self.now ≡ true = search rules in
+    let on = ap touches_edge (sym c.cells.ensures.cells) ∙ sym c.touches.ensures ∙ c.if-touches.true in
     let off = run_inside c.args.rule.now c.args.self.now reach 0 c.args.generations h far c.if-generations-gt0.true in
     false≢true (sym off ∙ ap touches_edge (after-none c.args.rule.now c.args.self.now) ∙ on)
 
 pub returns-then-touches-clause-edge : goal.returns-then-touches-clause-edge
 returns-then-touches-clause-edge c = λ e.
-    let on : touches_edge c.args.self.now ≡ true = search rules in
+    let on = ap touches_edge (sym c.cells.ensures.cells) ∙ sym c.touches.ensures ∙ c.if-touches.true in
     (0, c.if-generations-gt0.true, ap touches_edge (after-none c.args.rule.now c.args.self.now) ∙ on)
