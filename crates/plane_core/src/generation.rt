@@ -272,5 +272,10 @@ fn shown_after(
 fn touches(cells: &[Cell]) -> bool
     ensures { result ≡ touches_edge cells.now }
 {
-    cells.iter().any(|cell| cell.is_on_edge())
+    for cell in cells {
+        if cell.is_on_edge() {
+            return true;
+        }
+    }
+    false
 }
