@@ -3,6 +3,7 @@ use Rattle.std.proofs.Common.{◌≡◌, ◌==◌, ◌+◌, ◌-◌, ◌*◌, �
 use Rattle.std.proofs.Common.{◌&&◌, ◌||◌, List, [], ◌∷◌, filter, max, min, length, take, get_or, Option, Some, None, Result, Ok, Err}
 use Rattle.std.specs.Prelude.{IfOk, IfSome}
 use Rattle.std.proofs.Common.{arith, refl, ap, ◌∙◌, sym, subst, inl, inr, ◌⊎◌, nat_lt}
+use mathlib.Core.Bool.{beq}
 use Rattle.std.proofs.lemmas.Int.{ints}
 use Rattle.std.specs.List.{list_all}
 use Rattle.std.proofs.lemmas.List.Folds.{list_all_more}
@@ -13,7 +14,7 @@ use Rattle.plane_core.specs.declared.parts.Axis.TheVariants.{Columns, Rows}
 use Rattle.plane_core.specs.declared.parts.Cut.{Cut}
 use Rattle.plane_core.specs.Cells.{has, same_cell, set_of, king_distance, distance, on_plane, plane_bound, is_within, InOrder, IsPattern}
 use Rattle.plane_core.specs.Generations.{around, lives, next, after, lies_within, touches_edge}
-use Rattle.plane_core.specs.Parts.{AreApart, FarPatternsRunAlone, HasRun, IsCut, IsStretch, is_before, leaves_band, place_on, side}
+use Rattle.plane_core.specs.Parts.{AreApart, FarPatternsRunAlone, HasRun, IsCut, IsStretch, is_before, is_on_side, leaves_band, place_on, side}
 use Rattle.plane_core.specs.Rules.{Numbers, is_birth, is_survival}
 use Rattle.plane_core.proofs.NeighbourhoodLemmas.{around-cons}
 use Rattle.plane_core.proofs.GenerationLemmas.{a_neighbour, after-none, after-one, distance_itself, has-next, lives_cases}
@@ -354,3 +355,18 @@ stretch_of_step rule S most later some is off = record {
   after = is ∙ sym (after-one rule S);
   inside = λ g low. let first : g ≡ 0 = omega arith in ap (λ (n : ℕ). touches_edge (after rule S n)) first ∙ ap touches_edge (after-none rule S) ∙ off;
 }
+
+-- ---- the sides of a cut
+
+-- what the test of a side says, which compares two answers
+pub on_side : (cut : Cut) (before b : Bool) (c : Cell) → b ≡ is_before cut c → beq b before ≡ true → is_on_side cut before c ≡ true
+on_side cut true true c p q = sym p
+on_side cut true false c p q = absurd (false≢true q)
+on_side cut false true c p q = absurd (false≢true q)
+on_side cut false false c p q = ap not (sym p)
+
+pub off_side : (cut : Cut) (before b : Bool) (c : Cell) → b ≡ is_before cut c → beq b before ≡ false → is_on_side cut before c ≡ false
+off_side cut true true c p q = absurd (false≢true (sym q))
+off_side cut true false c p q = sym p
+off_side cut false true c p q = ap not (sym p)
+off_side cut false false c p q = absurd (false≢true (sym q))

@@ -6,7 +6,7 @@
 ghost use Rattle.std.specs.Prelude.{◌≡◌, ◌<◌, ◌^◌, ◌++◌, ◌+ℤ◌, IfOk, IfSome, OnSome, pos, true};
 ghost use Rattle.std.specs.List.{list_all};
 ghost use Rattle.plane_core.specs.Cells.{set_of};
-ghost use Rattle.plane_core.specs.Parts.{IsCut, is_before, is_on_side, leaves_band, place_on, side};
+ghost use Rattle.plane_core.specs.Parts.{IsCut, is_before, leaves_band, place_on, side};
 
 use crate::bounds::Bounds;
 use crate::cell::{BOUND, Cell};
@@ -103,17 +103,6 @@ impl Cut {
         i64::from(self.axis.place(cell)) < self.at
     }
 
-    /// Whether the cell lies before the cut, or past it.
-    fn is_on_side(self, before: bool, cell: Cell) -> bool
-        ensures { result ≡ is_on_side self before cell }
-    {
-        if before {
-            self.is_before(cell)
-        } else {
-            !self.is_before(cell)
-        }
-    }
-
     /// Whether the cell lies past the cut, or before the band of so many columns or rows before it.
     fn leaves_band_at(self, band: u32, cell: Cell) -> bool
         ensures { result ≡ leaves_band self band cell }
@@ -144,7 +133,7 @@ impl Cut {
     {
         let mut part = Vec::new(alloc);
         for cell in pattern.cells() {
-            if self.is_on_side(before, *cell) {
+            if self.is_before(*cell) == before {
                 part.push(*cell)?;
             }
         }

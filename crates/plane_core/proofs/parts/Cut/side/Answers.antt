@@ -2,9 +2,9 @@ use Rattle.std.proofs.Common.{◌≡◌, ◌∙◌, subst, ap, filter, sym}
 use Rattle.std.proofs.lemmas.List.{take_all}
 use Rattle.plane_core.specs.Parts.{is_on_side, side}
 use Rattle.plane_core.specs.Cells.{IsPattern}
-use Rattle.plane_core.proofs.PartLemmas.{is_pattern-filter}
+use Rattle.plane_core.proofs.PartLemmas.{is_pattern-filter, on_side, off_side}
 use Rattle.plane_core.proofs.SetLemmas.{filter-with, filter-without}
-use Rattle.plane_core.proofs.parts.Cut.side.Goals.{After-loop-cell, then-is_on_side+in_ok-push, else-is_on_side}
+use Rattle.plane_core.proofs.parts.Cut.side.Goals.{After-loop-cell, then-is_before-before+in_ok-push, else-is_before-before}
 use Rattle.plane_core.proofs.parts.Cut.side.Goals as goal
 
 pub loop-cell-preserved : goal.loop-cell-preserved
@@ -13,11 +13,11 @@ loop-cell-preserved c =
     let cells = c.cells-cell-items.result.now in
     let i = c.loop-cell.cell-index in
     let part = c.loop-cell.part.items in
-    elim c.if-is_on_side.branch [
-      | then-is_on_side+in_ok-push w ↦ ap (λ v. v.items) w.part-is ∙ w.in_ok-push.ensures.items
-          ∙ filter-with here cells i _ part c.loop-cell-test.true (sym c.is_on_side.ensures ∙ w.if-is_on_side.true) c.loop-cell.invariant
-      | else-is_on_side w ↦ ap (λ v. v.items) w.part-is
-          ∙ filter-without here cells i _ part c.loop-cell-test.true (sym c.is_on_side.ensures ∙ w.if-is_on_side.false) c.loop-cell.invariant
+    elim c.if-is_before-before.branch [
+      | then-is_before-before+in_ok-push w ↦ ap (λ v. v.items) w.part-is ∙ w.in_ok-push.ensures.items
+          ∙ filter-with here cells i _ part c.loop-cell-test.true (on_side c.args.self c.args.before _ _ c.is_before.ensures w.if-is_before-before.true) c.loop-cell.invariant
+      | else-is_before-before w ↦ ap (λ v. v.items) w.part-is
+          ∙ filter-without here cells i _ part c.loop-cell-test.true (off_side c.args.self c.args.before _ _ c.is_before.ensures w.if-is_before-before.false) c.loop-cell.invariant
     ]
 
 -- at the end all cells have been met
