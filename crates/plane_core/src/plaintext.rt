@@ -145,7 +145,7 @@ fn is_line_feed(byte: &u8) -> bool
 fn is_comment(line: &[u8]) -> bool
     ensures { result ≡ is_comment line.now }
 {
-    line.first() == Some(&COMMENT)
+    matches!(line, [COMMENT, ..])
 }
 
 fn is_live(byte: u8) -> bool

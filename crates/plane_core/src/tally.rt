@@ -114,14 +114,14 @@ fn with_neighbours(
 fn counted(alloc: Global, cells: &[Cell]) -> Result<Vec<Tally>, OutOfMemory>
     ensures { IfOk result (λ tallies. tallies.items ≡ map one_of cells.now) }
 {
-    let tallies = cells
-        .iter()
-        .map(|cell| Tally {
+    let mut tallies = Vec::with_capacity(alloc, cells.len())?;
+    for cell in cells {
+        tallies.push(Tally {
             cell: *cell,
             count: 1,
             alive: true,
-        })
-        .collect(alloc)?;
+        })?;
+    }
     Ok(tallies)
 }
 
