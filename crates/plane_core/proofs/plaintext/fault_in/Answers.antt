@@ -1,11 +1,9 @@
-use Rattle.std.proofs.Common.{◌≡◌, ◌+◌, ◌==◌, length, map, refl, ap, sym, ◌∙◌, arith, rules, tests}
+use Rattle.std.proofs.Common.{◌≡◌, ◌+◌, ◌==◌, length, map, refl, ap, sym, ◌∙◌, rules, tests}
 use Rattle.std.proofs.lemmas.Iterator.Consumers.{YieldsList-turn, YieldsList-end}
 use Rattle.std.proofs.lemmas.Iterator.Splits.{YieldsList-from_slice_split}
 use Rattle.std.proofs.lemmas.List.{length_push}
 use Rattle.std.proofs.Common.{le_refl}
-use Rattle.std.proofs.lemmas.List.Splits.{length-slice_split}
-use Rattle.std.proofs.lemmas.List.Sums.{count_by-le-length}
-use Rattle.plane_core.proofs.PlaintextLines.{places_are, IsNext, parts_of, no_fault_in_comment, fault_in_row_here, no_fault_in_row_here, no_fault_past_lines, one_row_more, one_line_more}
+use Rattle.plane_core.proofs.PlaintextLines.{places_are, IsNext, parts_of, no_fault_in_comment, fault_in_row_here, no_fault_in_row_here, no_fault_past_lines, one_row_more, one_line_more, fits_one_more}
 use Rattle.plane_core.specs.PlaintextPlaces.{line_feed, is_comment, places_of_row}
 use Rattle.plane_core.specs.Plaintext.{first_fault}
 use Rattle.plane_core.proofs.plaintext.fault_in.Goals as goal
@@ -27,8 +25,13 @@ loop-line-init c = (refl, le_refl 0, ap first_fault (sym (places_are c.args.text
 
 pub overflow_add-number : goal.overflow_add-number
 overflow_add-number c =
-    let t = next_line (goal.at.overflow_add-number c).In-Some in
-    omega (arith, length-slice_split (λ b. b == line_feed) c.args.text.now, count_by-le-length (λ b. b == line_feed) c.args.text.now)
+    fits_one_more c.args.text.now c.loop-line.number c.loop-line.number c.well_formed.0.1 (next_line (goal.at.overflow_add-number c).In-Some).0
+    (le_refl c.loop-line.number)
+
+pub overflow_add-y : goal.overflow_add-y
+overflow_add-y c =
+    fits_one_more c.args.text.now c.loop-line.number c.loop-line.y c.well_formed.0.1 (next_line (goal.at.overflow_add-y c).In-Some).0
+    c.loop-line.invariant.1
 
 pub returns-in-Some-fault_in_row : goal.returns-in-Some-fault_in_row
 returns-in-Some-fault_in_row c =

@@ -8,7 +8,7 @@ use Rattle.plane_core.specs.Cells.{cell_at, has, IsPattern}
 use Rattle.plane_core.proofs.PlaintextOrder.{IsPattern-live_cells}
 use Rattle.plane_core.specs.Plaintext.{first_fault, live_cells}
 use Rattle.plane_core.specs.PlaintextPlaces.{line_feed, is_comment, places_of_row}
-use Rattle.plane_core.proofs.PlaintextLines.{IsNext, places_after, places_are, parts_of, no_fault_in_comment, no_fault_later, row_is_small, one_row_more, one_line_more}
+use Rattle.plane_core.proofs.PlaintextLines.{IsNext, places_after, places_are, parts_of, no_fault_in_comment, no_fault_later, row_is_small, one_row_more, one_line_more, fits_one_more}
 use Rattle.plane_core.proofs.PlaintextLines.{cells_of_row, no_cell_in_comment, no_cell_past_lines, moved_over}
 use Rattle.plane_core.proofs.plaintext.pattern_in.Goals as goal
 use Rattle.plane_core.proofs.plaintext.pattern_in.Goals.{In-Some, In-None}
@@ -86,3 +86,8 @@ returns-clause-cells c =
     let all = sym (no_cell_past_lines (length c.loop-line.yielded) c.loop-line.y (parts_of c.args.text.now) c.loop-line.cells.items t.1)
     ∙ c.loop-line.invariant.2 in
     λ x y. ap (λ cells. has cells (cell_at (pos x) (pos y))) (c.from_ordered.ensures ∙ all) ∙ has-live_cells c.args.text.now x y
+
+pub overflow_add-y : goal.overflow_add-y
+overflow_add-y c =
+    fits_one_more c.args.text.now (length c.loop-line.yielded) c.loop-line.y c.well_formed.1.0.1 (next_line (goal.at.overflow_add-y c).In-Some).0
+    c.loop-line.invariant.0
