@@ -1,4 +1,4 @@
-use Rattle.std.proofs.Common.{◌*◌, List, subst}
+use Rattle.std.proofs.Common.{◌*◌, ◌≤◌, ℕ, Fits, List, arith, subst, w32}
 use Rattle.std.specs.Prelude.{IfOk, IfSome}
 use Rattle.std.proofs.lemmas.Result.{IfOk-from_err}
 use Rattle.plane_core.specs.declared.cell.Cell.{Cell}
@@ -52,3 +52,18 @@ run_in_parts-run_on-requires-clause-inside t c = c.round.ensures.inside
 
 pub run_in_parts-run_on-requires-clause-words : goal.run_in_parts-run_on-requires-clause-words
 run_in_parts-run_on-requires-clause-words t c = c.round.ensures.words
+
+twice_fits : (n : ℕ) → n ≤ 1000 → Fits w32 (2 * n)
+twice_fits n few = omega arith
+
+pub run_in_parts-overflow_mul-generations : goal.run_in_parts-overflow_mul-generations
+run_in_parts-overflow_mul-generations t c = twice_fits c.args.generations c.requires.generations
+
+pub run_in_parts-round-requires : goal.run_in_parts-round-requires
+run_in_parts-round-requires t c = c.requires.generations
+
+pub run_in_parts-overflow_sub-cuts : goal.run_in_parts-overflow_sub-cuts
+run_in_parts-overflow_sub-cuts t c = rw c.in-Some.is at c.in_ok-cut.ensures.cuts
+
+pub run_in_parts-overflow_sub-cuts-2 : goal.run_in_parts-overflow_sub-cuts-2
+run_in_parts-overflow_sub-cuts-2 t c = rw c.in-Some.is at c.in_ok-cut.ensures.cuts

@@ -1,4 +1,4 @@
-use Rattle.std.proofs.Common.{◌≡◌, ◌∙◌, ◌≤◌, ℕ, sym, ap, List, false, true, arith, Err, Result}
+use Rattle.std.proofs.Common.{◌≡◌, ◌∙◌, ◌+◌, ◌-◌, ◌<◌, ◌≤◌, Fits, w32, ℕ, sym, ap, List, false, true, arith, Err, Result}
 use Rattle.plane_core.specs.declared.generation.StepError.{StepError}
 use Rattle.std.proofs.lemmas.Bool.{false≢true}
 use Rattle.std.proofs.lemmas.Result.{err_from_is_err_and}
@@ -76,3 +76,28 @@ pub returns-then-touches-clause-edge : goal.returns-then-touches-clause-edge
 returns-then-touches-clause-edge c = λ e.
     let on = ap touches_edge (sym c.cells.ensures.cells) ∙ sym c.touches.ensures ∙ c.if-touches.true in
     (0, c.if-generations-gt0.true, ap touches_edge (after-none c.args.rule.now c.args.self.now) ∙ on)
+
+-- what is left to be made, in numbers
+some_left : (made generations : ℕ) → made < generations → 0 < generations - made
+some_left made generations low = omega arith
+
+fewer_left : (made count generations : ℕ) → made < generations → 0 < count → generations - (made + count) < generations - made
+fewer_left made count generations low some = omega arith
+
+fits_made : (made count generations : ℕ) → made ≤ generations → count ≤ generations - made → generations < 4294967296 → Fits w32 (made + count)
+fits_made made count generations most few fits = omega arith
+
+pub overflow_sub-generations : goal.overflow_sub-generations
+overflow_sub-generations c = c.loop-made.invariant.most
+
+pub stretch-requires : goal.stretch-requires
+stretch-requires c = some_left _ _ c.loop-made-test.true
+
+pub overflow_add-made : goal.overflow_add-made
+overflow_add-made c =
+    fits_made c.loop-made.made c.in_ok-stretch.stretch.count c.args.generations c.loop-made.invariant.most c.in_ok-stretch.ensures.run.within
+    c.ranges.generations.fits
+
+pub loop-made-smaller : goal.loop-made-smaller
+loop-made-smaller c =
+    fewer_left c.loop-made.made c.in_ok-stretch.stretch.count c.args.generations c.loop-made-test.true c.in_ok-stretch.ensures.run.some
