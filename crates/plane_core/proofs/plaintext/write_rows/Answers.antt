@@ -83,7 +83,7 @@ returns-in_err-write_row g c =
     let test = rw at_end at c.loop-y-test.true in
     let l : y <ℤ end = lt_z-true y end test in
     let front = inv.4 in
-    Writes_as (sym (rows_remainder-at cells remainder b y front.0 (box_text (Some b) cells) l inv.3 front.1))
+    Writes_as {r = c.from_residual.result} (sym (rows_remainder-at cells remainder b y front.0 (box_text (Some b) cells) l inv.3 front.1))
     (Writes_stops (rows_remainder cells b (y +ℤ pos 1)) c.from_residual.ensures.0 (Writes_then {r = Err c.in_err-write_row.field-0.0} front.2 c.in_err-write_row.ensures))
 
 pub returns : goal.returns
@@ -96,4 +96,4 @@ returns g c =
     let at_end = past_bottom b c.requires.bounds in
     let test = rw at_end at c.loop-y-test.false in
     let front = inv.4 in
-    Writes_as (sym (rows_remainder-end cells b y front.0 (box_text (Some b) cells) (lt_z-false y end test) inv.1 front.1)) front.2
+    Writes_as {r = Ok tt} (sym (rows_remainder-end cells b y front.0 (box_text (Some b) cells) (lt_z-false y end test) inv.1 front.1)) front.2
