@@ -1,5 +1,5 @@
 use Rattle.std.specs.Str.Lines.{strip_carriage_return}
-use Rattle.std.proofs.Common.{le_refl, ◌≡◌, map, pos, ap, ◌==◌, ◌++◌, false, length, sym, subst, arith, rules, tests, ◌∙◌}
+use Rattle.std.proofs.Common.{le_refl, ◌≡◌, map, pos, ap, ◌==◌, ◌++◌, length, sym, subst, rules, tests, ◌∙◌}
 use Rattle.std.proofs.lemmas.Iterator.Consumers.{YieldsList-turn, YieldsList-end}
 use Rattle.std.proofs.lemmas.Iterator.Splits.{YieldsList-from_slice_split}
 use Rattle.std.proofs.lemmas.List.{length_push}
@@ -25,7 +25,7 @@ no_line_left c =
     c.loop-line.yielded _ c.loop-line.yielded_by _ _ c.in-None.is c.next.ensures.steps
 
 pub loop-line-init : goal.loop-line-init
-loop-line-init c = 
+loop-line-init c =
     let all = sym (places_are c.args.text.now) in
     (le_refl 0, ap first_fault all ∙ c.requires, ap (λ cells. cells ++ live_cells (places_after 1 0 (parts_of c.args.text.now))) c.new-cells.ensures.items ∙ ap live_cells all)
 
@@ -34,7 +34,7 @@ push_row-requires c =
     let t = next_line (goal.at.push_row-requires c).In-Some in
     let row = ap is_comment (sym c.without_return-row.ensures) ∙ sym c.is_comment.ensures ∙ c.if-not-is_comment.true in
     rw c.without_return-row.ensures (
-      row_is_small (length c.loop-line.yielded) c.loop-line.y (parts_of c.args.text.now) c.in-Some.line.now t row c.loop-line.invariant.1
+    row_is_small (length c.loop-line.yielded) c.loop-line.y (parts_of c.args.text.now) c.in-Some.line.now t row c.loop-line.invariant.1
     )
 
 pub loop-line-preserved-then-not-is_comment : goal.loop-line-preserved-then-not-is_comment
@@ -46,7 +46,7 @@ loop-line-preserved-then-not-is_comment c =
     let line = c.in-Some.line.now in
     let row = ap is_comment (sym c.without_return-row.ensures) ∙ sym c.is_comment.ensures ∙ c.if-not-is_comment.true in
     let pushed : c.push_row.new.cells.items ≡ c.loop-line.cells.items ++ live_cells (places_of_row (y, (0, strip_carriage_return line))) =
-        c.in_ok-push_row.ensures ∙ ap (λ r. c.loop-line.cells.items ++ live_cells (places_of_row (y, (0, r)))) c.without_return-row.ensures in
+    c.in_ok-push_row.ensures ∙ ap (λ r. c.loop-line.cells.items ++ live_cells (places_of_row (y, (0, r)))) c.without_return-row.ensures in
     rw (length_push c.loop-line.yielded c.in-Some.line) (
       one_row_more y n c.loop-line.invariant.0,
       no_fault_later n y parts line t row c.loop-line.invariant.1,

@@ -1,6 +1,6 @@
 use Rattle.std.proofs.Common.{◌≡◌, add-one, get_or, pos, rules, true, of_z, to_z, w32}
 use Rattle.std.specs.Ordering.{int_eq}
-use Rattle.plane_core.proofs.PlaintextWalks.{same_bits, walked-on, walked-off, walked-all}
+use Rattle.plane_core.proofs.PlaintextWalks.{same_bits, walked-on}
 use Rattle.plane_core.proofs.plaintext.row_len.Goals as goal
 
 pub loop-len-preserved : goal.loop-len-preserved

@@ -1,7 +1,5 @@
-use Rattle.std.proofs.Common.{◌≡◌, ◌∙◌, ◌+◌, ◌/◌, ◌<◌, ℕ, Fits, FitsSigned, arith, min, pos, sym, w64}
+use Rattle.std.proofs.Common.{◌≡◌, ◌+◌, ◌/◌, ◌<◌, ℕ, Fits, FitsSigned, arith, min, pos, w64}
 use Rattle.std.proofs.lemmas.Int.{ints}
-use Rattle.std.specs.List.{list_all}
-use Rattle.plane_core.specs.Parts.{leaves_band}
 use Rattle.plane_core.proofs.PartLemmas.{is_cut}
 use Rattle.plane_core.proofs.parts.Cut.along.Goals as goal
 

@@ -1,4 +1,4 @@
-use Rattle.std.proofs.Common.{◌≡◌, ◌∙◌}
+use Rattle.std.proofs.Common.{◌∙◌}
 use Rattle.plane_core.specs.Parts.{HasRun}
 use Rattle.plane_core.proofs.GenerationLemmas.{after-one}
 use Rattle.plane_core.proofs.pattern.Pattern.next.Goals as goal

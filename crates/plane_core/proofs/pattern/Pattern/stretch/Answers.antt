@@ -1,4 +1,3 @@
-use Rattle.std.proofs.Common.{arith}
 use Rattle.plane_core.specs.Parts.{HasRun}
 use Rattle.plane_core.proofs.PartLemmas.{stretch_of_run, stretch_of_step}
 use Rattle.plane_core.proofs.pattern.Pattern.stretch.Goals as goal

@@ -1,5 +1,5 @@
 use Rattle.std.proofs.Common.{◌≡◌, ◌==◌, sym, ◌∙◌, ap, true, false, List, ℕ, length, codes, refl}
-use Rattle.plane_core.specs.Rules.{Reading, begins, rule_read}
+use Rattle.plane_core.specs.Rules.{Reading, begins}
 use Rattle.plane_core.proofs.RuleReading.{length-births, length-survivals, births_in, survivals_in, sliced, births_sliced, survivals_sliced}
 use Rattle.plane_core.proofs.RuleReading.{rule_read-no_b, rule_read-zero, rule_read-no_s, rule_read-more}
 use Rattle.plane_core.proofs.RuleReading.{rule_read-all}
