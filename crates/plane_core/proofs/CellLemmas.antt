@@ -1,5 +1,5 @@
 -- The order of cells is total, only equal cells tie, and moving two cells keeps their order and their distance.
-use Rattle.std.proofs.Common.{◌≡◌, ◌&&◌, ◌≤◌, ℤ, ◌+ℤ◌, FitsSigned, nat_le, of_z, to_z, true, unsigned_abs, w32, arith, refl, ap, ◌∙◌}
+use Rattle.std.proofs.Common.{◌≡◌, ◌&&◌, ◌≤◌, ℤ, ◌+◌, ◌+ℤ◌, FitsSigned, nat_le, of_z, to_z, true, unsigned_abs, w32, arith, refl, ap, ◌∙◌}
 use Rattle.std.proofs.lemmas.Bool.{and_parts, false≢true}
 use borrow.Author.Tests.{leb-true}
 use Rattle.std.proofs.lemmas.Int.{ints, to_z-of_z}
@@ -10,7 +10,7 @@ use Rattle.std.specs.Ordering.{ordering_then, int_cmp, int_eq, is_eq}
 use Rattle.std.specs.declared.cmp.Ordering.{Ordering}
 use Rattle.std.specs.declared.cmp.Ordering.TheVariants.{Less, Equal, Greater}
 use Rattle.plane_core.specs.declared.cell.Cell.{Cell}
-use Rattle.plane_core.specs.Cells.{cell_at, cell_cmp, same_cell, king_distance, distance, moved_by, on_plane, plane_bound}
+use Rattle.plane_core.specs.Cells.{cell_at, cell_cmp, same_cell, king_distance, distance, moved_by, near_plane, on_plane, plane_bound}
 
 pub cell_cmp_total : IsTotalOrder cell_cmp
 cell_cmp_total = then_total (on_total (λ c. c.y) int_cmp_total) (on_total (λ c. c.x) int_cmp_total)
@@ -78,3 +78,12 @@ y_passed c fits on = passed_within c.y fits (leb-true _ _ ((and_parts (nat_le (u
 -- cells with the same column and row are one
 pub same_cells : (x y v w : ℤ) → x ≡ v → y ≡ w → cell_at x y ≡ cell_at v w
 same_cells x y v w p q i = cell_at (p i) (q i)
+
+-- the same of a cell that may lie one step past the bound
+pub near_x_passed : (c : Cell) → FitsSigned w32 c.x → near_plane c ≡ true → unsigned_abs (to_z w32 (of_z w32 c.x)) ≤ plane_bound + 1
+unfolding near_plane
+near_x_passed c fits on = rw (to_z-of_z w32 c.x fits) (leb-true _ _ ((and_parts (nat_le (unsigned_abs c.x) (plane_bound + 1)) _ on).0))
+
+pub near_y_passed : (c : Cell) → FitsSigned w32 c.y → near_plane c ≡ true → unsigned_abs (to_z w32 (of_z w32 c.y)) ≤ plane_bound + 1
+unfolding near_plane
+near_y_passed c fits on = rw (to_z-of_z w32 c.y fits) (leb-true _ _ ((and_parts (nat_le (unsigned_abs c.x) (plane_bound + 1)) _ on).1))

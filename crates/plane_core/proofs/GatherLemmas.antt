@@ -1,7 +1,7 @@
 -- How the trees of a forest become clusters: places get numbers, and the cells with one number are a cluster.
 use Rattle.std.proofs.Common.{◌≡◌, ◌≢◌, ◌==◌, ℕ, ◌+◌, ◌<◌, ◌≤◌, zero, suc, Bool, true, false, cond, List, [], ◌∷◌, ◌++◌, arith, refl, ap, ◌∙◌, sym, subst, inl, inr, ◌⊎◌}
-use Rattle.std.proofs.Common.{length, get_or, set, All, Any}
-use Rattle.std.specs.List.{AllPairs}
+use Rattle.std.proofs.Common.{length, get_or, set, All, Any, Result, Ok, Err}
+use Rattle.std.specs.Prelude.{IfOk, OnOk}
 use Rattle.std.specs.declared.cmp.Ordering.TheVariants.{Less}
 use Rattle.std.proofs.lemmas.Bool.{false≢true, cases_eq, cases_lt, eqb-true, eq-eqb, ne_eqb}
 use Rattle.std.proofs.lemmas.List.{get_or_append_left, get_or_push, get_or_default, get_or-set_same, get_or-set_other, length-set, length_push, append-nil}
@@ -9,7 +9,7 @@ use Rattle.std.proofs.lemmas.List.Quantifiers.{all_pairs_push}
 use Rattle.plane_core.specs.declared.cell.Cell.{Cell}
 use Rattle.plane_core.specs.Cells.{cell_cmp, king_distance, has, on_plane, InOrder, IsPattern}
 use Rattle.plane_core.specs.Clusters.{Leads, Linked, IsCluster, AreClusters, FirstBefore}
-use Rattle.plane_core.specs.Forest.{cell_of, parent_of, numbered, IsForest, JoinsAll, Labels}
+use Rattle.plane_core.specs.Forest.{cell_of, parent_of, numbered, IsForest, IsGathering, JoinsAll, Labels}
 use Rattle.plane_core.proofs.SetLemmas.{IsBefore, has-cases, has-head, or_right, in_order-head, in_order-tail, in_order-cons, in_order-nil}
 use Rattle.plane_core.proofs.SearchLemmas.{list_all-has, has-list_all}
 use Rattle.plane_core.proofs.ClusterLemmas.{king_distance-sym, linked-itself, linked-trans, linked-sym}
@@ -121,17 +121,6 @@ is_pattern-numbered n ms cs is = record {
     among d s = subst (λ (x : Cell). has cs x ≡ true) s.cell (has-cell_of cs s.place s.low)
 
 -- ---- a place more
-
--- The places that were passed have the numbers of their clusters, and each cluster the cells that have its number.
-pub record IsGathering (cells : List Cell) (parents numbers : List ℕ) (clusters : List (List Cell)) (place : ℕ) : Type 0 where
-  pub size : length numbers ≡ place
-  pub few : place ≤ length cells
-  pub labels : (k : ℕ) → k < place → get_or numbers (parent_of parents k) 0 ≡ get_or numbers k 0
-  pub below : (k : ℕ) → k < place → get_or numbers k 0 < length clusters
-  pub lists : (n : ℕ) → n < length clusters → get_or clusters n [] ≡ numbered n numbers cells
-  pub used : (n : ℕ) → n < length clusters → (k : ℕ) × (k < place) × (get_or numbers k 0 ≡ n)
-  pub linked : (j k : ℕ) → j < place → k < place → get_or numbers j 0 ≡ get_or numbers k 0 → Linked cells (cell_of cells j) (cell_of cells k)
-  pub in_order : AllPairs FirstBefore clusters
 
 -- a number at the end of the list
 at_end : (numbers : List ℕ) (n place : ℕ) → length numbers ≡ place → get_or (numbers ++ n ∷ []) place 0 ≡ n
@@ -449,3 +438,26 @@ number_inside cells parents numbers clusters place n f low branch is g =
     let early : parent_of parents place < place = omega (arith, most, branch) in
     let under : get_or numbers (parent_of parents place) 0 < length clusters = g.below (parent_of parents place) early in
     omega (arith, under, is)
+
+-- ---- a step of the loop
+
+-- the place is a root where its parent has no number yet
+pub is_root : (cells : List Cell) (parents numbers : List ℕ) (clusters : List (List Cell)) (place : ℕ) → IsForest cells parents → place < length cells
+    → length numbers ≤ parent_of parents place → IsGathering cells parents numbers clusters place → parent_of parents place ≡ place
+is_root cells parents numbers clusters place f low late g =
+    let most : parent_of parents place ≤ place = f.back place (omega (arith, low, f.size)) in
+    omega (arith, most, late, g.size)
+
+pub is_branch : (cells : List Cell) (parents numbers : List ℕ) (clusters : List (List Cell)) (place : ℕ) → parent_of parents place < length numbers
+    → IsGathering cells parents numbers clusters place → parent_of parents place ≢ place
+is_branch cells parents numbers clusters place early g = λ e. absurd (omega (arith, early, g.size, e))
+
+-- a root begins a cluster
+pub gathering-begun : {E : Type 0} (begun : Result ℕ E) (cells : List Cell) (parents numbers : List ℕ) (clusters new : List (List Cell)) (place : ℕ)
+    → IsPattern cells → IsForest cells parents → place < length cells → length numbers ≤ parent_of parents place
+    → IsGathering cells parents numbers clusters place → IfOk begun (λ number. number ≡ length clusters)
+    → OnOk begun (new ≡ clusters ++ (cell_of cells place ∷ []) ∷ [])
+    → IfOk begun (λ number. IsGathering cells parents (numbers ++ number ∷ []) new (place + 1))
+gathering-begun (Ok number) cells parents numbers clusters new place p f low late g is grown =
+    rw (is, grown) (gathering-root cells parents numbers clusters place p.in_order f low (is_root cells parents numbers clusters place f low late g) g)
+gathering-begun (Err e) cells parents numbers clusters new place p f low late g is grown = tt

@@ -314,3 +314,6 @@ after-none rule S = refl
 pub after-more : (rule : Numbers) (S : List Cell) (g : ℕ) → after rule S (g + 1) ≡ next rule (after rule S g)
 unfolding after
 after-more rule S g = rw add-one refl
+
+pub after-one : (rule : Numbers) (S : List Cell) → after rule S 1 ≡ next rule S
+after-one rule S = after-more rule S 0 ∙ ap (next rule) (after-none rule S)

@@ -1,24 +1,27 @@
 -- A pattern in two parts that don't meet: each runs as if it were alone.
 use Rattle.std.proofs.Common.{◌≡◌, ◌==◌, ◌+◌, ◌-◌, ◌*◌, ◌<◌, ◌≤◌, ◌+ℤ◌, ◌<ℤ◌, ◌≤ℤ◌, ℕ, ℤ, pos, int_lt, ◌++◌, zero, suc, Bool, true, false, cond, not}
-use Rattle.std.proofs.Common.{◌&&◌, ◌||◌, List, [], ◌∷◌, filter, max}
+use Rattle.std.proofs.Common.{◌&&◌, ◌||◌, List, [], ◌∷◌, filter, max, min, length, take, get_or, Option, Some, None, Result, Ok, Err}
+use Rattle.std.specs.Prelude.{IfOk, IfSome}
 use Rattle.std.proofs.Common.{arith, refl, ap, ◌∙◌, sym, subst, inl, inr, ◌⊎◌, nat_lt}
+use mathlib.Core.Bool.{beq}
 use Rattle.std.proofs.lemmas.Int.{ints}
 use Rattle.std.specs.List.{list_all}
+use Rattle.std.proofs.lemmas.List.Folds.{list_all_more}
 use Rattle.std.proofs.lemmas.Bool.{false≢true, eqb-true, ltb-true, ltb-false, and_parts}
 use Rattle.plane_core.specs.declared.cell.Cell.{Cell}
 use Rattle.plane_core.specs.declared.parts.Axis.{Axis}
 use Rattle.plane_core.specs.declared.parts.Axis.TheVariants.{Columns, Rows}
 use Rattle.plane_core.specs.declared.parts.Cut.{Cut}
 use Rattle.plane_core.specs.Cells.{has, same_cell, set_of, king_distance, distance, on_plane, plane_bound, is_within, InOrder, IsPattern}
-use Rattle.plane_core.specs.Generations.{around, lives, after}
-use Rattle.plane_core.specs.Parts.{AreApart, FarPatternsRunAlone, HasRun, IsCut, is_before, leaves_band, place_on, side}
+use Rattle.plane_core.specs.Generations.{around, lives, next, after, lies_within, touches_edge}
+use Rattle.plane_core.specs.Parts.{AreApart, FarPatternsRunAlone, HasRun, IsCut, IsStretch, is_before, is_on_side, leaves_band, place_on, side}
 use Rattle.plane_core.specs.Rules.{Numbers, is_birth, is_survival}
 use Rattle.plane_core.proofs.NeighbourhoodLemmas.{around-cons}
-use Rattle.plane_core.proofs.GenerationLemmas.{a_neighbour, after-none, distance_itself, has-next, lives_cases}
+use Rattle.plane_core.proofs.GenerationLemmas.{a_neighbour, after-none, after-one, distance_itself, has-next, lives_cases}
 use Rattle.plane_core.proofs.RunLemmas.{in_order-after}
 use Rattle.plane_core.proofs.SearchLemmas.{has-list_all, list_all-has}
 use Rattle.plane_core.proofs.SetLemmas.{has-append, has-cases, has-filter, has-head, has-set_of, in_order-filter, in_order-set_of, or_right, same_lists}
-use Rattle.plane_core.proofs.SpeedLemmas.{after-suc}
+use Rattle.plane_core.proofs.SpeedLemmas.{after-suc, run_inside}
 
 -- ---- what a cell sees
 
@@ -312,3 +315,58 @@ far_patterns rule one other g o u far =
         (in_order-filter (others (has one)) (set_of (one ++ other)) (in_order-set_of (one ++ other))) u
         (λ c. has-filter (others (has one)) (set_of (one ++ other)) c ∙ ap (λ (a : Bool). a && not (has one c)) (has-both c)
         ∙ take_second (has one c) (has other c) (absent c))
+
+-- ---- the test of a cut
+
+pub is_cut : (cut : Cut) (band : ℕ) (S cells : List Cell) → cells ≡ S → InOrder S → list_all (leaves_band cut band) cells ≡ true → IsCut band S cut
+is_cut cut band S cells same order leaves = record {
+  in_order = order;
+  apart = apart_by_cut cut band S (ap (list_all (leaves_band cut band)) (sym same) ∙ leaves);
+}
+
+-- what a board showed, as a run of the pattern that was laid on it
+pub ran_on_board : {E : Type 0} (ran : Result (Option (List Cell)) E) (laid rule : Numbers) (T S : List Cell) (n : ℕ) → laid ≡ rule → T ≡ S
+    → lies_within (plane_bound - n) S ≡ true → IfOk ran (λ shown. IfSome shown (λ later. later ≡ after laid T n))
+    → IfOk ran (λ shown. IfSome shown (HasRun rule S n))
+ran_on_board (Ok (Some later)) laid rule T S n p q inside h = record { after = h ∙ (λ i. after (p i) (q i) n); inside = inside }
+ran_on_board (Ok None) laid rule T S n p q inside h = tt
+ran_on_board (Err e) laid rule T S n p q inside h = tt
+
+pub all_more : (test : Cell → Bool) (S : List Cell) (i : ℕ) (d : Cell) → i < length S → list_all test (take i S) ≡ true → test (get_or S i d) ≡ true
+    → list_all test (take (i + 1) S) ≡ true
+all_more test S i d l before here = list_all_more test S i d l ∙ (λ k. before k && here k)
+
+-- ---- a stretch of generations
+
+pub stretch_of_run : (rule : Numbers) (S : List Cell) (most count : ℕ) (later : List Cell) → 0 < most → count ≡ min most 256 → HasRun rule S count later
+    → IsStretch rule S most count later
+stretch_of_run rule S most count later some is ran = record {
+  some = omega (arith, is);
+  within = omega (arith, is);
+  after = ran.after;
+  inside = λ g low. run_inside rule S (plane_bound - count) g count ran.inside (omega (arith, is)) low;
+}
+
+pub stretch_of_step : (rule : Numbers) (S : List Cell) (most : ℕ) (later : List Cell) → 0 < most → later ≡ next rule S → touches_edge S ≡ false
+    → IsStretch rule S most 1 later
+stretch_of_step rule S most later some is off = record {
+  some = omega arith;
+  within = omega arith;
+  after = is ∙ sym (after-one rule S);
+  inside = λ g low. let first : g ≡ 0 = omega arith in ap (λ (n : ℕ). touches_edge (after rule S n)) first ∙ ap touches_edge (after-none rule S) ∙ off;
+}
+
+-- ---- the sides of a cut
+
+-- what the test of a side says, which compares two answers
+pub on_side : (cut : Cut) (before b : Bool) (c : Cell) → b ≡ is_before cut c → beq b before ≡ true → is_on_side cut before c ≡ true
+on_side cut true true c p q = sym p
+on_side cut true false c p q = absurd (false≢true q)
+on_side cut false true c p q = absurd (false≢true q)
+on_side cut false false c p q = ap not (sym p)
+
+pub off_side : (cut : Cut) (before b : Bool) (c : Cell) → b ≡ is_before cut c → beq b before ≡ false → is_on_side cut before c ≡ false
+off_side cut true true c p q = absurd (false≢true (sym q))
+off_side cut true false c p q = sym p
+off_side cut false true c p q = ap not (sym p)
+off_side cut false false c p q = absurd (false≢true (sym q))

@@ -1,10 +1,12 @@
 -- The places of a text line by line, and their first fault and their cells.
-use Rattle.std.proofs.Common.{◌≡◌, ◌==◌, ℕ, pos, ◌+◌, ◌<◌, true, false, not, List, [], ◌∷◌, ◌++◌, Option}
+use Rattle.std.proofs.Common.{◌≡◌, ◌==◌, ℕ, pos, ◌+◌, ◌*◌, ◌<◌, ◌≤◌, Fits, w64, true, false, not, List, [], ◌∷◌, ◌++◌, Option}
 use Rattle.std.proofs.Common.{Some, None, length, get_or, drop, map, filter, refl, sym, ap, ◌∙◌, arith}
 use Rattle.std.specs.Option.{option_or}
 use Rattle.std.specs.List.{slice_get, slice_split, filter_map, flat_map, enumerate_from}
 use Rattle.std.specs.Str.Lines.{strip_carriage_return}
 use Rattle.std.proofs.lemmas.List.Elements.{filter-append, filter_map-append}
+use Rattle.std.proofs.lemmas.List.Splits.{length-slice_split}
+use Rattle.std.proofs.lemmas.List.Sums.{count_by-le-length}
 use Rattle.std.proofs.lemmas.List.{drop_more, drop_all, append_assoc, append-nil, map-append}
 use Rattle.plane_core.specs.declared.cell.Cell.{Cell}
 use Rattle.plane_core.specs.declared.plaintext.PlaintextFault.{PlaintextFault}
@@ -136,3 +138,15 @@ no_cell_past_lines n y parts cells h = rw (no_place_past n y parts h) (append-ni
 -- a loop's step: what is done grows by what the rest loses
 pub moved_over : (done more new remainder later all : List Cell) → new ≡ done ++ more → remainder ≡ more ++ later → done ++ remainder ≡ all → new ++ later ≡ all
 moved_over done more new remainder later all g e h = ap (λ cs. cs ++ later) g ∙ append_assoc done more later ∙ ap (λ cs. done ++ cs) (sym e) ∙ h
+
+-- a loop has met no more rows than lines
+pub one_row_more : (y n : ℕ) → y ≤ n → y + 1 ≤ n + 1
+one_row_more y n h = omega arith
+
+pub one_line_more : (y n : ℕ) → y ≤ n → y ≤ n + 1
+one_line_more y n h = omega arith
+
+-- a number of lines, or of rows, and one more is a word: a text has no more lines than bytes, and one
+pub fits_one_more : (text : List ℕ) (n k : ℕ) → length text * 1 < 9223372036854775808 → n < length (parts_of text) → k ≤ n → Fits w64 (k + 1)
+fits_one_more text n k small low few =
+    omega (arith, length-slice_split (λ b. b == line_feed) text, count_by-le-length (λ b. b == line_feed) text, small, low, few)

@@ -1,12 +1,12 @@
 -- How a walk along cells in order meets the cells of a row.
-use Rattle.std.proofs.Common.{◌≡◌, ℕ, zero, suc, ℤ, pos, ◌+ℤ◌, ◌≤ℤ◌, ◌<ℤ◌, ◌+◌, ◌<◌, Bool, true, false, ◌||◌, List}
-use Rattle.std.proofs.Common.{[], ◌∷◌, length, take, drop, get_or, refl, sym, ap, subst, ◌∙◌, arith, ⊎_elim}
+use Rattle.std.proofs.Common.{◌≡◌, ℕ, zero, suc, ℤ, pos, ◌+ℤ◌, ◌≤ℤ◌, ◌<ℤ◌, ◌+◌, ◌<◌, ◌≤◌, Bool, true, false, ◌||◌, List}
+use Rattle.std.proofs.Common.{[], ◌∷◌, length, take, drop, get_or, refl, sym, ap, subst, ◌∙◌, arith, ⊎_elim, w32, FitsSigned, to_z, of_z}
 use Rattle.std.specs.List.{AllByRecursion, prefix_len}
 use Rattle.std.specs.declared.cmp.Ordering.TheVariants.{Less}
 use Rattle.std.specs.Ordering.{int_eq}
-use Rattle.std.proofs.lemmas.Int.{ints}
+use Rattle.std.proofs.lemmas.Int.{ints, to_z-of_z}
 use Rattle.std.proofs.lemmas.Bool.{cases_Bool}
-use Rattle.std.proofs.lemmas.List.{take-append-drop, drop_more}
+use Rattle.std.proofs.lemmas.List.{take-append-drop, drop_all, drop_more}
 use lib.Signed.{lt_z}
 use Rattle.plane_core.specs.declared.cell.Cell.{Cell}
 use Rattle.plane_core.specs.declared.bounds.Bounds.{Bounds}
@@ -91,6 +91,9 @@ len_in_row-here y c cs e = rw e (omega arith)
 
 len_in_row-below : (y : ℤ) (c : Cell) (cs : List Cell) → int_eq c.y y ≡ false → len_in_row y (c ∷ cs) ≡ zero
 len_in_row-below y c cs e = rw e refl
+
+int_eq-refl : (a : ℤ) → int_eq a a ≡ true
+int_eq-refl a = grind (arith, ints)
 
 int_eq-true : (a b : ℤ) → int_eq a b ≡ true → a ≡ b
 int_eq-true a b h = grind (arith, ints)
@@ -182,3 +185,27 @@ above a b h = grind (arith, ints)
 
 pub apart_columns_left : (a b : Cell) → a.y ≡ b.y → a.x <ℤ b.x → same_cell a b ≡ false
 apart_columns_left a b e h = grind (arith, ints)
+
+-- a walk along the row, of which i cells have been met
+pub walked-on : (y : ℤ) (cells : List Cell) (i : ℕ) (d : Cell) → i < length cells → int_eq (get_or cells i d).y y ≡ true
+    → len_in_row y cells ≡ i + len_in_row y (drop i cells) → len_in_row y cells ≡ (i + 1) + len_in_row y (drop (i + 1) cells)
+walked-on y cells i d l e h =
+    let here : len_in_row y (drop i cells) ≡ suc (len_in_row y (drop (i + 1) cells)) =
+    ap (len_in_row y) (drop_more cells i d l) ∙ len_in_row-here y (get_or cells i d) (drop (i + 1) cells) e in
+    omega (arith, h, here)
+
+pub walked-off : (y : ℤ) (cells : List Cell) (i : ℕ) (d : Cell) → i < length cells → int_eq (get_or cells i d).y y ≡ false
+    → len_in_row y cells ≡ i + len_in_row y (drop i cells) → i ≡ len_in_row y cells
+walked-off y cells i d l e h =
+    let here : len_in_row y (drop i cells) ≡ zero =
+    ap (len_in_row y) (drop_more cells i d l) ∙ len_in_row-below y (get_or cells i d) (drop (i + 1) cells) e in
+    omega (arith, h, here)
+
+pub walked-all : (y : ℤ) (cells : List Cell) (i : ℕ) → length cells ≤ i → len_in_row y cells ≡ i + len_in_row y (drop i cells) → i ≡ len_in_row y cells
+walked-all y cells i l h = let none = ap (len_in_row y) (drop_all i cells l) in omega (arith, h, none)
+
+-- what the test of a cell's row says, which compares bits
+pub same_bits : (a y : ℤ) → FitsSigned w32 a → of_z w32 a ≡ of_z w32 y → int_eq a (to_z w32 (of_z w32 y)) ≡ true
+same_bits a y fits e =
+    let same : a ≡ to_z w32 (of_z w32 y) = sym (to_z-of_z w32 a fits) ∙ ap (to_z w32) e in
+    subst (λ z. int_eq a z ≡ true) same (int_eq-refl a)

@@ -1,8 +1,8 @@
 -- Rules, their texts and what texts mean.
 use Rattle.std.proofs.Common.{◌≡◌, ◌<◌, ◌≤◌, ◌+◌, ℕ, suc, Bool, true, false, List, [], ◌∷◌, ◌++◌, length, drop}
-use Rattle.std.proofs.Common.{get_or, sym, ◌∙◌, ap, arith, drop-cons, add-one, append_assoc, append-nil}
+use Rattle.std.proofs.Common.{◌-◌, ◌⊎◌, inl, inr, zero, refl, slice_get, unwrap_or, get_or, sym, ◌∙◌, ap, arith, drop-cons, add-one, append_assoc, append-nil}
 use Rattle.std.proofs.lemmas.List.{drop_all}
-use Rattle.plane_core.specs.Rules.{digits}
+use Rattle.plane_core.specs.Rules.{Numbers, digits, is_birth, is_survival}
 
 -- the digits from place i on begin with that of the number there, if it is one
 pub digits-drop-true : (n i : ℕ) (answers : List Bool) → i < length answers → get_or answers i false ≡ true
@@ -36,3 +36,33 @@ pub digits-front-end : (n i : ℕ) (answers : List Bool) (front : List ℕ) → 
     → digits n answers ≡ front ++ digits (n + i) (drop i answers) → digits n answers ≡ front
 unfolding digits
 digits-front-end n i answers front h p = p ∙ ap (λ (xs : List Bool). front ++ digits (n + i) xs) (drop_all i answers h) ∙ append-nil front
+
+-- ---- what a table answers for a number
+
+answer_at : (answers : List Bool) (n : ℕ) → n < length answers → get_or answers n false ≡ unwrap_or (slice_get answers n) false
+answer_at [] n low = absurd (omega arith)
+answer_at (a ∷ answers) zero low = refl
+answer_at (a ∷ answers) (suc n) low = answer_at answers n (omega arith)
+
+past_answers : (answers : List Bool) (n : ℕ) → length answers ≤ n → false ≡ unwrap_or (slice_get answers n) false
+past_answers [] n high = refl
+past_answers (a ∷ answers) zero high = absurd (omega arith)
+past_answers (a ∷ answers) (suc n) high = past_answers answers n (omega arith)
+
+pub birth_at : (rule : Numbers) (n : ℕ) → length rule.births ≡ 8 → 1 ≤ n → n < 9 → get_or rule.births (n - 1) false ≡ is_birth rule n
+birth_at rule zero size low high = absurd (omega arith)
+birth_at rule (suc n) size low high =
+    let here : n < length rule.births = omega (arith, size, high) in
+    let same : suc n - 1 ≡ n = omega arith in
+    ap (λ k. get_or rule.births k false) same ∙ answer_at rule.births n here
+
+pub no_birth : (rule : Numbers) (n : ℕ) → length rule.births ≡ 8 → (n < 1) ⊎ (9 ≤ n) → false ≡ is_birth rule n
+no_birth rule zero size out = refl
+no_birth rule (suc n) size (inl low) = absurd (omega (arith, low))
+no_birth rule (suc n) size (inr high) = past_answers rule.births n (omega (arith, size, high))
+
+pub survival_at : (rule : Numbers) (n : ℕ) → length rule.survivals ≡ 9 → n < 9 → get_or rule.survivals n false ≡ is_survival rule n
+survival_at rule n size high = answer_at rule.survivals n (omega (arith, size, high))
+
+pub no_survival : (rule : Numbers) (n : ℕ) → length rule.survivals ≡ 9 → 9 ≤ n → false ≡ is_survival rule n
+no_survival rule n size high = past_answers rule.survivals n (omega (arith, size, high))

@@ -1,10 +1,11 @@
 -- How clusters are found: the places of a pattern's list become a forest. Each leads to an earlier place or is a root.
 use Rattle.std.specs.Prelude.{◌≡◌, ◌+◌, ◌-◌, ◌<◌, ◌≤◌, ◌==◌, ℕ, ℤ, pos, negsuc, List, [], ◌∷◌, cond, get_or, length}
+use Rattle.std.specs.List.{AllPairs}
 use Rattle.std.specs.declared.cmp.Ordering.TheVariants.{Less}
 use Rattle.plane_core.specs.declared.cell.Cell.{Cell}
 use Rattle.plane_core.specs.declared.forest.Cursors.{Cursors}
 use Rattle.plane_core.specs.Cells.{cell_at, cell_cmp, king_distance, moved_by}
-use Rattle.plane_core.specs.Clusters.{Linked}
+use Rattle.plane_core.specs.Clusters.{FirstBefore, Linked}
 
 -- the cell at a place
 abbrev pub cell_of : List Cell → ℕ → Cell
@@ -73,3 +74,14 @@ abbrev pub numbered : ℕ → List ℕ → List Cell → List Cell
 numbered n [] cells = []
 numbered n (m ∷ ms) [] = []
 numbered n (m ∷ ms) (c ∷ cs) = cond (m == n) (c ∷ numbered n ms cs) (numbered n ms cs)
+
+-- The places that were passed have the numbers of their clusters, and each cluster the cells that have its number.
+pub record IsGathering (cells : List Cell) (parents numbers : List ℕ) (clusters : List (List Cell)) (place : ℕ) : Type 0 where
+  pub size : length numbers ≡ place
+  pub few : place ≤ length cells
+  pub labels : (k : ℕ) → k < place → get_or numbers (parent_of parents k) 0 ≡ get_or numbers k 0
+  pub below : (k : ℕ) → k < place → get_or numbers k 0 < length clusters
+  pub lists : (n : ℕ) → n < length clusters → get_or clusters n [] ≡ numbered n numbers cells
+  pub used : (n : ℕ) → n < length clusters → (k : ℕ) × (k < place) × (get_or numbers k 0 ≡ n)
+  pub linked : (j k : ℕ) → j < place → k < place → get_or numbers j 0 ≡ get_or numbers k 0 → Linked cells (cell_of cells j) (cell_of cells k)
+  pub in_order : AllPairs FirstBefore clusters

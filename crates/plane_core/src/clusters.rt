@@ -7,12 +7,12 @@
 //! The places are gone through in order. A root begins the next cluster; any other place goes into the cluster of the
 //! place to which it leads, which stands earlier. So the clusters come in the order of their first cells, and the cells
 //! of each in their own.
-ghost use Rattle.std.specs.Prelude.{◌≡◌, ◌<◌, ◌++◌, [], ◌∷◌, length, All, IfOk, OnOk, get_or, set};
+ghost use Rattle.std.specs.Prelude.{◌≡◌, ◌+◌, ◌<◌, ◌++◌, [], ◌∷◌, length, All, IfOk, OnOk, get_or, set};
 ghost use Rattle.plane_core.specs.Cells.{IsPattern};
 ghost use Rattle.plane_core.specs.Clusters.{AreClusters};
 ghost use Rattle.plane_core.specs.Clusters.{ClustersAreDetermined, ClustersLieApart, ClustersMoveAlong};
 ghost use Rattle.plane_core.specs.Clusters.{ClustersPartition, LinkedIsAnEquivalence};
-ghost use Rattle.plane_core.specs.Forest.{IsForest, JoinsAll};
+ghost use Rattle.plane_core.specs.Forest.{IsForest, IsGathering, JoinsAll};
 
 use crate::cell::Cell;
 use crate::forest::forest;
@@ -73,18 +73,36 @@ fn gathered(alloc: Global, cells: &[Cell], parents: &[usize]) -> Result<Vec<Patt
 {
     let mut clusters = Vec::new(alloc);
     let mut numbers = Vec::with_capacity(alloc, cells.len())?;
-    for (place, cell) in cells.iter().enumerate() {
-        let parent = parents[place];
-        let number = if parent == place {
-            begin(alloc, &mut clusters, *cell)?
-        } else {
-            let number = numbers[parent];
-            extend(&mut clusters, number, *cell)?;
-            number
-        };
+    for place in 0..cells.len() {
+        let number = gather(alloc, cells, parents, &numbers, &mut clusters, place)?;
         numbers.push(number)?;
     }
     Ok(clusters)
+}
+
+/// Puts the cell at a place into the cluster of the place to which it leads. A root begins a cluster. The result is the
+/// number of the cluster.
+fn gather(
+    alloc: Global,
+    cells: &[Cell],
+    parents: &[usize],
+    numbers: &[usize],
+    clusters: &mut Vec<Pattern>,
+    place: usize,
+) -> Result<usize, OutOfMemory>
+    requires pattern { IsPattern cells.now }
+    requires forest { IsForest cells.now parents.now }
+    requires place { place < length cells.now }
+    requires gathering { IsGathering cells.now parents.now numbers.now clusters.old.items place }
+    ensures { IfOk result (λ number.
+        IsGathering cells.now parents.now (numbers.now ++ number ∷ []) clusters.new.items (place + 1)) }
+{
+    let cell = cells[place];
+    let Some(&number) = numbers.get(parents[place]) else {
+        return begin(alloc, clusters, cell);
+    };
+    extend(clusters, number, cell)?;
+    Ok(number)
 }
 
 /// For how many cells a new cluster has room. Of the clusters that a soup leaves, few have more.

@@ -8,14 +8,14 @@
 //!
 //! step:  in a window, or on a board, or counted cell by cell
 //! ```
-ghost use Rattle.std.specs.Prelude.{◌≡◌, ◌≢◌, ℕ, ◌+◌, ◌-◌, ◌<◌, ◌≤◌, true, false, IfOk, IfErr, IfSome, OnOk, IsErrOf};
+ghost use Rattle.std.specs.Prelude.{◌≡◌, ◌≢◌, ℕ, ◌+◌, ◌-◌, ◌<◌, ◌≤◌, true, false, IfOk, IfErr, IfSome, OnOk, OnSome, IsErrOf};
 ghost use Rattle.memory.specs.Evidence.{out_of_memory};
 ghost use Rattle.plane_core.specs.Cells.{has, plane_bound};
 ghost use Rattle.plane_core.specs.Generations.{next, after, lives, touches_edge, lies_within, NextMoved, NextTurned};
 ghost use Rattle.plane_core.specs.Generations.{SpeedFromOrigin, SpeedOfCells, SpeedOfLight};
 ghost use Rattle.plane_core.specs.Bounds.{AreSidesWithin};
 ghost use Rattle.plane_core.specs.Frames.{HasFewWords, IsFrame, LieOn, bounds_of};
-ghost use Rattle.plane_core.specs.Parts.{FarPatternsRunAlone, HasRun};
+ghost use Rattle.plane_core.specs.Parts.{FarPatternsRunAlone, HasRun, IsStretch, side};
 ghost use Rattle.plane_core.specs.Refusals.{RefusesStep};
 ghost use Rattle.plane_core.specs.declared.cell.Cell.{Cell};
 ghost use Rattle.plane_core.specs.declared.generation.StepError.TheVariants.{Memory};
@@ -39,7 +39,7 @@ pub enum StepError {
     #[error("a cell lies on the edge of the plane")]
     Edge,
     /// Memory ran out.
-    #[error("out of memory")]
+    #[error(transparent)]
     Memory(OutOfMemory),
 }
 
@@ -90,19 +90,9 @@ impl Pattern {
         if let Some(pattern) = next_in_window(alloc, rule, self)? {
             return Ok(pattern);
         }
-        match self.next_on_board(alloc, rule)? {
+        match self.run_on(alloc, rule, Frame::for_a_step(self), 1)? {
             Some(pattern) => Ok(pattern),
             None => self.counted(alloc, rule),
-        }
-    }
-
-    /// The next generation, on a board if one is worth it.
-    fn next_on_board(&self, alloc: Global, rule: &Rule) -> Result<Option<Pattern>, OutOfMemory>
-        ensures { IfOk result (λ ran. IfSome ran (λ pattern. pattern ≡ next rule.now self.now)) }
-    {
-        match Frame::for_a_step(self) {
-            Some(at) => self.run_on(alloc, rule, at, 1),
-            None => Ok(None),
         }
     }
 
@@ -152,11 +142,7 @@ impl Pattern {
     /// The pattern some generations later, at most so many: on boards if they are worth it, and else after one step.
     fn stretch(&self, alloc: Global, rule: &Rule, most: u32) -> Result<Stretch, StepError>
         requires { 0 < most }
-        ensures some { IfOk result (λ stretch. 0 < stretch.count) }
-        ensures most { IfOk result (λ stretch. stretch.count ≤ most) }
-        ensures after { IfOk result (λ stretch. stretch.pattern ≡ after rule.now self.now stretch.count) }
-        ensures inside { IfOk result
-            (λ stretch. (g : ℕ) → g < stretch.count → touches_edge (after rule.now self.now g) ≡ false) }
+        ensures run { IfOk result (λ stretch. IsStretch rule.now self.now most stretch.count stretch.pattern) }
         ensures edge { IsErrOf result StepError.Edge → touches_edge self.now ≡ true }
     {
         let count = most.min(STRETCH);
@@ -171,6 +157,7 @@ impl Pattern {
 
     /// The pattern after so many generations, each part that lies far from the others on a board of its own. It is
     /// `None` if a board isn't worth it for some part. At most so many cuts lead to a part.
+    #[cycle(run_in_parts)]
     fn run_in_parts(
         &self,
         alloc: Global,
@@ -182,63 +169,58 @@ impl Pattern {
         requires cuts { cuts ≤ 40 }
         ensures { IfOk result (λ ran. IfSome ran (HasRun rule.now self.now generations)) }
     {
-        if cuts == 0 {
-            return self.run_whole(alloc, rule, generations);
-        }
-        let Some(cut) = Cut::find(alloc, self, 2 * generations)? else {
-            return self.run_whole(alloc, rule, generations);
+        let Some(cut) = Cut::find(alloc, self, 2 * generations, cuts)? else {
+            return self.run_on(alloc, rule, Frame::round(self, generations), generations);
         };
-        let before = cut.side(alloc, self, true)?;
-        let Some(before) = before.run_in_parts(alloc, rule, generations, cuts - 1)? else {
+        let Some(before) = self.run_side(alloc, rule, generations, cuts - 1, cut, true)? else {
             return Ok(None);
         };
-        let past = cut.side(alloc, self, false)?;
-        let Some(past) = past.run_in_parts(alloc, rule, generations, cuts - 1)? else {
+        let Some(past) = self.run_side(alloc, rule, generations, cuts - 1, cut, false)? else {
             return Ok(None);
         };
         let whole = before.united(alloc, &past)?;
         Ok(Some(whole))
     }
 
-    /// The pattern after so many generations on one board, if one is worth it.
-    fn run_whole(
+    /// What becomes of the cells before a cut, or of those past it.
+    #[cycle(run_in_parts)]
+    fn run_side(
         &self,
         alloc: Global,
         rule: &Rule,
         generations: u32,
+        cuts: u32,
+        cut: Cut,
+        before: bool,
     ) -> Result<Option<Pattern>, OutOfMemory>
-        requires { generations ≤ 1000 }
-        ensures { IfOk result (λ ran. IfSome ran (HasRun rule.now self.now generations)) }
+        requires generations { generations ≤ 1000 }
+        requires cuts { cuts ≤ 40 }
+        ensures { IfOk result (λ ran. IfSome ran (HasRun rule.now (side cut before self.now) generations)) }
     {
-        match Frame::round(self, generations) {
-            Some(at) => self.run_on(alloc, rule, at, generations),
-            None => Ok(None),
-        }
+        let side = cut.side(alloc, self, before)?;
+        side.run_in_parts(alloc, rule, generations, cuts)
     }
 
-    /// The pattern after so many generations on a board, if there is room for them.
+    /// The pattern after so many generations on a board, if one is worth it and there is room for them.
     fn run_on(
         &self,
         alloc: Global,
         rule: &Rule,
-        at: Frame,
+        at: Option<Frame>,
         generations: u32,
     ) -> Result<Option<Pattern>, OutOfMemory>
-        requires frame { IsFrame at }
-        requires plane { AreSidesWithin plane_bound (bounds_of at) }
-        requires on { LieOn at self.now }
-        requires few { generations ≤ plane_bound }
-        requires inside { lies_within (plane_bound - generations) self.now ≡ true }
-        requires words { HasFewWords at self.now }
-        ensures { IfOk result (λ ran. IfSome ran (λ pattern. pattern ≡ after rule.now self.now generations)) }
+        requires frame { IfSome at IsFrame }
+        requires plane { IfSome at (λ at. AreSidesWithin plane_bound (bounds_of at)) }
+        requires on { IfSome at (λ at. LieOn at self.now) }
+        requires inside { OnSome at (lies_within (plane_bound - generations) self.now ≡ true) }
+        requires words { IfSome at (λ at. HasFewWords at self.now) }
+        ensures { IfOk result (λ ran. IfSome ran (HasRun rule.now self.now generations)) }
     {
-        let mut board = Board::lay(alloc, rule, at, self)?;
-        let made = board.advance(generations)?;
-        if made < generations {
+        let Some(at) = at else {
             return Ok(None);
-        }
-        let cells = board.cells(alloc, self.cells().len())?;
-        Ok(Some(Pattern::from_ordered(cells)))
+        };
+        let mut board = Board::lay(alloc, rule, at, self)?;
+        shown_after(alloc, &mut board, generations, self.population())
     }
 }
 
@@ -268,9 +250,32 @@ pub fn isotropy()
     ensures turned { NextTurned }
 {}
 
+/// What the board shows so many generations on, if it has room for them.
+fn shown_after(
+    alloc: Global,
+    board: &mut Board,
+    generations: u32,
+    room: usize,
+) -> Result<Option<Pattern>, OutOfMemory>
+    ensures { IfOk result
+        (λ shown. IfSome shown (λ pattern. pattern ≡ after board.old.rule board.old.cells generations)) }
+{
+    let made = board.advance(generations)?;
+    if made < generations {
+        return Ok(None);
+    }
+    let cells = board.cells(alloc, room)?;
+    Ok(Some(Pattern::from_ordered(cells)))
+}
+
 /// Whether a cell lies on the edge of the plane.
 fn touches(cells: &[Cell]) -> bool
     ensures { result ≡ touches_edge cells.now }
 {
-    cells.iter().any(|cell| cell.is_on_edge())
+    for cell in cells {
+        if cell.is_on_edge() {
+            return true;
+        }
+    }
+    false
 }

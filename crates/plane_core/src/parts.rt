@@ -3,10 +3,10 @@
 //! A cut between two columns, or two rows, parts a pattern in two if there is an empty band before it that is wide
 //! enough. Each part is cut again as long as there is such a band. So a spaceship that has left costs no more than a
 //! board of its own.
-ghost use Rattle.std.specs.Prelude.{◌≡◌, ◌<◌, ◌^◌, ◌++◌, ◌+ℤ◌, IfOk, IfSome, pos};
-ghost use Rattle.std.specs.List.{list_all, list_any};
+ghost use Rattle.std.specs.Prelude.{◌≡◌, ◌<◌, ◌^◌, ◌++◌, ◌+ℤ◌, IfOk, IfSome, OnSome, pos, true};
+ghost use Rattle.std.specs.List.{list_all};
 ghost use Rattle.plane_core.specs.Cells.{set_of};
-ghost use Rattle.plane_core.specs.Parts.{IsCut, is_before, is_on_side, leaves_band, place_on, side};
+ghost use Rattle.plane_core.specs.Parts.{IsCut, is_before, leaves_band, place_on, side};
 
 use crate::bounds::Bounds;
 use crate::cell::{BOUND, Cell};
@@ -49,14 +49,20 @@ impl Axis {
 }
 
 impl Cut {
-    /// A cut that parts the pattern in two, with an empty band of so many columns or rows before it, if one is found.
+    /// A cut that parts the pattern in two, with an empty band of so many columns or rows before it, if one is found
+    /// and a cut is left.
     pub(crate) fn find(
         alloc: Global,
         pattern: &Pattern,
         band: u32,
+        cuts: u32,
     ) -> Result<Option<Cut>, OutOfMemory>
-        ensures { IfOk result (λ found. IfSome found (IsCut band pattern.now)) }
+        ensures cut { IfOk result (λ found. IfSome found (IsCut band pattern.now)) }
+        ensures cuts { IfOk result (λ found. OnSome found (0 < cuts)) }
     {
+        if cuts == 0 {
+            return Ok(None);
+        }
         match Cut::along(alloc, Axis::Rows, pattern, band)? {
             Some(cut) => Ok(Some(cut)),
             None => Cut::along(alloc, Axis::Columns, pattern, band),
@@ -75,36 +81,19 @@ impl Cut {
         let Some(bounds) = pattern.bounds() else {
             return Ok(None);
         };
+        let cells = pattern.cells();
         let (low, high) = axis.sides(bounds);
-        let lanes = occupied_lanes(alloc, axis, low, high, pattern.cells())?;
+        let lanes = occupied_lanes(alloc, axis, low, high, cells)?;
         let Some(lane) = gap_end(lanes.as_slice(), band as usize / 64 + 1) else {
             return Ok(None);
         };
         let at = i64::from(low) + 64 * lane.min(BOUND as usize) as i64;
         let cut = Cut { axis, at };
-        Ok(cut.if_it_leaves_a_band(band, pattern))
-    }
-
-    /// The cut, if each side has a cell, and none lies in the band of so many columns or rows before it.
-    fn if_it_leaves_a_band(self, band: u32, pattern: &Pattern) -> Option<Cut>
-        ensures { IfSome result (IsCut band pattern.now) }
-    {
-        let cells = pattern.cells();
-        if self.leaves_band(band, cells)
-            && self.has_side(true, cells)
-            && self.has_side(false, cells)
-        {
-            Some(self)
+        if cut.leaves_band(band, cells) {
+            Ok(Some(cut))
         } else {
-            None
+            Ok(None)
         }
-    }
-
-    /// Whether a cell lies before the cut, or past it.
-    fn has_side(self, before: bool, cells: &[Cell]) -> bool
-        ensures { result ≡ list_any (is_on_side self before) cells.now }
-    {
-        cells.iter().any(|cell| self.is_on_side(before, *cell))
     }
 
     /// Whether the cell lies before the cut.
@@ -112,17 +101,6 @@ impl Cut {
         ensures { result ≡ is_before self cell }
     {
         i64::from(self.axis.place(cell)) < self.at
-    }
-
-    /// Whether the cell lies before the cut, or past it.
-    fn is_on_side(self, before: bool, cell: Cell) -> bool
-        ensures { result ≡ is_on_side self before cell }
-    {
-        if before {
-            self.is_before(cell)
-        } else {
-            !self.is_before(cell)
-        }
     }
 
     /// Whether the cell lies past the cut, or before the band of so many columns or rows before it.
@@ -134,9 +112,14 @@ impl Cut {
 
     /// Whether no cell lies in the band of so many columns or rows before the cut.
     fn leaves_band(self, band: u32, cells: &[Cell]) -> bool
-        ensures { result ≡ list_all (leaves_band self band) cells.now }
+        ensures { result ≡ true → list_all (leaves_band self band) cells.now ≡ true }
     {
-        cells.iter().all(|cell| self.leaves_band_at(band, *cell))
+        for cell in cells {
+            if !self.leaves_band_at(band, *cell) {
+                return false;
+            }
+        }
+        true
     }
 
     /// The cells of a pattern that lie before the cut, or those past it.
@@ -148,26 +131,13 @@ impl Cut {
     ) -> Result<Pattern, OutOfMemory>
         ensures { IfOk result (λ part. part ≡ side self before pattern.now) }
     {
-        let cells = self.cells_of_side(alloc, pattern.cells(), before)?;
-        Ok(Pattern::from_ordered(cells))
-    }
-
-    /// Those of the cells that lie before the cut, or those past it.
-    fn cells_of_side(
-        self,
-        alloc: Global,
-        cells: &[Cell],
-        before: bool,
-    ) -> Result<Vec<Cell>, OutOfMemory>
-        ensures { IfOk result (λ part. part.items ≡ side self before cells.now) }
-    {
         let mut part = Vec::new(alloc);
-        for cell in cells {
-            if self.is_on_side(before, *cell) {
+        for cell in pattern.cells() {
+            if self.is_before(*cell) == before {
                 part.push(*cell)?;
             }
         }
-        Ok(part)
+        Ok(Pattern::from_ordered(part))
     }
 }
 
@@ -234,16 +204,8 @@ impl Pattern {
     pub(crate) fn united(&self, alloc: Global, other: &Pattern) -> Result<Pattern, OutOfMemory>
         ensures { IfOk result (λ whole. whole ≡ set_of (self.now ++ other.now)) }
     {
-        let cells = joined(alloc, self.cells(), other.cells())?;
+        let mut cells = Vec::from_slice(alloc, self.cells())?;
+        cells.extend_from_slice(other.cells())?;
         Ok(Pattern::from_ordered(in_order(cells)))
     }
-}
-
-/// The cells of both lists.
-fn joined(alloc: Global, one: &[Cell], other: &[Cell]) -> Result<Vec<Cell>, OutOfMemory>
-    ensures { IfOk result (λ cells. cells.items ≡ one.now ++ other.now) }
-{
-    let mut cells = Vec::from_slice(alloc, one)?;
-    cells.extend_from_slice(other)?;
-    Ok(cells)
 }

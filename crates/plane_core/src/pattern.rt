@@ -19,7 +19,7 @@ pub enum FromCellsError {
     #[error("cell {index} lies past the bound of the plane")]
     OutOfPlane { index: usize },
     /// Memory ran out.
-    #[error("out of memory")]
+    #[error(transparent)]
     Memory(OutOfMemory),
 }
 

@@ -32,7 +32,7 @@ pub enum PlaceError {
     #[error("a cell would lie past the bound of the plane")]
     OutOfPlane,
     /// Memory ran out.
-    #[error("out of memory")]
+    #[error(transparent)]
     Memory(OutOfMemory),
 }
 

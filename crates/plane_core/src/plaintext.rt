@@ -6,7 +6,7 @@
 //! ..O
 //! OOO
 //! ```
-ghost use Rattle.std.specs.Prelude.{◌≡◌, ◌↔◌, ◌<◌, ◌≤◌, ◌++◌, Option, None, List, [], ◌∷◌, IfOk, IsErrOf, OnOk, length};
+ghost use Rattle.std.specs.Prelude.{◌≡◌, ◌==◌, ◌↔◌, ◌<◌, ◌≤◌, ◌++◌, Option, None, List, [], ◌∷◌, IfOk, IsErrOf, OnOk, length};
 ghost use Rattle.std.specs.Prelude.{ℕ, pos, Ok, Err};
 ghost use Rattle.std.specs.Prelude.{Some, IfSome, replicate, true, false, drop};
 ghost use Rattle.std.specs.List.{prefix_len};
@@ -21,7 +21,7 @@ ghost use Rattle.plane_core.specs.declared.plaintext.PlaintextFault.{PlaintextFa
 ghost use Rattle.plane_core.specs.Generations.{lies_within};
 ghost use Rattle.plane_core.specs.Plaintext.{is_live, fault_at, first_fault, live_cells, pattern, row_text, box_text};
 ghost use Rattle.plane_core.specs.Plaintext.{plain, FitsThousandSquare};
-ghost use Rattle.plane_core.specs.PlaintextPlaces.{Place, byte_at, dot, is_comment, places_of_row, places, side_limit};
+ghost use Rattle.plane_core.specs.PlaintextPlaces.{Place, byte_at, dot, is_comment, line_feed, places_of_row, places, side_limit};
 
 use crate::bounds::Bounds;
 use crate::cell::Cell;
@@ -68,7 +68,7 @@ pub enum PlaintextError {
     #[error(transparent)]
     Fault(PlaintextFault),
     /// Memory ran out.
-    #[error("out of memory")]
+    #[error(transparent)]
     Memory(OutOfMemory),
 }
 
@@ -136,10 +136,16 @@ fn without_return(line: &[u8]) -> &[u8]
     }
 }
 
+fn is_line_feed(byte: &u8) -> bool
+    ensures { result ≡ (byte.now == line_feed) }
+{
+    *byte == LINE_FEED
+}
+
 fn is_comment(line: &[u8]) -> bool
     ensures { result ≡ is_comment line.now }
 {
-    line.first() == Some(&COMMENT)
+    matches!(line, [COMMENT, ..])
 }
 
 fn is_live(byte: u8) -> bool
@@ -186,7 +192,7 @@ fn fault_in(text: &[u8]) -> Option<PlaintextFault>
 {
     let mut number = 0;
     let mut y = 0;
-    for line in text.split(|byte| *byte == LINE_FEED) {
+    for line in text.split(is_line_feed) {
         let line = without_return(line);
         number += 1;
         if !is_comment(line) {
@@ -235,7 +241,7 @@ fn pattern_in(alloc: Global, text: &[u8]) -> Result<Pattern, OutOfMemory>
 {
     let mut cells = Vec::new(alloc);
     let mut y = 0;
-    for line in text.split(|byte| *byte == LINE_FEED) {
+    for line in text.split(is_line_feed) {
         let row = without_return(line);
         if !is_comment(row) {
             push_row(&mut cells, y, row)?;
@@ -271,7 +277,11 @@ fn row_len(cells: &[Cell], y: i32) -> usize
     ensures value { result ≡ prefix_len (λ c. int_eq c.y y) cells.now }
     ensures bound { result ≤ length cells.now }
 {
-    cells.iter().take_while(|cell| cell.y == y).count()
+    let mut len = 0;
+    while len < cells.len() && cells[len].y == y {
+        len += 1;
+    }
+    len
 }
 
 /// The cells after those of row y.

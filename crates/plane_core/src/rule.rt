@@ -76,7 +76,13 @@ impl Rule {
 
         ensures exact { result ≡ rule_read text.now }
     {
-        let text = text.as_bytes();
+        Rule::read_bytes(text.as_bytes())
+    }
+
+    /// Reads a rule, as [`Rule::read`] does.
+    fn read_bytes(text: &[u8]) -> Result<Rule, RuleFault>
+        ensures { result ≡ rule_read text.now }
+    {
         if !text.starts_with(b"b") {
             return Err(RuleFault::BadRule { place: 0 });
         }

@@ -114,14 +114,14 @@ fn with_neighbours(
 fn counted(alloc: Global, cells: &[Cell]) -> Result<Vec<Tally>, OutOfMemory>
     ensures { IfOk result (λ tallies. tallies.items ≡ map one_of cells.now) }
 {
-    let tallies = cells
-        .iter()
-        .map(|cell| Tally {
+    let mut tallies = Vec::with_capacity(alloc, cells.len())?;
+    for cell in cells {
+        tallies.push(Tally {
             cell: *cell,
             count: 1,
             alive: true,
-        })
-        .collect(alloc)?;
+        })?;
+    }
     Ok(tallies)
 }
 
@@ -183,8 +183,8 @@ fn take_at(tallies: &[Tally], cell: Cell) -> Taken<'_>
     ensures alive { result.alive ≡ alive_first cell tallies.now }
     ensures remainder { result.remainder.now ≡ remainder_at cell tallies.now }
 {
-    match split(tallies) {
-        Some((first, remainder)) if cell == first.cell => Taken {
+    match tallies {
+        [first, remainder @ ..] if cell == first.cell => Taken {
             count: first.count,
             alive: first.alive,
             remainder,
@@ -225,16 +225,8 @@ fn earlier(a: Option<Cell>, b: Option<Cell>) -> Option<Cell>
 fn first_cell(tallies: &[Tally]) -> Option<Cell>
     ensures { result ≡ first_of tallies.now }
 {
-    let (first, _) = split(tallies)?;
-    Some(first.cell)
-}
-
-/// The first tally and those after it.
-fn split(tallies: &[Tally]) -> Option<(Tally, &[Tally])>
-    ensures { MatchOption result (tallies.now ≡ []) (λ p. tallies.now ≡ p.0 ∷ p.1.now) }
-{
     match tallies {
         [] => None,
-        [first, remainder @ ..] => Some((*first, remainder)),
+        [first, ..] => Some(first.cell),
     }
 }

@@ -1,4 +1,4 @@
-use Rattle.plane_core.proofs.GatherLemmas.{IsGathering}
+use Rattle.plane_core.specs.Forest.{IsGathering}
 use Rattle.plane_core.proofs.clusters.gathered.Given as goal
 
 abbrev pub invariant-loop-place : goal.invariant-loop-place

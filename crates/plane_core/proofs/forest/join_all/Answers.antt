@@ -15,3 +15,18 @@ loop-place-preserved c = (
 pub returns-clause-joined : goal.returns-clause-joined
 returns-clause-joined c j k less low near =
     let few : k < c.loop-place.place = omega (arith, low, c.loop-place-test.false) in c.loop-place.invariant.1 j k less few near
+
+pub join_place-cursors-requires-clause-pattern : goal.join_place-cursors-requires-clause-pattern
+join_place-cursors-requires-clause-pattern c = c.requires.pattern
+
+pub join_place-cursors-requires-clause-place : goal.join_place-cursors-requires-clause-place
+join_place-cursors-requires-clause-place c = c.loop-place-test.true
+
+pub join_place-cursors-requires-clause-forest : goal.join_place-cursors-requires-clause-forest
+join_place-cursors-requires-clause-forest c = c.loop-place.invariant.0
+
+pub join_place-cursors-requires-clause-cursors : goal.join_place-cursors-requires-clause-cursors
+join_place-cursors-requires-clause-cursors c = c.loop-place.invariant.2
+
+pub returns-clause-forest : goal.returns-clause-forest
+returns-clause-forest c = c.loop-place.invariant.0

@@ -78,3 +78,34 @@ join_row-top-requires-clause-above c = above c.near-3.result (cell_of c.args.cel
 
 pub returns-clause-forest : goal.returns-clause-forest
 returns-clause-forest c = c.join_row-top.ensures.forest
+
+-- what all steps ask for
+pub bounds-cells-place : goal.bounds-cells-place
+bounds-cells-place c = c.requires.place
+
+pub join_before-requires-clause-pattern : goal.join_before-requires-clause-pattern
+join_before-requires-clause-pattern c = c.requires.pattern
+
+pub join_before-requires-clause-place : goal.join_before-requires-clause-place
+join_before-requires-clause-place c = c.requires.place
+
+pub join_before-requires-clause-forest : goal.join_before-requires-clause-forest
+join_before-requires-clause-forest c = c.requires.forest
+
+pub join_row-above-requires-clause-pattern : goal.join_row-above-requires-clause-pattern
+join_row-above-requires-clause-pattern c = c.requires.pattern
+
+pub join_row-above-requires-clause-place : goal.join_row-above-requires-clause-place
+join_row-above-requires-clause-place c = c.requires.place
+
+pub join_row-above-requires-clause-forest : goal.join_row-above-requires-clause-forest
+join_row-above-requires-clause-forest c = c.join_before.ensures.forest
+
+pub join_row-top-requires-clause-pattern : goal.join_row-top-requires-clause-pattern
+join_row-top-requires-clause-pattern c = c.requires.pattern
+
+pub join_row-top-requires-clause-place : goal.join_row-top-requires-clause-place
+join_row-top-requires-clause-place c = c.requires.place
+
+pub join_row-top-requires-clause-forest : goal.join_row-top-requires-clause-forest
+join_row-top-requires-clause-forest c = c.join_row-above.ensures.forest

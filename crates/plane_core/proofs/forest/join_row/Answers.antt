@@ -20,3 +20,27 @@ returns-clause-cursor c k low = elim (cases_lt k c.args.cursor) [
   | inl before ↦ c.requires.cursor k before
   | inr after ↦ c.skipped-first.ensures k after low
 ]
+
+pub fresh_from-fresh-requires-clause-pattern : goal.fresh_from-fresh-requires-clause-pattern
+fresh_from-fresh-requires-clause-pattern c = c.requires.pattern
+
+pub fresh_from-fresh-requires-clause-place : goal.fresh_from-fresh-requires-clause-place
+fresh_from-fresh-requires-clause-place c = c.requires.place
+
+pub fresh_from-fresh-requires-clause-above : goal.fresh_from-fresh-requires-clause-above
+fresh_from-fresh-requires-clause-above c = c.requires.above
+
+pub join_up_to-requires-clause-pattern : goal.join_up_to-requires-clause-pattern
+join_up_to-requires-clause-pattern c = c.requires.pattern
+
+pub join_up_to-requires-clause-place : goal.join_up_to-requires-clause-place
+join_up_to-requires-clause-place c = c.requires.place
+
+pub join_up_to-requires-clause-forest : goal.join_up_to-requires-clause-forest
+join_up_to-requires-clause-forest c = c.requires.forest
+
+pub returns-clause-forest : goal.returns-clause-forest
+returns-clause-forest c = c.join_up_to.ensures.forest
+
+pub returns-clause-keeps : goal.returns-clause-keeps
+returns-clause-keeps c = c.join_up_to.ensures.keeps

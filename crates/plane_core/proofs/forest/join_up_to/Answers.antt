@@ -1,4 +1,4 @@
-use Rattle.std.proofs.Common.{◌≡◌, false, arith, rules}
+use Rattle.std.proofs.Common.{◌≡◌, ◌+◌, ◌-◌, ◌<◌, ℕ, false, arith, rules}
 use Rattle.std.specs.Ordering.{is_le}
 use Rattle.plane_core.specs.Cells.{cell_cmp}
 use Rattle.plane_core.specs.Forest.{cell_of}
@@ -47,3 +47,18 @@ join_if_near-requires-clause-one c = omega (arith, c.loop-at-test.true, c.requir
 
 pub bounds-cells-at : goal.bounds-cells-at
 bounds-cells-at c = omega (arith, c.loop-at-test.true, c.requires.place)
+
+pub join_if_near-requires-clause-pattern : goal.join_if_near-requires-clause-pattern
+join_if_near-requires-clause-pattern c = c.requires.pattern
+
+pub join_if_near-requires-clause-other : goal.join_if_near-requires-clause-other
+join_if_near-requires-clause-other c = c.requires.place
+
+pub join_if_near-requires-clause-forest : goal.join_if_near-requires-clause-forest
+join_if_near-requires-clause-forest c = c.loop-at.invariant.forest
+
+nearer : (at place : ℕ) → at < place → place - (at + 1) < place - at
+nearer at place low = omega arith
+
+pub loop-at-smaller : goal.loop-at-smaller
+loop-at-smaller c = nearer c.loop-at.at c.args.place c.loop-at-test.true

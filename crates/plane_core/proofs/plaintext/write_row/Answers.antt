@@ -1,4 +1,4 @@
-use Rattle.std.proofs.Common.{◌≡◌, ◌++◌, ◌+◌, ◌+ℤ◌, ◌≤ℤ◌, ◌<ℤ◌, ℤ, pos, [], ◌∷◌, take, drop, get_or, replicate, arith, ap, sym, ◌∙◌, w32, FitsSigned, to_z, of_z}
+use Rattle.std.proofs.Common.{◌≡◌, ◌++◌, ◌+◌, ◌+ℤ◌, ◌≤ℤ◌, ◌<ℤ◌, ℤ, pos, [], ◌∷◌, take, drop, get_or, replicate, arith, ap, sym, Ok, Err, ◌∙◌, w32, FitsSigned, to_z, of_z}
 use Rattle.std.proofs.lemmas.List.{length-take-le}
 use Rattle.std.proofs.lemmas.Int.{ints, to_z-of_z}
 use Rattle.plane_core.specs.declared.bounds.Bounds.{Bounds}
@@ -93,7 +93,7 @@ loop-cell-preserved g c =
       (
         front.0 ++ (replicate (distance x cell.x) dot ++ letter_o ∷ []),
         row_remainder-at y x end row i (record { y = pos 0; x = pos 0 }) front.0 (row_text c.args.cells.now c.args.bounds y) c.loop-cell-test.true inv.2 front.1,
-        Writes_then front.2 (Writes_as (ap (λ n. replicate n dot ++ letter_o ∷ []) gap) c.in_ok-put_after_gap.ensures),
+        Writes_then {r = Ok tt} front.2 (Writes_as {r = Ok tt} (ap (λ n. replicate n dot ++ letter_o ∷ []) gap) c.in_ok-put_after_gap.ensures),
       ),
     )
 
@@ -115,10 +115,10 @@ returns-in_err-put_after_gap g c =
     let call : c.abs_diff.result ≡ distance x (to_z w32 (of_z w32 cell.x)) = c.abs_diff.ensures in
     let gap : c.abs_diff.result ≡ distance x cell.x = call ∙ ap (λ z. distance x z) at_cell in
     let front = inv.3 in
-    Writes_as (sym (row_remainder-at y x end row i (record { y = pos 0; x = pos 0 }) front.0 (row_text c.args.cells.now c.args.bounds y)
+    Writes_as {r = c.from_residual.result} (sym (row_remainder-at y x end row i (record { y = pos 0; x = pos 0 }) front.0 (row_text c.args.cells.now c.args.bounds y)
     c.loop-cell-test.true inv.2 front.1))
     (Writes_stops (row_remainder later y (cell.x +ℤ pos 1) end) c.from_residual.ensures.0
-    (Writes_then front.2 (Writes_as (ap (λ n. replicate n dot ++ letter_o ∷ []) gap) c.in_err-put_after_gap.ensures)))
+    (Writes_then {r = Err c.in_err-put_after_gap.field-0.0} front.2 (Writes_as {r = Err c.in_err-put_after_gap.field-0.0} (ap (λ n. replicate n dot ++ letter_o ∷ []) gap) c.in_err-put_after_gap.ensures)))
 
 pub returns : goal.returns
 returns g c =
@@ -135,8 +135,8 @@ returns g c =
     let call : c.abs_diff-2.result ≡ distance x (to_z w32 (of_z w32 (to_z w32 (of_z w32 c.args.bounds.right) +ℤ pos 1))) = c.abs_diff-2.ensures in
     let gap : c.abs_diff-2.result ≡ distance x end = call ∙ ap (λ z. distance x (to_z w32 (of_z w32 (z +ℤ pos 1)))) right
     ∙ ap (λ z. distance x z) (to_z-of_z w32 end fits) in
-    Writes_as (sym (row_remainder-end y x end row c.loop-cell.cell-index front.0 (row_text c.args.cells.now c.args.bounds y) c.loop-cell-test.false front.1))
-    (Writes_then front.2 (Writes_as (ap (λ n. replicate n dot ++ line_feed ∷ []) gap) c.put_after_gap-2.ensures))
+    Writes_as {r = c.put_after_gap-2.result} (sym (row_remainder-end y x end row c.loop-cell.cell-index front.0 (row_text c.args.cells.now c.args.bounds y) c.loop-cell-test.false front.1))
+    (Writes_then {r = c.put_after_gap-2.result} front.2 (Writes_as {r = c.put_after_gap-2.result} (ap (λ n. replicate n dot ++ line_feed ∷ []) gap) c.put_after_gap-2.ensures))
 
 pub slice_bounds-cell-items-end : goal.slice_bounds-cell-items-end
 slice_bounds-cell-items-end g c = sym (length-take-le c.row_len.result c.args.cells.now c.row_len.ensures.bound)

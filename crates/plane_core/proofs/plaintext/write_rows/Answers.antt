@@ -1,4 +1,4 @@
-use Rattle.std.proofs.Common.{◌≡◌, ◌++◌, ◌+ℤ◌, ◌≤ℤ◌, ◌<ℤ◌, ℤ, pos, [], Some, drop, arith, refl, ap, sym, ◌∙◌, w32, FitsSigned, to_z, of_z}
+use Rattle.std.proofs.Common.{◌≡◌, ◌++◌, ◌+ℤ◌, ◌≤ℤ◌, ◌<ℤ◌, ℤ, pos, [], Some, drop, arith, refl, ap, sym, Ok, Err, ◌∙◌, w32, FitsSigned, to_z, of_z}
 use Rattle.std.proofs.lemmas.Int.{ints, to_z-of_z}
 use Rattle.plane_core.specs.declared.bounds.Bounds.{Bounds}
 use Rattle.plane_core.specs.PlaintextWalk.{IsBox}
@@ -8,7 +8,7 @@ use Rattle.plane_core.proofs.PlaintextWalks.{IsAhead-next, len_in_row, lt_z-true
 use Rattle.plane_core.proofs.PlaintextWriting.{Writes_as, box_text_is, rows_remainder, rows_remainder-at, rows_remainder-end, SameFrom-next}
 use Rattle.plane_core.proofs.plaintext.write_rows.Goals as goal
 
--- rows of a box, and those past a row and past the box
+-- rows of a box, and those past a row and the box
 top_fits : (b : Bounds) → IsBox b → FitsSigned w32 b.top
 top_fits b box = let top = box.top in let bottom = box.bottom in let high = box.high in omega (arith, ints)
 
@@ -67,7 +67,7 @@ loop-y-preserved g c =
       (
         front.0 ++ row_text remainder b y,
         rows_remainder-at cells remainder b y front.0 (box_text (Some b) cells) l inv.3 front.1,
-        Writes_then front.2 c.in_ok-write_row.ensures,
+        Writes_then {r = Ok tt} front.2 c.in_ok-write_row.ensures,
       ),
     )
 
@@ -83,8 +83,8 @@ returns-in_err-write_row g c =
     let test = rw at_end at c.loop-y-test.true in
     let l : y <ℤ end = lt_z-true y end test in
     let front = inv.4 in
-    Writes_as (sym (rows_remainder-at cells remainder b y front.0 (box_text (Some b) cells) l inv.3 front.1))
-    (Writes_stops (rows_remainder cells b (y +ℤ pos 1)) c.from_residual.ensures.0 (Writes_then front.2 c.in_err-write_row.ensures))
+    Writes_as {r = c.from_residual.result} (sym (rows_remainder-at cells remainder b y front.0 (box_text (Some b) cells) l inv.3 front.1))
+    (Writes_stops (rows_remainder cells b (y +ℤ pos 1)) c.from_residual.ensures.0 (Writes_then {r = Err c.in_err-write_row.field-0.0} front.2 c.in_err-write_row.ensures))
 
 pub returns : goal.returns
 returns g c =
@@ -96,4 +96,4 @@ returns g c =
     let at_end = past_bottom b c.requires.bounds in
     let test = rw at_end at c.loop-y-test.false in
     let front = inv.4 in
-    Writes_as (sym (rows_remainder-end cells b y front.0 (box_text (Some b) cells) (lt_z-false y end test) inv.1 front.1)) front.2
+    Writes_as {r = Ok tt} (sym (rows_remainder-end cells b y front.0 (box_text (Some b) cells) (lt_z-false y end test) inv.1 front.1)) front.2

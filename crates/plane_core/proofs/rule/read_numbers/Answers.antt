@@ -1,4 +1,4 @@
-use Rattle.std.proofs.Common.{ap, refl, sym, ◌∙◌, subst, List, ℕ, ◌+◌, set, true}
+use Rattle.std.proofs.Common.{ap, refl, sym, ◌∙◌, subst, List, ℕ, ◌+◌, ◌<◌, ◌≤◌, Fits, arith, set, true, w8}
 use Rattle.plane_core.specs.Rules.{Reading}
 use Rattle.plane_core.proofs.OutLemmas.{take-drop-remainder}
 use Rattle.plane_core.proofs.RuleNumbers.{ReadUpTo, ReadUpTo_hit, ReadUpTo_miss, ReadUpTo_done}
@@ -29,3 +29,16 @@ bounds-answers-i g c = c.loop-i-test.true
 
 pub slice_bounds-remainder-count : goal.slice_bounds-remainder-count
 slice_bounds-remainder-count g c = c.if-starts_with.ensures.bound refl
+
+-- a digit's byte
+digit_fits : (least i count : ℕ) → least + count ≤ 10 → i < count → (Fits w8 i) × (Fits w8 (48 + least)) × (Fits w8 (48 + least + i))
+digit_fits least i count few low = (omega arith, omega arith, omega arith)
+
+pub overflow_add-least : goal.overflow_add-least
+overflow_add-least g c = (digit_fits c.args.least c.loop-i.i g.row.N c.requires c.loop-i-test.true).1
+
+pub overflow_cast-i : goal.overflow_cast-i
+overflow_cast-i g c = (digit_fits c.args.least c.loop-i.i g.row.N c.requires c.loop-i-test.true).0
+
+pub overflow_add-least-in-loop-i : goal.overflow_add-least-in-loop-i
+overflow_add-least-in-loop-i g c = (digit_fits c.args.least c.loop-i.i g.row.N c.requires c.loop-i-test.true).2

@@ -1,4 +1,4 @@
-use Rattle.std.proofs.Common.{◌+◌, sym, subst, List, ℕ, Ok, drop}
+use Rattle.std.proofs.Common.{◌+◌, sym, subst, List, ℕ, Ok, Err, drop}
 use Rattle.plane_core.specs.declared.output.WriteError.{WriteError}
 use Rattle.plane_core.specs.Out.{Writes}
 use Rattle.plane_core.specs.Rules.{digits}
@@ -29,7 +29,7 @@ returns-in_err-put g c =
     let left = digits (n + (i + 1)) (drop (i + 1) answers) in
     let P : List ℕ → Type 0 = λ text. Writes {E = WriteError} g.V.Write.contents c.args.out.now c.put.new.self c.from_residual.result text in
     subst P (sym (digits-front-true n i answers written.0 c.loop-i-test.true c.if-answer.true written.1))
-    (Writes_stops left c.from_residual.ensures.0 (Writes_then written.2 c.in_err-put.ensures))
+    (Writes_stops left c.from_residual.ensures.0 (Writes_then {r = Err c.in_err-put.field-0.0} written.2 c.in_err-put.ensures))
 
 pub returns : goal.returns
 returns g c =

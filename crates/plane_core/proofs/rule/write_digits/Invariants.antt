@@ -4,7 +4,7 @@ use Rattle.plane_core.specs.Out.{Writes}
 use Rattle.plane_core.specs.Rules.{digits}
 use Rattle.plane_core.proofs.rule.write_digits.Given as goal
 
--- the digits are those written and those of the answers that are left
+-- the digits are those written and those of the answers left
 abbrev pub invariant-loop-i : goal.invariant-loop-i
 invariant-loop-i g l =
     (front : List ℕ)

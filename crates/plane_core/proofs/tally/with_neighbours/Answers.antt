@@ -4,30 +4,34 @@ use Rattle.std.proofs.lemmas.Result.{IfOk-weaker}
 use Rattle.plane_core.specs.Tallies.{moved_tally}
 use Rattle.plane_core.proofs.CellLemmas.{passed_within}
 use Rattle.plane_core.proofs.NeighbourLemmas.{adds_neighbours, in_order-moved, total-moved, total-moved_back}
+use Rattle.plane_core.proofs.tally.with_neighbours.Goals.{After-as_slice-2}
 use Rattle.plane_core.proofs.tally.with_neighbours.Goals as goal
 
-pub merged-requires-clause-orders : goal.merged-requires-clause-orders
-merged-requires-clause-orders c =
+-- the tallies on either side
+left_is : (c : After-as_slice-2) → c.as_slice.result.now ≡ map (moved_tally (neg_ℤ c.args.dx) (neg_ℤ c.args.dy)) c.args.tallies.now
+left_is c =
     let fits_x : FitsSigned w32 c.args.dx = c.ranges.dx in
     let fits_y : FitsSigned w32 c.args.dy = c.ranges.dy in
     let fits_back_x : FitsSigned w32 c.negated.result = search rules in
     let fits_back_y : FitsSigned w32 c.negated-2.result = search rules in
-    let left : c.as_slice.result.now ≡ map (moved_tally (neg_ℤ c.args.dx) (neg_ℤ c.args.dy)) c.args.tallies.now =
-    c.as_slice.ensures.value ∙ (simp to_z-of_z at (rw (c.negated.ensures, c.negated-2.ensures) at (simp to_z-of_z at c.in_ok-left.ensures))) in
-    let right : c.as_slice-2.result.now ≡ map (moved_tally c.args.dx c.args.dy) c.args.tallies.now =
-    c.as_slice-2.ensures.value ∙ (simp to_z-of_z at c.in_ok-right.ensures) in
+    c.as_slice.ensures.value ∙ (simp to_z-of_z at (rw (c.negated.ensures, c.negated-2.ensures) at (simp to_z-of_z at c.in_ok-left.ensures)))
+
+right_is : (c : After-as_slice-2) → c.as_slice-2.result.now ≡ map (moved_tally c.args.dx c.args.dy) c.args.tallies.now
+right_is c =
+    let fits_x : FitsSigned w32 c.args.dx = c.ranges.dx in
+    let fits_y : FitsSigned w32 c.args.dy = c.ranges.dy in
+    c.as_slice-2.ensures.value ∙ (simp to_z-of_z at c.in_ok-right.ensures)
+
+pub merged-requires-clause-orders : goal.merged-requires-clause-orders
+merged-requires-clause-orders c =
+    let left = left_is (goal.at.merged-requires-clause-orders c).After-as_slice-2 in
+    let right = right_is (goal.at.merged-requires-clause-orders c).After-as_slice-2 in
     (rw left (in_order-moved _ _ _ c.requires.in_order), c.requires.in_order, rw right (in_order-moved _ _ _ c.requires.in_order))
 
 pub merged-requires-clause-small : goal.merged-requires-clause-small
 merged-requires-clause-small c = λ x.
-    let fits_x : FitsSigned w32 c.args.dx = c.ranges.dx in
-    let fits_y : FitsSigned w32 c.args.dy = c.ranges.dy in
-    let fits_back_x : FitsSigned w32 c.negated.result = search rules in
-    let fits_back_y : FitsSigned w32 c.negated-2.result = search rules in
-    let left : c.as_slice.result.now ≡ map (moved_tally (neg_ℤ c.args.dx) (neg_ℤ c.args.dy)) c.args.tallies.now =
-    c.as_slice.ensures.value ∙ (simp to_z-of_z at (rw (c.negated.ensures, c.negated-2.ensures) at (simp to_z-of_z at c.in_ok-left.ensures))) in
-    let right : c.as_slice-2.result.now ≡ map (moved_tally c.args.dx c.args.dy) c.args.tallies.now =
-    c.as_slice-2.ensures.value ∙ (simp to_z-of_z at c.in_ok-right.ensures) in
+    let left = left_is (goal.at.merged-requires-clause-small c).After-as_slice-2 in
+    let right = right_is (goal.at.merged-requires-clause-small c).After-as_slice-2 in
     rw (left, right) (omega (
       arith,
       c.requires.small x,
@@ -37,14 +41,8 @@ merged-requires-clause-small c = λ x.
 
 pub returns : goal.returns
 returns c =
-    let fits_x : FitsSigned w32 c.args.dx = c.ranges.dx in
-    let fits_y : FitsSigned w32 c.args.dy = c.ranges.dy in
-    let fits_back_x : FitsSigned w32 c.negated.result = search rules in
-    let fits_back_y : FitsSigned w32 c.negated-2.result = search rules in
-    let left : c.as_slice.result.now ≡ map (moved_tally (neg_ℤ c.args.dx) (neg_ℤ c.args.dy)) c.args.tallies.now =
-    c.as_slice.ensures.value ∙ (simp to_z-of_z at (rw (c.negated.ensures, c.negated-2.ensures) at (simp to_z-of_z at c.in_ok-left.ensures))) in
-    let right : c.as_slice-2.result.now ≡ map (moved_tally c.args.dx c.args.dy) c.args.tallies.now =
-    c.as_slice-2.ensures.value ∙ (simp to_z-of_z at c.in_ok-right.ensures) in
+    let left = left_is (goal.at.returns c).After-as_slice-2 in
+    let right = right_is (goal.at.returns c).After-as_slice-2 in
     IfOk-weaker c.merged.result _ _ (λ sums m. adds_neighbours c.args.dx c.args.dy c.args.tallies.now sums.items c.requires.right c.requires.down m)
     (rw (left, right) at c.merged.ensures)
 
@@ -63,3 +61,9 @@ moved-requires-2-clause-right c = step_passed c.args.dx c.ranges.dx c.requires.r
 
 pub moved-requires-2-clause-down : goal.moved-requires-2-clause-down
 moved-requires-2-clause-down c = step_passed c.args.dy c.ranges.dy c.requires.down
+
+pub moved-requires-clause-near : goal.moved-requires-clause-near
+moved-requires-clause-near c = c.requires.near
+
+pub moved-requires-2-clause-near : goal.moved-requires-2-clause-near
+moved-requires-2-clause-near c = c.requires.near

@@ -1,7 +1,34 @@
-use Rattle.plane_core.specs.Parts.{is_on_side}
-use Rattle.plane_core.proofs.PartLemmas.{is_pattern-filter}
+use Rattle.std.proofs.Common.{◌≡◌, ◌∙◌, subst, ap, filter, sym}
+use Rattle.std.proofs.lemmas.List.{take_all}
+use Rattle.plane_core.specs.Parts.{is_on_side, side}
+use Rattle.plane_core.specs.Cells.{IsPattern}
+use Rattle.plane_core.proofs.PartLemmas.{is_pattern-filter, on_side, off_side}
+use Rattle.plane_core.proofs.SetLemmas.{filter-with, filter-without}
+use Rattle.plane_core.proofs.parts.Cut.side.Goals.{After-loop-cell, then-is_before-before+in_ok-push, else-is_before-before}
 use Rattle.plane_core.proofs.parts.Cut.side.Goals as goal
+
+pub loop-cell-preserved : goal.loop-cell-preserved
+loop-cell-preserved c =
+    let here = is_on_side c.args.self c.args.before in
+    let cells = c.cells-cell-items.result.now in
+    let i = c.loop-cell.cell-index in
+    let part = c.loop-cell.part.items in
+    elim c.if-is_before-before.branch [
+      | then-is_before-before+in_ok-push w ↦ ap (λ v. v.items) w.part-is ∙ w.in_ok-push.ensures.items
+          ∙ filter-with here cells i _ part c.loop-cell-test.true (on_side c.args.self c.args.before _ _ c.is_before.ensures w.if-is_before-before.true) c.loop-cell.invariant
+      | else-is_before-before w ↦ ap (λ v. v.items) w.part-is
+          ∙ filter-without here cells i _ part c.loop-cell-test.true (off_side c.args.self c.args.before _ _ c.is_before.ensures w.if-is_before-before.false) c.loop-cell.invariant
+    ]
+
+-- at the end all cells have been met
+sided : (c : After-loop-cell) → c.loop-cell.part.items ≡ side c.args.self c.args.before c.args.pattern.now
+sided c =
+    c.loop-cell.invariant
+    ∙ ap (filter (is_on_side c.args.self c.args.before)) (take_all c.loop-cell.cell-index c.cells-cell-items.result.now c.loop-cell-test.false ∙ c.cells-cell-items.ensures.cells)
 
 pub from_ordered-requires : goal.from_ordered-requires
 from_ordered-requires c =
-    rw (c.in_ok-cells.ensures, c.cells.ensures.cells) (is_pattern-filter (is_on_side c.args.self c.args.before) c.args.pattern.now c.cells.ensures.pattern)
+    subst IsPattern (sym (sided c)) (is_pattern-filter (is_on_side c.args.self c.args.before) c.args.pattern.now c.cells-cell-items.ensures.pattern)
+
+pub returns : goal.returns
+returns c = c.from_ordered.ensures ∙ sided (goal.at.returns c).After-loop-cell

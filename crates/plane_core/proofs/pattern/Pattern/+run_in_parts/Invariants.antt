@@ -1,4 +1,8 @@
+use Rattle.std.proofs.Common.{◌*◌, ◌+◌}
 use Rattle.plane_core.proofs.pattern.Pattern.+run_in_parts.Given as goal
 
 abbrev pub decreases-run_in_parts : goal.decreases-run_in_parts
-decreases-run_in_parts l = l.cuts
+decreases-run_in_parts l = 2 * l.cuts
+
+abbrev pub decreases-run_side : goal.decreases-run_side
+decreases-run_side l = 2 * l.cuts + 1

@@ -1,8 +1,29 @@
 use Rattle.std.proofs.Common.{ℕ, List, length, subst, sym}
-use Rattle.plane_core.specs.Forest.{JoinsAll}
+use Rattle.std.specs.Prelude.{IfOk}
+use Rattle.plane_core.specs.declared.cell.Cell.{Cell}
+use Rattle.plane_core.specs.Cells.{IsPattern}
+use Rattle.plane_core.specs.Clusters.{AreClusters}
+use Rattle.plane_core.specs.Forest.{IsForest, JoinsAll}
 use Rattle.plane_core.proofs.pattern.Pattern.clusters.Goals as goal
+
+pub forest-requires : goal.forest-requires
+forest-requires c = subst IsPattern (sym c.cells-cells.ensures.cells) c.cells-cells.ensures.pattern
+
+pub gathered-requires-clause-pattern : goal.gathered-requires-clause-pattern
+gathered-requires-clause-pattern c = subst IsPattern (sym c.cells-cells.ensures.cells) c.cells-cells.ensures.pattern
+
+pub gathered-requires-clause-forest : goal.gathered-requires-clause-forest
+gathered-requires-clause-forest c =
+    subst (λ (parents : List ℕ). IsForest c.cells-cells.result.now parents) (sym c.deref.ensures.value) c.in_ok-parents.ensures.forest
 
 pub gathered-requires-clause-joined : goal.gathered-requires-clause-joined
 gathered-requires-clause-joined c =
     subst (λ (parents : List ℕ). JoinsAll c.cells-cells.result.now parents (length c.cells-cells.result.now)) (sym c.deref.ensures.value)
     c.in_ok-parents.ensures.joined
+
+pub returns-clause-clusters : goal.returns-clause-clusters
+returns-clause-clusters c =
+    subst (λ (S : List Cell). IfOk c.gathered.result (λ clusters. AreClusters S clusters.items)) c.cells-cells.ensures.cells c.gathered.ensures.clusters
+
+pub returns-clause-patterns : goal.returns-clause-patterns
+returns-clause-patterns c = c.gathered.ensures.patterns
