@@ -5,16 +5,16 @@ use Rattle.std.specs.Prelude.{IfOk, IfSome}
 use Rattle.std.proofs.Common.{arith, refl, ap, ◌∙◌, sym, subst, inl, inr, ◌⊎◌, nat_lt}
 use mathlib.Core.Bool.{beq}
 use Rattle.std.proofs.lemmas.Int.{ints}
-use Rattle.std.specs.List.{list_all}
-use Rattle.std.proofs.lemmas.List.Folds.{list_all_more}
-use Rattle.std.proofs.lemmas.Bool.{false≢true, eqb-true, ltb-true, ltb-false, and_parts}
+use Rattle.std.specs.List.{list_all, list_any}
+use Rattle.std.proofs.lemmas.List.Folds.{list_all_more, list_any_at}
+use Rattle.std.proofs.lemmas.Bool.{false≢true, eqb-true, ltb-true, ltb-false, and_parts, or_cases}
 use Rattle.plane_core.specs.declared.cell.Cell.{Cell}
 use Rattle.plane_core.specs.declared.parts.Axis.{Axis}
 use Rattle.plane_core.specs.declared.parts.Axis.TheVariants.{Columns, Rows}
 use Rattle.plane_core.specs.declared.parts.Cut.{Cut}
 use Rattle.plane_core.specs.Cells.{has, same_cell, set_of, king_distance, distance, on_plane, plane_bound, is_within, InOrder, IsPattern}
 use Rattle.plane_core.specs.Generations.{around, lives, next, after, lies_within, touches_edge}
-use Rattle.plane_core.specs.Parts.{AreApart, FarPatternsRunAlone, HasRun, IsCut, IsStretch, is_before, is_on_side, leaves_band, place_on, side}
+use Rattle.plane_core.specs.Parts.{AreApart, FarPatternsRunAlone, HasRun, HasSides, IsCut, IsStretch, is_before, is_on_side, leaves_band, place_on, side}
 use Rattle.plane_core.specs.Rules.{Numbers, is_birth, is_survival}
 use Rattle.plane_core.proofs.NeighbourhoodLemmas.{around-cons}
 use Rattle.plane_core.proofs.GenerationLemmas.{a_neighbour, after-none, after-one, distance_itself, has-next, lives_cases}
@@ -318,11 +318,21 @@ far_patterns rule one other g o u far =
 
 -- ---- the test of a cut
 
-pub is_cut : (cut : Cut) (band : ℕ) (S cells : List Cell) → cells ≡ S → InOrder S → list_all (leaves_band cut band) cells ≡ true → IsCut band S cut
-is_cut cut band S cells same order leaves = record {
+pub is_cut : (cut : Cut) (band : ℕ) (S cells : List Cell) → cells ≡ S → InOrder S → HasSides cut band cells → IsCut band S cut
+is_cut cut band S cells same order sides = record {
   in_order = order;
-  apart = apart_by_cut cut band S (ap (list_all (leaves_band cut band)) (sym same) ∙ leaves);
+  before = ap (list_any (is_on_side cut true)) (sym same) ∙ sides.before;
+  past = ap (list_any (is_on_side cut false)) (sym same) ∙ sides.past;
+  apart = apart_by_cut cut band S (ap (list_all (leaves_band cut band)) (sym same) ∙ sides.leaves);
 }
+
+-- a side that had a cell still has one, and so has the side of the cell that was met
+pub side_met : (cut : Cut) (before had b : Bool) (cells : List Cell) (i : ℕ) (d : Cell) → i < length cells → b ≡ is_on_side cut before (get_or cells i d)
+    → (had ≡ true → list_any (is_on_side cut before) cells ≡ true) → (had || b) ≡ true → list_any (is_on_side cut before) cells ≡ true
+side_met cut before had b cells i d low is earlier e = elim (or_cases had b e) [
+  | inl there ↦ earlier there
+  | inr here ↦ list_any_at (is_on_side cut before) cells i d low (sym is ∙ here)
+]
 
 -- what a board showed, as a run of the pattern that was laid on it
 pub ran_on_board : {E : Type 0} (ran : Result (Option (List Cell)) E) (laid rule : Numbers) (T S : List Cell) (n : ℕ) → laid ≡ rule → T ≡ S

@@ -1,5 +1,6 @@
 -- Parts of a pattern that lie so far apart that they don't meet for some generations.
 use Rattle.std.specs.Prelude.{◌≡◌, ◌<◌, ◌≤◌, ◌*◌, ◌++◌, ◌+ℤ◌, ◌||◌, ℕ, ℤ, pos, Bool, true, false, not, List, filter, int_lt, if◌then◌else◌, ◌-◌}
+use Rattle.std.specs.List.{list_all, list_any}
 use Rattle.plane_core.specs.declared.cell.Cell.{Cell}
 use Rattle.plane_core.specs.declared.parts.Axis.{Axis}
 use Rattle.plane_core.specs.declared.parts.Axis.TheVariants.{Columns, Rows}
@@ -32,9 +33,17 @@ side cut before cells = filter (is_on_side cut before) cells
 abbrev pub AreApart : ℕ → (Cell → Bool) → List Cell → Type 0
 AreApart far test cells = (c d : Cell) → has cells c ≡ true → has cells d ≡ true → test c ≡ true → test d ≡ false → far < king_distance c d
 
--- a cut that parts a pattern in two, with a band of so many columns or rows between
+-- each side of a cut has a cell, and no cell lies in the band of so many columns or rows before it
+pub record HasSides (cut : Cut) (band : ℕ) (cells : List Cell) : Type 0 where
+  pub leaves : list_all (leaves_band cut band) cells ≡ true
+  pub before : list_any (is_on_side cut true) cells ≡ true
+  pub past : list_any (is_on_side cut false) cells ≡ true
+
+-- a cut that parts a pattern in two, of which each has a cell, with a band of so many columns or rows between
 pub record IsCut (band : ℕ) (cells : List Cell) (cut : Cut) : Type 0 where
   pub in_order : InOrder cells
+  pub before : list_any (is_on_side cut true) cells ≡ true
+  pub past : list_any (is_on_side cut false) cells ≡ true
   pub apart : AreApart band (is_before cut) cells
 
 -- the pattern after n generations, in which no cell can get to the edge of the plane

@@ -3,10 +3,9 @@
 //! A cut between two columns, or two rows, parts a pattern in two if there is an empty band before it that is wide
 //! enough. Each part is cut again as long as there is such a band. So a spaceship that has left costs no more than a
 //! board of its own.
-ghost use Rattle.std.specs.Prelude.{◌≡◌, ◌<◌, ◌^◌, ◌++◌, ◌+ℤ◌, IfOk, IfSome, OnSome, pos, true};
-ghost use Rattle.std.specs.List.{list_all};
+ghost use Rattle.std.specs.Prelude.{◌≡◌, ◌<◌, ◌^◌, ◌++◌, ◌+ℤ◌, IfOk, IfSome, IsTrue, OnSome, pos};
 ghost use Rattle.plane_core.specs.Cells.{set_of};
-ghost use Rattle.plane_core.specs.Parts.{IsCut, is_before, leaves_band, place_on, side};
+ghost use Rattle.plane_core.specs.Parts.{HasSides, IsCut, is_before, leaves_band, place_on, side};
 
 use crate::bounds::Bounds;
 use crate::cell::{BOUND, Cell};
@@ -89,7 +88,7 @@ impl Cut {
         };
         let at = i64::from(low) + 64 * lane.min(BOUND as usize) as i64;
         let cut = Cut { axis, at };
-        if cut.leaves_band(band, cells) {
+        if cut.parts(band, cells) {
             Ok(Some(cut))
         } else {
             Ok(None)
@@ -110,16 +109,21 @@ impl Cut {
         !self.is_before(cell) || past_band(self.axis.place(cell), band) < self.at
     }
 
-    /// Whether no cell lies in the band of so many columns or rows before the cut.
-    fn leaves_band(self, band: u32, cells: &[Cell]) -> bool
-        ensures { result ≡ true → list_all (leaves_band self band) cells.now ≡ true }
+    /// Whether each side of the cut has a cell, and none lies in the band of so many columns or rows before it.
+    fn parts(self, band: u32, cells: &[Cell]) -> bool
+        ensures { IsTrue result → HasSides self band cells.now }
     {
+        let mut before = false;
+        let mut past = false;
         for cell in cells {
             if !self.leaves_band_at(band, *cell) {
                 return false;
             }
+            let is_before = self.is_before(*cell);
+            before |= is_before;
+            past |= !is_before;
         }
-        true
+        before & past
     }
 
     /// The cells of a pattern that lie before the cut, or those past it.

@@ -3,10 +3,10 @@ use Rattle.std.proofs.lemmas.Int.{ints}
 use Rattle.plane_core.proofs.PartLemmas.{is_cut}
 use Rattle.plane_core.proofs.parts.Cut.along.Goals as goal
 
-pub returns-then-leaves_band : goal.returns-then-leaves_band
-returns-then-leaves_band c =
+pub returns-then-parts : goal.returns-then-parts
+returns-then-parts c =
     is_cut _ c.args.band c.args.pattern.now c.cells-cells.result.now c.cells-cells.ensures.cells c.cells-cells.ensures.pattern.in_order
-    (c.leaves_band.ensures c.if-leaves_band.true)
+    (c.parts.ensures c.if-parts.true)
 
 -- the numbers of the guess
 width_fits : (band : ℕ) → band < 4294967296 → Fits w64 (band / 64 + 1)
