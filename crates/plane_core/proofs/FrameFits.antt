@@ -1,6 +1,6 @@
 -- That the numbers from which a frame is made fit their types.
-use Rattle.std.proofs.Common.{◌≡◌, ◌+◌, ◌-◌, ◌*◌, ◌/◌, ◌^◌, ◌<◌, ◌≤◌, ℕ, ℤ, pos, ◌+ℤ◌, ◌-ℤ◌, ◌≤ℤ◌, Fits, FitsSigned, true, false, leb, arith, unsigned_abs}
-use Rattle.std.proofs.Common.{of_z, subst, to_z, w32, w64}
+use Rattle.std.proofs.Common.{◌≡◌, ◌+◌, ◌-◌, ◌*◌, ◌/◌, ◌^◌, ◌<◌, ◌≤◌, ℕ, ℤ, pos, ◌+ℤ◌, ◌-ℤ◌, ◌≤ℤ◌, Fits, FitsSigned, true, false}
+use Rattle.std.proofs.Common.{arith, leb, unsigned_abs, of_z, subst, to_z, w32, w64}
 use Rattle.std.proofs.lemmas.Bool.{leb-true}
 use Rattle.std.proofs.lemmas.Int.{ints, to_z-of_z}
 use lib.Signed.{le_z, lt_z}

@@ -48,7 +48,10 @@ pub(crate) fn cover(
     ensures { OnOk result (AreCovered places.new.items boxes.now) }
 {
     unite(boxes, rectangles)?;
-    tile(rectangles.as_slice(), places)?;
+    places.clear();
+    for rectangle in rectangles.as_slice() {
+        lay(*rectangle, places)?;
+    }
     Ok(())
 }
 
@@ -161,18 +164,6 @@ fn windows_for(rectangle: Bounds) -> u64 {
     let across = rectangle.left.abs_diff(rectangle.right) / 56 + 1;
     let down = rectangle.top.abs_diff(rectangle.bottom) / 32 + 1;
     u64::from(across) * u64::from(down)
-}
-
-/// Lays windows over the rectangles, in place of those of the list.
-fn tile(rectangles: &[Bounds], places: &mut Vec<Place>) -> Result<(), OutOfMemory>
-    requires { All (AreSidesWithin rectangle_bound) rectangles.now }
-    ensures { OnOk result ((c : Cell) → IsInOne rectangles.now c → IsCovered places.new.items c) }
-{
-    places.clear();
-    for rectangle in rectangles {
-        lay(*rectangle, places)?;
-    }
-    Ok(())
 }
 
 /// Lays windows over a rectangle, row by row.

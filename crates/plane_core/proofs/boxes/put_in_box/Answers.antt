@@ -10,7 +10,8 @@ use Rattle.plane_core.proofs.BoxLemmas.{any_pushed, joined_wider, pushed_wider}
 use Rattle.plane_core.proofs.boxes.put_in_box.Goals as goal
 
 pub returns-in_err-push-clause-wider : goal.returns-in_err-push-clause-wider
-returns-in_err-push-clause-wider c = subst (λ (boxes : List Bounds). AreWider c.args.boxes.now.items boxes) (sym c.in_err-push.ensures.items) (λ n d some. some)
+returns-in_err-push-clause-wider c =
+    subst (λ (boxes : List Bounds). AreWider c.args.boxes.now.items boxes) (sym c.in_err-push.ensures.items) (λ n d some. some)
 
 pub returns-in_err-push-clause-held : goal.returns-in_err-push-clause-held
 returns-in_err-push-clause-held c = IfOk-from_err _ _ c.from_residual.ensures.0

@@ -39,7 +39,8 @@ loop-cell-preserved c =
           (held_at cells i (cell_at (pos 0) (pos 0)) c.at.result later c.at.ensures c.in_ok-put_in_box.ensures.held);
       wider = λ n d some. c.put_in_box.ensures.wider n d (c.loop-cell.invariant.wider n d some);
       sides = λ n e old.
-          c.put_in_box.ensures.sides n (sides_at cells i (cell_at (pos 0) (pos 0)) c.at.result n c.loop-cell-test.true c.at.ensures e) (c.loop-cell.invariant.sides n e old);
+          c.put_in_box.ensures.sides n (sides_at cells i (cell_at (pos 0) (pos 0)) c.at.result n c.loop-cell-test.true c.at.ensures e)
+          (c.loop-cell.invariant.sides n e old);
     }
 
 pub returns-clause-wider : goal.returns-clause-wider

@@ -19,7 +19,10 @@ loop-cell-preserved c = record {
       c.loop-cell-test.true
       (All-weaker (λ (d : Cell). IsWithin c.loop-cell.run d ⊎ IsInOne c.loop-cell.boxes.items d)
       (λ (d : Cell). IsWithin c.in_ok-run.run' d ⊎ IsInOne c.next_run.new.boxes.items d)
-      (λ d h. elim h [ inl in_run ↦ c.in_ok-run.ensures.run d in_run | inr in_box ↦ inr (wider_has c.loop-cell.boxes.items c.next_run.new.boxes.items c.in_ok-run.ensures.wider d in_box) ])
+      (λ d h. elim h [
+        | inl in_run ↦ c.in_ok-run.ensures.run d in_run
+        | inr in_box ↦ inr (wider_has c.loop-cell.boxes.items c.next_run.new.boxes.items c.in_ok-run.ensures.wider d in_box)
+      ])
       (take c.loop-cell.cell-index c.args.cells.now) c.loop-cell.invariant.held)
       (inl c.in_ok-run.ensures.cell);
   run_sides = λ n near.
@@ -34,7 +37,10 @@ returns-clause-held c = λ d h.
     (recursion_from_All (λ (d : Cell). IsInOne c.put_in_box.new.boxes.items d) c.args.cells.now
     (All-weaker (λ (d : Cell). IsWithin c.loop-cell.run d ⊎ IsInOne c.loop-cell.boxes.items d)
     (λ (d : Cell). IsInOne c.put_in_box.new.boxes.items d)
-    (λ d h. elim h [ inl in_run ↦ c.in_ok-put_in_box.ensures.held d in_run | inr in_box ↦ wider_has c.loop-cell.boxes.items c.put_in_box.new.boxes.items c.put_in_box.ensures.wider d in_box ]) c.args.cells.now
+    (λ d h. elim h [
+      | inl in_run ↦ c.in_ok-put_in_box.ensures.held d in_run
+      | inr in_box ↦ wider_has c.loop-cell.boxes.items c.put_in_box.new.boxes.items c.put_in_box.ensures.wider d in_box
+    ]) c.args.cells.now
     (All-same (λ (d : Cell). IsWithin c.loop-cell.run d ⊎ IsInOne c.loop-cell.boxes.items d) c.args.cells.now
     (take c.loop-cell.cell-index c.args.cells.now)
     (sym (take_whole c.args.cells.now c.loop-cell.cell-index c.loop-cell.auto.cell-index-end c.loop-cell-test.false))

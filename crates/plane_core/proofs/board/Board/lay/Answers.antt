@@ -58,7 +58,8 @@ laid : (c : goal.After-new-2) → IsSpannedBoard c.args.at c.new.result.rule c.i
 laid c =
     laid_spanned c.new.result.rule c.args.at c.is_life.result c.fill.new.words c.boxes_round.new.boxes.items c.widen_by_cells.new.spans
     c.args.pattern.now c.cells-cells.result.now c.cells-cells.ensures.cells c.cells-cells.ensures.pattern c.requires.frame c.requires.plane
-    (λ life. c.new.ensures ∙ c.is_life.ensures life) (c.fill.auto.words ∙ ap length (c.as_mut_slice.ensures.value ∙ c.in_ok-words.ensures.items_if_clones_equal (λ y h. h)) ∙ length-replicate _ _
+    (λ life. c.new.ensures ∙ c.is_life.ensures life)
+    (c.fill.auto.words ∙ ap length (c.as_mut_slice.ensures.value ∙ c.in_ok-words.ensures.items_if_clones_equal (λ y h. h)) ∙ length-replicate _ _
     ∙ c.count.ensures.count)
     (c.widen_by_cells.auto.spans ∙ ap length (c.as_mut_slice-2.ensures.value ∙ c.in_ok-spans.ensures.items_if_clones_equal (λ y h. h))
     ∙ length-replicate _ _) c.requires.on c.fill.ensures c.widen_by_cells.ensures.held

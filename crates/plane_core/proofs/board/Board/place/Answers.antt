@@ -57,7 +57,8 @@ laid c =
     c.in-Some.ensures.frame c.in-Some.ensures.plane c.self.invariant.board.life
     (c.fill.auto.words ∙ ap length c.as_mut_slice.ensures.value ∙ c.self.invariant.board.long
     ∙ sym (λ i. c.in-Some.ensures.lanes i * c.in-Some.ensures.rows i))
-    (c.widen_by_cells.auto.spans ∙ ap length c.as_mut_slice-in-Ok.ensures.value ∙ c.self.invariant.spanned.lanes ∙ sym c.in-Some.ensures.lanes) c.in-Some.ensures.on c.fill.ensures c.widen_by_cells.ensures.held
+    (c.widen_by_cells.auto.spans ∙ ap length c.as_mut_slice-in-Ok.ensures.value ∙ c.self.invariant.spanned.lanes ∙ sym c.in-Some.ensures.lanes)
+    c.in-Some.ensures.on c.fill.ensures c.widen_by_cells.ensures.held
     c.in-Ok.ensures.held c.in-Ok.ensures.sides
 
 pub invariant_of-self : goal.invariant_of-self

@@ -30,41 +30,53 @@ returns-then-farthest-around c e = absurd (false≢true e)
 
 pub apart-width-requires-clause-a : goal.apart-width-requires-clause-a
 apart-width-requires-clause-a c =
-    passed_near c.args.bounds.left (sides_near _ _ c.args.bounds c.farthest.ensures c.if-farthest-around.false).left
+    let near = sides_near _ _ c.args.bounds c.farthest.ensures c.if-farthest-around.false in
+    passed_near c.args.bounds.left near.left
 
 pub apart-width-requires-clause-b : goal.apart-width-requires-clause-b
 apart-width-requires-clause-b c =
-    passed_near c.args.bounds.right (sides_near _ _ c.args.bounds c.farthest.ensures c.if-farthest-around.false).right
+    let near = sides_near _ _ c.args.bounds c.farthest.ensures c.if-farthest-around.false in
+    passed_near c.args.bounds.right near.right
 
 pub apart-height-requires-clause-a : goal.apart-height-requires-clause-a
 apart-height-requires-clause-a c =
-    passed_near c.args.bounds.top (sides_near _ _ c.args.bounds c.farthest.ensures c.if-farthest-around.false).top
+    let near = sides_near _ _ c.args.bounds c.farthest.ensures c.if-farthest-around.false in
+    passed_near c.args.bounds.top near.top
 
 pub apart-height-requires-clause-b : goal.apart-height-requires-clause-b
 apart-height-requires-clause-b c =
-    passed_near c.args.bounds.bottom (sides_near _ _ c.args.bounds c.farthest.ensures c.if-farthest-around.false).bottom
+    let near = sides_near _ _ c.args.bounds c.farthest.ensures c.if-farthest-around.false in
+    passed_near c.args.bounds.bottom near.bottom
 
 pub overflow_add-width : goal.overflow_add-width
-overflow_add-width c = fits_more c.apart-width.result 1 (apart_small c.args.bounds.left c.args.bounds.right c.apart-width.result (sides_near _ _ c.args.bounds c.farthest.ensures c.if-farthest-around.false).left
-    (sides_near _ _ c.args.bounds c.farthest.ensures c.if-farthest-around.false).right c.apart-width.ensures) one
+overflow_add-width c =
+    let near = sides_near _ _ c.args.bounds c.farthest.ensures c.if-farthest-around.false in
+    fits_more c.apart-width.result 1 (apart_small c.args.bounds.left c.args.bounds.right c.apart-width.result near.left
+    near.right c.apart-width.ensures) one
 
 pub overflow_mul-is_wide : goal.overflow_mul-is_wide
 overflow_mul-is_wide c = room
 
 pub overflow_add-is_wide : goal.overflow_add-is_wide
-overflow_add-is_wide c = fits_room c.apart-width.result (apart_small c.args.bounds.left c.args.bounds.right c.apart-width.result (sides_near _ _ c.args.bounds c.farthest.ensures c.if-farthest-around.false).left
-    (sides_near _ _ c.args.bounds c.farthest.ensures c.if-farthest-around.false).right c.apart-width.ensures)
+overflow_add-is_wide c =
+    let near = sides_near _ _ c.args.bounds c.farthest.ensures c.if-farthest-around.false in
+    fits_room c.apart-width.result (apart_small c.args.bounds.left c.args.bounds.right c.apart-width.result near.left
+    near.right c.apart-width.ensures)
 
 pub overflow_add-height : goal.overflow_add-height
-overflow_add-height c = fits_more c.apart-height.result 1 (apart_small c.args.bounds.top c.args.bounds.bottom c.apart-height.result (sides_near _ _ c.args.bounds c.farthest.ensures c.if-farthest-around.false).top
-    (sides_near _ _ c.args.bounds c.farthest.ensures c.if-farthest-around.false).bottom c.apart-height.ensures) one
+overflow_add-height c =
+    let near = sides_near _ _ c.args.bounds c.farthest.ensures c.if-farthest-around.false in
+    fits_more c.apart-height.result 1 (apart_small c.args.bounds.top c.args.bounds.bottom c.apart-height.result near.top
+    near.bottom c.apart-height.ensures) one
 
 pub overflow_mul-result : goal.overflow_mul-result
 overflow_mul-result c = room
 
 pub overflow_add-result : goal.overflow_add-result
-overflow_add-result c = fits_room c.apart-height.result (apart_small c.args.bounds.top c.args.bounds.bottom c.apart-height.result (sides_near _ _ c.args.bounds c.farthest.ensures c.if-farthest-around.false).top
-    (sides_near _ _ c.args.bounds c.farthest.ensures c.if-farthest-around.false).bottom c.apart-height.ensures)
+overflow_add-result c =
+    let near = sides_near _ _ c.args.bounds c.farthest.ensures c.if-farthest-around.false in
+    fits_room c.apart-height.result (apart_small c.args.bounds.top c.args.bounds.bottom c.apart-height.result near.top
+    near.bottom c.apart-height.ensures)
 
 pub returns-then-is_wide : goal.returns-then-is_wide
 returns-then-is_wide c e =

@@ -1,7 +1,7 @@
 use Rattle.std.proofs.Common.{ap, ℕ, ◌+◌, ◌*◌, ◌/◌, w32, FitsSigned}
 use Rattle.std.proofs.lemmas.Int.{to_z-of_z}
-use Rattle.plane_core.proofs.FrameFits.{apart_is, apart_small, back_is, fits_back, fits_bands, fits_more, fits_new_lanes, fits_new_rows, fits_one_more, fits_twice}
-use Rattle.plane_core.proofs.FrameFits.{fits_wide_lanes, fits_wide_rows, margin_small, passed_near, twice_small}
+use Rattle.plane_core.proofs.FrameFits.{apart_is, apart_small, back_is, fits_back, fits_bands, fits_more, fits_new_lanes, fits_new_rows}
+use Rattle.plane_core.proofs.FrameFits.{fits_one_more, fits_twice, fits_wide_lanes, fits_wide_rows, margin_small, passed_near, twice_small}
 use Rattle.plane_core.proofs.FrameLemmas.{IsRoundBox, round_is_frame, round_has_on, round_on_plane, sides_on_plane}
 use Rattle.plane_core.proofs.frame.Frame.round_box.Goals as goal
 
@@ -34,15 +34,18 @@ fits_top c =
 
 pub returns-clause-frame : goal.returns-clause-frame
 returns-clause-frame c =
-    rw (to_z-of_z w32 c.back.result (fits_left c), to_z-of_z w32 c.back-2.result (fits_top c)) (round_is_frame c.args.bounds c.args.margin _ c.requires.margin c.requires.sides (is_round c))
+    rw (to_z-of_z w32 c.back.result (fits_left c), to_z-of_z w32 c.back-2.result (fits_top c))
+    (round_is_frame c.args.bounds c.args.margin _ c.requires.margin c.requires.sides (is_round c))
 
 pub returns-clause-plane : goal.returns-clause-plane
 returns-clause-plane c =
-    rw (to_z-of_z w32 c.back.result (fits_left c), to_z-of_z w32 c.back-2.result (fits_top c)) (round_on_plane c.args.bounds c.args.margin _ c.requires.margin c.requires.across c.requires.down c.requires.sides (is_round c))
+    rw (to_z-of_z w32 c.back.result (fits_left c), to_z-of_z w32 c.back-2.result (fits_top c))
+    (round_on_plane c.args.bounds c.args.margin _ c.requires.margin c.requires.across c.requires.down c.requires.sides (is_round c))
 
 pub returns-clause-on : goal.returns-clause-on
 returns-clause-on c =
-    rw (to_z-of_z w32 c.back.result (fits_left c), to_z-of_z w32 c.back-2.result (fits_top c)) (round_has_on c.args.bounds c.args.margin _ (is_round c))
+    rw (to_z-of_z w32 c.back.result (fits_left c), to_z-of_z w32 c.back-2.result (fits_top c))
+    (round_has_on c.args.bounds c.args.margin _ (is_round c))
 
 pub apart-requires-clause-a : goal.apart-requires-clause-a
 apart-requires-clause-a c = passed_near c.args.bounds.left (sides_on_plane c.args.bounds c.args.margin c.requires.sides).left

@@ -1,6 +1,7 @@
 use Rattle.std.proofs.Common.{ap, arith, ℕ, ◌∙◌, ◌≤◌, ◌+◌, ◌-◌, ◌-ℤ◌, ◌*◌, ◌/◌, pos, refl, subst, sym, w32, FitsSigned}
 use Rattle.std.proofs.lemmas.Int.{to_z-of_z}
-use Rattle.plane_core.proofs.FrameFits.{apart_is, apart_small, back_is, fits_back, fits_columns, fits_lanes, fits_more, fits_rows, half_low, half_near, passed_near, room_sides}
+use Rattle.plane_core.proofs.FrameFits.{apart_is, apart_small, back_is, fits_back, fits_columns, fits_lanes, fits_more, fits_rows}
+use Rattle.plane_core.proofs.FrameFits.{half_low, half_near, passed_near, room_sides}
 use Rattle.plane_core.proofs.FrameLemmas.{IsRoundMiddle, middle_has_on, middle_is_frame, middle_on_plane}
 use Rattle.plane_core.proofs.frame.Frame.round_middle.Goals as goal
 
@@ -38,15 +39,18 @@ fits_top c =
 
 pub returns-clause-frame : goal.returns-clause-frame
 returns-clause-frame c =
-    rw (to_z-of_z w32 c.back.result (fits_left c), to_z-of_z w32 c.back-2.result (fits_top c)) (middle_is_frame c.args.self c.args.bounds _ c.requires.across c.requires.down c.requires.frame c.requires.room (is_middle c))
+    rw (to_z-of_z w32 c.back.result (fits_left c), to_z-of_z w32 c.back-2.result (fits_top c))
+    (middle_is_frame c.args.self c.args.bounds _ c.requires.across c.requires.down c.requires.frame c.requires.room (is_middle c))
 
 pub returns-clause-plane : goal.returns-clause-plane
 returns-clause-plane c =
-    rw (to_z-of_z w32 c.back.result (fits_left c), to_z-of_z w32 c.back-2.result (fits_top c)) (middle_on_plane c.args.self c.args.bounds _ c.requires.across c.requires.down c.requires.room (is_middle c))
+    rw (to_z-of_z w32 c.back.result (fits_left c), to_z-of_z w32 c.back-2.result (fits_top c))
+    (middle_on_plane c.args.self c.args.bounds _ c.requires.across c.requires.down c.requires.room (is_middle c))
 
 pub returns-clause-on : goal.returns-clause-on
 returns-clause-on c =
-    rw (to_z-of_z w32 c.back.result (fits_left c), to_z-of_z w32 c.back-2.result (fits_top c)) (middle_has_on c.args.self c.args.bounds _ c.requires.across c.requires.down c.requires.room (is_middle c))
+    rw (to_z-of_z w32 c.back.result (fits_left c), to_z-of_z w32 c.back-2.result (fits_top c))
+    (middle_has_on c.args.self c.args.bounds _ c.requires.across c.requires.down c.requires.room (is_middle c))
 
 pub apart-width-requires-clause-a : goal.apart-width-requires-clause-a
 apart-width-requires-clause-a c = passed_near c.args.bounds.left (room_sides c.args.self c.args.bounds c.requires.room).left
