@@ -461,3 +461,18 @@ pub gathering-begun : {E : Type 0} (begun : Result ℕ E) (cells : List Cell) (p
 gathering-begun (Ok number) cells parents numbers clusters new place p f low late g is grown =
     rw (is, grown) (gathering-root cells parents numbers clusters place p.in_order f low (is_root cells parents numbers clusters place f low late g) g)
 gathering-begun (Err e) cells parents numbers clusters new place p f low late g is grown = tt
+
+-- no place has been passed yet
+pub gathering-none : (cells : List Cell) (parents numbers : List ℕ) (clusters : List (List Cell)) → numbers ≡ [] → clusters ≡ []
+    → IsGathering cells parents numbers clusters 0
+gathering-none cells parents numbers clusters none empty =
+    rw (none, empty) (record {
+      size = refl;
+      few = omega arith;
+      labels = λ k less. absurd (omega (arith, less));
+      below = λ k less. absurd (omega (arith, less));
+      lists = λ n less. absurd (omega (arith, less));
+      used = λ n less. absurd (omega (arith, less));
+      linked = λ j k less more same. absurd (omega (arith, less));
+      in_order = λ i j d less more. absurd (omega (arith, more));
+    })

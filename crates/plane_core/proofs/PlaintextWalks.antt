@@ -209,3 +209,6 @@ pub same_bits : (a y : ℤ) → FitsSigned w32 a → of_z w32 a ≡ of_z w32 y �
 same_bits a y fits e =
     let same : a ≡ to_z w32 (of_z w32 y) = sym (to_z-of_z w32 a fits) ∙ ap (to_z w32) e in
     subst (λ z. int_eq a z ≡ true) same (int_eq-refl a)
+
+pub other_bits : (a y : ℤ) → (of_z w32 a ≡ of_z w32 y → ⊥) → int_eq a y ≡ false
+other_bits a y differ = ⊎_elim (λ e. absurd (differ (ap (of_z w32) (int_eq-true a y e)))) (λ e. e) (cases_Bool (int_eq a y))

@@ -1,7 +1,7 @@
 use Rattle.std.proofs.Common.{List, ℕ, subst, sym, ◌+◌, ◌++◌, [], ◌∷◌}
 use Rattle.std.proofs.lemmas.Result.{IfOk-from_err}
 use Rattle.plane_core.specs.Forest.{IsGathering}
-use Rattle.plane_core.proofs.GatherLemmas.{gathered_all, gathered_patterns}
+use Rattle.plane_core.proofs.GatherLemmas.{gathered_all, gathered_patterns, gathering-none}
 use Rattle.plane_core.proofs.clusters.gathered.Goals as goal
 
 pub loop-place-preserved : goal.loop-place-preserved
@@ -43,3 +43,15 @@ returns-in_err-push-clause-clusters c = IfOk-from_err _ _ c.from_residual-in_err
 
 pub returns-in_err-push-clause-patterns : goal.returns-in_err-push-clause-patterns
 returns-in_err-push-clause-patterns c = IfOk-from_err _ _ c.from_residual-in_err-push.ensures.0
+
+pub gather-requires-clause-pattern : goal.gather-requires-clause-pattern
+gather-requires-clause-pattern c = c.requires.pattern
+
+pub gather-requires-clause-forest : goal.gather-requires-clause-forest
+gather-requires-clause-forest c = c.requires.forest
+
+pub gather-requires-clause-place : goal.gather-requires-clause-place
+gather-requires-clause-place c = c.loop-place-test.true
+
+pub loop-place-init : goal.loop-place-init
+loop-place-init c = gathering-none c.args.cells.now c.args.parents.now _ _ c.in_ok-numbers.ensures.items c.new-clusters.ensures.items
