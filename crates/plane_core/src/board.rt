@@ -15,16 +15,14 @@
 //!
 //! What holds after an odd number of generations isn't known by that: a blinker outside of all boxes is the same after
 //! two generations and not after one. So an odd leap is made first, while the boxes hold all live cells.
-ghost use Rattle.std.specs.Prelude.{◌≡◌, ◌%◌, ◌*◌, ◌<◌, ◌≤◌, ℕ, List, [], length, slice_index};
-ghost use Rattle.std.specs.Prelude.{All, IfOk, IfSome, IsTrue, OnOk, true, false};
-ghost use Rattle.plane_core.specs.Boxes.{box_bound};
-ghost use Rattle.plane_core.specs.Frames.{FillsFrame, HasFewWords, IsFrame, LieOn, bounds_of};
+ghost use Rattle.std.specs.Prelude.{◌≡◌, ◌%◌, ◌*◌, ◌<◌, ◌≤◌, ℕ, [], slice_index};
+ghost use Rattle.std.specs.Prelude.{IfOk, IsTrue, true, false};
+ghost use Rattle.plane_core.specs.Frames.{HasFewWords, IsFrame, LieOn, bounds_of};
 ghost use Rattle.plane_core.specs.Cells.{IsPattern, plane_bound};
 ghost use Rattle.plane_core.specs.Generations.{after};
 ghost use Rattle.plane_core.specs.Bounds.{AreSidesWithin};
 ghost use Rattle.plane_core.specs.Boards.{HasGoneOn, IsReady};
 ghost use Rattle.plane_core.specs.OnBoard.{cells_on};
-ghost use Rattle.plane_core.specs.Words.{life};
 
 mod candidates;
 mod early_no;

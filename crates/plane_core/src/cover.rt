@@ -12,8 +12,8 @@
 //! | +-----+-----+ |
 //! +-------+-------+
 //! ```
-ghost use Rattle.std.specs.Prelude.{◌≡◌, ◌+◌, ◌*◌, ◌^◌, ◌<◌, ◌≤◌, ◌⊎◌, ◌≤ℤ◌, ◌<ℤ◌, ◌+ℤ◌, ℕ, pos, All};
-ghost use Rattle.std.specs.Prelude.{IsTrue, List, OnOk, unsigned_abs, vec_len};
+ghost use Rattle.std.specs.Prelude.{◌≡◌, ◌+◌, ◌*◌, ◌^◌, ◌<◌, ◌≤◌, ◌⊎◌, ◌+ℤ◌, pos, All};
+ghost use Rattle.std.specs.Prelude.{IsTrue, OnOk, unsigned_abs, vec_len};
 ghost use Rattle.plane_core.specs.Bounds.{IsWithin, enlarged};
 ghost use Rattle.plane_core.specs.Boxes.{AreCovered, IsInOne, IsInReach, IsNearOne, box_bound, rectangle_bound};
 ghost use Rattle.plane_core.specs.Covers.{AreSideBySide, BeginsAt, IsInRow};

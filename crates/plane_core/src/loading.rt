@@ -1,5 +1,5 @@
 //! Cells that are put on an empty board, one after another: the bit of each is set in the word of its row and lane.
-ghost use Rattle.std.specs.Prelude.{◌≡◌, ◌*◌, ◌++◌, ◌∷◌, [], List, length};
+ghost use Rattle.std.specs.Prelude.{◌*◌, ◌++◌, ◌∷◌, [], List};
 ghost use Rattle.plane_core.specs.Bounds.{IsWithin};
 ghost use Rattle.plane_core.specs.Frames.{FillsFrame, IsFrame, LieOn, Shows, bounds_of};
 ghost use Rattle.plane_core.specs.declared.cell.Cell.{Cell};

@@ -11,7 +11,7 @@
 ghost use Rattle.std.specs.Prelude.{◌≡◌, ◌+◌, ◌*◌, ◌/◌, ◌<◌, ◌≤◌, ◌^◌, ◌∷◌, ◌⊎◌};
 ghost use Rattle.std.specs.Prelude.{[], All, ℕ, IsTrue, length, slice_index};
 ghost use Rattle.plane_core.specs.Bounds.{IsWithin};
-ghost use Rattle.plane_core.specs.Frames.{FillsFrame, IsFrame, LieOn, bounds_of, board_cell, word_of};
+ghost use Rattle.plane_core.specs.Frames.{FillsFrame, IsFrame, LieOn, bounds_of, word_of};
 ghost use Rattle.plane_core.specs.OnBoard.{cells_on};
 ghost use Rattle.plane_core.specs.Places.{IsOnBoard};
 ghost use Rattle.plane_core.specs.Spans.{AreWidened, HoldCovered, HoldInner, HoldsSpans};

@@ -9,7 +9,7 @@
 //! |.O.. |     OOO            |.O.. |   |   |     changes in it.
 //! +-----+                    +-----+   +---+
 //! ```
-ghost use Rattle.std.specs.Prelude.{◌≡◌, ◌*◌, ◌++◌, ◌∷◌, [], List, OnErr, OnOk, length};
+ghost use Rattle.std.specs.Prelude.{◌≡◌, ◌*◌, ◌++◌, ◌∷◌, [], List, OnErr, OnOk};
 ghost use Rattle.plane_core.specs.Frames.{FillsFrame, IsFrame, Shows};
 ghost use Rattle.plane_core.specs.OnBoard.{cells_on};
 ghost use Rattle.plane_core.specs.Without.{without};
