@@ -9,7 +9,7 @@ use Rattle.std.proofs.lemmas.List.Quantifiers.{all_pairs_push}
 use Rattle.plane_core.specs.declared.cell.Cell.{Cell}
 use Rattle.plane_core.specs.Cells.{cell_cmp, king_distance, has, on_plane, InOrder, IsPattern}
 use Rattle.plane_core.specs.Clusters.{Leads, Linked, IsCluster, AreClusters, FirstBefore}
-use Rattle.plane_core.specs.Forest.{cell_of, parent_of, numbered, IsForest, IsGathering, JoinsAll, Labels}
+use Rattle.plane_core.specs.Forest.{cell_of, parent_of, numbered, IsForest, ArePutInClusters, JoinsAll, Labels}
 use Rattle.plane_core.proofs.SetLemmas.{IsBefore, has-cases, has-head, or_right, in_order-head, in_order-tail, in_order-cons, in_order-nil}
 use Rattle.plane_core.proofs.SearchLemmas.{list_all-has, has-list_all}
 use Rattle.plane_core.proofs.ClusterLemmas.{king_distance-sym, linked-itself, linked-trans, linked-sym}
@@ -174,8 +174,8 @@ first_one (x ∷ xs) d e h before = before x (has-head x xs)
 
 -- a root begins the next cluster
 pub gathering-root : (cells : List Cell) (parents numbers : List ℕ) (clusters : List (List Cell)) (place : ℕ) → InOrder cells → IsForest cells parents
-    → place < length cells → parent_of parents place ≡ place → IsGathering cells parents numbers clusters place
-    → IsGathering cells parents (numbers ++ length clusters ∷ []) (clusters ++ (cell_of cells place ∷ []) ∷ []) (place + 1)
+    → place < length cells → parent_of parents place ≡ place → ArePutInClusters cells parents numbers clusters place
+    → ArePutInClusters cells parents (numbers ++ length clusters ∷ []) (clusters ++ (cell_of cells place ∷ []) ∷ []) (place + 1)
 gathering-root cells parents numbers clusters place o f low root g = record {
   size = length_push numbers (length clusters) ∙ ap (λ (k : ℕ). k + 1) g.size;
   few = omega (arith, low);
@@ -249,8 +249,8 @@ first-longer (c ∷ cs) (d ∷ ds) xs ys h = h
 -- any other place goes into the cluster of the place to which it leads
 pub gathering-other : (cells : List Cell) (parents numbers : List ℕ) (clusters : List (List Cell)) (place n : ℕ) → InOrder cells → IsForest cells parents
     → place < length cells → parent_of parents place ≢ place → n ≡ get_or numbers (parent_of parents place) 0
-    → IsGathering cells parents numbers clusters place
-    → IsGathering cells parents (numbers ++ n ∷ []) (set clusters n (get_or clusters n [] ++ cell_of cells place ∷ [])) (place + 1)
+    → ArePutInClusters cells parents numbers clusters place
+    → ArePutInClusters cells parents (numbers ++ n ∷ []) (set clusters n (get_or clusters n [] ++ cell_of cells place ∷ [])) (place + 1)
 gathering-other cells parents numbers clusters place n o f low branch is g = record {
   size = length_push numbers n ∙ ap (λ (k : ℕ). k + 1) g.size;
   few = omega (arith, low);
@@ -318,7 +318,7 @@ gathering-other cells parents numbers clusters place n o f low branch is g = rec
 
 -- what such a cluster is with the cell
 pub pattern-other : (cells : List Cell) (parents numbers : List ℕ) (clusters : List (List Cell)) (place n : ℕ) → IsPattern cells → place < length cells
-    → n < length clusters → IsGathering cells parents numbers clusters place → IsPattern (get_or clusters n [] ++ cell_of cells place ∷ [])
+    → n < length clusters → ArePutInClusters cells parents numbers clusters place → IsPattern (get_or clusters n [] ++ cell_of cells place ∷ [])
 pattern-other cells parents numbers clusters place n is low inside g =
     subst IsPattern (numbered-this n numbers cells place g.size low
     ∙ ap (λ (ds : List Cell). ds ++ cell_of cells place ∷ []) (sym (g.lists n inside))) (is_pattern-numbered n (numbers ++ n ∷ []) cells is)
@@ -376,7 +376,7 @@ walk cells numbers n size alike (e ∷ es) k d low is leads =
 
 -- once all places are passed, the clusters are those of the pattern
 pub gathered_all : (cells : List Cell) (parents numbers : List ℕ) (clusters : List (List Cell)) (place : ℕ) → InOrder cells → IsForest cells parents
-    → JoinsAll cells parents (length cells) → length cells ≤ place → IsGathering cells parents numbers clusters place → AreClusters cells clusters
+    → JoinsAll cells parents (length cells) → length cells ≤ place → ArePutInClusters cells parents numbers clusters place → AreClusters cells clusters
 gathered_all cells parents numbers clusters place o f joins all g = record {
   each = λ n d low. subst (IsCluster cells) (sym (get_or_default clusters n d [] low ∙ g.lists n low)) (is_cluster n low (g.used n low));
   every = λ c h. every c (place_of cells c h);
@@ -425,14 +425,14 @@ gathered_all cells parents numbers clusters place o f joins all g = record {
         )
 
 pub gathered_patterns : (cells : List Cell) (parents numbers : List ℕ) (clusters : List (List Cell)) (place : ℕ) → IsPattern cells
-    → IsGathering cells parents numbers clusters place → All IsPattern clusters
+    → ArePutInClusters cells parents numbers clusters place → All IsPattern clusters
 gathered_patterns cells parents numbers clusters place is g n d low =
     subst IsPattern (sym (get_or_default clusters n d [] low ∙ g.lists n low)) (is_pattern-numbered n numbers cells is)
 
 -- the number of a place that isn't a root is that of a cluster
 pub number_inside : (cells : List Cell) (parents numbers : List ℕ) (clusters : List (List Cell)) (place n : ℕ) → IsForest cells parents
     → place < length cells → parent_of parents place ≢ place → n ≡ get_or numbers (parent_of parents place) 0
-    → IsGathering cells parents numbers clusters place → n < length clusters
+    → ArePutInClusters cells parents numbers clusters place → n < length clusters
 number_inside cells parents numbers clusters place n f low branch is g =
     let most : parent_of parents place ≤ place = f.back place (omega (arith, low, f.size)) in
     let early : parent_of parents place < place = omega (arith, most, branch) in
@@ -443,28 +443,28 @@ number_inside cells parents numbers clusters place n f low branch is g =
 
 -- the place is a root where its parent has no number yet
 pub is_root : (cells : List Cell) (parents numbers : List ℕ) (clusters : List (List Cell)) (place : ℕ) → IsForest cells parents → place < length cells
-    → length numbers ≤ parent_of parents place → IsGathering cells parents numbers clusters place → parent_of parents place ≡ place
+    → length numbers ≤ parent_of parents place → ArePutInClusters cells parents numbers clusters place → parent_of parents place ≡ place
 is_root cells parents numbers clusters place f low late g =
     let most : parent_of parents place ≤ place = f.back place (omega (arith, low, f.size)) in
     omega (arith, most, late, g.size)
 
 pub is_branch : (cells : List Cell) (parents numbers : List ℕ) (clusters : List (List Cell)) (place : ℕ) → parent_of parents place < length numbers
-    → IsGathering cells parents numbers clusters place → parent_of parents place ≢ place
+    → ArePutInClusters cells parents numbers clusters place → parent_of parents place ≢ place
 is_branch cells parents numbers clusters place early g = λ e. absurd (omega (arith, early, g.size, e))
 
 -- a root begins a cluster
 pub gathering-begun : {E : Type 0} (begun : Result ℕ E) (cells : List Cell) (parents numbers : List ℕ) (clusters new : List (List Cell)) (place : ℕ)
     → IsPattern cells → IsForest cells parents → place < length cells → length numbers ≤ parent_of parents place
-    → IsGathering cells parents numbers clusters place → IfOk begun (λ number. number ≡ length clusters)
+    → ArePutInClusters cells parents numbers clusters place → IfOk begun (λ number. number ≡ length clusters)
     → OnOk begun (new ≡ clusters ++ (cell_of cells place ∷ []) ∷ [])
-    → IfOk begun (λ number. IsGathering cells parents (numbers ++ number ∷ []) new (place + 1))
+    → IfOk begun (λ number. ArePutInClusters cells parents (numbers ++ number ∷ []) new (place + 1))
 gathering-begun (Ok number) cells parents numbers clusters new place p f low late g is grown =
     rw (is, grown) (gathering-root cells parents numbers clusters place p.in_order f low (is_root cells parents numbers clusters place f low late g) g)
 gathering-begun (Err e) cells parents numbers clusters new place p f low late g is grown = tt
 
 -- no place has been passed yet
 pub gathering-none : (cells : List Cell) (parents numbers : List ℕ) (clusters : List (List Cell)) → numbers ≡ [] → clusters ≡ []
-    → IsGathering cells parents numbers clusters 0
+    → ArePutInClusters cells parents numbers clusters 0
 gathering-none cells parents numbers clusters none empty =
     rw (none, empty) (record {
       size = refl;

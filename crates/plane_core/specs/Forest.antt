@@ -76,7 +76,7 @@ numbered n (m ∷ ms) [] = []
 numbered n (m ∷ ms) (c ∷ cs) = cond (m == n) (c ∷ numbered n ms cs) (numbered n ms cs)
 
 -- The places that were passed have the numbers of their clusters, and each cluster the cells that have its number.
-pub record IsGathering (cells : List Cell) (parents numbers : List ℕ) (clusters : List (List Cell)) (place : ℕ) : Type 0 where
+pub record ArePutInClusters (cells : List Cell) (parents numbers : List ℕ) (clusters : List (List Cell)) (place : ℕ) : Type 0 where
   pub size : length numbers ≡ place
   pub few : place ≤ length cells
   pub labels : (k : ℕ) → k < place → get_or numbers (parent_of parents k) 0 ≡ get_or numbers k 0

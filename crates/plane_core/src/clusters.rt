@@ -12,7 +12,7 @@ ghost use Rattle.plane_core.specs.Cells.{IsPattern};
 ghost use Rattle.plane_core.specs.Clusters.{AreClusters};
 ghost use Rattle.plane_core.specs.Clusters.{ClustersAreDetermined, ClustersLieApart, ClustersMoveAlong};
 ghost use Rattle.plane_core.specs.Clusters.{ClustersPartition, LinkedIsAnEquivalence};
-ghost use Rattle.plane_core.specs.Forest.{IsForest, IsGathering, JoinsAll};
+ghost use Rattle.plane_core.specs.Forest.{IsForest, ArePutInClusters, JoinsAll};
 
 use crate::cell::Cell;
 use crate::forest::forest;
@@ -93,11 +93,12 @@ fn gather(
     requires pattern { IsPattern cells.now }
     requires forest { IsForest cells.now parents.now }
     requires place { place < length cells.now }
-    requires gathering { IsGathering cells.now parents.now numbers.now clusters.old.items place }
+    requires gathering { ArePutInClusters cells.now parents.now numbers.now clusters.old.items place }
     ensures { IfOk result (λ number.
-        IsGathering cells.now parents.now (numbers.now ++ number ∷ []) clusters.new.items (place + 1)) }
+        ArePutInClusters cells.now parents.now (numbers.now ++ number ∷ []) clusters.new.items (place + 1)) }
 {
     let cell = cells[place];
+    // A root leads to itself, which has no number yet.
     let Some(&number) = numbers.get(parents[place]) else {
         return begin(alloc, clusters, cell);
     };

@@ -136,6 +136,7 @@ fn without_return(line: &[u8]) -> &[u8]
     }
 }
 
+/// Whether the byte ends a line.
 fn is_line_feed(byte: &u8) -> bool
     ensures { result ≡ (byte.now == line_feed) }
 {

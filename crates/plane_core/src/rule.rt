@@ -76,11 +76,11 @@ impl Rule {
 
         ensures exact { result ≡ rule_read text.now }
     {
-        Rule::read_bytes(text.as_bytes())
+        Rule::of_bytes(text.as_bytes())
     }
 
     /// Reads a rule, as [`Rule::read`] does.
-    fn read_bytes(text: &[u8]) -> Result<Rule, RuleFault>
+    fn of_bytes(text: &[u8]) -> Result<Rule, RuleFault>
         ensures { result ≡ rule_read text.now }
     {
         if !text.starts_with(b"b") {

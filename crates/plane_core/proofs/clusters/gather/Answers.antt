@@ -2,7 +2,7 @@ use Rattle.std.proofs.Common.{◌≡◌, ◌∙◌, ◌+◌, ◌<◌, ap, arith,
 use Rattle.std.proofs.lemmas.List.{with_items_is}
 use Rattle.plane_core.specs.declared.cell.Cell.{Cell}
 use Rattle.plane_core.specs.Cells.{IsPattern}
-use Rattle.plane_core.specs.Forest.{IsGathering, cell_of}
+use Rattle.plane_core.specs.Forest.{ArePutInClusters, cell_of}
 use Rattle.plane_core.proofs.GatherLemmas.{gathering-begun, gathering-other, is_branch, number_inside, pattern-other, pattern-root}
 use Rattle.plane_core.proofs.clusters.gather.Goals.{In-Some}
 use Rattle.plane_core.proofs.clusters.gather.Goals as goal
@@ -44,6 +44,6 @@ returns c =
     let fits : length c.extend.new.clusters ≡ c.args.clusters.now.len = omega (arith, c.extend.auto.clusters, c.deref_mut.ensures.len) in
     let grown = with_items_is c.args.clusters.now c.extend.new.clusters fits ∙ c.in_ok-extend.ensures
     ∙ ap (λ (cs : List (List Cell)). set cs n (get_or cs n [] ++ cell_of c.args.cells.now c.args.place ∷ [])) c.deref_mut.ensures.value in
-    subst (λ (cs : List (List Cell)). IsGathering c.args.cells.now c.args.parents.now (c.args.numbers.now ++ n ∷ []) cs (c.args.place + 1)) (sym grown)
+    subst (λ (cs : List (List Cell)). ArePutInClusters c.args.cells.now c.args.parents.now (c.args.numbers.now ++ n ∷ []) cs (c.args.place + 1)) (sym grown)
     (gathering-other c.args.cells.now c.args.parents.now c.args.numbers.now c.args.clusters.now.items c.args.place n c.requires.pattern.in_order
     c.requires.forest c.requires.place branch (found.1 0) c.requires.gathering)

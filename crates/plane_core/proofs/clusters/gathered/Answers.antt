@@ -1,19 +1,19 @@
 use Rattle.std.proofs.Common.{List, ℕ, subst, sym, ◌+◌, ◌++◌, [], ◌∷◌}
 use Rattle.std.proofs.lemmas.Result.{IfOk-from_err}
-use Rattle.plane_core.specs.Forest.{IsGathering}
+use Rattle.plane_core.specs.Forest.{ArePutInClusters}
 use Rattle.plane_core.proofs.GatherLemmas.{gathered_all, gathered_patterns, gathering-none}
 use Rattle.plane_core.proofs.clusters.gathered.Goals as goal
 
 pub loop-place-preserved : goal.loop-place-preserved
 loop-place-preserved c =
-    let more = subst (λ (numbers : List ℕ). IsGathering c.args.cells.now c.args.parents.now (numbers ++ c.in_ok-number.number ∷ []) c.gather.new.clusters.items
+    let more = subst (λ (numbers : List ℕ). ArePutInClusters c.args.cells.now c.args.parents.now (numbers ++ c.in_ok-number.number ∷ []) c.gather.new.clusters.items
     (c.loop-place.place + 1)) c.deref.ensures.value c.in_ok-number.ensures in
-    subst (λ (numbers : List ℕ). IsGathering c.args.cells.now c.args.parents.now numbers c.gather.new.clusters.items (c.loop-place.place + 1))
+    subst (λ (numbers : List ℕ). ArePutInClusters c.args.cells.now c.args.parents.now numbers c.gather.new.clusters.items (c.loop-place.place + 1))
     (sym c.in_ok-push.ensures.items) more
 
 pub gather-requires-clause-gathering : goal.gather-requires-clause-gathering
 gather-requires-clause-gathering c =
-    subst (λ (numbers : List ℕ). IsGathering c.args.cells.now c.args.parents.now numbers c.loop-place.clusters.items c.loop-place.place)
+    subst (λ (numbers : List ℕ). ArePutInClusters c.args.cells.now c.args.parents.now numbers c.loop-place.clusters.items c.loop-place.place)
     (sym c.deref.ensures.value) c.loop-place.invariant
 
 pub returns-clause-clusters : goal.returns-clause-clusters

@@ -6,7 +6,7 @@ use Rattle.plane_core.proofs.RuleReading.{reads_complete, reads_first, reads_rul
 use Rattle.plane_core.proofs.rule.Rule.read.Goals as goal
 
 pub returns-clause-exact : goal.returns-clause-exact
-returns-clause-exact c = c.read_bytes.ensures ∙ ap rule_read c.as_bytes.ensures.value
+returns-clause-exact c = c.of_bytes.ensures ∙ ap rule_read c.as_bytes.ensures.value
 
 is_rule : (text : List ℕ) (read : Result Numbers RuleFault) → read ≡ rule_read text → IfOk read IsRule
 is_rule text (Ok rule) e = reads_rule text rule e
@@ -17,10 +17,10 @@ has_text text (Ok rule) e = reads_text text rule e
 has_text text (Err fault) e = tt
 
 pub returns-clause-rule : goal.returns-clause-rule
-returns-clause-rule c = is_rule c.args.text.now c.read_bytes.result (returns-clause-exact c)
+returns-clause-rule c = is_rule c.args.text.now c.of_bytes.result (returns-clause-exact c)
 
 pub returns-clause-text : goal.returns-clause-text
-returns-clause-text c = has_text c.args.text.now c.read_bytes.result (returns-clause-exact c)
+returns-clause-text c = has_text c.args.text.now c.of_bytes.result (returns-clause-exact c)
 
 pub returns-clause-complete : goal.returns-clause-complete
 returns-clause-complete c = reads_complete c.args.text.now _ (returns-clause-exact c)

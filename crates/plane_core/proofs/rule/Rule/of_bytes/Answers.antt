@@ -3,7 +3,7 @@ use Rattle.plane_core.specs.Rules.{Reading, begins}
 use Rattle.plane_core.proofs.RuleReading.{length-births, length-survivals, births_in, survivals_in, sliced, births_sliced, survivals_sliced}
 use Rattle.plane_core.proofs.RuleReading.{rule_read-no_b, rule_read-zero, rule_read-no_s, rule_read-more}
 use Rattle.plane_core.proofs.RuleReading.{rule_read-all}
-use Rattle.plane_core.proofs.rule.Rule.read_bytes.Goals as goal
+use Rattle.plane_core.proofs.rule.Rule.of_bytes.Goals as goal
 
 pub returns-then-not-starts_with : goal.returns-then-not-starts_with
 returns-then-not-starts_with c = sym (rule_read-no_b c.args.text.now (sym c.starts_with.ensures.value ∙ c.if-not-starts_with.true))
