@@ -1,13 +1,13 @@
 -- Generations, one after another.
-use Rattle.std.proofs.Common.{◌≡◌, ◌+◌, ◌-◌, ◌<◌, ◌≤◌, ℕ, zero, suc, false, true, List}
+use Rattle.std.proofs.Common.{◌≡◌, ◌+◌, ◌-◌, ◌<◌, ◌≤◌, ℕ, zero, suc, false, List}
 use Rattle.std.proofs.Common.{arith, ap, ◌∙◌, sym, subst, inl, inr, ◌⊎◌}
 use Rattle.plane_core.specs.declared.cell.Cell.{Cell}
-use Rattle.plane_core.specs.Cells.{InOrder, IsPattern, plane_bound, on_plane}
-use Rattle.plane_core.specs.Generations.{next, after, lies_within, touches_edge}
+use Rattle.plane_core.specs.Cells.{InOrder}
+use Rattle.plane_core.specs.Generations.{next, after, touches_edge}
 use Rattle.plane_core.specs.Rules.{Numbers}
 use Rattle.plane_core.proofs.CaseLemmas.{less_or_not}
 use Rattle.plane_core.proofs.GenerationLemmas.{in_order-next, after-none}
-use Rattle.plane_core.proofs.SpeedLemmas.{after-suc, within-after}
+use Rattle.plane_core.proofs.SpeedLemmas.{after-suc}
 
 pub in_order-after : (rule : Numbers) (S : List Cell) (g : ℕ) → InOrder S → InOrder (after rule S g)
 in_order-after rule S zero o = subst (λ (T : List Cell). InOrder T) (sym (after-none rule S)) o
@@ -18,15 +18,6 @@ after-plus rule S a zero = after-none rule (after rule S a) ∙ ap (λ (n : ℕ)
 after-plus rule S a (suc b) =
     after-suc rule (after rule S a) b ∙ ap (λ (T : List Cell). next rule T) (after-plus rule S a b) ∙ sym (after-suc rule S (a + b))
     ∙ ap (λ (n : ℕ). after rule S n) (omega arith)
-
--- a pattern that lies far enough inside the plane stays a pattern
-pub is_pattern-after : (rule : Numbers) (S : List Cell) (n : ℕ) → n ≤ plane_bound → lies_within (plane_bound - n) S ≡ true → IsPattern S
-    → IsPattern (after rule S n)
-unfolding on_plane
-is_pattern-after rule S n low h p = record {
-  in_order = in_order-after rule S n p.in_order;
-  on_plane = ap (λ (m : ℕ). lies_within m (after rule S n)) (omega arith) ∙ within-after rule S (plane_bound - n) n h;
-}
 
 -- generations inside the edge, and more of them
 pub inside-more : (rule : Numbers) (S : List Cell) (a b : ℕ) → ((g : ℕ) → g < a → touches_edge (after rule S g) ≡ false)

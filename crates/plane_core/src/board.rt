@@ -304,6 +304,7 @@ impl Board {
         ensures leapt { IfOk result
             (λ leapt. leapt ≡ true → self.new.cells ≡ after self.old.rule self.old.cells count) }
     {
+        // Life has a loop of its own.
         if self.is_life {
             return self.leap_by(&Life, count);
         }
@@ -311,7 +312,7 @@ impl Board {
         self.leap_by(&answers, count)
     }
 
-    /// Makes the leap by answers of the board's rule: by those of Life in a loop of their own.
+    /// Makes the leap by answers of the board's rule.
     fn leap_by<A: Answering>(&mut self, rule: &A, count: u32) -> Result<bool, OutOfMemory>
         requires rule { A.rule rule.now ≡ self.old.rule }
         requires some { 1 ≤ count }

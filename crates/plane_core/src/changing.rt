@@ -24,12 +24,13 @@ pub(crate) struct Spot {
 
 /// The live cells that are dead two generations on, of those in columns 4 to 59, from which a cluster may be grown.
 pub(crate) fn changing_cells<A: Answering>(window: &[u64x4; 16], rule: &A) -> [u64; 64] {
-    let mut later = *window;
-    generations(&mut later, rule, 2);
+    let mut cells = *window;
+    generations(&mut cells, rule, 2);
     for k in 0..16 {
-        later[k] = window[k] & (window[k] ^ later[k]) & u64x4::splat(INSIDE);
+        // What is alive, and differs two generations on.
+        cells[k] = window[k] & (window[k] ^ cells[k]) & u64x4::splat(INSIDE);
     }
-    unpacked(&later)
+    unpacked(&cells)
 }
 
 /// One of the cells, if there is one four or more from the border, those in the middle before others.

@@ -11,7 +11,7 @@
 //! +----------------+
 //! ```
 //!
-//! Only the 'no' is sure: what may have come back, or has come to the rim, is run elsewhere.
+//! Only the 'no' is sure: what may have come back, or has come to the rim, is run elsewhere. Life has a loop of its own.
 ghost use Rattle.std.specs.Prelude.{◌≡◌, ◌<◌, ◌≤◌, ℕ, IfSome, IsTrue, false, true};
 ghost use Rattle.plane_core.specs.Cells.{InOrder, has};
 ghost use Rattle.plane_core.specs.Generations.{NeverBack, after, touches_edge};
@@ -51,7 +51,6 @@ impl Pattern {
             return false;
         };
         let window = window_of(place, self.cells());
-        // Life has a loop of its own.
         if is_life(rule) {
             never_back(&window, &Life, generations)
         } else {

@@ -93,12 +93,12 @@ fn clusters_ahead<A: Answering>(
             continue;
         };
         let window = view.window(words, at);
-        let mut candidates = changing_cells(&window, rule);
+        let mut changing = changing_cells(&window, rule);
         add_grown(
             alloc,
             view.frame(at),
             &unpacked(&window),
-            &mut candidates,
+            &mut changing,
             &mut clusters,
         )?;
     }
@@ -162,13 +162,13 @@ fn meets(one: Bounds, other: Bounds) -> bool {
         && other.top.saturating_sub(one.bottom) <= 1
 }
 
-/// Adds the clusters of the candidates in a window that lies here, if they are small and not among the others yet: two
-/// boxes may lie near each other. Their cells are no candidates any more.
+/// Adds the clusters of the cells that change in a window that lies here, if they are small and not among the others yet: two
+/// boxes may lie near each other. Their cells are struck out.
 fn add_grown(
     alloc: Global,
     at: Frame,
     rows: &[u64; 64],
-    candidates: &mut [u64; 64],
+    changing: &mut [u64; 64],
     clusters: &mut Vec<Pattern>,
 ) -> Result<(), OutOfMemory>
     requires frame { IsFrame at }
@@ -179,12 +179,12 @@ fn add_grown(
         → All (IsCluster cells) clusters.old.items → All (IsCluster cells) clusters.new.items) }
 {
     for _ in 0..FLOODS {
-        let Some(spot) = first_cell(candidates) else {
+        let Some(spot) = first_cell(changing) else {
             return Ok(());
         };
         let mut cluster = [0; 64];
         let whole = flood(rows, &mut cluster, spot.row, spot.column);
-        strike_out(candidates, &cluster);
+        strike_out(changing, &cluster);
         if !whole || !is_small(&cluster) {
             continue;
         }
@@ -197,10 +197,10 @@ fn add_grown(
     Ok(())
 }
 
-/// Takes the cells of a cluster off the candidates.
-fn strike_out(candidates: &mut [u64; 64], cluster: &[u64; 64]) {
+/// Takes the cells of a cluster off others.
+fn strike_out(cells: &mut [u64; 64], cluster: &[u64; 64]) {
     for row in 0..64 {
-        candidates[row] &= !cluster[row];
+        cells[row] &= !cluster[row];
     }
 }
 
