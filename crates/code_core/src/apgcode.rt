@@ -89,8 +89,13 @@ impl Apgcode {
         requires { IfSome (option_map (λ t. t.now) text) HasTextShape }
         ensures { IfOk result (λ code. code ≡ code_text kind number (option_map (λ t. t.now) text.entry)) }
     {
-        let text = spelled(alloc, kind, number, text)?;
-        Ok(Apgcode { text, kind, number })
+        let mut code = String::new(alloc);
+        spell(&mut code, kind, number, text)?;
+        Ok(Apgcode {
+            text: code,
+            kind,
+            number,
+        })
     }
 
     /// The whole name, as `xs4_33`: 1 to 400 bytes, each one of `a` to `z`, `0` to `9` and `_`.
@@ -142,22 +147,26 @@ pub fn readings()
         → number_in (code_text kind number text) ≡ number }
 {}
 
-/// The text of a name.
+/// Adds the text of a name.
 #[tactic(auto, unfolding(crate::specs::Apgcodes::code_text))]
-fn spelled(
-    alloc: Global,
+fn spell(
+    code: &mut String,
     kind: Kind,
     number: u64,
     text: Option<&str>,
-) -> Result<String, OutOfMemory>
-    ensures { IfOk result (λ code. string_bytes code ≡ code_text kind number (option_map (λ t. t.now) text.entry)) }
+) -> Result<(), OutOfMemory>
+    ensures { OnOk result (string_bytes code.new
+        ≡ string_bytes code.old ++ code_text kind number (option_map (λ t. t.now) text.entry)) }
 {
-    let mut code = String::new(alloc);
     code.push_str(opening(text))?;
     code.push_str(kind.letter())?;
     code.push_str(Buffer::new().format(number))?;
-    push_ending(&mut code, text)?;
-    Ok(code)
+    let Some(text) = text else {
+        return Ok(());
+    };
+    code.push_str("_")?;
+    code.push_str(text)?;
+    Ok(())
 }
 
 /// How a name begins.
@@ -168,19 +177,6 @@ fn opening(text: Option<&str>) -> &'static str
         Some(_) => "x",
         None => "ov_",
     }
-}
-
-/// Adds the end of a name.
-fn push_ending(code: &mut String, text: Option<&str>) -> Result<(), OutOfMemory>
-    ensures { OnOk result
-        (string_bytes code.new ≡ string_bytes code.old ++ ending (option_map (λ t. t.now) text.entry)) }
-{
-    let Some(text) = text else {
-        return Ok(());
-    };
-    code.push_str("_")?;
-    code.push_str(text)?;
-    Ok(())
 }
 
 impl PartialEq for Apgcode {

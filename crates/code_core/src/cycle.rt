@@ -91,7 +91,12 @@ pub(crate) fn follow(
 fn touches_edge(pattern: &Pattern) -> bool
     ensures { result ≡ touches_edge pattern.now }
 {
-    pattern.cells().iter().any(|cell| cell.is_on_edge())
+    for cell in pattern.cells() {
+        if cell.is_on_edge() {
+            return true;
+        }
+    }
+    false
 }
 
 /// Adds a phase after the others.
