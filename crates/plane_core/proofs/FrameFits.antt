@@ -37,6 +37,15 @@ fits_next_lane x low = record { fits = omega arith }
 pub fits_window_end : (y n : ℕ) → y < 2 ^ 32 → n ≤ 64 → Fits w64 (y + n)
 fits_window_end y n low few = record { fits = omega arith }
 
+pub window_low : (at : Frame) (y : ℕ) → IsFrame at → y + 40 ≤ at.rows → y < 2 ^ 32
+window_low at y frame inside = let h = frame.rows in omega arith
+
+pub fits_lane_beside : (at : Frame) (x : ℕ) → IsFrame at → x / 64 + 1 < at.lanes → Fits w64 (x / 64 + 1)
+fits_lane_beside at x frame inside = let h = frame.lanes in record { fits = omega arith }
+
+pub two_lanes : (x lanes n : ℕ) → x / 64 + 1 < lanes → n ≡ lanes → (x / 64 < n) × (x / 64 + 1 < n)
+two_lanes x lanes n inside long = (omega (arith, inside, long), omega (arith, inside, long))
+
 pub middle_low : (a b : ℕ) → a < 2 ^ 32 → b < 2 ^ 32 → (a + b - 64) / 2 < 2 ^ 32
 middle_low a b low small = omega arith
 
