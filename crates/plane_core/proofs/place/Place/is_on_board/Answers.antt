@@ -1,7 +1,6 @@
-use Rattle.std.proofs.Common.{◌+◌, ◌≤◌, arith}
+use Rattle.std.proofs.Common.{◌+◌, ◌≤◌, arith, rules}
 use Rattle.std.proofs.lemmas.Bool.{leb-true}
-use Rattle.std.proofs.lemmas.Int.{ints}
-use Rattle.plane_core.proofs.CoordinateLemmas.{not_below}
+use Rattle.plane_core.proofs.CoordinateLemmas.{more_by, not_below}
 use Rattle.plane_core.proofs.FrameFits.{fits_next_lane, fits_window_end}
 use Rattle.plane_core.proofs.place.Place.is_on_board.Goals as goal
 
@@ -12,8 +11,8 @@ pub returns-then-x-at : goal.returns-then-x-at
 returns-then-x-at c = λ h. record {
   x = c.abs_diff-x.result;
   y = c.abs_diff-y.result;
-  left = omega (arith, ints);
-  top = omega (arith, ints);
+  left = more_by c.args.self.left c.args.at.left _ (search rules) (search rules) c.if-self-at.false c.abs_diff-x.ensures;
+  top = more_by c.args.self.top c.args.at.top _ (search rules) (search rules) c.if-self-at-2.false c.abs_diff-y.ensures;
   lanes = c.if-x-at.true;
   rows = leb-true (c.abs_diff-y.result + 40) c.args.at.rows h;
 }
