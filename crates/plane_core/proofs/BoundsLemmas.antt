@@ -64,7 +64,7 @@ box_more cs i d low = ap box_of (take_more cs i d low) ∙ box_of-push (take i c
 min_cases : (a b : ℤ) → (int_min a b ≡ a) ⊎ (int_min a b ≡ b)
 min_cases a b = elim (int_lt b a) as (λ t. (cond t b a ≡ a) ⊎ (cond t b a ≡ b)) [ true ↦ inr refl | false ↦ inl refl ]
 
-max_cases : (a b : ℤ) → (int_max a b ≡ a) ⊎ (int_max a b ≡ b)
+pub max_cases : (a b : ℤ) → (int_max a b ≡ a) ⊎ (int_max a b ≡ b)
 max_cases a b = elim (int_lt b a) as (λ t. (cond t a b ≡ a) ⊎ (cond t a b ≡ b)) [ true ↦ inl refl | false ↦ inr refl ]
 
 within-widened : (c : Cell) (b : Bounds) (d : Cell) → IsWithin b d → IsWithin (widened c b) d

@@ -1,25 +1,47 @@
 -- Boxes in lists: what lies in one of them, or near.
-use Rattle.std.proofs.Common.{◌≡◌, ◌≢◌, ◌+◌, ◌-◌, ◌<◌, ◌≤◌, ℕ, ℤ, pos, ◌+ℤ◌, ◌-ℤ◌}
+use Rattle.std.proofs.Common.{◌≡◌, ◌≢◌, ◌+◌, ◌-◌, ◌/◌, ◌^◌, ◌<◌, ◌≤◌, ℕ, ℤ, pos, ◌+ℤ◌, ◌-ℤ◌}
 use Rattle.std.proofs.Common.{◌≤ℤ◌, List, [], ◌∷◌, ◌++◌, length, get_or, set, take, get_or-set_other, get_or-set_same}
 use Rattle.std.proofs.Common.{Bool, true, false, leb, unsigned_abs, refl, arith, ap, ◌∙◌, sym, subst, inl, inr, ◌⊎◌, Option, IsSomeAnd}
 use Rattle.std.specs.Int.{int_max, int_min}
-use Rattle.std.specs.List.{Any, list_all, swap_remove}
+use Rattle.std.specs.List.{All, Any, list_all, swap_remove}
 use Rattle.std.proofs.Math.ListN.{length-set}
 use Rattle.std.proofs.Math.Seq.{take-length}
 use Rattle.std.proofs.lemmas.Bool.{and_parts, false≢true, leb-true}
 use Rattle.std.proofs.lemmas.Int.{clamps, ints}
 use Rattle.std.proofs.lemmas.List.{get_or-take, get_or_append_left, get_or_default, length-take-le, length_push}
+use Rattle.std.proofs.lemmas.List.Elements.{All-weaker}
 use Rattle.std.proofs.lemmas.List.Folds.{list_all_at}
 use Rattle.std.proofs.lemmas.List.Quantifiers.{Any-push, any-set}
 use Rattle.plane_core.specs.declared.bounds.Bounds.{Bounds}
 use Rattle.plane_core.specs.declared.cell.Cell.{Cell}
+use Rattle.plane_core.specs.declared.frame.Frame.{Frame}
 use Rattle.plane_core.specs.declared.place.Place.{Place}
 use Rattle.plane_core.specs.Bounds.{IsRoundBoth, IsWithin, box_at, enlarged, widened}
-use Rattle.plane_core.specs.Boxes.{AreWider, HoldDifferences, HoldsDifference, IsInOne, IsNearOne}
+use Rattle.plane_core.specs.Boxes.{AreWider, HoldDifferences, HoldsDifference, IsInOne, IsInReach, IsNearOne}
 use Rattle.plane_core.specs.Cells.{distance, has, is_within, king_distance}
 use Rattle.plane_core.specs.Bounds.{AreSidesWithin}
-use Rattle.plane_core.specs.Places.{IsInnerCell}
+use Rattle.plane_core.specs.Frames.{IsFrame}
+use Rattle.plane_core.specs.Places.{IsInnerCell, IsOnBoard}
 use Rattle.plane_core.proofs.CaseLemmas.{less_or_not, same_or_not}
+
+-- windows that lie on the board aren't far from the origin
+in_reach : (at : Frame) → IsFrame at → (p : Place) → IsOnBoard at p → IsInReach p
+in_reach at frame p on = record {
+  left = near at.left p.left on.x frame.left on.left (few_columns frame.lanes on.lanes);
+  top = near at.top p.top on.y frame.top on.top (few_rows frame.rows on.rows);
+}
+  where
+    near : (a l : ℤ) (x : ℕ) → unsigned_abs a ≤ 2 ^ 21 → l ≡ a +ℤ pos x → x ≤ 2 ^ 22 → unsigned_abs l ≤ 6291456
+    near a l x low is few = omega (arith, ints)
+
+    few_columns : at.lanes ≤ 2 ^ 16 → on.x / 64 + 1 < at.lanes → on.x ≤ 2 ^ 22
+    few_columns few inside = omega (arith, few, inside)
+
+    few_rows : at.rows ≤ 2 ^ 22 → on.y + 40 ≤ at.rows → on.y ≤ 2 ^ 22
+    few_rows few inside = omega (arith, few, inside)
+
+pub all_in_reach : (at : Frame) (places : List Place) → IsFrame at → All (IsOnBoard at) places → All IsInReach places
+all_in_reach at places frame on = All-weaker (IsOnBoard at) IsInReach (in_reach at frame) places on
 
 -- a cell near a cell that is near the box is near the box
 within_further : (b : Bounds) (m n : ℕ) (c d : Cell) → king_distance c d ≤ n → IsWithin (enlarged m b) d → IsWithin (enlarged (m + n) b) c

@@ -1,10 +1,10 @@
 -- Coordinates as they are passed on: numbers of 32 bits, whose bits are read back.
-use Rattle.std.proofs.Common.{◌≡◌, ◌+◌, ◌/◌, ◌<◌, ◌≤◌, ℕ, ℤ, pos, negsuc, ◌+ℤ◌, ◌-ℤ◌, ◌≤ℤ◌, ◌<ℤ◌, true}
+use Rattle.std.proofs.Common.{◌≡◌, ◌+◌, ◌/◌, ◌<◌, ◌≤◌, ℕ, ℤ, pos, negsuc, ◌+ℤ◌, ◌-ℤ◌, ◌≤ℤ◌, ◌<ℤ◌, true, false}
 use Rattle.std.proofs.Common.{arith, ap, ◌∙◌, sym, subst, Fits, FitsSigned, of_z, to_z, unsigned_abs, nat_le, w32, w64}
 use Rattle.std.proofs.lemmas.Int.{ints, to_z-of_z, to_z_pos}
 use lib.Dec.{T, ltb}
 use Rattle.std.specs.Bool.{IsTrue}
-use lib.Signed.{non_neg}
+use lib.Signed.{lt_z, non_neg}
 use borrow.Author.Tests.{leb-true, ltb-true}
 use Rattle.std.proofs.lemmas.Bool.{and_parts}
 use Rattle.plane_core.specs.declared.cell.Cell.{Cell}
@@ -32,6 +32,22 @@ x_within c on = leb-true _ _ ((and_parts (nat_le (unsigned_abs c.x) plane_bound)
 pub y_within : (c : Cell) → on_plane c ≡ true → unsigned_abs c.y ≤ plane_bound
 unfolding on_plane
 y_within c on = leb-true _ _ ((and_parts (nat_le (unsigned_abs c.x) plane_bound) _ on).1)
+
+-- ---- numbers that are compared
+
+pub same_passed : (a b : ℤ) → FitsSigned w32 a → FitsSigned w32 b → of_z w32 a ≡ of_z w32 b → a ≡ b
+same_passed a b fa fb same = sym (to_z-of_z w32 a fa) ∙ ap (to_z w32) same ∙ to_z-of_z w32 b fb
+
+-- what isn't less than another is more by their difference
+pub more_by : (a b : ℤ) (n : ℕ) → FitsSigned w32 a → FitsSigned w32 b → lt_z (passed a) (passed b) ≡ false → n ≡ unsigned_abs (passed a -ℤ passed b)
+    → a ≡ b +ℤ pos n
+more_by a b n fa fb low is = more (rw (to_z-of_z w32 a fa, to_z-of_z w32 b fb) at low) (rw (to_z-of_z w32 a fa, to_z-of_z w32 b fb) at is)
+  where
+    more : lt_z a b ≡ false → n ≡ unsigned_abs (a -ℤ b) → a ≡ b +ℤ pos n
+    more low is = omega (arith, ints, low, is)
+
+pub too_far : (a b : ℤ) (n i : ℕ) → a ≡ b +ℤ pos n → 64 ≤ n → i < 64 → b +ℤ pos i ≡ a → ⊥
+too_far a b n i is far low at = omega (arith, ints, is, far, low, at)
 
 -- ---- differences
 

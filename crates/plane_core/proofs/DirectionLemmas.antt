@@ -1,12 +1,12 @@
 -- How deep cells lie in a direction, and the deepest cell of a board.
 use Rattle.std.proofs.Common.{◌≡◌, ◌≢◌, ◌==◌, ◌+◌, ◌-◌, ◌*◌, ◌/◌, ◌%◌, ◌^◌, ◌<◌, ◌≤◌, ℕ, ℤ, pos, ◌+ℤ◌, ◌-ℤ◌, ◌≤ℤ◌, Bool, true, false, not}
-use Rattle.std.proofs.Common.{◌&&◌, ◌||◌, List, [], ◌∷◌, Option, Some, IfSome, arith, refl, ap, ◌∙◌, sym, subst, inl, inr, ◌⊎◌}
-use Rattle.std.proofs.Common.{zero, suc, min, max, bit_and, bit_or, get_or, length, slice_index, take, unsigned_abs, w64}
+use Rattle.std.proofs.Common.{◌&&◌, ◌||◌, List, [], ◌∷◌, Option, None, Some, IfSome, FitsSigned, of_z, to_z, arith, refl, ap, ◌∙◌, sym, subst, inl, inr, ◌⊎◌}
+use Rattle.std.proofs.Common.{zero, suc, min, max, bit_and, bit_or, get_or, length, slice_index, take, unsigned_abs, w32, w64}
 use Rattle.std.specs.Cmp.{both_ways as both_true}
-use Rattle.std.specs.Int.{bit_at, bit_not, leading_zeros, trailing_zeros}
+use Rattle.std.specs.Int.{bit_at, bit_not, int_max, leading_zeros, trailing_zeros}
 use Rattle.std.proofs.Math.Pow.{pow-lt}
 use Rattle.std.proofs.lemmas.Bool.{eqb-true}
-use Rattle.std.proofs.lemmas.Int.{ints}
+use Rattle.std.proofs.lemmas.Int.{clamps, ints, to_z-of_z}
 use Rattle.std.proofs.lemmas.List.{take_more}
 use Rattle.std.proofs.lemmas.Nat.{leading_top}
 use Rattle.std.proofs.lemmas.Nat.Bits.{bit_at-lt, bit_at-pow_other, bit_at-pow_same, bit_at-trailing_zeros, bit_at-zero, bit_at_above}
@@ -18,11 +18,12 @@ use Rattle.plane_core.specs.declared.frame.Frame.{Frame}
 use Rattle.plane_core.specs.declared.spans.Span.{Span}
 use Rattle.plane_core.specs.Bounds.{AreSidesWithin}
 use Rattle.plane_core.specs.Cells.{cell_at, has, is_within, on_plane, plane_bound, same_cell}
-use Rattle.plane_core.specs.Directions.{GoesDeeper, HasDepth, IsDeepest, IsReached, IsSeen, NoDeeper, counted, depth_in, inner_row, outer_column}
+use Rattle.plane_core.specs.Directions.{GoesDeeper, HasDepth, IsDeepest, IsGreater, IsReached, IsSeen, NoDeeper, counted, depth_in, inner_row, outer_column}
 use Rattle.plane_core.specs.Frames.{board_cell, bounds_of, word_of}
 use Rattle.plane_core.specs.OnBoard.{cells_on}
 use Rattle.plane_core.specs.Spans.{HasRow, LieInSpans, span_of}
 use Rattle.plane_core.specs.Without.{without}
+use Rattle.plane_core.proofs.BoundsLemmas.{max_cases}
 use Rattle.plane_core.proofs.CaseLemmas.{less_or_not, same_or_not}
 use Rattle.plane_core.proofs.CellLemmas.{same_cell-itself, same_cell-same, same_cells}
 use Rattle.plane_core.proofs.BoxRoundLemmas.{lies_near}
@@ -208,6 +209,35 @@ outer_depth at way lane row i column far = by_cases way.right far (counted way.d
         → (counted right (at.left +ℤ pos (64 * lane + i)) +ℤ z) ≤ℤ (counted right (at.left +ℤ pos (64 * lane + column)) +ℤ z)
     by_cases true h z = omega (arith, ints)
     by_cases false h z = omega (arith, ints)
+
+-- ---- the greater of two depths
+
+pub greater_of : (found : Option ℤ) (deepest depth most : ℤ) → FitsSigned w32 deepest → FitsSigned w32 depth → FitsSigned w32 most
+    → found ≡ Some deepest → most ≡ int_max (to_z w32 (of_z w32 deepest)) (to_z w32 (of_z w32 depth)) → IsGreater found depth (to_z w32 (of_z w32 most))
+greater_of found deepest depth most fits_deepest fits_depth fits is at =
+    subst (λ (m : ℤ). IsGreater found depth m) (sym (to_z-of_z w32 most fits)) (record {
+      kept = λ z reached. kept z (subst (λ (o : Option ℤ). IsReached o z) is reached);
+      least = omega (arith, ints, clamps, greatest);
+      either = one (max_cases deepest depth);
+    })
+  where
+    greatest : most ≡ int_max deepest depth
+    greatest = at ∙ (λ i. int_max (to_z-of_z w32 deepest fits_deepest i) (to_z-of_z w32 depth fits_depth i))
+
+    kept : (z : ℤ) → z ≤ℤ deepest → z ≤ℤ most
+    kept z low = omega (arith, ints, clamps, greatest)
+
+    one : (int_max deepest depth ≡ deepest) ⊎ (int_max deepest depth ≡ depth) → (most ≡ depth) ⊎ (found ≡ Some most)
+    one (inl e) = inr (is ∙ ap (λ (m : ℤ). Some m) (sym (greatest ∙ e)))
+    one (inr e) = inl (greatest ∙ e)
+
+pub greater_of_one : (found : Option ℤ) (depth : ℤ) → FitsSigned w32 depth → found ≡ None → IsGreater found depth (to_z w32 (of_z w32 depth))
+greater_of_one found depth fits is =
+    subst (λ (m : ℤ). IsGreater found depth m) (sym (to_z-of_z w32 depth fits)) (record {
+      kept = λ z reached. absurd (subst (λ (o : Option ℤ). IsReached o z) is reached);
+      least = omega (arith, ints);
+      either = inl refl;
+    })
 
 -- ---- a row
 

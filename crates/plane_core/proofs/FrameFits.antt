@@ -1,6 +1,6 @@
 -- That the numbers from which a frame is made fit their types.
 use Rattle.std.proofs.Common.{◌≡◌, ◌+◌, ◌-◌, ◌*◌, ◌/◌, ◌^◌, ◌<◌, ◌≤◌, ℕ, ℤ, pos, ◌+ℤ◌, ◌-ℤ◌, ◌≤ℤ◌, Fits, FitsSigned, true, false}
-use Rattle.std.proofs.Common.{arith, leb, unsigned_abs, of_z, subst, to_z, w32, w64}
+use Rattle.std.proofs.Common.{◌∙◌, ap, arith, leb, max, unsigned_abs, of_z, subst, to_z, w32, w64}
 use Rattle.std.proofs.lemmas.Bool.{leb-true}
 use Rattle.std.proofs.lemmas.Int.{ints, to_z-of_z}
 use lib.Signed.{le_z, lt_z}
@@ -28,6 +28,26 @@ fits_around at frame =
     let h = frame.lanes in
     let k = frame.rows in
     record { fits = omega arith }
+
+-- ---- where a window begins on a board
+
+pub fits_next_lane : (x : ℕ) → x < 2 ^ 32 → Fits w64 (x / 64 + 1)
+fits_next_lane x low = record { fits = omega arith }
+
+pub fits_window_end : (y n : ℕ) → y < 2 ^ 32 → n ≤ 64 → Fits w64 (y + n)
+fits_window_end y n low few = record { fits = omega arith }
+
+pub window_low : (at : Frame) (y : ℕ) → IsFrame at → y + 40 ≤ at.rows → y < 2 ^ 32
+window_low at y frame inside = let h = frame.rows in omega arith
+
+pub fits_lane_beside : (at : Frame) (x : ℕ) → IsFrame at → x / 64 + 1 < at.lanes → Fits w64 (x / 64 + 1)
+fits_lane_beside at x frame inside = let h = frame.lanes in record { fits = omega arith }
+
+pub two_lanes : (x lanes n : ℕ) → x / 64 + 1 < lanes → n ≡ lanes → (x / 64 < n) × (x / 64 + 1 < n)
+two_lanes x lanes n inside long = (omega (arith, inside, long), omega (arith, inside, long))
+
+pub middle_low : (a b : ℕ) → a < 2 ^ 32 → b < 2 ^ 32 → (a + b - 64) / 2 < 2 ^ 32
+middle_low a b low small = omega arith
 
 -- ---- how far apart the sides of a box are
 
@@ -86,6 +106,32 @@ fits_wide_rows n k low few = record { fits = omega arith }
 
 pub room_sides : (at : Frame) (b : Bounds) → HasRoom at b → AreSidesWithin plane_bound b
 room_sides at b room = fewer_sides (plane_bound - (64 * at.lanes + at.rows)) plane_bound b (omega arith) room.sides
+
+up_to : (a b c : ℕ) → a ≤ b → b ≤ c → a ≤ c
+up_to a b c low below = omega arith
+
+-- a side that is no farther from the origin than the farthest one
+side_below : (x : ℤ) (size half all : ℕ) → FitsSigned w32 x → size ≡ unsigned_abs (to_z w32 (of_z w32 x)) → size ≤ half → half ≤ all → unsigned_abs x ≤ all
+side_below x size half all fits is low below = subst (λ (n : ℕ). n ≤ all) (is ∙ ap unsigned_abs (to_z-of_z w32 x fits)) (up_to size half all low below)
+
+of_both : (a b m : ℕ) → m ≡ max a b → (a ≤ m) × (b ≤ m)
+of_both a b m is = (omega (arith, is), omega (arith, is))
+
+pub sides_below : (b : Bounds) (left right top bottom across down all : ℕ)
+    → FitsSigned w32 b.left → FitsSigned w32 b.right → FitsSigned w32 b.top → FitsSigned w32 b.bottom
+    → left ≡ unsigned_abs (to_z w32 (of_z w32 b.left)) → right ≡ unsigned_abs (to_z w32 (of_z w32 b.right))
+    → top ≡ unsigned_abs (to_z w32 (of_z w32 b.top)) → bottom ≡ unsigned_abs (to_z w32 (of_z w32 b.bottom))
+    → across ≡ max left right → down ≡ max top bottom → all ≡ max across down → AreSidesWithin all b
+sides_below b left right top bottom across down all fl fr ft fb l r t m row column whole =
+    let in_row = of_both left right across row in
+    let in_column = of_both top bottom down column in
+    let in_all = of_both across down all whole in
+    record {
+      left = side_below b.left left across all fl l in_row.0 in_all.0;
+      top = side_below b.top top down all ft t in_column.0 in_all.1;
+      right = side_below b.right right across all fr r in_row.1 in_all.0;
+      bottom = side_below b.bottom bottom down all fb m in_column.1 in_all.1;
+    }
 
 pub sides_near : (far around : ℕ) (b : Bounds) → AreSidesWithin far b → far ≤ plane_bound - around → AreSidesWithin plane_bound b
 sides_near far around b sides low = fewer_sides far plane_bound b (omega (arith, low)) sides

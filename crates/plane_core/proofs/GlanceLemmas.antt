@@ -13,10 +13,10 @@ use Rattle.std.proofs.lemmas.Nat.Bits.{bit_at-zero, bit_at_set_same, bit_at_set_
 use Rattle.plane_core.specs.declared.bounds.Bounds.{Bounds}
 use Rattle.plane_core.specs.declared.cell.Cell.{Cell}
 use Rattle.plane_core.specs.declared.place.Place.{Place}
-use Rattle.plane_core.specs.Bounds.{IsLeastBox, IsWithin}
+use Rattle.plane_core.specs.Bounds.{AreSidesWithin, IsLeastBox, IsWithin}
 use Rattle.plane_core.specs.Cells.{InOrder, cell_at, distance, has, is_within, plane_bound, same_cell}
 use Rattle.plane_core.specs.Generations.{touches_edge}
-use Rattle.plane_core.specs.Glances.{IsInland, IsNear, IsSpot, ShowsRows}
+use Rattle.plane_core.specs.Glances.{IsInland, IsSpot, ShowsRows}
 use Rattle.plane_core.specs.LonePatterns.{Holds, IsInWindow}
 use Rattle.plane_core.specs.Windows.{IsShownInside, row_at}
 use Rattle.plane_core.proofs.CaseLemmas.{same_or_not}
@@ -36,7 +36,7 @@ pub record IsPlacedRound (b : Bounds) (width height : ℕ) (p : Place) : Type 0 
   pub wide : width ≤ 61
   pub high : height ≤ 61
 
-pub place_is_inland : (b : Bounds) (width height : ℕ) (p : Place) → IsNear b → IsPlacedRound b width height p → IsInland p
+pub place_is_inland : (b : Bounds) (width height : ℕ) (p : Place) → AreSidesWithin 900000 b → IsPlacedRound b width height p → IsInland p
 place_is_inland b width height p sides is =
     let sl = sides.left in
     let st = sides.top in

@@ -1,5 +1,5 @@
 -- Plain facts on numbers in order, which say in a word what else would be looked for among all that is known.
-use Rattle.std.proofs.Common.{◌≡◌, ◌+◌, ◌-◌, ◌*◌, ◌<◌, ◌≤◌, ℕ, arith}
+use Rattle.std.proofs.Common.{◌≡◌, ◌≢◌, ◌+◌, ◌-◌, ◌*◌, ◌<◌, ◌≤◌, ℕ, arith}
 
 pub below_too : (a b m : ℕ) → a < b → b ≤ m → a < m
 below_too a b m low most = omega (arith, low, most)
@@ -25,6 +25,24 @@ next_low k n low = omega (arith, low)
 
 pub this_low : (k n : ℕ) → k < n - 1 → k < n
 this_low k n low = omega (arith, low)
+
+pub next_later : (k : ℕ) → k ≤ k + 1
+next_later k = omega arith
+
+pub from_next : (k m : ℕ) → k + 1 ≤ m → k ≤ m
+from_next k m later = omega (arith, later)
+
+pub not_next : (k m : ℕ) → k + 1 ≤ m → m ≢ k
+not_next k m later is = omega (arith, later, is)
+
+pub at_end : (k n : ℕ) → k ≤ n → n ≤ k → k ≡ n
+at_end k n low high = omega (arith, low, high)
+
+pub last_next : (n : ℕ) → 0 < n → n - 1 + 1 ≡ n
+last_next n some = omega (arith, some)
+
+pub below_same : (k n m : ℕ) → k < n → m ≡ n → k < m
+below_same k n m low same = omega (arith, low, same)
 
 -- ---- windows of few vectors
 

@@ -43,12 +43,12 @@ in_or_not span n = low (less_or_not n span.from)
 
 -- a cell that is put on the board lies in a row that is put in the span of its lane
 pub cell_held : (at : Frame) (spans : List Span) (c : Cell) (a d : ℕ) → pos a ≡ c.x -ℤ at.left → pos d ≡ c.y -ℤ at.top
-    → ((r : ℕ) → d ≤ r → r < d + 1 → IsInSpan spans (a / 64) r) → LieInSpans at spans (c ∷ [])
+    → ((r : ℕ) → HasRow (record { from = d; end = d + 1 }) r → IsInSpan spans (a / 64) r) → LieInSpans at spans (c ∷ [])
 cell_held at spans c a d p q held s r i hs hr hi e = elim (has-cases c [] (board_cell at s r i) e) [
   | inr none ↦ absurd (false≢true none)
   | inl same ↦
       let is = one_spot at s r i (a / 64) d (a % 64) hi (omega arith) (same ∙ spot_of at c a d p q) in
-      subst (λ (t : ℕ). IsInSpan spans t r) (sym is.0) (held r (omega (arith, is.1)) (omega (arith, is.1)))
+      subst (λ (t : ℕ). IsInSpan spans t r) (sym is.0) (held r (record { low = omega (arith, is.1); high = omega (arith, is.1) }))
 ]
 
 -- one cell of a list more
@@ -66,8 +66,8 @@ held_more at old new cs k d low wide before here s r i hs hr hi e =
 
 -- the inner part of a window lies in two lanes
 pub inner_held : (at : Frame) (p : Place) (x y : ℕ) (mid new : List Span) → p.left ≡ at.left +ℤ pos x → p.top ≡ at.top +ℤ pos y
-    → ((r : ℕ) → y + 4 ≤ r → r < y + 36 → IsInSpan mid (x / 64) r) → AreWidened mid new
-    → ((r : ℕ) → y + 4 ≤ r → r < y + 36 → IsInSpan new (x / 64 + 1) r) → HoldInner at new p
+    → ((r : ℕ) → HasRow (record { from = y + 4; end = y + 36 }) r → IsInSpan mid (x / 64) r) → AreWidened mid new
+    → ((r : ℕ) → HasRow (record { from = y + 4; end = y + 36 }) r → IsInSpan new (x / 64 + 1) r) → HoldInner at new p
 inner_held at p x y mid new left top first wide second s r i hs hr hi inner = go (same_or_not s (x / 64))
   where
     low : y + 4 ≤ r
@@ -76,13 +76,16 @@ inner_held at p x y mid new left top first wide second s r i hs hr hi inner = go
     high : r < y + 36
     high = let h = inner.bottom in omega (arith, ints)
 
+    here : HasRow (record { from = y + 4; end = y + 36 }) r
+    here = record { low = low; high = high }
+
     go : (s ≡ x / 64) ⊎ (s ≢ x / 64) → IsInSpan new s r
-    go (inl same) = wide s r (subst (λ (t : ℕ). IsInSpan mid t r) (sym same) (first r low high))
+    go (inl same) = wide s r (subst (λ (t : ℕ). IsInSpan mid t r) (sym same) (first r here))
     go (inr apart) =
         let h = inner.left in
         let k = inner.right in
         let is : x / 64 + 1 ≡ s = omega (arith, ints) in
-        subst (λ (t : ℕ). IsInSpan new t r) is (second r low high)
+        subst (λ (t : ℕ). IsInSpan new t r) is (second r here)
 
 -- one place more
 pub places_more : (at : Frame) (old new : List Span) (places : List Place) (done : ℕ) (d : Place) → done < length places → AreWidened old new

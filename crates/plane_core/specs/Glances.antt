@@ -1,19 +1,11 @@
 -- A glance at a pattern: where the window lies in which it is run.
 use Rattle.std.specs.Prelude.{◌≡◌, ◌==◌, ◌<◌, ◌≤◌, ℕ, ◌+ℤ◌, pos, List, slice_index, unsigned_abs}
 use Rattle.std.specs.Int.{bit_at}
-use Rattle.plane_core.specs.declared.bounds.Bounds.{Bounds}
 use Rattle.plane_core.specs.declared.cell.Cell.{Cell}
 use Rattle.plane_core.specs.declared.place.Place.{Place}
 use Rattle.plane_core.specs.Cells.{cell_at, has}
 
--- a box that lies far from the edge of the plane
-pub record IsNear (b : Bounds) : Type 0 where
-  pub left : unsigned_abs b.left ≤ 900000
-  pub top : unsigned_abs b.top ≤ 900000
-  pub right : unsigned_abs b.right ≤ 900000
-  pub bottom : unsigned_abs b.bottom ≤ 900000
-
--- a window of 64 by 64 that does
+-- a window of 64 by 64 that lies far from the edge of the plane
 pub record IsInland (p : Place) : Type 0 where
   pub left : unsigned_abs p.left ≤ 950000
   pub top : unsigned_abs p.top ≤ 950000

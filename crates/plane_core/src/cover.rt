@@ -15,9 +15,8 @@
 ghost use Rattle.std.specs.Prelude.{◌≡◌, ◌+◌, ◌*◌, ◌^◌, ◌<◌, ◌≤◌, ◌⊎◌, ◌+ℤ◌, pos, All};
 ghost use Rattle.std.specs.Prelude.{IsTrue, OnOk, unsigned_abs, vec_len};
 ghost use Rattle.plane_core.specs.Bounds.{IsWithin, enlarged};
-ghost use Rattle.plane_core.specs.Boxes.{AreCovered, IsInOne, IsInReach, IsNearOne, box_bound, rectangle_bound};
+ghost use Rattle.plane_core.specs.Boxes.{AreCovered, IsInOne, IsNearOne, box_bound, rectangle_bound};
 ghost use Rattle.plane_core.specs.Covers.{AreSideBySide, BeginsAt, IsInRow};
-ghost use Rattle.plane_core.specs.Frames.{IsFrame};
 ghost use Rattle.plane_core.specs.Bounds.{AreSidesWithin};
 ghost use Rattle.plane_core.specs.Places.{IsCovered, IsOnBoard};
 ghost use Rattle.plane_core.specs.declared.cell.Cell.{Cell};
@@ -57,9 +56,7 @@ pub(crate) fn cover(
 
 /// Whether all windows lie on the board.
 pub(crate) fn are_on_board(at: Frame, places: &[Place]) -> bool
-    requires { IsFrame at }
-    ensures on_board { IsTrue result → All (IsOnBoard at) places.now }
-    ensures reach { IsTrue result → All IsInReach places.now }
+    ensures { IsTrue result → All (IsOnBoard at) places.now }
 {
     for place in places {
         if !place.is_on_board(at) {

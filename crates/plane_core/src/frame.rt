@@ -280,7 +280,7 @@ impl Frame {
 }
 
 /// How far the sides of a box are from the origin, at most.
-fn farthest(bounds: Bounds) -> u32
+pub(crate) fn farthest(bounds: Bounds) -> u32
     ensures { AreSidesWithin result bounds }
 {
     let across = bounds.left.unsigned_abs().max(bounds.right.unsigned_abs());

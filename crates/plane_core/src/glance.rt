@@ -15,15 +15,15 @@
 ghost use Rattle.std.specs.Prelude.{◌≡◌, ◌<◌, ◌≤◌, ℕ, IfSome, IsTrue, false, true};
 ghost use Rattle.plane_core.specs.Cells.{InOrder, has};
 ghost use Rattle.plane_core.specs.Generations.{NeverBack, after, touches_edge};
-ghost use Rattle.plane_core.specs.Glances.{IsInland, IsNear, IsSpot};
+ghost use Rattle.plane_core.specs.Glances.{IsInland, IsSpot};
 ghost use Rattle.plane_core.specs.LonePatterns.{Holds, IsInWindow};
 ghost use Rattle.plane_core.specs.Refusing.{HasRestlessCluster};
 ghost use Rattle.plane_core.specs.declared.cell.Cell.{Cell};
 
 use crate::answers::{AnyRule, Life, is_life};
-use crate::bounds::Bounds;
 use crate::cell::Cell;
 use crate::coordinate::{apart, back};
+use crate::frame::farthest;
 use crate::never_back::never_back;
 use crate::pattern::Pattern;
 use crate::place::Place;
@@ -31,6 +31,9 @@ use crate::refusing::refuses;
 use crate::rows::packed;
 use crate::rule::Rule;
 use std::simd::u64x4;
+
+/// How far from the origin the sides of a pattern's box are at most: far from the edge of the plane.
+const INLAND: u32 = 900_000;
 
 /// A place in the window: columns and rows from its first cell.
 #[derive(Clone, Copy)]
@@ -82,7 +85,7 @@ pub(crate) fn place_round(pattern: &Pattern) -> Option<Place>
         (λ place. (c : Cell) → has pattern.now c ≡ true → IsInWindow 16 place.left place.top c) }
 {
     let bounds = pattern.bounds()?;
-    if !is_near(bounds) {
+    if farthest(bounds) > INLAND {
         return None;
     }
     let width = apart(bounds.left, bounds.right);
@@ -94,16 +97,6 @@ pub(crate) fn place_round(pattern: &Pattern) -> Option<Place>
         left: back(bounds.left, (63 - width) / 2),
         top: back(bounds.top, (63 - height) / 2),
     })
-}
-
-/// Whether the box lies far from the edge of the plane.
-fn is_near(bounds: Bounds) -> bool
-    ensures { IsTrue result → IsNear bounds }
-{
-    bounds.left.unsigned_abs() <= 900_000
-        && bounds.top.unsigned_abs() <= 900_000
-        && bounds.right.unsigned_abs() <= 900_000
-        && bounds.bottom.unsigned_abs() <= 900_000
 }
 
 /// The window at this place with these cells.

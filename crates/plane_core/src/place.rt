@@ -14,7 +14,6 @@
 //! ```
 ghost use Rattle.std.specs.Prelude.{◌≡◌, ◌<◌, ◌+ℤ◌, IsTrue, pos};
 ghost use Rattle.plane_core.specs.Boxes.{IsInReach};
-ghost use Rattle.plane_core.specs.Frames.{IsFrame};
 ghost use Rattle.plane_core.specs.Places.{IsOnBoard};
 
 use crate::frame::Frame;
@@ -30,9 +29,7 @@ impl Place {
     /// Whether the window lies on the board, with a lane to its right.
     #[inline(always)]
     pub(crate) fn is_on_board(self, at: Frame) -> bool
-        requires { IsFrame at }
-        ensures on_board { IsTrue result → IsOnBoard at self }
-        ensures reach { IsTrue result → IsInReach self }
+        ensures { IsTrue result → IsOnBoard at self }
     {
         if self.left < at.left || self.top < at.top {
             return false;

@@ -73,13 +73,13 @@ impl Span {
     }
 }
 
-/// Widens the span of a lane by rows from one on, and before another.
-pub(crate) fn widen(spans: &mut [Span], lane: usize, from: usize, end: usize)
+/// Widens the span of a lane by these rows.
+fn widen(spans: &mut [Span], lane: usize, rows: Span)
     requires { lane < length spans.old }
     ensures kept { AreWidened spans.old spans.new }
-    ensures held { (r : ℕ) → from ≤ r → r < end → IsInSpan spans.new lane r }
+    ensures held { (r : ℕ) → HasRow rows r → IsInSpan spans.new lane r }
 {
-    spans[lane] = spans[lane].joined(Span { from, end });
+    spans[lane] = spans[lane].joined(rows);
 }
 
 /// Widens the spans by the inner part of a window, which may lie in two lanes.
@@ -92,8 +92,12 @@ fn widen_by_one(at: Frame, spans: &mut [Span], place: Place)
 {
     let lane = column_of(at, place) / 64;
     let row = row_of(at, place);
-    widen(spans, lane, row + 4, row + 36);
-    widen(spans, lane + 1, row + 4, row + 36);
+    let rows = Span {
+        from: row + 4,
+        end: row + 36,
+    };
+    widen(spans, lane, rows);
+    widen(spans, lane + 1, rows);
 }
 
 /// Widens the spans by the inner parts of windows.
@@ -119,7 +123,11 @@ fn widen_by_cell(at: Frame, spans: &mut [Span], cell: Cell)
 {
     let lane = at.across(cell) / 64;
     let row = at.down(cell);
-    widen(spans, lane, row, row + 1);
+    let rows = Span {
+        from: row,
+        end: row + 1,
+    };
+    widen(spans, lane, rows);
 }
 
 /// Widens the spans by cells.

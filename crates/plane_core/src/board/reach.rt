@@ -10,12 +10,12 @@
 //! . . . . . . . .     better if it reaches further to the right, by more than the rows that lie between.
 //! . . . d . . . .
 //! ```
-ghost use Rattle.std.specs.Prelude.{◌≡◌, ◌≢◌, ◌==◌, ◌-◌, ◌<◌, ◌≤◌, ◌⊎◌, ◌+ℤ◌, ◌≤ℤ◌, ℕ, ℤ, IfSome, Some, length, pos};
+ghost use Rattle.std.specs.Prelude.{◌≡◌, ◌≢◌, ◌==◌, ◌-◌, ◌<◌, ◌≤◌, ◌+ℤ◌, ℕ, IfSome, length, pos};
 ghost use Rattle.std.specs.Prelude.{slice_index};
 ghost use Rattle.std.specs.Int.{bit_at};
 ghost use Rattle.plane_core.specs.Bounds.{AreSidesWithin};
 ghost use Rattle.plane_core.specs.Cells.{cell_at, has, plane_bound, same_cell};
-ghost use Rattle.plane_core.specs.Directions.{GoesDeeper, IsDeepest, IsReached, IsSeen, NoDeeper, depth_in, inner_row};
+ghost use Rattle.plane_core.specs.Directions.{GoesDeeper, IsDeepest, IsGreater, IsSeen, NoDeeper, depth_in, inner_row};
 ghost use Rattle.plane_core.specs.Frames.{FillsFrame, IsFrame, board_cell, bounds_of, word_of};
 ghost use Rattle.plane_core.specs.Frontiers.{LiesUpTo};
 ghost use Rattle.plane_core.specs.OnBoard.{cells_on};
@@ -197,9 +197,7 @@ fn deepest_in_row(
 
 /// The greater of two depths, if there are two.
 fn deeper(found: Option<i32>, depth: i32) -> i32
-    ensures kept { (z : ℤ) → IsReached found z → z ≤ℤ result }
-    ensures least { depth ≤ℤ result }
-    ensures either { result ≡ depth ⊎ found ≡ Some result }
+    ensures { IsGreater found depth result }
 {
     match found {
         Some(deepest) => deepest.max(depth),

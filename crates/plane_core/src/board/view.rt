@@ -11,7 +11,7 @@
 //! |        +----------+                 |
 //! +-------------------------------------+
 //! ```
-ghost use Rattle.std.specs.Prelude.{◌≡◌, ◌+◌, ◌/◌, ◌<◌, ◌≤◌, ◌+ℤ◌, IfSome, pos};
+ghost use Rattle.std.specs.Prelude.{◌≡◌, ◌+◌, ◌/◌, ◌<◌, ◌≤◌, ◌^◌, ◌+ℤ◌, IfSome, pos};
 ghost use Rattle.plane_core.specs.Bounds.{AreSidesWithin};
 ghost use Rattle.plane_core.specs.Cells.{plane_bound};
 ghost use Rattle.plane_core.specs.Frames.{FillsFrame, IsFrame, bounds_of};
@@ -42,7 +42,10 @@ impl View {
     {
         let x = first_of(bounds.left, bounds.right, at.left)?;
         let y = first_of(bounds.top, bounds.bottom, at.top)?;
-        if x / 64 + 1 >= at.lanes || at.rows < 64 || y > at.rows - 64 {
+        if x / 64 + 1 >= at.lanes {
+            return None;
+        }
+        if y + 64 > at.rows {
             return None;
         }
         Some(View { x, y })
@@ -86,7 +89,9 @@ pub(super) fn is_large(bounds: Bounds) -> bool {
 }
 
 /// Where on a board that starts here a view begins that has the middle of these ends in its middle, if all lie on it.
-fn first_of(from: i32, to: i32, start: i32) -> Option<usize> {
+fn first_of(from: i32, to: i32, start: i32) -> Option<usize>
+    ensures { IfSome result (λ first. first < 2 ^ 32) }
+{
     if from < start || to < start {
         return None;
     }

@@ -3,6 +3,7 @@ use Rattle.std.proofs.lemmas.Bool.{false≢true}
 use Rattle.std.proofs.lemmas.Result.{IfOk-from_err}
 use Rattle.plane_core.specs.OnBoard.{cells_on}
 use Rattle.plane_core.proofs.AdvanceLemmas.{has_gone_on}
+use Rattle.plane_core.proofs.BoxLemmas.{all_in_reach}
 use Rattle.plane_core.proofs.OnBoardLemmas.{cells_in_order, shows_cells}
 use Rattle.plane_core.proofs.board.leap_on.Goals as goal
 
@@ -15,9 +16,6 @@ returns-in_err-cover-clause-stopped g c = IfOk-from_err _ _ c.from_residual.ensu
 pub returns-in_err-cover-clause-leapt : goal.returns-in_err-cover-clause-leapt
 returns-in_err-cover-clause-leapt g c = IfOk-from_err _ _ c.from_residual.ensures.0
 
-pub are_on_board-inside-requires : goal.are_on_board-inside-requires
-are_on_board-inside-requires g c = c.requires.ready.frame
-
 pub returns-then-not-inside-clause-stopped : goal.returns-then-not-inside-clause-stopped
 returns-then-not-inside-clause-stopped g c e = (refl, refl, refl)
 
@@ -28,7 +26,7 @@ pub widen_by-requires-clause-frame : goal.widen_by-requires-clause-frame
 widen_by-requires-clause-frame g c = c.requires.ready.frame
 
 pub widen_by-requires-clause-on_board : goal.widen_by-requires-clause-on_board
-widen_by-requires-clause-on_board g c = c.are_on_board-inside.ensures.on_board c.if-not-inside.false
+widen_by-requires-clause-on_board g c = c.are_on_board-inside.ensures c.if-not-inside.false
 
 pub widen_by-requires-clause-long : goal.widen_by-requires-clause-long
 widen_by-requires-clause-long g c = c.requires.ready.spanned.lanes
@@ -40,7 +38,7 @@ pub leap-requires-clause-long : goal.leap-requires-clause-long
 leap-requires-clause-long g c = c.requires.ready.long
 
 pub leap-requires-clause-on_board : goal.leap-requires-clause-on_board
-leap-requires-clause-on_board g c = c.are_on_board-inside.ensures.on_board c.if-not-inside.false
+leap-requires-clause-on_board g c = c.are_on_board-inside.ensures c.if-not-inside.false
 
 pub leap-requires-clause-some : goal.leap-requires-clause-some
 leap-requires-clause-some g c = c.requires.some
@@ -58,7 +56,7 @@ pub next_boxes-requires-clause-one_each : goal.next_boxes-requires-clause-one_ea
 next_boxes-requires-clause-one_each g c = sym (ap length c.as_slice-2.ensures.value ∙ c.in_ok-leap.ensures.each)
 
 pub next_boxes-requires-clause-reach : goal.next_boxes-requires-clause-reach
-next_boxes-requires-clause-reach g c = c.are_on_board-inside.ensures.reach c.if-not-inside.false
+next_boxes-requires-clause-reach g c = all_in_reach c.args.at _ c.requires.ready.frame (c.are_on_board-inside.ensures c.if-not-inside.false)
 
 pub returns-in_err-next_boxes-clause-stopped : goal.returns-in_err-next_boxes-clause-stopped
 returns-in_err-next_boxes-clause-stopped g c = IfOk-from_err _ _ c.from_residual-in_err-next_boxes.ensures.0
@@ -77,7 +75,7 @@ returns-clause-leapt g c e =
     let places = c.as_slice-places.result.now in
     let covered = rw (sym c.as_slice-places.ensures.value, c.as_slice.ensures.value) at c.in_ok-cover.ensures in
     has_gone_on rule at c.args.count old c.leap.new.words c.args.boxes.now.items c.next_boxes.new.boxes.items c.args.spans.now c.widen_by.new.spans places
-    c.requires.ready covered c.requires.some c.requires.few (c.are_on_board-inside.ensures.on_board c.if-not-inside.false) c.widen_by.ensures.kept
+    c.requires.ready covered c.requires.some c.requires.few (c.are_on_board-inside.ensures c.if-not-inside.false) c.widen_by.ensures.kept
     c.widen_by.ensures.covered c.in_ok-leap.ensures.shown c.in_ok-next_boxes.ensures.sides
     (c.in_ok-next_boxes.ensures.differences _ _
     (rw c.as_slice-2.ensures.value (c.in_ok-leap.ensures.changes (cells_on at old) (cells_in_order at old) (shows_cells at old))))

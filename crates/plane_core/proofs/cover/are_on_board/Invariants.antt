@@ -1,11 +1,7 @@
 use Rattle.std.proofs.Common.{take}
 use Rattle.std.specs.List.{All}
-use Rattle.plane_core.specs.Boxes.{IsInReach}
 use Rattle.plane_core.specs.Places.{IsOnBoard}
 use Rattle.plane_core.proofs.cover.are_on_board.Given as goal
 
 abbrev pub invariant-loop-place : goal.invariant-loop-place
-invariant-loop-place l = record {
-  on_board : All (IsOnBoard l.at) (take l.place-index l.places);
-  reach : All IsInReach (take l.place-index l.places);
-}
+invariant-loop-place l = All (IsOnBoard l.at) (take l.place-index l.places)

@@ -1,7 +1,13 @@
 use Rattle.std.proofs.Common.{◌≤◌, ℕ, FitsSigned, arith, rules, w32}
 use Rattle.std.proofs.lemmas.Int.{to_z-of_z}
+use Rattle.plane_core.specs.declared.bounds.Bounds.{Bounds}
+use Rattle.plane_core.specs.Bounds.{AreSidesWithin}
+use Rattle.plane_core.proofs.BoxRoundLemmas.{fewer_sides}
 use Rattle.plane_core.proofs.GlanceLemmas.{IsPlacedRound, half_within, near_side, place_has_cells, place_is_inland}
 use Rattle.plane_core.proofs.glance.place_round.Goals as goal
+
+near : (b : Bounds) (far : ℕ) → AreSidesWithin far b → far ≤ 900000 → AreSidesWithin 900000 b
+near b far sides low = fewer_sides far 900000 b low sides
 
 is_round : (c : goal.After-back-2) → IsPlacedRound c.in_ok-bounds.bounds c.apart-width.result c.apart-height.result
     (record { left = c.back.result; top = c.back-2.result })
@@ -26,7 +32,7 @@ pub returns-clause-inland : goal.returns-clause-inland
 returns-clause-inland c =
     let left : FitsSigned w32 c.back.result = search rules in
     let top : FitsSigned w32 c.back-2.result = search rules in
-    simp to_z-of_z (place_is_inland c.in_ok-bounds.bounds _ _ _ (c.is_near.ensures c.if-not-is_near.false) (is_round c))
+    simp to_z-of_z (place_is_inland c.in_ok-bounds.bounds _ _ _ (near c.in_ok-bounds.bounds _ c.farthest.ensures c.if-farthest-gt-INLAND.false) (is_round c))
 
 pub returns-clause-inside : goal.returns-clause-inside
 returns-clause-inside c =
@@ -35,22 +41,22 @@ returns-clause-inside c =
     simp to_z-of_z (place_has_cells c.in_ok-bounds.bounds _ _ _ c.args.pattern.now (is_round c) c.in_ok-bounds.ensures.least)
 
 pub apart-width-requires-clause-a : goal.apart-width-requires-clause-a
-apart-width-requires-clause-a c = near_side c.in_ok-bounds.bounds.left (c.is_near.ensures c.if-not-is_near.false).left
+apart-width-requires-clause-a c = near_side c.in_ok-bounds.bounds.left (near c.in_ok-bounds.bounds _ c.farthest.ensures c.if-farthest-gt-INLAND.false).left
 
 pub apart-width-requires-clause-b : goal.apart-width-requires-clause-b
-apart-width-requires-clause-b c = near_side c.in_ok-bounds.bounds.right (c.is_near.ensures c.if-not-is_near.false).right
+apart-width-requires-clause-b c = near_side c.in_ok-bounds.bounds.right (near c.in_ok-bounds.bounds _ c.farthest.ensures c.if-farthest-gt-INLAND.false).right
 
 pub apart-height-requires-clause-a : goal.apart-height-requires-clause-a
-apart-height-requires-clause-a c = near_side c.in_ok-bounds.bounds.top (c.is_near.ensures c.if-not-is_near.false).top
+apart-height-requires-clause-a c = near_side c.in_ok-bounds.bounds.top (near c.in_ok-bounds.bounds _ c.farthest.ensures c.if-farthest-gt-INLAND.false).top
 
 pub apart-height-requires-clause-b : goal.apart-height-requires-clause-b
-apart-height-requires-clause-b c = near_side c.in_ok-bounds.bounds.bottom (c.is_near.ensures c.if-not-is_near.false).bottom
+apart-height-requires-clause-b c = near_side c.in_ok-bounds.bounds.bottom (near c.in_ok-bounds.bounds _ c.farthest.ensures c.if-farthest-gt-INLAND.false).bottom
 
 pub overflow_sub-width : goal.overflow_sub-width
 overflow_sub-width c = above_too _ c.if-width-gt61.false
 
 pub back-requires-clause-from : goal.back-requires-clause-from
-back-requires-clause-from c = near_side c.in_ok-bounds.bounds.left (c.is_near.ensures c.if-not-is_near.false).left
+back-requires-clause-from c = near_side c.in_ok-bounds.bounds.left (near c.in_ok-bounds.bounds _ c.farthest.ensures c.if-farthest-gt-INLAND.false).left
 
 pub back-requires-clause-cells : goal.back-requires-clause-cells
 back-requires-clause-cells c = half_within _
@@ -59,7 +65,7 @@ pub overflow_sub-height : goal.overflow_sub-height
 overflow_sub-height c = above_too _ c.if-height-gt61.false
 
 pub back-requires-2-clause-from : goal.back-requires-2-clause-from
-back-requires-2-clause-from c = near_side c.in_ok-bounds.bounds.top (c.is_near.ensures c.if-not-is_near.false).top
+back-requires-2-clause-from c = near_side c.in_ok-bounds.bounds.top (near c.in_ok-bounds.bounds _ c.farthest.ensures c.if-farthest-gt-INLAND.false).top
 
 pub back-requires-2-clause-cells : goal.back-requires-2-clause-cells
 back-requires-2-clause-cells c = half_within _

@@ -1,4 +1,5 @@
-use Rattle.std.proofs.Common.{◌+ℤ◌, arith, pos, subst, sym, ℤ}
+use Rattle.std.proofs.Common.{◌≡◌, ◌≤◌, ◌+ℤ◌, arith, pos, subst, sym, ℕ, ℤ, List}
+use Rattle.plane_core.specs.declared.cell.Cell.{Cell}
 use Rattle.plane_core.specs.Floods.{ShowsInRows}
 use Rattle.plane_core.specs.OnBoard.{cells_on}
 use Rattle.plane_core.proofs.FloodedLemmas.{shown_rows}
@@ -44,6 +45,14 @@ add_grown-requires-clause-lanes g c = c.frame.ensures.lanes
 pub add_grown-requires-clause-rows : goal.add_grown-requires-clause-rows
 add_grown-requires-clause-rows g c = c.frame.ensures.rows
 
+-- what is shown here is shown there, where the two are one place
+shown_at : (rows : List ℕ) (cells : List Cell) (left top x y : ℤ) → x ≡ left → y ≡ top → ShowsInRows left top rows cells → ShowsInRows x y rows cells
+shown_at rows cells left top x y row column shows =
+    subst (λ (z : ℤ). ShowsInRows z y rows cells) (sym row) (subst (λ (z : ℤ). ShowsInRows left z rows cells) (sym column) shows)
+
+none : 0 ≤ 2
+none = omega arith
+
 pub loop-bounds-preserved : goal.loop-bounds-preserved
 loop-bounds-preserved g c =
     let at = c.args.at in
@@ -52,10 +61,9 @@ loop-bounds-preserved g c =
     let rows = c.unpacked.result in
     let left = at.left +ℤ pos c.in-Some.view.x in
     let top = at.top +ℤ pos c.in-Some.view.y in
-    let shows = shown_rows c.window-window.result rows left top 0 S (omega arith) c.unpacked.ensures c.window-window.ensures in
-    c.in_ok-add_grown.ensures S (cells_in_order at words)
-    (subst (λ (z : ℤ). ShowsInRows z c.frame.result.top rows S) (sym c.frame.ensures.left)
-    (subst (λ (z : ℤ). ShowsInRows left z rows S) (sym c.frame.ensures.top) shows)) c.loop-bounds.invariant
+    let shows = shown_rows c.window-window.result rows left top 0 S none c.unpacked.ensures c.window-window.ensures in
+    c.in_ok-add_grown.ensures S (cells_in_order at words) (shown_at rows S left top _ _ c.frame.ensures.left c.frame.ensures.top shows)
+    c.loop-bounds.invariant
 
 pub returns : goal.returns
 returns g c = c.loop-bounds.invariant
