@@ -42,7 +42,7 @@ in_order-moved dx dy (t ∷ ts) o =
     in_order-cons (moved_by dx dy t.cell) (cells_of (map (moved_tally dx dy) ts))
     (before-moved dx dy t.cell ts (in_order-head t.cell (cells_of ts) o)) (in_order-moved dx dy ts (in_order-tail t.cell (cells_of ts) o))
 
-on_then_near : (c : Cell) → on_plane c ≡ true → near_plane c ≡ true
+pub on_then_near : (c : Cell) → on_plane c ≡ true → near_plane c ≡ true
 unfolding on_plane near_plane
 on_then_near c h =
     let parts = and_parts (leb (unsigned_abs c.x) plane_bound) (leb (unsigned_abs c.y) plane_bound) h in

@@ -1,13 +1,14 @@
 -- Looking for a cell in a list in order, and cells of the plane.
-use Rattle.std.proofs.Common.{◌≡◌, ℕ, ◌+◌, ◌≤◌, Bool, true, false, not, List, [], ◌∷◌, arith, cond, refl, ap, ◌∙◌, sym, subst}
+use Rattle.std.proofs.Common.{◌≡◌, ℕ, ◌+◌, ◌≤◌, Bool, true, false, not, List, [], ◌∷◌, ◌<◌, drop, arith, cond, refl, ap, ◌∙◌, sym, subst}
 use Rattle.std.proofs.Common.{inl, inr, length, position, Some, None, Result, Ok, Err, is_ok, get_or, nat_lt, ◌||◌, ◌&&◌}
-use Rattle.std.specs.List.{dedup, list_all, Contains, prefix_len}
+use Rattle.std.specs.List.{dedup, list_all, Contains, position_from, prefix_len}
 use Rattle.std.specs.List.Sorted.{IsSorted, IsSortedBy, IsBinarySearchResult, IsSearchInRange, IsPermutation}
 use Rattle.std.specs.Cmp.{IsEquivalence, eq_by_cmp_equiv, tied_itself}
 use Rattle.std.specs.Ordering.{is_lt, is_eq, ordering_reverse}
 use Rattle.std.specs.declared.cmp.Ordering.{Ordering}
 use Rattle.std.specs.declared.cmp.Ordering.TheVariants.{Less, Equal, Greater}
 use Rattle.std.proofs.lemmas.Bool.{false≢true, cases_Bool, and_parts, and_from, ltb-false, cases_lt}
+use Rattle.std.proofs.lemmas.List.{drop_more, drop_all}
 use Rattle.std.proofs.lemmas.List.Sorted.{searchable_from_sorted, Contains-permutation, IsPermutation-sym}
 use Rattle.std.proofs.lemmas.List.Kept.{Contains-dedup, Contains-from_dedup, IsStrictlySortedBy-dedup}
 use Rattle.std.proofs.lemmas.Map.Keys.{Less-from_sorted}
@@ -105,3 +106,17 @@ deduped-set_of same cs ds is moved sorted =
 
     equal_cells : IsEquivalence same_cell
     equal_cells = eq_by_cmp_equiv cell_cmp_total
+
+-- the first cell that passes a test, of those from a place on
+pub position-here : (p : Cell → Bool) (cs : List Cell) (i : ℕ) (d : Cell) → i < length cs → p (get_or cs i d) ≡ true
+    → position_from p i (drop i cs) ≡ Some i
+position-here p cs i d low passes =
+    ap (position_from p i) (drop_more cs i d low) ∙ ap (λ b. cond b (Some i) (position_from p (i + 1) (drop (i + 1) cs))) passes
+
+pub position-further : (p : Cell → Bool) (cs : List Cell) (i : ℕ) (d : Cell) → i < length cs → p (get_or cs i d) ≡ false
+    → position_from p i (drop i cs) ≡ position_from p (i + 1) (drop (i + 1) cs)
+position-further p cs i d low fails =
+    ap (position_from p i) (drop_more cs i d low) ∙ ap (λ b. cond b (Some i) (position_from p (i + 1) (drop (i + 1) cs))) fails
+
+pub position-past : (p : Cell → Bool) (cs : List Cell) (i : ℕ) → length cs ≤ i → position_from p i (drop i cs) ≡ None
+position-past p cs i all = ap (position_from p i) (drop_all i cs all)

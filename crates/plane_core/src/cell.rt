@@ -40,12 +40,12 @@ impl Cell {
         self.x.unsigned_abs() == BOUND || self.y.unsigned_abs() == BOUND
     }
 
-    /// The cell (x + dx, y + dy), at most a step away.
+    /// The cell (x + dx, y + dy), at most two steps away.
     #[tactic(auto, unfolding(crate::specs::Cells::near_plane))]
     pub(crate) fn moved(self, dx: i32, dy: i32) -> Cell
         requires near { near_plane self ≡ true }
-        requires right { unsigned_abs dx ≤ 1 }
-        requires down { unsigned_abs dy ≤ 1 }
+        requires right { unsigned_abs dx ≤ 2 }
+        requires down { unsigned_abs dy ≤ 2 }
         ensures { result ≡ moved_by dx dy self }
     {
         let x = stepped(self.x, dx);

@@ -15,7 +15,7 @@ ghost use Rattle.plane_core.specs.Clusters.{ClustersPartition, LinkedIsAnEquival
 ghost use Rattle.plane_core.specs.Forest.{IsForest, ArePutInClusters, JoinsAll};
 
 use crate::cell::Cell;
-use crate::forest::forest;
+use crate::forest::{join_all, roots};
 use crate::pattern::Pattern;
 use memory::OutOfMemory;
 use std::alloc::Global;
@@ -33,7 +33,8 @@ impl Pattern {
         ensures patterns { IfOk result (λ clusters. All IsPattern clusters.items) }
     {
         let cells = self.cells();
-        let parents = forest(alloc, cells)?;
+        let mut parents = roots(alloc, cells.len())?;
+        join_all(cells, &mut parents);
         gathered(alloc, cells, &parents)
     }
 }

@@ -13,9 +13,8 @@
 //! own row a cell is joined with the one just before it, and that one, if near, has been joined with all that is near
 //! both: so of the rows above mostly one cell is left, or none.
 ghost use Rattle.std.specs.Prelude.{◌≡◌, ◌≢◌, ◌+◌, ◌+ℤ◌, ◌<◌, ◌<ℤ◌, ◌≤◌, ℕ, true, IfOk, List, length, nat_le, pos};
-ghost use Rattle.std.specs.Prelude.{unsigned_abs};
 ghost use Rattle.std.specs.declared.cmp.Ordering.TheVariants.{Less};
-ghost use Rattle.plane_core.specs.Cells.{IsPattern, cell_at, cell_cmp, king_distance, moved_by, on_plane};
+ghost use Rattle.plane_core.specs.Cells.{IsPattern, cell_at, cell_cmp, king_distance, on_plane};
 ghost use Rattle.plane_core.specs.Forest.{AreBehind, IsBridged, IsForest, IsPassed, Joined, JoinsAll, JoinsLinked};
 ghost use Rattle.plane_core.specs.Forest.{Keeps, LeadsBack, NeedsJoin};
 ghost use Rattle.plane_core.specs.Clusters.{Linked};
@@ -23,7 +22,7 @@ ghost use Rattle.plane_core.specs.Forest.{cell_of, parent_of};
 ghost use Rattle.plane_core.specs.declared.cell.Cell.{Cell};
 
 use crate::cell::Cell;
-use crate::coordinate::{along, apart, stepped};
+use crate::coordinate::{along, apart};
 use memory::OutOfMemory;
 use std::alloc::Global;
 
@@ -34,19 +33,8 @@ struct Cursors {
     top: usize,
 }
 
-/// The forest of a pattern: for each place the one to which it leads.
-pub(crate) fn forest(alloc: Global, cells: &[Cell]) -> Result<Vec<usize>, OutOfMemory>
-    requires { IsPattern cells.now }
-    ensures forest { IfOk result (λ parents. IsForest cells.now parents.items) }
-    ensures joined { IfOk result (λ parents. JoinsAll cells.now parents.items (length cells.now)) }
-{
-    let mut parents = roots(alloc, cells.len())?;
-    join_all(cells, &mut parents);
-    Ok(parents)
-}
-
 /// So many places, each a root.
-fn roots(alloc: Global, count: usize) -> Result<Vec<usize>, OutOfMemory>
+pub(crate) fn roots(alloc: Global, count: usize) -> Result<Vec<usize>, OutOfMemory>
     ensures count { IfOk result (λ parents. length parents.items ≡ count) }
     ensures roots { IfOk result (λ parents. (k : ℕ) → k < count → parent_of parents.items k ≡ k) }
 {
@@ -57,8 +45,9 @@ fn roots(alloc: Global, count: usize) -> Result<Vec<usize>, OutOfMemory>
     Ok(parents)
 }
 
-/// Joins the places of all cells that are near each other.
-fn join_all(cells: &[Cell], parents: &mut [usize])
+/// Joins the places of all cells that are near each other: the places lead to one another as in the forest of the
+/// pattern then.
+pub(crate) fn join_all(cells: &[Cell], parents: &mut [usize])
     requires pattern { IsPattern cells.now }
     requires forest { IsForest cells.now parents.old }
     ensures forest { IsForest cells.now parents.new }
@@ -88,16 +77,16 @@ fn join_place(cells: &[Cell], parents: &mut [usize], place: usize, cursors: Curs
         parents,
         place,
         cursors.above,
-        near(cell, -2, -1),
-        near(cell, 2, -1),
+        cell.moved(-2, -1),
+        cell.moved(2, -1),
     );
     let top = join_row(
         cells,
         parents,
         place,
         cursors.top,
-        near(cell, -2, -2),
-        near(cell, 2, -2),
+        cell.moved(-2, -2),
+        cell.moved(2, -2),
     );
     Cursors { above, top }
 }
@@ -265,17 +254,4 @@ fn are_near(one: Cell, other: Cell) -> bool
     ensures { result ≡ nat_le (king_distance one other) 2 }
 {
     apart(one.x, other.x).max(apart(one.y, other.y)) <= 2
-}
-
-/// The cell (x + dx, y + dy), at most two steps away.
-#[tactic(auto, unfolding(crate::specs::Cells::on_plane))]
-fn near(cell: Cell, dx: i32, dy: i32) -> Cell
-    requires on_plane { on_plane cell ≡ true }
-    requires right { unsigned_abs dx ≤ 2 }
-    requires down { unsigned_abs dy ≤ 2 }
-    ensures { result ≡ moved_by dx dy cell }
-{
-    let x = stepped(cell.x, dx);
-    let y = stepped(cell.y, dy);
-    Cell { y, x }
 }

@@ -178,7 +178,7 @@ impl Pattern {
         let Some(past) = self.run_side(alloc, rule, generations, cuts - 1, cut, false)? else {
             return Ok(None);
         };
-        let whole = before.united(alloc, &past)?;
+        let whole = before.united(&past)?;
         Ok(Some(whole))
     }
 

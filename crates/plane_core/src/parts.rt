@@ -3,13 +3,12 @@
 //! A cut between two columns, or two rows, parts a pattern in two if there is an empty band before it that is wide
 //! enough. Each part is cut again as long as there is such a band. So a spaceship that has left costs no more than a
 //! board of its own.
-ghost use Rattle.std.specs.Prelude.{◌≡◌, ◌<◌, ◌^◌, ◌++◌, ◌+ℤ◌, IfOk, IfSome, IsTrue, OnSome, pos};
-ghost use Rattle.plane_core.specs.Cells.{set_of};
+ghost use Rattle.std.specs.Prelude.{◌≡◌, ◌<◌, ◌^◌, ◌+ℤ◌, IfOk, IfSome, IsTrue, OnSome, pos};
 ghost use Rattle.plane_core.specs.Parts.{HasSides, IsCut, is_before, leaves_band, place_on, side};
 
 use crate::bounds::Bounds;
 use crate::cell::{BOUND, Cell};
-use crate::pattern::{Pattern, in_order};
+use crate::pattern::Pattern;
 use memory::OutOfMemory;
 use std::alloc::Global;
 
@@ -82,17 +81,14 @@ impl Cut {
         };
         let cells = pattern.cells();
         let (low, high) = axis.sides(bounds);
-        let lanes = occupied_lanes(alloc, axis, low, high, cells)?;
+        let mut lanes = vec![in alloc; false; lane_of(low, high) + 1]?;
+        mark_lanes(&mut lanes, axis, low, cells);
         let Some(lane) = gap_end(lanes.as_slice(), band as usize / 64 + 1) else {
             return Ok(None);
         };
         let at = i64::from(low) + 64 * lane.min(BOUND as usize) as i64;
         let cut = Cut { axis, at };
-        if cut.parts(band, cells) {
-            Ok(Some(cut))
-        } else {
-            Ok(None)
-        }
+        Ok(cut.parts(band, cells).then_some(cut))
     }
 
     /// Whether the cell lies before the cut.
@@ -152,22 +148,14 @@ fn past_band(place: i32, band: u32) -> i64
     i64::from(place) + i64::from(band)
 }
 
-/// Which lanes of 64 columns, or rows, have a cell, from the first column or row to the last.
-fn occupied_lanes(
-    alloc: Global,
-    axis: Axis,
-    low: i32,
-    high: i32,
-    cells: &[Cell],
-) -> Result<Vec<bool>, OutOfMemory> {
-    let mut lanes = vec![in alloc; false; lane_of(low, high) + 1]?;
+/// Marks which lanes of 64 columns, or rows, have a cell, from the first column or row on.
+fn mark_lanes(lanes: &mut [bool], axis: Axis, low: i32, cells: &[Cell]) {
     for cell in cells {
         let lane = lane_of(low, axis.place(*cell));
-        if let Some(occupied) = lanes.as_mut_slice().get_mut(lane) {
-            *occupied = true;
+        if lane < lanes.len() {
+            lanes[lane] = true;
         }
     }
-    Ok(lanes)
 }
 
 /// In which lane a column or row lies, if lanes begin with this one.
@@ -200,16 +188,5 @@ fn nearer(best: Option<usize>, i: usize, middle: usize) -> usize {
     match best {
         Some(best) if best.abs_diff(middle) <= i.abs_diff(middle) => best,
         _ => i,
-    }
-}
-
-impl Pattern {
-    /// The cells of both patterns.
-    pub(crate) fn united(&self, alloc: Global, other: &Pattern) -> Result<Pattern, OutOfMemory>
-        ensures { IfOk result (λ whole. whole ≡ set_of (self.now ++ other.now)) }
-    {
-        let mut cells = Vec::from_slice(alloc, self.cells())?;
-        cells.extend_from_slice(other.cells())?;
-        Ok(Pattern::from_ordered(in_order(cells)))
     }
 }

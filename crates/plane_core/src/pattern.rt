@@ -104,6 +104,17 @@ impl Pattern {
         Ok(Pattern::from_ordered(cells))
     }
 
+    /// The cells of both patterns.
+    pub(crate) fn united(self, other: &Pattern) -> Result<Pattern, OutOfMemory>
+        ensures { IfOk result (λ whole. whole ≡ set_of (self ++ other.now)) }
+    {
+        let Pattern { mut cells } = self;
+        cells.extend_from_slice(other.cells())?;
+        Ok(Pattern {
+            cells: in_order(cells),
+        })
+    }
+
     /// All cells in order, each once.
     pub fn cells(&self) -> &[Cell]
         ensures cells { result.now ≡ self.now }
@@ -136,7 +147,12 @@ pub fn sets_have_one_list()
 fn first_off_plane(cells: &[Cell]) -> Option<usize>
     ensures { result ≡ position off_plane cells.now }
 {
-    cells.iter().position(|cell| !cell.is_on_plane())
+    for (index, cell) in cells.iter().enumerate() {
+        if !cell.is_on_plane() {
+            return Some(index);
+        }
+    }
+    None
 }
 
 /// Whether a list in order has the cell.

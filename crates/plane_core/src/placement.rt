@@ -5,14 +5,14 @@
 //! O O .   ->   . O O      Turned, an image is moved so that its least column and its least row are 0.
 //! . O O        O O .
 //! ```
-ghost use Rattle.std.specs.Prelude.{◌≡◌, map, ◌≢◌, nat_le, unsigned_abs, ◌+ℤ◌, ◌-ℤ◌, ◌≤◌, ℤ, true, false, length};
-ghost use Rattle.std.specs.Prelude.{IsTrue, ◌↔◌, Some, None, IfOk, IfErr, IfSome, IfNone, OnOk, if◌then◌else◌};
+ghost use Rattle.std.specs.Prelude.{◌≡◌, map, ℤ, true, false};
+ghost use Rattle.std.specs.Prelude.{Some, None, IfOk, IfErr, OnOk, if◌then◌else◌};
 ghost use Rattle.std.specs.List.{list_all};
 ghost use Rattle.std.specs.Option.{option_map};
 ghost use Rattle.memory.specs.Evidence.{out_of_memory};
 ghost use Rattle.plane_core.specs.Bounds.{box_of, shifted};
 ghost use Rattle.plane_core.specs.Orientations.{corner_placement, landed, turned, turned_cell};
-ghost use Rattle.plane_core.specs.Cells.{moved_by, on_plane, IsPattern};
+ghost use Rattle.plane_core.specs.Cells.{on_plane};
 ghost use Rattle.plane_core.specs.Refusals.{RefusesPlace};
 ghost use Rattle.plane_core.specs.declared.placement.PlaceError.TheVariants.{Memory};
 
@@ -91,17 +91,6 @@ impl Pattern {
     }
 }
 
-/// The cell (x + dx, y + dy), if it lies on the plane.
-#[tactic(auto, unfolding(crate::specs::Cells::on_plane))]
-fn displaced(cell: Cell, dx: i32, dy: i32) -> Option<Cell>
-    ensures { result ≡ (if on_plane (moved_by dx dy cell) then Some (moved_by dx dy cell) else None) }
-{
-    match (sum_on_plane(cell.x, dx), sum_on_plane(cell.y, dy)) {
-        (Some(x), Some(y)) => Some(Cell { y, x }),
-        _ => None,
-    }
-}
-
 /// How a cell is to lie: turned first, and then moved by (dx, dy).
 #[derive(Clone, Copy)]
 pub(crate) struct Placement {
@@ -112,19 +101,16 @@ pub(crate) struct Placement {
 
 impl Placement {
     /// Where the cell lands, if that is on the plane.
+    #[tactic(auto, unfolding(crate::specs::Cells::on_plane))]
     fn landing(self, cell: Cell) -> Option<Cell>
         requires { on_plane cell ≡ true }
         ensures { result ≡ (if on_plane (landed self cell) then Some (landed self cell) else None) }
     {
-        displaced(self.orientation.image_of(cell), self.dx, self.dy)
-    }
-
-    /// Whether the cell lands on the plane.
-    fn keeps(self, cell: Cell) -> bool
-        requires { on_plane cell ≡ true }
-        ensures { result ≡ on_plane (landed self cell) }
-    {
-        self.landing(cell).is_some()
+        let Cell { x, y } = self.orientation.image_of(cell);
+        match (sum_on_plane(x, self.dx), sum_on_plane(y, self.dy)) {
+            (Some(x), Some(y)) => Some(Cell { y, x }),
+            _ => None,
+        }
     }
 
     /// Where a cell lands, if it is known to land on the plane.
@@ -142,7 +128,7 @@ impl Placement {
         ensures { result ≡ list_all on_plane (map (landed self) cells.now) }
     {
         for cell in cells {
-            if !self.keeps(*cell) {
+            if self.landing(*cell).is_none() {
                 return false;
             }
         }

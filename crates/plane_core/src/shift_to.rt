@@ -8,7 +8,7 @@
 ghost use Rattle.std.specs.Prelude.{◌≡◌, ◌-ℤ◌, ◌↔◌, true, length, IsTrue};
 ghost use Rattle.std.specs.List.{list_all};
 ghost use Rattle.plane_core.specs.Bounds.{shifted, TellsShift};
-ghost use Rattle.plane_core.specs.Cells.{on_plane, IsPattern};
+ghost use Rattle.plane_core.specs.Cells.{on_plane};
 
 use crate::cell::Cell;
 use crate::coordinate::difference;
@@ -20,24 +20,16 @@ impl Pattern {
     pub fn shift_to(&self, other: &Pattern) -> Option<(i32, i32)>
         ensures { TellsShift self.now other.now result }
     {
-        shift_between(self.cells(), other.cells())
-    }
-}
-
-/// The shift that makes the cells into the others: that of the first cells, if it is that of all.
-fn shift_between(cells: &[Cell], others: &[Cell]) -> Option<(i32, i32)>
-    requires cells { IsPattern cells.now }
-    requires others { IsPattern others.now }
-    ensures { TellsShift cells.now others.now result }
-{
-    if cells.len() != others.len() {
-        return None;
-    }
-    match cells {
-        [] => Some((0, 0)),
-        [first, ..] => {
-            let (dx, dy) = step_between(*first, others[0]);
-            all_stepped(cells, others, dx, dy).then_some((dx, dy))
+        let (cells, others) = (self.cells(), other.cells());
+        if cells.len() != others.len() {
+            return None;
+        }
+        match cells {
+            [] => Some((0, 0)),
+            [first, ..] => {
+                let (dx, dy) = step_between(*first, others[0]);
+                all_stepped(cells, others, dx, dy).then_some((dx, dy))
+            }
         }
     }
 }

@@ -3,6 +3,7 @@ use Rattle.std.proofs.lemmas.Int.{ints}
 use Rattle.plane_core.specs.declared.cell.Cell.{Cell}
 use Rattle.plane_core.specs.Cells.{moved_by, on_plane}
 use Rattle.plane_core.specs.Forest.{cell_of, IsPassed}
+use Rattle.plane_core.proofs.NeighbourLemmas.{on_then_near}
 use Rattle.plane_core.proofs.PlacementLemmas.{all_at}
 use Rattle.plane_core.proofs.ForestLemmas.{JoinsRow, all_behind, joins_rows, keeps-then}
 use Rattle.plane_core.proofs.forest.join_place.Goals as goal
@@ -20,22 +21,22 @@ returns-clause-joined c =
     let a = c.join_before.new.parents in
     let b = c.join_row-above.new.parents in
     let d = c.join_row-top.new.parents in
-    let from_above : c.near.result ≡ moved_by (negsuc 1) (negsuc 0) (cell_of cells c.args.place) = c.near.ensures in
-    let to_above : c.near-2.result ≡ moved_by (pos 2) (negsuc 0) (cell_of cells c.args.place) = c.near-2.ensures in
-    let from_top : c.near-3.result ≡ moved_by (negsuc 1) (negsuc 1) (cell_of cells c.args.place) = c.near-3.ensures in
-    let to_top : c.near-4.result ≡ moved_by (pos 2) (negsuc 1) (cell_of cells c.args.place) = c.near-4.ensures in
+    let from_above : c.moved.result ≡ moved_by (negsuc 1) (negsuc 0) (cell_of cells c.args.place) = c.moved.ensures in
+    let to_above : c.moved-2.result ≡ moved_by (pos 2) (negsuc 0) (cell_of cells c.args.place) = c.moved-2.ensures in
+    let from_top : c.moved-3.result ≡ moved_by (negsuc 1) (negsuc 1) (cell_of cells c.args.place) = c.moved-3.ensures in
+    let to_top : c.moved-4.result ≡ moved_by (pos 2) (negsuc 1) (cell_of cells c.args.place) = c.moved-4.ensures in
     joins_rows cells a b d c.args.place c.requires.pattern.in_order c.requires.place c.join_row-above.ensures.keeps c.join_row-top.ensures.keeps
     c.join_before.ensures.joined
     (subst (λ (x : Cell). JoinsRow cells b c.args.place x (moved_by (pos 2) (negsuc 0) (cell_of cells c.args.place))) from_above
-    (subst (λ (x : Cell). JoinsRow cells b c.args.place c.near.result x) to_above c.join_row-above.ensures.joined))
+    (subst (λ (x : Cell). JoinsRow cells b c.args.place c.moved.result x) to_above c.join_row-above.ensures.joined))
     (subst (λ (x : Cell). JoinsRow cells d c.args.place x (moved_by (pos 2) (negsuc 1) (cell_of cells c.args.place))) from_top
-    (subst (λ (x : Cell). JoinsRow cells d c.args.place c.near-3.result x) to_top c.join_row-top.ensures.joined))
+    (subst (λ (x : Cell). JoinsRow cells d c.args.place c.moved-3.result x) to_top c.join_row-top.ensures.joined))
 
 pub returns-clause-cursors : goal.returns-clause-cursors
 returns-clause-cursors c =
     let cells = c.args.cells.now in
-    let from_above : c.near.result ≡ moved_by (negsuc 1) (negsuc 0) (cell_of cells c.args.place) = c.near.ensures in
-    let from_top : c.near-3.result ≡ moved_by (negsuc 1) (negsuc 1) (cell_of cells c.args.place) = c.near-3.ensures in
+    let from_above : c.moved.result ≡ moved_by (negsuc 1) (negsuc 0) (cell_of cells c.args.place) = c.moved.ensures in
+    let from_top : c.moved-3.result ≡ moved_by (negsuc 1) (negsuc 1) (cell_of cells c.args.place) = c.moved-3.ensures in
     record {
       above = all_behind cells c.join_row-above.result c.args.place (negsuc 0) c.requires.pattern.in_order
           (subst (λ (x : Cell). IsPassed cells c.join_row-above.result x) from_above c.join_row-above.ensures.cursor);
@@ -46,35 +47,35 @@ returns-clause-cursors c =
 -- where the cursors stand, each near place of a row before this one is passed
 pub join_row-above-requires-clause-cursor : goal.join_row-above-requires-clause-cursor
 join_row-above-requires-clause-cursor c =
-    subst (λ (x : Cell). IsPassed c.args.cells.now c.args.cursors.above x) (sym c.near.ensures)
+    subst (λ (x : Cell). IsPassed c.args.cells.now c.args.cursors.above x) (sym c.moved.ensures)
     (c.requires.cursors.above c.args.place (omega arith) c.requires.place)
 
 pub join_row-top-requires-clause-cursor : goal.join_row-top-requires-clause-cursor
 join_row-top-requires-clause-cursor c =
-    subst (λ (x : Cell). IsPassed c.args.cells.now c.args.cursors.top x) (sym c.near-3.ensures)
+    subst (λ (x : Cell). IsPassed c.args.cells.now c.args.cursors.top x) (sym c.moved-3.ensures)
     (c.requires.cursors.top c.args.place (omega arith) c.requires.place)
 
-pub near-requires-clause-on_plane : goal.near-requires-clause-on_plane
-near-requires-clause-on_plane c = all_at on_plane c.args.cells.now c.args.place _ c.requires.place c.requires.pattern.on_plane
+pub moved-requires-clause-near : goal.moved-requires-clause-near
+moved-requires-clause-near c = on_then_near _ (all_at on_plane c.args.cells.now c.args.place _ c.requires.place c.requires.pattern.on_plane)
 
-pub near-requires-2-clause-on_plane : goal.near-requires-2-clause-on_plane
-near-requires-2-clause-on_plane c = all_at on_plane c.args.cells.now c.args.place _ c.requires.place c.requires.pattern.on_plane
+pub moved-requires-2-clause-near : goal.moved-requires-2-clause-near
+moved-requires-2-clause-near c = on_then_near _ (all_at on_plane c.args.cells.now c.args.place _ c.requires.place c.requires.pattern.on_plane)
 
-pub near-requires-3-clause-on_plane : goal.near-requires-3-clause-on_plane
-near-requires-3-clause-on_plane c = all_at on_plane c.args.cells.now c.args.place _ c.requires.place c.requires.pattern.on_plane
+pub moved-requires-3-clause-near : goal.moved-requires-3-clause-near
+moved-requires-3-clause-near c = on_then_near _ (all_at on_plane c.args.cells.now c.args.place _ c.requires.place c.requires.pattern.on_plane)
 
-pub near-requires-4-clause-on_plane : goal.near-requires-4-clause-on_plane
-near-requires-4-clause-on_plane c = all_at on_plane c.args.cells.now c.args.place _ c.requires.place c.requires.pattern.on_plane
+pub moved-requires-4-clause-near : goal.moved-requires-4-clause-near
+moved-requires-4-clause-near c = on_then_near _ (all_at on_plane c.args.cells.now c.args.place _ c.requires.place c.requires.pattern.on_plane)
 
 -- the cell that a row begins with stands above
 above : (c d : Cell) (dx : ℤ) (n : ℕ) → c ≡ moved_by dx (negsuc n) d → c.y <ℤ d.y
 above c d dx n is = let y : c.y ≡ d.y +ℤ negsuc n = ap (λ (e : Cell). e.y) is in omega (arith, ints, y)
 
 pub join_row-above-requires-clause-above : goal.join_row-above-requires-clause-above
-join_row-above-requires-clause-above c = above c.near.result (cell_of c.args.cells.now c.args.place) (negsuc 1) 0 c.near.ensures
+join_row-above-requires-clause-above c = above c.moved.result (cell_of c.args.cells.now c.args.place) (negsuc 1) 0 c.moved.ensures
 
 pub join_row-top-requires-clause-above : goal.join_row-top-requires-clause-above
-join_row-top-requires-clause-above c = above c.near-3.result (cell_of c.args.cells.now c.args.place) (negsuc 1) 1 c.near-3.ensures
+join_row-top-requires-clause-above c = above c.moved-3.result (cell_of c.args.cells.now c.args.place) (negsuc 1) 1 c.moved-3.ensures
 
 pub returns-clause-forest : goal.returns-clause-forest
 returns-clause-forest c = c.join_row-top.ensures.forest

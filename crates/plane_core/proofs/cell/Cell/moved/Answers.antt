@@ -1,10 +1,7 @@
-use Rattle.std.proofs.Common.{◌≤◌, ℕ, arith, rules, w32}
+use Rattle.std.proofs.Common.{rules, w32}
 use Rattle.std.proofs.lemmas.Int.{to_z-of_z}
 use Rattle.plane_core.proofs.CellLemmas.{near_x_passed, near_y_passed}
 use Rattle.plane_core.proofs.cell.Cell.moved.Goals as goal
-
-one_of_two : (n : ℕ) → n ≤ 1 → n ≤ 2
-one_of_two n low = omega arith
 
 pub stepped-x-requires-clause-at : goal.stepped-x-requires-clause-at
 stepped-x-requires-clause-at c = near_x_passed c.args.self (search rules) c.requires.near
@@ -13,7 +10,7 @@ pub stepped-y-requires-clause-at : goal.stepped-y-requires-clause-at
 stepped-y-requires-clause-at c = near_y_passed c.args.self (search rules) c.requires.near
 
 pub stepped-x-requires-clause-step : goal.stepped-x-requires-clause-step
-stepped-x-requires-clause-step c = rw (to_z-of_z w32 c.args.dx c.ranges.dx) (one_of_two _ c.requires.right)
+stepped-x-requires-clause-step c = rw (to_z-of_z w32 c.args.dx c.ranges.dx) c.requires.right
 
 pub stepped-y-requires-clause-step : goal.stepped-y-requires-clause-step
-stepped-y-requires-clause-step c = rw (to_z-of_z w32 c.args.dy c.ranges.dy) (one_of_two _ c.requires.down)
+stepped-y-requires-clause-step c = rw (to_z-of_z w32 c.args.dy c.ranges.dy) c.requires.down
