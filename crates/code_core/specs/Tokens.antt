@@ -20,6 +20,10 @@ gap_text n =
     else if n == 3 then codes "x"
     else codes "y" ++ character (n - 4) ∷ []
 
+-- the character with which such a run begins: `0` (48), `w` (119), `x` (120) or `y` (121)
+abbrev pub gap_start : ℕ → ℕ
+gap_start n = if n == 1 then 48 else if n == 2 then 119 else if n == 3 then 120 else 121
+
 -- the text of a token; `z` begins the next strip
 abbrev pub spelling : Token → List ℕ
 spelling (Column value) = character value ∷ []

@@ -9,7 +9,6 @@ ghost use Rattle.plane_core.specs.Generations.{touches_edge};
 ghost use Rattle.code_core.specs.Recurrences.{IsCycle, Recurs, SearchEnds};
 
 use crate::recurrence::Recurrence;
-use memory::OutOfMemory;
 use plane_core::generation::StepError;
 use plane_core::pattern::Pattern;
 use plane_core::rule::Rule;
@@ -77,7 +76,7 @@ pub(crate) fn follow(
     let mut latest = pattern.copy(alloc)?;
     for age in 0..limit {
         let next = latest.step(alloc, rule)?;
-        keep(&mut phases, latest)?;
+        phases.push(latest)?;
         if let Some((dx, dy)) = pattern.shift_to(&next) {
             let recurrence = recurrence_at(age, dx, dy);
             return Ok(Some(Cycle { phases, recurrence }));
@@ -97,14 +96,6 @@ fn touches_edge(pattern: &Pattern) -> bool
         }
     }
     false
-}
-
-/// Adds a phase after the others.
-fn keep(phases: &mut Vec<Pattern>, phase: Pattern) -> Result<(), OutOfMemory>
-    ensures { OnOk result (phases.new.items ≡ phases.old.items ++ phase ∷ []) }
-{
-    phases.push(phase)?;
-    Ok(())
 }
 
 /// The recurrence whose period is one more than this number of generations.

@@ -23,7 +23,7 @@ ghost use Rattle.plane_core.specs.Cells.{cell_at, distance, has};
 ghost use Rattle.code_core.specs.Columns.{column};
 ghost use Rattle.code_core.specs.Texts.{TextsHaveTheirShape, TextsSpellPatterns, fits_forty_square, strip};
 ghost use Rattle.code_core.specs.Texts.{strip_tokens, text, tokens_of};
-ghost use Rattle.code_core.specs.Tokens.{character, gap_text, spelling};
+ghost use Rattle.code_core.specs.Tokens.{character, gap_start, gap_text, spelling};
 
 use memory::OutOfMemory;
 use plane_core::bounds::Bounds;
@@ -152,15 +152,25 @@ fn push_gap(text: &mut String, gap: u8) -> Result<(), OutOfMemory>
     requires { gap ≤ 39 }
     ensures { OnOk result (string_bytes text.new ≡ string_bytes text.old ++ (if gap == 0 then [] else gap_text gap)) }
 {
+    if gap == 0 {
+        return Ok(());
+    }
+    text.push(gap_start(gap))?;
+    if gap < 4 {
+        return Ok(());
+    }
+    push_character(text, gap - 4)
+}
+
+/// The character with which a run of empty columns begins.
+fn gap_start(gap: u8) -> char
+    ensures { result ≡ gap_start gap }
+{
     match gap {
-        0 => Ok(()),
-        1 => Ok(text.push('0')?),
-        2 => Ok(text.push('w')?),
-        3 => Ok(text.push('x')?),
-        _ => {
-            text.push('y')?;
-            push_character(text, gap - 4)
-        }
+        1 => '0',
+        2 => 'w',
+        3 => 'x',
+        _ => 'y',
     }
 }
 

@@ -1,6 +1,6 @@
 -- Groups of parts that stay apart: the whole runs as the groups do, each alone, and a group as its parts do in the whole.
 use Rattle.std.proofs.Common.{◌≡◌, ◌≢◌, ◌==◌, ◌∙◌, ◌+◌, ◌<◌, ◌≤◌, ◌||◌, ap, sym, refl, subst, ℕ, zero, suc, Bool, true, false, cond, List, [], ◌∷◌}
-use Rattle.std.proofs.Common.{All, AllPairs, arith, filter, flat_map, get_or, inl, inr, ◌⊎◌, length, map, nat_lt, take, ◌++◌}
+use Rattle.std.proofs.Common.{All, AllPairs, arith, filter, flat_map, get_or, eq-or-lt_of_le, inl, inr, ◌⊎◌, length, map, nat_lt, take, ◌++◌}
 use Rattle.std.specs.List.{list_any}
 use Rattle.std.proofs.lemmas.Bool.{eqb-true, false≢true, ltb-false, ltb-true}
 use Rattle.std.proofs.lemmas.Bool.Decides.{Decides-eqb}
@@ -64,6 +64,10 @@ members_few k (g ∷ gs) (part ∷ parts) =
         ≤ length (cond b (g ∷ filter (λ (q : ℕ). q == k) gs) (filter (λ (q : ℕ). q == k) gs))
     go false few = few
     go true few = omega (arith, few)
+
+-- a loop has counted no more than it has seen
+pub counted_more : (count n : ℕ) → count ≤ n → (count ≤ n + 1) × (count + 1 ≤ n + 1)
+counted_more count n few = (omega arith, omega arith)
 
 -- and the other way round
 pub member_has : (P : List Cell → Type 0) (k : ℕ) (gs : List ℕ) (parts : List (List Cell)) (i : ℕ) (d : List Cell) → All P (members k gs parts)
@@ -400,13 +404,23 @@ alone_keeps rule (part ∷ []) g low order =
         (λ c. union_has (part ∷ []) c ∙ sym (or_none (has part c)))
 alone_keeps rule (part ∷ other ∷ parts) g low order = absurd (omega arith)
 
--- the parts of a group are a partition of its union
-pub members_partition : (k : ℕ) (gs : List ℕ) (parts : List (List Cell)) → ShareNoCell parts
-    → Partition (union_of (members k gs parts)) (members k gs parts)
-members_partition k gs parts off = record {
-  disjoint = members_pairs (λ a b. (c : Cell) → has a c ≡ true → has b c ≡ false) k gs parts off;
-  union = λ c. sym (union_has (members k gs parts) c);
-}
+-- what holds of each group before one holds with it too
+pub below_more : (P : ℕ → Type 0) (n : ℕ) → ((k : ℕ) → k < n → P k) → P n → (k : ℕ) → k < n + 1 → P k
+below_more P n before here k low = elim (eq-or-lt_of_le (below k n low)) [
+  | inl is ↦ subst P (sym is) here
+  | inr less ↦ before k less
+]
+  where
+    below : (k n : ℕ) → k < n + 1 → k ≤ n
+    below k n low = omega arith
+
+-- the parts of a group share no cell
+pub members_off : (k : ℕ) (gs : List ℕ) (parts : List (List Cell)) → ShareNoCell parts → ShareNoCell (members k gs parts)
+members_off k gs parts off = members_pairs (λ a b. (c : Cell) → has a c ≡ true → has b c ≡ false) k gs parts off
+
+-- parts that share no cell are a partition of their union
+pub union_partition : (parts : List (List Cell)) → ShareNoCell parts → Partition (union_of parts) parts
+union_partition parts off = record { disjoint = off; union = λ c. sym (union_has parts c) }
 
 -- ---- one place more
 

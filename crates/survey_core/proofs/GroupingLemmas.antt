@@ -1,10 +1,9 @@
 -- Groups as they are joined.
-use Rattle.std.proofs.Common.{◌≡◌, ◌≢◌, ◌==◌, ◌∙◌, ◌<◌, ap, sym, refl, subst, ℕ, Bool, true, false, List, All, arith, cond, get_or, inl, inr, length, map}
+use Rattle.std.proofs.Common.{◌≡◌, ◌≢◌, ◌==◌, ◌∙◌, ◌<◌, ap, sym, refl, subst, ℕ, Bool, true, false, List, arith, cond, get_or, inl, inr, length}
 use Rattle.std.proofs.Common.{[], ◌∷◌, ◌+◌, eq-or-lt_of_le, get_or-set_other, get_or-set_same, nat_lt, set, ◌≤◌}
 use Rattle.std.proofs.lemmas.Bool.{ltb-false, ltb-true}
 use Rattle.std.proofs.lemmas.Bool.Decides.{Decides-eqb}
-use Rattle.std.proofs.lemmas.List.{get_or-map, get_or_default, length-map}
-use Rattle.std.proofs.lemmas.List.Elements.{All-map}
+use Rattle.std.proofs.lemmas.List.{get_or_default}
 use Rattle.plane_core.specs.declared.cell.Cell.{Cell}
 use Rattle.plane_core.specs.Cells.{InOrder, king_distance}
 use Rattle.plane_core.specs.Clusters.{AreClusters, LieApart}

@@ -59,12 +59,6 @@ code_known rule limit cells shift fact known about =
     (subst (λ (S : List Cell). IsCode fact.rule S fact.limit fact.code) about.shape_is
     (codes_moved shift.0 shift.1 fact.rule fact.shape fact.limit fact.code known.swept.in_order known.named)))
 
--- a fact with the rule and the limit is about what its shape is moved to
-pub about_shift : (rule : Numbers) (limit : ℕ) (cells : List Cell) (fact : Fact) (told : Option (ℤ × ℤ)) → fact.rule ≡ rule → fact.limit ≡ limit
-    → IfSome told (λ v. shifted v.0 v.1 fact.shape ≡ cells) → IfSome told (λ v. IsAbout rule limit cells v fact)
-about_shift rule limit cells fact None same_rule same_limit moved = tt
-about_shift rule limit cells fact (Some v) same_rule same_limit moved = record { rule_is = same_rule; limit_is = same_limit; shape_is = moved }
-
 -- the sweep that is told, if it is that of the shape, moved
 pub sweep_told : (rule : Numbers) (limit : ℕ) (cells : List Cell) (shift : ℤ × ℤ) (fact : Fact) (told : Option Sweep) → IsKnown fact
     → IsAbout rule limit cells shift fact → IfSome told (λ moved. moved ≡ moved_sweep shift fact.sweep) → IfSome told (IsSweep rule limit cells)

@@ -20,7 +20,7 @@ ghost use Rattle.std.specs.Prelude.{◌≡◌, ◌≢◌, ◌+ℤ◌, ◌≤◌,
 ghost use Rattle.plane_core.specs.Cells.{InOrder};
 ghost use Rattle.plane_core.specs.Generations.{lies_within};
 ghost use Rattle.code_core.specs.Names.{IsCode};
-ghost use Rattle.survey_core.specs.Memos.{IsAbout, IsKnown, moved_bounds, moved_sweep};
+ghost use Rattle.survey_core.specs.Memos.{IsAbout, moved_sweep};
 ghost use Rattle.survey_core.specs.Rest.{ComesBack};
 ghost use Rattle.survey_core.specs.Sweeps.{AreSweeps, IsSweep};
 ghost use Rattle.survey_core.specs.UnderWay.{survey_reach};
@@ -233,7 +233,7 @@ impl Memo {
     pub(crate) fn sees_that_it_changes(&self, rule: &Rule, limit: u32, pattern: &Pattern) -> bool
         ensures { IsTrue result → ¬ ComesBack rule.now limit pattern.now }
     {
-        if self.recalled_sweep(rule, limit, pattern).is_some() {
+        if self.recalled(rule, limit, pattern).is_some() {
             return false;
         }
         pattern.is_seen_to_change(rule, limit)
@@ -282,8 +282,8 @@ impl Memo {
         requires back { ComesBack rule.now limit pattern.now }
         ensures { IfOk result (IsCode rule.now pattern.now limit) }
     {
-        match self.recalled_code(alloc, rule, limit, pattern)? {
-            Some(code) => Ok(code),
+        match self.recalled(rule, limit, pattern) {
+            Some((known, _)) => known.code.copy(alloc),
             None => code_of(alloc, rule, limit, pattern),
         }
     }
@@ -292,23 +292,20 @@ impl Memo {
     fn recalled_sweep(&self, rule: &Rule, limit: u32, pattern: &Pattern) -> Option<Sweep>
         ensures { IfSome result (IsSweep rule.now limit pattern.now) }
     {
-        self.at(pattern)?.sweep_of(rule, limit, pattern)
+        let (known, shift) = self.recalled(rule, limit, pattern)?;
+        moved_sweep(known.sweep, shift)
     }
 
-    /// The code of a pattern, if it is remembered.
-    fn recalled_code(
-        &self,
-        alloc: Global,
-        rule: &Rule,
-        limit: u32,
-        pattern: &Pattern,
-    ) -> Result<Option<Apgcode>, OutOfMemory>
-        ensures { IfOk result (λ found. IfSome found (IsCode rule.now pattern.now limit)) }
+    /// What is known of a pattern, if it is remembered, and the shift that makes the shape into the pattern.
+    fn recalled(&self, rule: &Rule, limit: u32, pattern: &Pattern) -> Option<(&Known, (i32, i32))>
+        ensures { IfSome result (λ found. IsAbout rule.now limit pattern.now found.1 found.0.now) }
     {
-        match self.at(pattern) {
-            Some(known) => known.code_of(alloc, rule, limit, pattern),
-            None => Ok(None),
+        let known = self.at(pattern)?;
+        if known.limit != limit || !is_same(&known.rule, rule) {
+            return None;
         }
+        let shift = known.shape.shift_to(pattern)?;
+        Some((known, shift))
     }
 
     /// What stands in the slot of a pattern. It may be about another shape.
@@ -333,74 +330,19 @@ impl Memo {
         requires sweep { IsSweep rule.now limit pattern.now sweep }
     {
         let slot = slot_of(pattern, self.slots.len());
-        if slot < self.slots.len() {
-            let known = Known::of(alloc, rule, limit, pattern, sweep)?;
-            self.slots[slot] = Some(known);
+        if slot >= self.slots.len() {
+            return Ok(());
         }
-        Ok(())
-    }
-}
-
-impl Known {
-    /// What is known of a pattern with this sweep.
-    fn of(
-        alloc: Global,
-        rule: &Rule,
-        limit: u32,
-        pattern: &Pattern,
-        sweep: Sweep,
-    ) -> Result<Known, OutOfMemory>
-        requires least { 1 ≤ limit }
-        requires most { limit ≤ 64 }
-        requires some { pattern.now ≢ [] }
-        requires near { lies_within survey_reach pattern.now ≡ true }
-        requires sweep { IsSweep rule.now limit pattern.now sweep }
-    {
         let code = code_of(alloc, rule, limit, pattern)?;
         let shape = pattern.copy(alloc)?;
-        Ok(Known {
+        self.slots[slot] = Some(Known {
             rule: *rule,
             limit,
             shape,
             sweep,
             code,
-        })
-    }
-
-    /// The sweep of a pattern, if this is about it.
-    fn sweep_of(&self, rule: &Rule, limit: u32, pattern: &Pattern) -> Option<Sweep>
-        ensures { IfSome result (IsSweep rule.now limit pattern.now) }
-    {
-        let shift = self.shift_to(rule, limit, pattern)?;
-        moved_sweep(self.sweep, shift)
-    }
-
-    /// The code of a pattern, if this is about it.
-    fn code_of(
-        &self,
-        alloc: Global,
-        rule: &Rule,
-        limit: u32,
-        pattern: &Pattern,
-    ) -> Result<Option<Apgcode>, OutOfMemory>
-        ensures { IfOk result (λ found. IfSome found (IsCode rule.now pattern.now limit)) }
-    {
-        let Some(_shift) = self.shift_to(rule, limit, pattern) else {
-            return Ok(None);
-        };
-        let code = self.code.copy(alloc)?;
-        Ok(Some(code))
-    }
-
-    /// The shift that makes the shape into the pattern, if this is about it.
-    fn shift_to(&self, rule: &Rule, limit: u32, pattern: &Pattern) -> Option<(i32, i32)>
-        ensures about { IfSome result (λ shift. IsAbout rule.now limit pattern.now shift self.now) }
-        ensures known { IsKnown self.now }
-    {
-        if self.limit != limit || !is_same(&self.rule, rule) {
-            return None;
-        }
-        self.shape.shift_to(pattern)
+        });
+        Ok(())
     }
 }
 
@@ -424,23 +366,14 @@ fn empty_slots(alloc: Global) -> Result<Vec<Option<Known>>, OutOfMemory> {
 fn moved_sweep(sweep: Sweep, shift: (i32, i32)) -> Option<Sweep>
     ensures { IfSome result (λ moved. moved ≡ moved_sweep shift sweep) }
 {
-    let bounds = moved_bounds(sweep.bounds, shift)?;
-    Some(Sweep {
-        recurrence: sweep.recurrence,
-        bounds,
-    })
-}
-
-/// A box, moved.
-fn moved_bounds(bounds: Bounds, shift: (i32, i32)) -> Option<Bounds>
-    ensures { IfSome result (λ moved. moved ≡ moved_bounds shift bounds) }
-{
-    Some(Bounds {
+    let Sweep { recurrence, bounds } = sweep;
+    let bounds = Bounds {
         left: moved(bounds.left, shift.0)?,
         top: moved(bounds.top, shift.1)?,
         right: moved(bounds.right, shift.0)?,
         bottom: moved(bounds.bottom, shift.1)?,
-    })
+    };
+    Some(Sweep { recurrence, bounds })
 }
 
 /// A column or row, moved.

@@ -20,7 +20,7 @@
 //! then the whole is what it was as well, and all that follows has been seen. Even before that a cluster that is itself
 //! again isn't stepped, since its next generation is known.
 
-ghost use Rattle.std.specs.Prelude.{◌≡◌, ◌<◌, ◌≤◌, ◌↔◌, ℕ, All, IfNone, IfOk, IfSome, IsTrue, flat_map, length, map};
+ghost use Rattle.std.specs.Prelude.{◌≡◌, ◌<◌, ◌≤◌, ◌↔◌, ◌⊎◌, [], ℕ, All, IfNone, IfOk, IfSome, IsTrue, flat_map, length, map};
 ghost use Rattle.std.specs.Prelude.{◌==◌, filter, true};
 ghost use Rattle.plane_core.specs.Cells.{InOrder};
 ghost use Rattle.plane_core.specs.Clusters.{Partition};
@@ -88,7 +88,11 @@ fn groups_keep_apart(
         ↔ ((k : ℕ) → k < length clusters.now → GroupKeeps rule.now groups.now clusters.now horizon k)) }
 {
     for number in 0..clusters.len() {
-        let keeps = group_keeps_apart(alloc, rule, horizon, clusters, groups, number)?;
+        if count_of(groups, number) < 2 {
+            continue;
+        }
+        let members = members(alloc, number, groups, clusters)?;
+        let keeps = keep_apart(alloc, rule, horizon, members.as_slice())?;
         if !keeps {
             return Ok(false);
         }
@@ -96,35 +100,18 @@ fn groups_keep_apart(
     Ok(true)
 }
 
-/// Whether in the group with this number the clusters, each run alone, keep apart and make up their union.
-fn group_keeps_apart(
-    alloc: Global,
-    rule: &Rule,
-    horizon: u32,
-    clusters: &[Pattern],
-    groups: &[usize],
-    number: usize,
-) -> Result<bool, OutOfMemory>
-    requires horizon { horizon ≤ 4096 }
-    requires near { All (λ cluster. lies_within survey_reach cluster ≡ true) clusters.now }
-    requires order { All InOrder clusters.now }
-    requires off { ShareNoCell clusters.now }
-    requires count { length groups.now ≡ length clusters.now }
-    ensures { IfOk result (λ apart. IsTrue apart ↔ GroupKeeps rule.now groups.now clusters.now horizon number) }
-{
-    if count_of(groups, number) < 2 {
-        return Ok(true);
-    }
-    let members = members(alloc, number, groups, clusters)?;
-    let whole = union(alloc, members.as_slice())?;
-    keep_apart(alloc, rule, horizon, whole, members.as_slice())
-}
-
 /// How many clusters the group with this number has.
 fn count_of(groups: &[usize], number: usize) -> usize
     ensures { result ≡ length (filter (λ group. group == number) groups.now) }
 {
-    groups.iter().filter(|group| **group == number).count()
+    let mut count = 0;
+    for group in groups {
+        if *group != number {
+            continue;
+        }
+        count += 1;
+    }
+    count
 }
 
 /// The clusters of the group with this number.
@@ -160,24 +147,23 @@ pub(crate) fn union(alloc: Global, parts: &[Pattern]) -> Result<Pattern, OutOfMe
     }
 }
 
-/// Whether the clusters, each run alone, keep apart and make up the whole in each generation up to the horizon.
+/// Whether the clusters, each run alone, keep apart and make up what their union becomes, in each generation up to the
+/// horizon.
 fn keep_apart(
     alloc: Global,
     rule: &Rule,
     horizon: u32,
-    mut whole: Pattern,
     clusters: &[Pattern],
 ) -> Result<bool, OutOfMemory>
     requires horizon { horizon ≤ 4096 }
-    requires near { lies_within survey_reach whole ≡ true }
-    requires each_near { All (λ cluster. lies_within survey_reach cluster ≡ true) clusters.now }
-    requires in_order { InOrder whole }
+    requires near { All (λ cluster. lies_within survey_reach cluster ≡ true) clusters.now }
     requires order { All InOrder clusters.now }
-    requires parts { Partition whole clusters.now }
+    requires off { ShareNoCell clusters.now }
     ensures { IfOk result
-        (λ apart. IsTrue apart ↔ ((g : ℕ) → g ≤ horizon → KeepApart rule.now whole clusters.now g)) }
+        (λ apart. IsTrue apart ↔ ((g : ℕ) → g ≤ horizon → KeepApart rule.now (union_of clusters.now) clusters.now g)) }
 {
-    let stepped = next_of_each(alloc, rule, clusters)?;
+    let mut whole = union(alloc, clusters)?;
+    let stepped = next_of_all(alloc, rule, clusters, &[], clusters)?;
     let first = stepped.as_slice();
     // The clusters are always a generation ahead of the whole, until that is stepped too.
     let mut alone = next_of_all(alloc, rule, clusters, first, clusters)?;
@@ -211,23 +197,8 @@ fn are_back(later: &[Pattern], patterns: &[Pattern]) -> bool
     true
 }
 
-/// The next generation of each of the patterns, run alone.
-fn next_of_each(
-    alloc: Global,
-    rule: &Rule,
-    patterns: &[Pattern],
-) -> Result<Vec<Pattern>, OutOfMemory>
-    requires { All (λ pattern. lies_within 999999 pattern ≡ true) patterns.now }
-    ensures { IfOk result (λ later. later.items ≡ map (next rule.now) patterns.now) }
-{
-    let mut later = Vec::with_capacity(alloc, patterns.len())?;
-    for pattern in patterns {
-        later.push(next(alloc, rule, pattern)?)?;
-    }
-    Ok(later)
-}
-
-/// The next generation of each of the patterns, run alone, where that of the cluster at its place is known.
+/// The next generation of each of the patterns, run alone. The first ones of the clusters at their places are known, or
+/// none of them is.
 fn next_of_all(
     alloc: Global,
     rule: &Rule,
@@ -235,33 +206,37 @@ fn next_of_all(
     first: &[Pattern],
     patterns: &[Pattern],
 ) -> Result<Vec<Pattern>, OutOfMemory>
-    requires first { first.now ≡ map (next rule.now) clusters.now }
+    requires first { (first.now ≡ []) ⊎ (first.now ≡ map (next rule.now) clusters.now) }
     requires long { length patterns.now ≡ length clusters.now }
     requires near { All (λ pattern. lies_within 999999 pattern ≡ true) patterns.now }
     ensures { IfOk result (λ later. later.items ≡ map (next rule.now) patterns.now) }
 {
     let mut later = Vec::with_capacity(alloc, patterns.len())?;
     for (place, pattern) in patterns.iter().enumerate() {
-        let next = next_beside(alloc, rule, &clusters[place], &first[place], pattern)?;
+        let next = next_beside(alloc, rule, clusters, first, place, pattern)?;
         later.push(next)?;
     }
     Ok(later)
 }
 
-/// The next generation of a pattern, which is known if the pattern is the cluster again. A still life always is.
+/// The next generation of a pattern, run alone. If the pattern is the cluster at its place again, that is the first one
+/// of the cluster, where it is known. A still life always is.
 fn next_beside(
     alloc: Global,
     rule: &Rule,
-    cluster: &Pattern,
-    first: &Pattern,
+    clusters: &[Pattern],
+    first: &[Pattern],
+    place: usize,
     pattern: &Pattern,
 ) -> Result<Pattern, OutOfMemory>
-    requires first { first.now ≡ next rule.now cluster.now }
+    requires first { (first.now ≡ []) ⊎ (first.now ≡ map (next rule.now) clusters.now) }
+    requires place { place < length clusters.now }
     requires near { lies_within 999999 pattern.now ≡ true }
     ensures { IfOk result (λ later. later ≡ next rule.now pattern.now) }
 {
-    let same = are_same(pattern.cells(), cluster.cells());
-    if same {
+    if let Some(first) = first.get(place)
+        && are_same(pattern.cells(), clusters[place].cells())
+    {
         return first.copy(alloc);
     }
     next(alloc, rule, pattern)

@@ -45,7 +45,7 @@ returns-in-Some c =
     c.loop-age.invariant c.loop-age-test.true c.in_ok-next.ensures.next back) in
     ends_found _ rule cells c.args.limit _ (record {
       recurs = recurs;
-      phases = rw (c.in_ok-keep.ensures, age)
+      phases = rw (c.in_ok-push.ensures.items, age)
           (phases_then rule cells c.loop-age.age c.loop-age.phases.items c.loop-age.latest c.loop-age.invariant);
     })
     (λ g low. inside_then rule cells c.loop-age.age c.loop-age.phases.items c.loop-age.latest c.in_ok-next.next c.in-Some.dx c.in-Some.dy
@@ -54,7 +54,7 @@ returns-in-Some c =
 
 pub loop-age-preserved : goal.loop-age-preserved
 loop-age-preserved c =
-    rw c.in_ok-keep.ensures (follows-more c.args.rule.now c.args.pattern.now c.loop-age.age c.loop-age.phases.items c.loop-age.latest c.in_ok-next.next
+    rw c.in_ok-push.ensures.items (follows-more c.args.rule.now c.args.pattern.now c.loop-age.age c.loop-age.phases.items c.loop-age.latest c.in_ok-next.next
     c.loop-age.invariant c.in_ok-next.ensures.inside c.in_ok-next.ensures.next c.in_default.ensures.none)
 
 pub returns : goal.returns
@@ -68,7 +68,7 @@ returns-in_err-latest c =
     ends_by_memory _ c.args.rule.now c.args.pattern.now c.args.limit c.from_residual.result c.from_residual.ensures.1
     (sym c.touches_edge.ensures ∙ c.if-touches_edge.false)
 
-pub returns-in_err-keep : goal.returns-in_err-keep
-returns-in_err-keep c =
-    ends_by_memory _ c.args.rule.now c.args.pattern.now c.args.limit c.from_residual-in_err-keep.result c.from_residual-in_err-keep.ensures.1
+pub returns-in_err-push : goal.returns-in_err-push
+returns-in_err-push c =
+    ends_by_memory _ c.args.rule.now c.args.pattern.now c.args.limit c.from_residual-in_err-push.result c.from_residual-in_err-push.ensures.1
     (sym c.touches_edge.ensures ∙ c.if-touches_edge.false)

@@ -1,4 +1,4 @@
-use Rattle.std.proofs.Common.{◌≡◌, ◌∙◌, ◌<◌, ◌≤◌, List, ℕ, arith, length, subst}
+use Rattle.std.proofs.Common.{◌≡◌, ◌∙◌, List, ℕ, arith, length, subst}
 use Rattle.std.proofs.lemmas.List.{with_items_is}
 use Rattle.survey_core.specs.Grouping.{Coarser}
 use Rattle.survey_core.proofs.GroupingLemmas.{pairs_more}

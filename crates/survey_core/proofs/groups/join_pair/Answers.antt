@@ -1,4 +1,4 @@
-use Rattle.std.proofs.Common.{◌≡◌, ◌<◌, refl, sym, subst, ℕ, length}
+use Rattle.std.proofs.Common.{◌<◌, refl, sym, subst, ℕ, length}
 use Rattle.survey_core.proofs.GroupingLemmas.{renamed_coarser, renamed_numbers, renamed_pair, stay_default}
 use Rattle.survey_core.proofs.groups.join_pair.Goals as goal
 

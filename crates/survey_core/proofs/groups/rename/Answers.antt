@@ -1,4 +1,4 @@
-use Rattle.std.proofs.Common.{◌<◌, ◌≤◌, ◌≡◌, ℕ, arith, length, subst, sym}
+use Rattle.std.proofs.Common.{◌<◌, ℕ, arith, length, subst, sym}
 use Rattle.survey_core.proofs.GroupingLemmas.{left_after, renamed_more}
 use Rattle.survey_core.proofs.groups.rename.Goals as goal
 

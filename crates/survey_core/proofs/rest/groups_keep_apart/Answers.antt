@@ -1,21 +1,54 @@
-use Rattle.std.proofs.Common.{◌∙◌, ◌≤◌, sym, subst, arith, eq-or-lt_of_le, inl, inr, refl}
+use Rattle.std.proofs.Common.{◌≡◌, ◌∙◌, ◌<◌, ◌≤◌, refl, sym, subst, ℕ, arith, length, true, All, List}
 use Rattle.std.proofs.lemmas.Bool.{false≢true}
-use Rattle.survey_core.specs.Groups.{GroupKeeps}
+use Rattle.plane_core.specs.declared.cell.Cell.{Cell}
+use Rattle.plane_core.specs.Cells.{InOrder}
+use Rattle.plane_core.specs.Generations.{lies_within}
+use Rattle.survey_core.specs.Groups.{GroupKeeps, ShareNoCell, members, union_of}
+use Rattle.survey_core.specs.Rest.{KeepApart}
+use Rattle.survey_core.specs.UnderWay.{survey_reach}
+use Rattle.survey_core.proofs.GroupLemmas.{alone_keeps, below_more, members_all, members_few, members_off}
 use Rattle.survey_core.proofs.rest.groups_keep_apart.Goals as goal
+
+-- a cluster alone has nothing to meet
+pub loop-number-preserved-then-count_of-lt2 : goal.loop-number-preserved-then-count_of-lt2
+loop-number-preserved-then-count_of-lt2 c =
+    let few = members_few c.loop-number.number c.args.groups.now c.args.clusters.now in
+    let all = c.count_of.ensures in
+    let less = c.if-count_of-lt2.true in
+    let low : length (members c.loop-number.number c.args.groups.now c.args.clusters.now) < 2 = omega (arith, few, all, less) in
+    below_more (GroupKeeps c.args.rule.now c.args.groups.now c.args.clusters.now c.args.horizon) c.loop-number.number c.loop-number.invariant
+    (λ g there. alone_keeps c.args.rule.now (members c.loop-number.number c.args.groups.now c.args.clusters.now) g low
+    (members_all InOrder c.loop-number.number c.args.groups.now c.args.clusters.now c.requires.order))
+
+pub keep_apart-requires-clause-near : goal.keep_apart-requires-clause-near
+keep_apart-requires-clause-near c =
+    subst (All (λ part. lies_within survey_reach part ≡ true)) (sym (c.as_slice.ensures.value ∙ c.in_ok-members.ensures))
+    (members_all (λ part. lies_within survey_reach part ≡ true) c.loop-number.number c.args.groups.now c.args.clusters.now c.requires.near)
+
+pub keep_apart-requires-clause-order : goal.keep_apart-requires-clause-order
+keep_apart-requires-clause-order c =
+    subst (All InOrder) (sym (c.as_slice.ensures.value ∙ c.in_ok-members.ensures))
+    (members_all InOrder c.loop-number.number c.args.groups.now c.args.clusters.now c.requires.order)
+
+pub keep_apart-requires-clause-off : goal.keep_apart-requires-clause-off
+keep_apart-requires-clause-off c =
+    subst ShareNoCell (sym (c.as_slice.ensures.value ∙ c.in_ok-members.ensures))
+    (members_off c.loop-number.number c.args.groups.now c.args.clusters.now c.requires.off)
 
 -- a group that doesn't keep apart
 pub returns-then-not-keeps : goal.returns-then-not-keeps
 returns-then-not-keeps c = (
   λ e. absurd (false≢true e),
-  λ all. absurd (false≢true (sym c.if-not-keeps.true ∙ c.in_ok-keeps.ensures.1 (all c.loop-number.number c.loop-number-test.true))),
+  λ all. absurd (false≢true (sym c.if-not-keeps.true ∙ c.in_ok-keeps.ensures.1 (subst (λ (parts : List (List Cell)).
+      (g : ℕ) → g ≤ c.args.horizon → KeepApart c.args.rule.now (union_of parts) parts g) (sym (c.as_slice.ensures.value ∙ c.in_ok-members.ensures))
+      (all c.loop-number.number c.loop-number-test.true)))),
 )
 
 pub loop-number-preserved : goal.loop-number-preserved
-loop-number-preserved c = λ k low. let le : k ≤ c.loop-number.number = omega arith in
-    elim (eq-or-lt_of_le le) [
-      | inl is ↦ subst (GroupKeeps c.args.rule.now c.args.groups.now c.args.clusters.now c.args.horizon) (sym is) (c.in_ok-keeps.ensures.0 c.if-not-keeps.false)
-      | inr less ↦ c.loop-number.invariant k less
-    ]
+loop-number-preserved c =
+    below_more (GroupKeeps c.args.rule.now c.args.groups.now c.args.clusters.now c.args.horizon) c.loop-number.number c.loop-number.invariant
+    (subst (λ (parts : List (List Cell)). (g : ℕ) → g ≤ c.args.horizon → KeepApart c.args.rule.now (union_of parts) parts g)
+    (c.as_slice.ensures.value ∙ c.in_ok-members.ensures) (c.in_ok-keeps.ensures.0 c.if-not-keeps.false))
 
 pub returns : goal.returns
 returns c = (λ e k low. c.loop-number.invariant k (omega arith), λ all. refl)

@@ -1,4 +1,4 @@
-use Rattle.std.proofs.Common.{◌≡◌, ◌∙◌, ◌+ℤ◌, ◌-ℤ◌, ◌≤ℤ◌, ◌≤◌, ◌^◌, pos, subst, sym, unsigned_abs, ℤ, FitsSigned, rules, w32}
+use Rattle.std.proofs.Common.{◌≡◌, ◌∙◌, ◌+ℤ◌, ◌-ℤ◌, ◌≤ℤ◌, ◌≤◌, ◌^◌, subst, sym, unsigned_abs, ℤ, FitsSigned, rules, w32}
 use Rattle.std.proofs.lemmas.Int.{to_z-of_z}
 use Rattle.plane_core.specs.Frontiers.{depth}
 use Rattle.plane_core.specs.Orientations.{turned_cell}

@@ -1,4 +1,4 @@
-use Rattle.std.proofs.Common.{◌≡◌, ◌∙◌, ◌<◌, ◌≤◌, ◌^◌, ◌*ℤ◌, ℕ, ℤ, FitsSigned, arith, of_z, pos, subst₂, sym, to_z, unsigned_abs, w32}
+use Rattle.std.proofs.Common.{◌∙◌, ◌<◌, ◌≤◌, ◌^◌, ◌*ℤ◌, ℕ, ℤ, FitsSigned, arith, of_z, pos, subst₂, sym, to_z, unsigned_abs, w32}
 use Rattle.std.proofs.lemmas.Int.{fits_signed_from_abs, fits_signed_mul, to_z-of_z, to_z_pos}
 use Rattle.survey_core.proofs.ShipLemmas.{times-product}
 use Rattle.survey_core.proofs.ships.steps.Goals as goal
