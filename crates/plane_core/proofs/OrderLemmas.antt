@@ -1,5 +1,5 @@
 -- Plain facts on numbers in order, which say in a word what else would be looked for among all that is known.
-use Rattle.std.proofs.Common.{◌≡◌, ◌≢◌, ◌+◌, ◌-◌, ◌*◌, ◌<◌, ◌≤◌, ℕ, Fits, arith, w64}
+use Rattle.std.proofs.Common.{◌≡◌, ◌≢◌, ◌+◌, ◌-◌, ◌*◌, ◌<◌, ◌≤◌, ℕ, arith}
 
 pub below_too : (a b m : ℕ) → a < b → b ≤ m → a < m
 below_too a b m low most = omega (arith, low, most)
@@ -51,9 +51,6 @@ below_same k n m low same = omega (arith, low, same)
 
 pub few_vectors : (n : ℕ) → n ≤ 16 → n * 32 < 9223372036854775808
 few_vectors n few = omega (arith, few)
-
-pub fits_rows : (n a b : ℕ) → n ≤ 16 → a < 4 * n → b < 4 * n → Fits w64 (a + b)
-fits_rows n a b few low small = record { fits = omega (arith, few, low, small) }
 
 pub ten_are_some : (n : ℕ) → 10 ≤ n → 0 < n
 ten_are_some n some = omega (arith, some)

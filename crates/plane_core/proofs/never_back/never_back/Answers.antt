@@ -1,7 +1,5 @@
 use Rattle.std.proofs.Common.{◌+◌, ℕ, List, arith, subst, sym}
-use Rattle.std.proofs.lemmas.Bool.{false≢true}
 use Rattle.plane_core.proofs.AgainLemmas.{IsChanging, changed-fewer, changing_ends, changing_keeps, changing_more, changing_start}
-use Rattle.plane_core.proofs.OrderLemmas.{few_vectors, some_of}
 use Rattle.plane_core.proofs.never_back.never_back.Goals.{then-made-eq1, else-made-eq1}
 use Rattle.plane_core.proofs.never_back.never_back.Goals as goal
 
@@ -43,42 +41,3 @@ pub returns : goal.returns
 returns g c = λ _ cells left top holds.
     changed-fewer (g.A.Answering.rule c.args.rule.now) g.row.N left top cells c.loop-made.made c.args.most (omega (arith, c.loop-made-test.false))
     (c.loop-made.invariant.changed cells left top holds)
-
-pub columns_of-from-requires : goal.columns_of-from-requires
-columns_of-from-requires g c = few_vectors g.row.N c.requires.few
-
-pub returns-then-from-eq0 : goal.returns-then-from-eq0
-returns-then-from-eq0 g c = λ e. absurd (false≢true e)
-
-pub is_rim_clear-requires : goal.is_rim_clear-requires
-is_rim_clear-requires g c = (few_vectors g.row.N c.requires.few, (c.requires.some, (c.requires.few, c.loop-made.invariant.columns_are)))
-
-pub returns-then-not-is_rim_clear : goal.returns-then-not-is_rim_clear
-returns-then-not-is_rim_clear g c = λ e. absurd (false≢true e)
-
-pub generation-requires : goal.generation-requires
-generation-requires g c = (few_vectors g.row.N c.requires.few, c.requires.some)
-
-pub columns_of-columns-requires : goal.columns_of-columns-requires
-columns_of-columns-requires g c = few_vectors g.row.N c.requires.few
-
-pub may_be_again-requires : goal.may_be_again-requires
-may_be_again-requires g c = (
-  few_vectors g.row.N c.requires.few,
-  (
-    c.requires.some,
-    (
-      c.requires.few,
-      (
-        some_of c.columns_of-from.result c.if-from-eq0.false,
-        (c.columns_of-from.ensures.columns, (c.columns_of-columns.ensures.columns, (c.columns_of-from.ensures.whole, c.columns_of-columns.ensures.whole))),
-      ),
-    ),
-  ),
-)
-
-pub returns-then-may_be_again : goal.returns-then-may_be_again
-returns-then-may_be_again g c = λ e. absurd (false≢true e)
-
-pub are_alike-requires : goal.are_alike-requires
-are_alike-requires g c = few_vectors g.row.N c.requires.few

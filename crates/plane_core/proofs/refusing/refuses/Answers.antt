@@ -1,5 +1,4 @@
 use Rattle.plane_core.proofs.RefusingLemmas.{refused_by_change, refused_by_stray}
-use Rattle.std.proofs.lemmas.Bool.{false≢true}
 use Rattle.plane_core.proofs.refusing.refuses.Goals as goal
 
 pub refuses_in_excerpt-requires-clause-holds : goal.refuses_in_excerpt-requires-clause-holds
@@ -19,12 +18,3 @@ pub returns-else-shows_stray : goal.returns-else-shows_stray
 returns-else-shows_stray g c = λ seen.
     refused_by_change (g.A.Answering.rule c.args.rule.now) c.args.window.now c.keep_cluster.new.window c.args.depth c.args.horizon c.args.period
     (c.keep_cluster.ensures c.if-not-keep_cluster.false c.args.depth c.requires) (c.never_back-else-shows_stray.ensures seen)
-
-pub returns-in_default : goal.returns-in_default
-returns-in_default g c = λ e. absurd (false≢true e)
-
-pub returns-then-not-keep_cluster : goal.returns-then-not-keep_cluster
-returns-then-not-keep_cluster g c = λ e. absurd (false≢true e)
-
-pub refuses_in_excerpt-requires-clause-depth : goal.refuses_in_excerpt-requires-clause-depth
-refuses_in_excerpt-requires-clause-depth g c = c.requires

@@ -1,7 +1,5 @@
 use Rattle.std.proofs.Common.{◌+◌, ◌≡◌, ℕ, arith, subst}
 use Rattle.plane_core.specs.Refusing.{HasStray}
-use Rattle.std.proofs.lemmas.Bool.{false≢true}
-use Rattle.plane_core.proofs.OrderLemmas.{few_vectors, ten_are_some}
 use Rattle.plane_core.proofs.StrayLemmas.{made_more, made_none, stray_seen}
 use Rattle.plane_core.proofs.stray.shows_stray.Goals as goal
 
@@ -22,18 +20,3 @@ returns-then-has_stray g c = λ _.
     c.generation.ensures c.generation-in-loop-made.ensures in
     stray_seen (g.A.Answering.rule c.args.rule.now) g.row.N c.args.whole.now c.args.alone.now c.generation.new.window
     c.generation-in-loop-made.new.window c.args.depth (c.loop-made.made + 1) c.args.most more (omega arith) found
-
-pub has_neighbours-requires : goal.has_neighbours-requires
-has_neighbours-requires g c = (few_vectors g.row.N c.requires.few, (c.requires.some, c.requires.few))
-
-pub returns-then-not-has_neighbours : goal.returns-then-not-has_neighbours
-returns-then-not-has_neighbours g c = λ e. absurd (false≢true e)
-
-pub generation-requires : goal.generation-requires
-generation-requires g c = (few_vectors g.row.N c.requires.few, ten_are_some g.row.N c.requires.some)
-
-pub generation-requires-in-loop-made : goal.generation-requires-in-loop-made
-generation-requires-in-loop-made g c = (few_vectors g.row.N c.requires.few, ten_are_some g.row.N c.requires.some)
-
-pub returns : goal.returns
-returns g c = λ e. absurd (false≢true e)
