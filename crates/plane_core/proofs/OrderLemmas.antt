@@ -16,6 +16,9 @@ itself a = omega arith
 pub one_at_least : (n : ℕ) → 0 < n → 1 ≤ n
 one_at_least n some = omega (arith, some)
 
+pub some_of : (n : ℕ) → n ≢ 0 → 0 < n
+some_of n some = omega (arith, some)
+
 pub last_low : (n : ℕ) → 0 < n → n - 1 < n
 last_low n some = omega (arith, some)
 

@@ -1,14 +1,30 @@
-use Rattle.std.proofs.Common.{◌∙◌, ap, length, refl, sym}
+use Rattle.std.proofs.Common.{◌≡◌, ◌∙◌, List, ap, length, refl, subst, sym}
 use Rattle.std.proofs.lemmas.Bool.{false≢true}
+use Rattle.std.proofs.lemmas.List.Elements.{All-same}
 use Rattle.std.proofs.lemmas.Result.{IfOk-from_err}
+use Rattle.plane_core.specs.declared.bounds.Bounds.{Bounds}
+use Rattle.plane_core.specs.declared.cell.Cell.{Cell}
+use Rattle.plane_core.specs.declared.change.Change.{Change}
+use Rattle.plane_core.specs.declared.place.Place.{Place}
+use Rattle.plane_core.specs.Bounds.{AreSidesWithin}
+use Rattle.plane_core.specs.Boxes.{AreCovered, HoldChanges, box_bound}
 use Rattle.plane_core.specs.OnBoard.{cells_on}
 use Rattle.plane_core.proofs.AdvanceLemmas.{has_gone_on}
 use Rattle.plane_core.proofs.BoxLemmas.{all_in_reach}
 use Rattle.plane_core.proofs.OnBoardLemmas.{cells_in_order, shows_cells}
 use Rattle.plane_core.proofs.board.leap_on.Goals as goal
 
+-- the same lists by other names
+covered_by : (ps qs : List Place) (bs cs : List Bounds) → qs ≡ ps → bs ≡ cs → AreCovered ps bs → AreCovered qs cs
+covered_by ps qs bs cs places boxes covered =
+    subst (λ (xs : List Place). AreCovered xs cs) (sym places) (subst (λ (xs : List Bounds). AreCovered ps xs) boxes covered)
+
+held_by : (places : List Place) (one other : List Cell) (cs ds : List Change) → ds ≡ cs → HoldChanges places one other cs
+    → HoldChanges places one other ds
+held_by places one other cs ds same held = subst (λ (xs : List Change). HoldChanges places one other xs) (sym same) held
+
 pub cover-requires : goal.cover-requires
-cover-requires g c = rw c.as_slice.ensures.value c.requires.ready.sides
+cover-requires g c = All-same (AreSidesWithin box_bound) _ _ c.as_slice.ensures.value c.requires.ready.sides
 
 pub returns-in_err-cover-clause-stopped : goal.returns-in_err-cover-clause-stopped
 returns-in_err-cover-clause-stopped g c = IfOk-from_err _ _ c.from_residual.ensures.0
@@ -73,9 +89,9 @@ returns-clause-leapt g c e =
     let old = c.args.words.now in
     let rule = g.A.Answering.rule c.args.rule.now in
     let places = c.as_slice-places.result.now in
-    let covered = rw (sym c.as_slice-places.ensures.value, c.as_slice.ensures.value) at c.in_ok-cover.ensures in
+    let covered = covered_by _ places _ c.args.boxes.now.items c.as_slice-places.ensures.value c.as_slice.ensures.value c.in_ok-cover.ensures in
     has_gone_on rule at c.args.count old c.leap.new.words c.args.boxes.now.items c.next_boxes.new.boxes.items c.args.spans.now c.widen_by.new.spans places
     c.requires.ready covered c.requires.some c.requires.few (c.are_on_board-inside.ensures c.if-not-inside.false) c.widen_by.ensures.kept
     c.widen_by.ensures.covered c.in_ok-leap.ensures.shown c.in_ok-next_boxes.ensures.sides
     (c.in_ok-next_boxes.ensures.differences _ _
-    (rw c.as_slice-2.ensures.value (c.in_ok-leap.ensures.changes (cells_on at old) (cells_in_order at old) (shows_cells at old))))
+    (held_by places _ _ _ _ c.as_slice-2.ensures.value (c.in_ok-leap.ensures.changes (cells_on at old) (cells_in_order at old) (shows_cells at old))))

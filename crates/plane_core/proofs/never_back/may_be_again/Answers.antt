@@ -1,6 +1,5 @@
-use Rattle.std.proofs.Common.{arith}
 use Rattle.plane_core.proofs.AgainLemmas.{begins, columns_again, some_again}
-use Rattle.plane_core.proofs.OrderLemmas.{few_vectors}
+use Rattle.plane_core.proofs.OrderLemmas.{few_vectors, some_of}
 use Rattle.plane_core.proofs.never_back.may_be_again.Goals as goal
 
 pub returns-then-columns-eq0 : goal.returns-then-columns-eq0
@@ -13,7 +12,7 @@ returns-then-from-columns g c cells left top dx dy hx hy = absurd (c.if-from-col
     columns_again g.row.N left top dx dy c.args.start.now c.args.now.now cells c.args.from c.args.columns _ _ c.requires.some c.requires.whole
     c.requires.whole_now c.requires.from c.requires.columns hx hy
     (begins g.row.N left top c.args.start.now cells c.args.from c.requires.some hx c.requires.whole c.requires.from c.requires.alive c.ranges.from.fits)
-    (begins g.row.N left top c.args.now.now _ c.args.columns c.requires.some hy c.requires.whole_now c.requires.columns (omega arith) c.ranges.columns.fits)))
+    (begins g.row.N left top c.args.now.now _ c.args.columns c.requires.some hy c.requires.whole_now c.requires.columns (some_of c.args.columns c.if-columns-eq0.false) c.ranges.columns.fits)))
 
 pub are_rows_again-requires : goal.are_rows_again-requires
 are_rows_again-requires g c = (
@@ -25,7 +24,7 @@ are_rows_again-requires g c = (
       (
         c.requires.alive,
         (
-          omega (arith, c.if-columns-eq0.false),
+          some_of c.args.columns c.if-columns-eq0.false,
           (
             c.requires.from,
             (
