@@ -223,6 +223,10 @@ fits_begin at words x y most small long lane row =
     fits_places : (a b c n : ℕ) → n * 8 < 9223372036854775808 → a + b + c ≤ n → Fits w64 a × Fits w64 (a + b) × Fits w64 (a + b + c)
     fits_places a b c n few low = (record { fits = omega arith }, record { fits = omega arith }, record { fits = omega arith })
 
+pub fits_row : (at : Frame) (words : List ℕ) (x y : ℕ) → length words * 8 < 9223372036854775808 → FillsFrame at words → x / 64 + 1 < at.lanes
+    → y < at.rows → Fits w64 (x / 64 * at.rows) × Fits w64 (x / 64 * at.rows + y) × Fits w64 (x / 64 * at.rows + y + at.rows)
+fits_row at words x y small long lane row = fits_begin at words x y 1 small long lane (omega (arith, row))
+
 pub fits_place : (n : ℕ) (words : List ℕ) → length words * 8 < 9223372036854775808 → n < length words → Fits w64 n
 fits_place n words small low = record { fits = omega (arith, small, low) }
 
