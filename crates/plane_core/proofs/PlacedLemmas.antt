@@ -1,6 +1,6 @@
 -- Windows read from a board and put back.
 use Rattle.std.proofs.Common.{◌≡◌, ◌≢◌, ◌==◌, ◌+◌, ◌-◌, ◌*◌, ◌/◌, ◌%◌, ◌<◌, ◌≤◌, ℕ, List, cond, length, set, slice_index}
-use Rattle.std.proofs.Common.{arith, refl, ap, ◌∙◌, sym, inl, inr, ◌⊎◌}
+use Rattle.std.proofs.Common.{Fits, w64, arith, refl, ap, ◌∙◌, sym, inl, inr, ◌⊎◌}
 use Rattle.std.specs.Int.{bit_at}
 use Rattle.std.proofs.lemmas.Bool.{cases_eq, cases_lt}
 use Rattle.std.proofs.lemmas.List.{get_or-set_same, get_or-set_other}
@@ -210,6 +210,25 @@ pub read_in : (at : Frame) (words : List ℕ) (x y r most : ℕ) → FillsFrame 
 read_in at words x y r most long lane row low =
     let both = words_in at words x (y + r) long lane (omega (arith, row, low)) in
     (omega (arith, both.0), omega (arith, both.1))
+
+-- the places of these words fit their type, since a list has fewer items than that has numbers
+pub fits_begin : (at : Frame) (words : List ℕ) (x y most : ℕ) → length words * 8 < 9223372036854775808 → FillsFrame at words → x / 64 + 1 < at.lanes
+    → y + most ≤ at.rows → Fits w64 (x / 64 * at.rows) × Fits w64 (x / 64 * at.rows + y) × Fits w64 (x / 64 * at.rows + y + at.rows)
+fits_begin at words x y most small long lane row =
+    let many : at.lanes ≡ x / 64 + 2 + (at.lanes - (x / 64 + 2)) = omega (arith, lane) in
+    let whole : at.lanes * at.rows ≡ (x / 64 + 2 + (at.lanes - (x / 64 + 2))) * at.rows = ap (λ (m : ℕ). m * at.rows) many in
+    let inside : x / 64 * at.rows + y + at.rows ≤ length words = omega (arith, long, row, whole) in
+    fits_places (x / 64 * at.rows) y at.rows (length words) small inside
+  where
+    fits_places : (a b c n : ℕ) → n * 8 < 9223372036854775808 → a + b + c ≤ n → Fits w64 a × Fits w64 (a + b) × Fits w64 (a + b + c)
+    fits_places a b c n few low = (record { fits = omega arith }, record { fits = omega arith }, record { fits = omega arith })
+
+pub fits_row : (at : Frame) (words : List ℕ) (x y : ℕ) → length words * 8 < 9223372036854775808 → FillsFrame at words → x / 64 + 1 < at.lanes
+    → y < at.rows → Fits w64 (x / 64 * at.rows) × Fits w64 (x / 64 * at.rows + y) × Fits w64 (x / 64 * at.rows + y + at.rows)
+fits_row at words x y small long lane row = fits_begin at words x y 1 small long lane (omega (arith, row))
+
+pub fits_place : (n : ℕ) (words : List ℕ) → length words * 8 < 9223372036854775808 → n < length words → Fits w64 n
+fits_place n words small low = record { fits = omega (arith, small, low) }
 
 -- the word of a row of a lane
 pub index_in : (at : Frame) (words : List ℕ) (s r n : ℕ) → FillsFrame at words → s < at.lanes → r < at.rows → n ≡ word_of at s r → n < length words

@@ -2,7 +2,7 @@ use Rattle.std.proofs.Common.{◌≡◌, ℕ, arith, length, length-set, ◌∙�
 use Rattle.std.proofs.lemmas.List.{length-replicate}
 use Rattle.plane_core.specs.Placed.{AreRowsRead}
 use Rattle.plane_core.proofs.PlacedLemmas.{read_word, rows_more}
-use Rattle.plane_core.proofs.PlacedLemmas.{column_low, read_in}
+use Rattle.plane_core.proofs.PlacedLemmas.{column_low, fits_begin, fits_place, read_in}
 use borrow.Author.Count.{falls}
 use Rattle.plane_core.proofs.placed.read_rows.Goals as goal
 
@@ -40,3 +40,25 @@ bounds-rows-r g c = c.loop-r-test.true
 
 pub loop-r-smaller : goal.loop-r-smaller
 loop-r-smaller g c = falls g.row.R c.loop-r.r c.loop-r-test.true
+
+pub overflow_mul-first : goal.overflow_mul-first
+overflow_mul-first g c =
+    (fits_begin c.args.at c.args.words.now c.args.x c.args.y g.row.R c.well_formed.0.1 c.requires.long c.requires.lanes c.requires.rows).0
+
+pub overflow_add-first : goal.overflow_add-first
+overflow_add-first g c =
+    (fits_begin c.args.at c.args.words.now c.args.x c.args.y g.row.R c.well_formed.0.1 c.requires.long c.requires.lanes c.requires.rows).1
+
+pub overflow_add-second : goal.overflow_add-second
+overflow_add-second g c =
+    (fits_begin c.args.at c.args.words.now c.args.x c.args.y g.row.R c.well_formed.0.1 c.requires.long c.requires.lanes c.requires.rows).2
+
+pub overflow_add-first-in-loop-r : goal.overflow_add-first-in-loop-r
+overflow_add-first-in-loop-r g c =
+    fits_place _ c.args.words.now c.well_formed.0.1
+    (read_in c.args.at c.args.words.now c.args.x c.args.y c.loop-r.r g.row.R c.requires.long c.requires.lanes c.requires.rows c.loop-r-test.true).0
+
+pub overflow_add-second-in-loop-r : goal.overflow_add-second-in-loop-r
+overflow_add-second-in-loop-r g c =
+    fits_place _ c.args.words.now c.well_formed.0.1
+    (read_in c.args.at c.args.words.now c.args.x c.args.y c.loop-r.r g.row.R c.requires.long c.requires.lanes c.requires.rows c.loop-r-test.true).1

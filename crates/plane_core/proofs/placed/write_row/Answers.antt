@@ -1,6 +1,6 @@
 use Rattle.plane_core.proofs.PlacedLemmas.{row_put}
 use Rattle.std.proofs.Common.{ℕ, ◌+◌, ◌*◌, ◌/◌, ◌<◌, ◌∙◌, subst, sym}
-use Rattle.plane_core.proofs.PlacedLemmas.{column_low, words_in}
+use Rattle.plane_core.proofs.PlacedLemmas.{column_low, fits_row, words_in}
 use Rattle.plane_core.proofs.placed.write_row.Goals as goal
 
 pub returns-clause-put : goal.returns-clause-put
@@ -31,3 +31,12 @@ put_word-requires-2 c =
 
 pub returns-clause-long : goal.returns-clause-long
 returns-clause-long c = c.put_word-2.ensures.long ∙ c.put_word.ensures.long
+
+pub overflow_mul-i : goal.overflow_mul-i
+overflow_mul-i c = (fits_row c.args.at c.args.words.now c.args.x c.args.y c.well_formed.0.1 c.requires.long c.requires.lanes c.requires.rows).0
+
+pub overflow_add-i : goal.overflow_add-i
+overflow_add-i c = (fits_row c.args.at c.args.words.now c.args.x c.args.y c.well_formed.0.1 c.requires.long c.requires.lanes c.requires.rows).1
+
+pub overflow_add-i-2 : goal.overflow_add-i-2
+overflow_add-i-2 c = (fits_row c.args.at c.args.words.now c.args.x c.args.y c.well_formed.0.1 c.requires.long c.requires.lanes c.requires.rows).2

@@ -1,4 +1,4 @@
-use Rattle.std.proofs.Common.{◌∙◌, ap, ◌≡◌, List, None, position, rules}
+use Rattle.std.proofs.Common.{sym, ◌∙◌, ap, ◌≡◌, List, None, position, rules}
 use Rattle.plane_core.specs.declared.cell.Cell.{Cell}
 use Rattle.plane_core.specs.Cells.{has, off_plane, set_of}
 use Rattle.plane_core.proofs.SetLemmas.{has-set_of}
@@ -13,3 +13,6 @@ invariant_of-result c =
 pub returns-clause-members : goal.returns-clause-members
 returns-clause-members c = λ x.
     ap (λ (cs : List Cell). has cs x) (c.in_order.ensures ∙ ap set_of c.in_ok-cells.ensures.items) ∙ has-set_of c.args.cells.now x
+
+pub returns-in-Some-clause-refused : goal.returns-in-Some-clause-refused
+returns-in-Some-clause-refused c = sym c.first_off_plane.ensures ∙ c.in-Some.is

@@ -1,9 +1,9 @@
-use Rattle.std.proofs.Common.{◌≡◌, ◌≤◌, List, arith, true, w32, FitsSigned, rules, subst, sym}
+use Rattle.std.proofs.Common.{◌≡◌, ◌∙◌, ◌<◌, ◌≤◌, List, ap, arith, length, true, w32, FitsSigned, rules, subst, sym}
 use Rattle.std.specs.List.{list_all}
 use Rattle.std.proofs.lemmas.Int.{to_z-of_z}
 use Rattle.plane_core.specs.declared.cell.Cell.{Cell}
 use Rattle.plane_core.specs.Cells.{IsPattern, on_plane}
-use Rattle.plane_core.proofs.PlacementLemmas.{all_at, tells_shift}
+use Rattle.plane_core.proofs.PlacementLemmas.{all_at, tells_empty, tells_none, tells_shift}
 use Rattle.plane_core.proofs.pattern.Pattern.shift_to.Goals as goal
 
 -- the cells of a pattern, as they are lent, lie on the plane
@@ -32,3 +32,19 @@ all_stepped-requires-clause-cells c = on _ _ c.cells-cells.ensures.cells c.cells
 
 pub all_stepped-requires-clause-others : goal.all_stepped-requires-clause-others
 all_stepped-requires-clause-others c = on _ _ c.cells-others.ensures.cells c.cells-others.ensures.pattern
+
+pub bounds-others-0 : goal.bounds-others-0
+bounds-others-0 c = subst (λ n. 1 ≤ n) c.if-cells-others.false c.in-len1-up.len_at_least
+
+pub all_stepped-requires-clause-lengths : goal.all_stepped-requires-clause-lengths
+all_stepped-requires-clause-lengths c = c.if-cells-others.false
+
+pub returns-then-cells-others : goal.returns-then-cells-others
+returns-then-cells-others c =
+    tells_none c.args.self.now c.args.other.now
+    (λ same. c.if-cells-others.true (ap length c.cells-cells.ensures.cells ∙ same ∙ sym (ap length c.cells-others.ensures.cells)))
+
+pub returns-in-empty : goal.returns-in-empty
+returns-in-empty c =
+    tells_empty c.args.self.now c.args.other.now (subst (λ n. n < 1) (ap length c.cells-cells.ensures.cells) c.in-empty.len_below)
+    (sym (ap length c.cells-cells.ensures.cells) ∙ c.if-cells-others.false ∙ ap length c.cells-others.ensures.cells)
