@@ -1,5 +1,5 @@
 -- Looks that are known to say no.
-use Rattle.std.proofs.Common.{◌≡◌, ◌∙◌, ◌+◌, ◌%◌, ◌⊎◌, ℕ, true, false, List, ap, arith, inl, inr, sym, subst}
+use Rattle.std.proofs.Common.{◌≡◌, ◌∙◌, ◌+◌, ◌%◌, ◌⊎◌, ℕ, true, false, List, ap, arith, inl, inr, sym, subst, Option, None, Some, IfNone, is_some}
 use Rattle.std.proofs.lemmas.Bool.{false≢true}
 use Rattle.plane_core.specs.declared.cell.Cell.{Cell}
 use Rattle.plane_core.specs.Generations.{after}
@@ -43,3 +43,8 @@ known_more rule profile cells t old new are moves still more n known = go (more 
     go : (is_known old (t + n) ≡ true) ⊎ ((t + n) % 2 ≡ t % 2) → ¬ IsAtRest rule profile (after rule cells n)
     go (inl before) rest = are n before rest
     go (inr same) rest = moves (subst (IsAtRest rule profile) (still n (omega arith)) rest)
+
+-- what holds where nothing was found
+pub where_none : {A : Type 0} (found : Option A) (P : Type 0) → is_some found ≡ false → IfNone found P → P
+where_none None P none holds = holds
+where_none (Some x) P none holds = absurd (false≢true (sym none))

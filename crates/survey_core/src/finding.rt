@@ -163,7 +163,6 @@ pub fn findings_for_good()
 {}
 
 /// The finding of a pattern that has come so far at the checkpoint, if it is at rest.
-#[tactic(auto, using(crate::proofs::NoesLemmas::known_more))]
 fn look_at(
     alloc: Global,
     profile: &Profile,

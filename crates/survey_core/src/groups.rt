@@ -50,11 +50,7 @@ fn one_group(alloc: Global, count: usize) -> Result<Vec<usize>, OutOfMemory>
     ensures count { IfOk result (λ groups. length groups.items ≡ count) }
     ensures one { IfOk result (λ groups. All (λ k. k ≡ 0) groups.items) }
 {
-    let mut groups = Vec::with_capacity(alloc, count)?;
-    while groups.len() < count {
-        groups.push(0)?;
-    }
-    Ok(groups)
+    Ok(vec![in alloc; 0; count]?)
 }
 
 /// The first numbers.

@@ -1,10 +1,7 @@
 //! The objects of a finding, counted: each code once, in ASCII order, with how many there are.
 ghost use Rattle.std.specs.Prelude.{◌≡◌, ◌+◌, ◌<◌, ◌≤◌, ◌^◌, ◌↔◌, ◌≢◌, [], ℕ, All, IfOk, IsTrue, List, OnOk, length};
 ghost use Rattle.std.specs.Prelude.{sum, true, if◌then◌else◌};
-ghost use Rattle.std.specs.BTreeMap.{IsOrdered};
-ghost use Rattle.std.specs.Cmp.Lexicographic.{slice_cmp};
 ghost use Rattle.std.specs.Map.{values_of};
-ghost use Rattle.std.specs.Ordering.{nat_cmp};
 ghost use Rattle.std.specs.Prelude.{unwrap_or};
 ghost use Rattle.plane_core.specs.Generations.{lies_within};
 ghost use Rattle.code_core.specs.Apgcodes.{kind_in};
@@ -114,23 +111,11 @@ fn listed(alloc: Global, counts: BTreeMap<Apgcode, u64>) -> Result<Objects, OutO
     ensures entries { IfOk result (λ objects. objects ≡ counts.entries) }
     ensures lawful { IfOk result AreObjects }
 {
-    let counted = entries(alloc, counts)?;
-    Ok(Objects { counted })
-}
-
-/// The entries of the counts.
-fn entries(
-    alloc: Global,
-    counts: BTreeMap<Apgcode, u64>,
-) -> Result<Vec<(Apgcode, u64)>, OutOfMemory>
-    ensures entries { IfOk result (λ entries. entries.items ≡ counts.entries) }
-    ensures ordered { OnOk result (IsOrdered (slice_cmp nat_cmp) counts) }
-{
-    let mut entries = Vec::with_capacity(alloc, counts.len())?;
+    let mut counted = Vec::with_capacity(alloc, counts.len())?;
     for object in counts {
-        entries.push(object)?;
+        counted.push(object)?;
     }
-    Ok(entries)
+    Ok(Objects { counted })
 }
 
 /// Whether none of the objects is a spaceship.
