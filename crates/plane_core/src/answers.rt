@@ -13,8 +13,9 @@
 //!
 //! Life, the rule that is run most, is answered by fewer operations, which count the eight neighbours alone. It is a
 //! type of its own, so that each loop over windows is built once for Life and once for any rule.
-ghost use Rattle.std.specs.Prelude.{◌≡◌, ◌==◌, ◌+◌, ◌-◌, ◌*◌, ◌<◌, ◌≤◌, ◌%◌, IsTrue, true, ℕ, slice_index};
+ghost use Rattle.std.specs.Prelude.{◌≡◌, ◌==◌, ◌+◌, ◌-◌, ◌*◌, ◌<◌, ◌≤◌, ◌%◌, true, ℕ, slice_index};
 ghost use Rattle.std.specs.Int.{bit_at};
+ghost use Rattle.plane_core.specs.Answers.{rule_of};
 ghost use Rattle.plane_core.specs.Lanes.{AnswersRows, AnswersTotal, AreBeside, bit_of};
 ghost use Rattle.plane_core.specs.Rules.{Numbers, is_birth, is_survival};
 ghost use Rattle.plane_core.specs.Tallies.{lives_by};
@@ -63,7 +64,7 @@ pub(crate) struct AnyRule {
 
 impl AnyRule {
     /// The answers of a rule.
-    pub(crate) fn new(rule: &Rule) -> AnyRule
+    fn new(rule: &Rule) -> AnyRule
         ensures { result.rule ≡ rule.now }
     {
         let mut dead = [0; 10];
@@ -138,11 +139,23 @@ impl Answering for AnyRule {
     }
 }
 
-/// Whether the rule is Life.
-pub(crate) fn is_life(rule: &Rule) -> bool
-    ensures { IsTrue result → rule.now ≡ life }
-{
-    *rule == Rule::life()
+/// The answers of a rule. Life's are of a type of their own, so that it has a loop of its own.
+#[derive(Clone, Copy)]
+pub(crate) enum Answers {
+    Life,
+    Any(AnyRule),
+}
+
+impl Answers {
+    /// The answers of a rule.
+    pub(crate) fn new(rule: &Rule) -> Answers
+        ensures { rule_of result ≡ rule.now }
+    {
+        if *rule == Rule::life() {
+            return Answers::Life;
+        }
+        Answers::Any(AnyRule::new(rule))
+    }
 }
 
 /// A word of 64 equal bits.

@@ -17,6 +17,7 @@
 //! two generations and not after one. So an odd leap is made first, while the boxes hold all live cells.
 ghost use Rattle.std.specs.Prelude.{◌≡◌, ◌%◌, ◌*◌, ◌<◌, ◌≤◌, ℕ, [], slice_index};
 ghost use Rattle.std.specs.Prelude.{IfOk, IsTrue, true, false};
+ghost use Rattle.plane_core.specs.Answers.{rule_of};
 ghost use Rattle.plane_core.specs.Frames.{HasFewWords, IsFrame, LieOn, bounds_of};
 ghost use Rattle.plane_core.specs.Cells.{IsPattern, plane_bound};
 ghost use Rattle.plane_core.specs.Generations.{after};
@@ -30,7 +31,7 @@ mod reach;
 mod removal;
 mod view;
 
-use crate::answers::{Answering, AnyRule, Life, is_life};
+use crate::answers::Answers;
 use crate::bounds::Bounds;
 use crate::boxes::next_boxes;
 use crate::cell::Cell;
@@ -55,8 +56,7 @@ const ROOM: usize = 128;
 /// A pattern on a board under a rule.
 pub struct Board {
     at: Frame,
-    answers: AnyRule,
-    is_life: bool,
+    answers: Answers,
     words: Vec<u64>,
     /// Which rows of each lane may have a live cell.
     spans: Vec<Span>,
@@ -75,15 +75,16 @@ struct Lists {
 }
 
 impl Model for Board {
+    ghost use Rattle.plane_core.specs.Answers.{rule_of};
     ghost use Rattle.plane_core.specs.Boards.{IsSpannedBoard, Running};
     ghost use Rattle.plane_core.specs.OnBoard.{cells_on};
 
     ghost Value = { Running };
 
-    ghost view = { λ b. record { rule = b.answers.rule; cells = cells_on b.at b.words.items } };
+    ghost view = { λ b. record { rule = rule_of b.answers; cells = cells_on b.at b.words.items } };
 
     ghost invariant = { λ b.
-        IsSpannedBoard b.at b.answers.rule b.is_life b.words.items b.boxes.items b.holds_all b.spans.items };
+        IsSpannedBoard b.at (rule_of b.answers) b.words.items b.boxes.items b.holds_all b.spans.items };
 }
 
 // Written out, since a derived drop is proved anew wherever a board is given up.
@@ -92,7 +93,6 @@ impl Drop for Board {
         let Board {
             at: _,
             answers: _,
-            is_life: _,
             words,
             spans,
             boxes,
@@ -156,8 +156,7 @@ impl Board {
         widen_by_cells(at, spans.as_mut_slice(), cells);
         Ok(Board {
             at,
-            answers: AnyRule::new(rule),
-            is_life: is_life(rule),
+            answers: Answers::new(rule),
             words,
             spans,
             boxes,
@@ -205,8 +204,7 @@ impl Board {
         );
         self.boxes.clear();
         self.holds_all = true;
-        self.answers = AnyRule::new(rule);
-        self.is_life = is_life(rule);
+        self.answers = Answers::new(rule);
     }
 
     /// Puts a pattern in the middle of an empty board, if it has room there.
@@ -304,29 +302,11 @@ impl Board {
         ensures leapt { IfOk result
             (λ leapt. leapt ≡ true → self.new.cells ≡ after self.old.rule self.old.cells count) }
     {
-        // Life has a loop of its own.
-        if self.is_life {
-            return self.leap_by(&Life, count);
-        }
-        let answers = self.answers;
-        self.leap_by(&answers, count)
-    }
-
-    /// Makes the leap by answers of the board's rule.
-    fn leap_by<A: Answering>(&mut self, rule: &A, count: u32) -> Result<bool, OutOfMemory>
-        requires rule { A.rule rule.now ≡ self.old.rule }
-        requires some { 1 ≤ count }
-        requires few { count ≤ 4 }
-        ensures rule { self.new.rule ≡ self.old.rule }
-        ensures stopped { IfOk result (λ leapt. leapt ≡ false → self.new.cells ≡ self.old.cells) }
-        ensures leapt { IfOk result
-            (λ leapt. leapt ≡ true → self.new.cells ≡ after self.old.rule self.old.cells count) }
-    {
         if !are_enough(self.holds_all, count) {
             return Ok(false);
         }
         let leapt = leap_on(
-            rule,
+            &self.answers,
             self.at,
             self.words.as_mut_slice(),
             self.spans.as_mut_slice(),
@@ -423,8 +403,8 @@ fn even_count(left: u32) -> u32
 
 /// Makes a leap of so many generations, unless a window would come too near to the border of the board. Returns whether
 /// it was made.
-fn leap_on<A: Answering>(
-    rule: &A,
+fn leap_on(
+    rule: &Answers,
     at: Frame,
     words: &mut [u64],
     spans: &mut [Span],
@@ -432,7 +412,7 @@ fn leap_on<A: Answering>(
     lists: &mut Lists,
     count: u32,
 ) -> Result<bool, OutOfMemory>
-    requires ready { IsReady (A.rule rule.now) at count words.old boxes.old.items spans.old }
+    requires ready { IsReady (rule_of rule.now) at count words.old boxes.old.items spans.old }
     requires some { 1 ≤ count }
     requires few { count ≤ 4 }
     ensures stopped { IfOk result
@@ -440,7 +420,7 @@ fn leap_on<A: Answering>(
         → (words.new ≡ words.old) × (boxes.new.items ≡ boxes.old.items) × (spans.new ≡ spans.old)) }
     ensures leapt { IfOk result
         (λ leapt. leapt ≡ true
-        → HasGoneOn (A.rule rule.now) at count words.old words.new boxes.new.items spans.new) }
+        → HasGoneOn (rule_of rule.now) at count words.old words.new boxes.new.items spans.new) }
 {
     cover(boxes.as_slice(), &mut lists.rectangles, &mut lists.places)?;
     let places = lists.places.as_slice();

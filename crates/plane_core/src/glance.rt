@@ -20,7 +20,7 @@ ghost use Rattle.plane_core.specs.LonePatterns.{Holds, IsInWindow};
 ghost use Rattle.plane_core.specs.Refusing.{HasRestlessCluster};
 ghost use Rattle.plane_core.specs.declared.cell.Cell.{Cell};
 
-use crate::answers::{AnyRule, Life, is_life};
+use crate::answers::Answers;
 use crate::cell::Cell;
 use crate::coordinate::{apart, back};
 use crate::frame::farthest;
@@ -54,11 +54,7 @@ impl Pattern {
             return false;
         };
         let window = window_of(place, self.cells());
-        if is_life(rule) {
-            never_back(&window, &Life, generations)
-        } else {
-            never_back(&window, &AnyRule::new(rule), generations)
-        }
+        never_back(&window, &Answers::new(rule), generations)
     }
 
     /// Whether it is seen at a glance that the pattern is not at rest: one of its clusters strays from it within the
@@ -70,11 +66,7 @@ impl Pattern {
             return false;
         };
         let window = window_of(place, self.cells());
-        if is_life(rule) {
-            refuses(&window, &Life, 0, horizon, period)
-        } else {
-            refuses(&window, &AnyRule::new(rule), 0, horizon, period)
-        }
+        refuses(&window, &Answers::new(rule), 0, horizon, period)
     }
 }
 

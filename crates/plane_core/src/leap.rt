@@ -10,11 +10,12 @@
 //!
 //! So windows may overlap: what two of them put back is the same.
 ghost use Rattle.std.specs.Prelude.{◌≡◌, ◌<◌, ◌≤◌, All, OnOk, [], length};
+ghost use Rattle.plane_core.specs.Answers.{rule_of};
 ghost use Rattle.plane_core.specs.Frames.{FillsFrame, IsFrame};
 ghost use Rattle.plane_core.specs.Leaps.{ArePutBack, AreRun, HasLeapt, IsRun, IsRunAt, TellsChanges};
 ghost use Rattle.plane_core.specs.Places.{IsOnBoard};
 
-use crate::answers::Answering;
+use crate::answers::Answers;
 use crate::change::Change;
 use crate::difference::difference_of;
 use crate::frame::Frame;
@@ -35,10 +36,10 @@ struct Ran {
 /// Runs a window for one to four generations. For an even number it tells where the last one differs from the one two
 /// before it, and for an odd one where it has live cells.
 #[inline(always)]
-fn run<A: Answering>(window: &mut [u64x4; 10], rule: &A, count: usize) -> Change
+fn run(window: &mut [u64x4; 10], rule: &Answers, count: usize) -> Change
     requires some { 1 ≤ count }
     requires few { count ≤ 4 }
-    ensures { IsRun (A.rule rule.now) count window.old window.new result }
+    ensures { IsRun (rule_of rule.now) count window.old window.new result }
 {
     if count % 2 == 1 {
         generations(window, rule, count);
@@ -52,13 +53,13 @@ fn run<A: Answering>(window: &mut [u64x4; 10], rule: &A, count: usize) -> Change
 
 /// Reads the window of a place and runs it.
 #[inline(always)]
-fn run_at<A: Answering>(words: &[u64], at: Frame, place: Place, rule: &A, count: usize) -> Ran
+fn run_at(words: &[u64], at: Frame, place: Place, rule: &Answers, count: usize) -> Ran
     requires frame { IsFrame at }
     requires long { FillsFrame at words.now }
     requires on_board { IsOnBoard at place }
     requires some { 1 ≤ count }
     requires few { count ≤ 4 }
-    ensures { IsRunAt at words.now (A.rule rule.now) count place result.rows result.change }
+    ensures { IsRunAt at words.now (rule_of rule.now) count place result.rows result.change }
 {
     let mut window = read(words, at, column_of(at, place), row_of(at, place));
     let change = run(&mut window, rule, count);
@@ -69,11 +70,11 @@ fn run_at<A: Answering>(words: &[u64], at: Frame, place: Place, rule: &A, count:
 }
 
 /// Runs the windows of all places.
-fn run_all<A: Answering>(
+fn run_all(
     words: &[u64],
     at: Frame,
     places: &[Place],
-    rule: &A,
+    rule: &Answers,
     count: usize,
     held: &mut Vec<[u64; 40]>,
     changes: &mut Vec<Change>,
@@ -86,7 +87,7 @@ fn run_all<A: Answering>(
     requires held { held.old.items ≡ [] }
     requires changes { changes.old.items ≡ [] }
     ensures { OnOk result
-        (AreRun at words.now (A.rule rule.now) count places.now held.new.items changes.new.items) }
+        (AreRun at words.now (rule_of rule.now) count places.now held.new.items changes.new.items) }
 {
     for place in places {
         let ran = run_at(words, at, *place, rule, count);
@@ -115,11 +116,11 @@ fn put_all(words: &mut [u64], at: Frame, places: &[Place], held: &[[u64; 40]])
 ///
 /// Both lists are cleared and filled anew: `held` with the rows of the windows, and `changes` with what has changed in
 /// each of them. All room is made before the first word is written.
-pub(crate) fn leap<A: Answering>(
+pub(crate) fn leap(
     words: &mut [u64],
     at: Frame,
     places: &[Place],
-    rule: &A,
+    rule: &Answers,
     count: usize,
     held: &mut Vec<[u64; 40]>,
     changes: &mut Vec<Change>,
@@ -129,10 +130,10 @@ pub(crate) fn leap<A: Answering>(
     requires on_board { All (IsOnBoard at) places.now }
     requires some { 1 ≤ count }
     requires few { count ≤ 4 }
-    ensures shown { OnOk result (HasLeapt at (A.rule rule.now) count places.now words.old words.new) }
+    ensures shown { OnOk result (HasLeapt at (rule_of rule.now) count places.now words.old words.new) }
     ensures each { OnOk result (length changes.new.items ≡ length places.now) }
     ensures changes { OnOk result
-        (TellsChanges at (A.rule rule.now) count places.now words.old changes.new.items) }
+        (TellsChanges at (rule_of rule.now) count places.now words.old changes.new.items) }
 {
     held.clear();
     changes.clear();

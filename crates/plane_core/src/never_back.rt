@@ -14,6 +14,7 @@
 ghost use Rattle.std.specs.Prelude.{◌≡◌, ◌+◌, ◌-◌, ◌*◌, ◌/◌, ◌^◌, ◌<◌, ◌≤◌, [], ℕ, ℤ, IfSome, IsTrue, List, max};
 ghost use Rattle.std.specs.Prelude.{slice_index, slice_index_or};
 ghost use Rattle.std.specs.Int.{bit_at};
+ghost use Rattle.plane_core.specs.Answers.{rule_of};
 ghost use Rattle.plane_core.specs.Bounds.{shifted};
 ghost use Rattle.plane_core.specs.LonePatterns.{AreAlike, HasChanged, Holds, IsColumns, IsCorner, IsFirstRow};
 ghost use Rattle.plane_core.specs.LonePatterns.{IsRimClear, IsVector, AreVectors};
@@ -21,7 +22,7 @@ ghost use Rattle.plane_core.specs.Lanes.{bit_of};
 ghost use Rattle.plane_core.specs.Windows.{row_at};
 ghost use Rattle.plane_core.specs.declared.cell.Cell.{Cell};
 
-use crate::answers::Answering;
+use crate::answers::Answers;
 use crate::window::generation;
 use std::simd::u64x4;
 
@@ -34,15 +35,15 @@ struct Corner {
 
 /// Whether it is seen that no generation from 1 to `most` is the pattern again, moved or not, and that each lies in the
 /// window. The pattern is what `start` shows, and lies in the window whole. `false` says nothing.
-pub(crate) fn never_back<const N: usize, A: Answering>(
+pub(crate) fn never_back<const N: usize>(
     start: &[u64x4; N],
-    rule: &A,
+    rule: &Answers,
     most: u32,
 ) -> bool
     requires some { 0 < N }
     requires few { N ≤ 16 }
     ensures { IsTrue result → (cells : List Cell) (left top : ℤ) → Holds N left top start.now cells
-        → HasChanged (A.rule rule.now) N left top cells most }
+        → HasChanged (rule_of rule.now) N left top cells most }
 {
     let from = columns_of(start);
     if from == 0 {

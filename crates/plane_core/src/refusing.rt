@@ -9,9 +9,10 @@
 //!
 //! Only the 'no' to a rest is sure, and most patterns that aren't at rest are told so by a single cluster.
 ghost use Rattle.std.specs.Prelude.{◌≤◌, ℕ, IsTrue};
+ghost use Rattle.plane_core.specs.Answers.{rule_of};
 ghost use Rattle.plane_core.specs.Refusing.{HoldsCluster, LiesInExcerpt, RefusesAll};
 
-use crate::answers::Answering;
+use crate::answers::Answers;
 use crate::changing::{Spot, changing_cells, first_cell};
 use crate::excerpt::{excerpt, excerpt_round};
 use crate::flood::flood;
@@ -22,15 +23,15 @@ use std::simd::u64x4;
 
 /// Whether it is seen that no pattern which the window shows at this depth is at rest: one of its clusters strays from
 /// it within the horizon, or is never itself again within the period. `false` says nothing.
-pub(crate) fn refuses<A: Answering>(
+pub(crate) fn refuses(
     window: &[u64x4; 16],
-    rule: &A,
+    rule: &Answers,
     depth: usize,
     horizon: u32,
     period: u32,
 ) -> bool
     requires { depth ≤ 2 }
-    ensures { IsTrue result → RefusesAll (A.rule rule.now) 16 window.now depth horizon period }
+    ensures { IsTrue result → RefusesAll (rule_of rule.now) 16 window.now depth horizon period }
 {
     let Some(spot) = first_cell(&changing_cells(window, rule)) else {
         return false;
@@ -51,11 +52,11 @@ pub(crate) fn refuses<A: Answering>(
 }
 
 /// Whether the same is seen in the 40 rows from this one on, in which the cluster lies.
-fn refuses_in_excerpt<A: Answering>(
+fn refuses_in_excerpt(
     window: &[u64x4; 16],
     alone: &[u64x4; 16],
     from: usize,
-    rule: &A,
+    rule: &Answers,
     depth: usize,
     horizon: u32,
     period: u32,
@@ -63,7 +64,7 @@ fn refuses_in_excerpt<A: Answering>(
     requires depth { depth ≤ 2 }
     requires lies { LiesInExcerpt from alone.now }
     requires holds { HoldsCluster 16 window.now alone.now depth }
-    ensures { IsTrue result → RefusesAll (A.rule rule.now) 16 window.now depth horizon period }
+    ensures { IsTrue result → RefusesAll (rule_of rule.now) 16 window.now depth horizon period }
 {
     let whole = excerpt(window, from);
     let alone = excerpt(alone, from);

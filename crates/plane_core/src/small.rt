@@ -16,7 +16,7 @@ ghost use Rattle.plane_core.specs.Glances.{IsInland};
 ghost use Rattle.plane_core.specs.OnBoard.{cells_on};
 ghost use Rattle.plane_core.specs.Windows.{IsNextWindow};
 
-use crate::answers::{AnyRule, Life, is_life};
+use crate::answers::Answers;
 use crate::frame::Frame;
 use crate::glance::{place_round, window_of};
 use crate::listing::list;
@@ -49,20 +49,9 @@ pub(crate) fn next_in_window(
     if !is_rim_clear(&window, columns_of(&window)) {
         return Ok(None);
     }
-    step(&mut window, rule);
+    generation(&mut window, &Answers::new(rule));
     let later = pattern_of(alloc, frame_of(place), &unpacked(&window))?;
     Ok(Some(later))
-}
-
-/// Makes the next generation of a window. Life has a loop of its own.
-fn step(window: &mut [u64x4; 16], rule: &Rule)
-    ensures { IsNextWindow rule.now 16 window.old window.new }
-{
-    if is_life(rule) {
-        generation(window, &Life);
-    } else {
-        generation(window, &AnyRule::new(rule));
-    }
 }
 
 /// The window at this place as a board, of one lane.

@@ -11,9 +11,10 @@
 //! Both are run in windows, which are right a cell less far out with each generation.
 ghost use Rattle.std.specs.Prelude.{◌≡◌, ◌+◌, ◌≤◌, ◌<◌, ℕ, IsTrue};
 ghost use Rattle.std.specs.Int.{bit_at};
+ghost use Rattle.plane_core.specs.Answers.{rule_of};
 ghost use Rattle.plane_core.specs.Refusing.{HasStray, ShowsStray};
 
-use crate::answers::Answering;
+use crate::answers::Answers;
 use crate::never_back::{columns_of, first_row, in_any_lane, last_row, row};
 use crate::window::generation;
 use std::simd::u64x4;
@@ -24,17 +25,17 @@ const NEAR: usize = 5;
 
 /// Whether it is seen within so many generations, and within 15, that what one window shows alone strays from the whole
 /// that the other one shows, both right at this depth. `false` says nothing.
-pub(crate) fn shows_stray<const N: usize, A: Answering>(
+pub(crate) fn shows_stray<const N: usize>(
     whole: &[u64x4; N],
     alone: &[u64x4; N],
-    rule: &A,
+    rule: &Answers,
     depth: usize,
     most: u32,
 ) -> bool
     requires some { 10 ≤ N }
     requires few { N ≤ 16 }
     requires depth { depth ≤ 2 }
-    ensures { IsTrue result → ShowsStray (A.rule rule.now) N whole.now alone.now depth most }
+    ensures { IsTrue result → ShowsStray (rule_of rule.now) N whole.now alone.now depth most }
 {
     if !has_neighbours(whole, alone) {
         return false;

@@ -13,18 +13,31 @@
 //!
 //! Round the window all is taken for dead. So with each generation a window is wrong one cell further inside.
 ghost use Rattle.std.specs.Prelude.{◌≡◌, ◌+◌, ◌<◌, ℕ, ℤ, List};
+ghost use Rattle.plane_core.specs.Answers.{rule_of};
 ghost use Rattle.plane_core.specs.Cells.{InOrder};
 ghost use Rattle.plane_core.specs.Generations.{after};
 ghost use Rattle.plane_core.specs.Windows.{IsNextWindow, IsShownInside};
 ghost use Rattle.plane_core.specs.declared.cell.Cell.{Cell};
 
-use crate::answers::Answering;
+use crate::answers::{Answering, Answers, Life};
 use crate::lanes::{across, earlier_sum, later_sum};
 use std::simd::u64x4;
 
+/// Makes the next generation. Life has a loop of its own.
+#[inline(always)]
+pub(crate) fn generation<const N: usize>(window: &mut [u64x4; N], rule: &Answers)
+    requires { 0 < N }
+    ensures { IsNextWindow (rule_of rule.now) N window.old window.new }
+{
+    match rule {
+        Answers::Life => generation_by(window, &Life),
+        Answers::Any(rule) => generation_by(window, rule),
+    }
+}
+
 /// Makes the next generation. A vector's sums are made once, and serve the three rows that they lie in.
 #[inline(always)]
-pub(crate) fn generation<const N: usize, A: Answering>(window: &mut [u64x4; N], rule: &A)
+fn generation_by<const N: usize, A: Answering>(window: &mut [u64x4; N], rule: &A)
     requires { 0 < N }
     ensures { IsNextWindow (A.rule rule.now) N window.old window.new }
 {
@@ -42,15 +55,15 @@ pub(crate) fn generation<const N: usize, A: Answering>(window: &mut [u64x4; N], 
 
 /// Makes so many generations.
 #[inline(always)]
-pub(crate) fn generations<const N: usize, A: Answering>(
+pub(crate) fn generations<const N: usize>(
     window: &mut [u64x4; N],
-    rule: &A,
+    rule: &Answers,
     count: usize,
 )
     requires { 0 < N }
     ensures { (cells : List Cell) (left top : ℤ) (depth : ℕ) → InOrder cells
         → IsShownInside N left top depth window.old cells
-        → IsShownInside N left top (depth + count) window.new (after (A.rule rule.now) cells count) }
+        → IsShownInside N left top (depth + count) window.new (after (rule_of rule.now) cells count) }
 {
     for _ in 0..count {
         generation(window, rule);

@@ -21,7 +21,7 @@ ghost use Rattle.plane_core.specs.Frames.{FillsFrame, IsFrame, bounds_of};
 ghost use Rattle.plane_core.specs.OnBoard.{cells_on};
 ghost use Rattle.plane_core.specs.declared.cell.Cell.{Cell};
 
-use crate::answers::{Answering, Life};
+use crate::answers::Answers;
 use crate::board::Board;
 use crate::board::view::View;
 use crate::bounds::Bounds;
@@ -58,21 +58,18 @@ impl Board {
     {
         let words = self.words.as_slice();
         let boxes = self.boxes.as_slice();
-        if self.is_life {
-            return clusters_ahead(alloc, words, self.at, boxes, &Life);
-        }
         clusters_ahead(alloc, words, self.at, boxes, &self.answers)
     }
 }
 
 /// Candidates of the small boxes that lie ahead of the others, for as long as there are tries left. Of each box the view
 /// is looked at, if it lies on the board.
-fn clusters_ahead<A: Answering>(
+fn clusters_ahead(
     alloc: Global,
     words: &[u64],
     at: Frame,
     boxes: &[Bounds],
-    rule: &A,
+    rule: &Answers,
 ) -> Result<Vec<Pattern>, OutOfMemory>
     requires frame { IsFrame at }
     requires plane { AreSidesWithin plane_bound (bounds_of at) }

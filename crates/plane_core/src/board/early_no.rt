@@ -10,12 +10,13 @@
 //!
 //! Four boxes at most are tried, since a board on which nothing is found so has mostly fallen into objects at rest.
 ghost use Rattle.std.specs.Prelude.{◌≤◌, IsTrue};
+ghost use Rattle.plane_core.specs.Answers.{rule_of};
 ghost use Rattle.plane_core.specs.Frames.{FillsFrame};
 ghost use Rattle.plane_core.specs.Generations.{after};
 ghost use Rattle.plane_core.specs.OnBoard.{cells_on};
 ghost use Rattle.plane_core.specs.Refusing.{HasRestlessCluster};
 
-use crate::answers::{Answering, Life};
+use crate::answers::Answers;
 use crate::board::Board;
 use crate::board::view::{View, is_large};
 use crate::bounds::Bounds;
@@ -50,25 +51,22 @@ impl Board {
         };
         let words = self.words.as_slice();
         let boxes = self.boxes.as_slice();
-        if self.is_life {
-            return refuses_near(words, self.at, boxes, &Life, look);
-        }
         refuses_near(words, self.at, boxes, &self.answers, look)
     }
 }
 
 /// Whether it is seen that the pattern, so many generations ahead, has a restless cluster. `false` says nothing.
-fn refuses_near<A: Answering>(
+fn refuses_near(
     words: &[u64],
     at: Frame,
     boxes: &[Bounds],
-    rule: &A,
+    rule: &Answers,
     look: Look,
 ) -> bool
     requires long { FillsFrame at words.now }
     requires ahead { look.ahead ≤ 1 }
-    ensures { IsTrue result → HasRestlessCluster (A.rule rule.now)
-        (after (A.rule rule.now) (cells_on at words.now) look.ahead) look.horizon look.period }
+    ensures { IsTrue result → HasRestlessCluster (rule_of rule.now)
+        (after (rule_of rule.now) (cells_on at words.now) look.ahead) look.horizon look.period }
 {
     let mut tries = TRIES;
     if refuses_by(words, at, boxes, rule, look, true, &mut tries) {
@@ -79,19 +77,19 @@ fn refuses_near<A: Answering>(
 
 /// Tries the boxes that are large, or those that aren't, for as long as there are tries left. Of each box the view is
 /// looked at, if it lies on the board.
-fn refuses_by<A: Answering>(
+fn refuses_by(
     words: &[u64],
     at: Frame,
     boxes: &[Bounds],
-    rule: &A,
+    rule: &Answers,
     look: Look,
     large: bool,
     tries: &mut u32,
 ) -> bool
     requires long { FillsFrame at words.now }
     requires ahead { look.ahead ≤ 1 }
-    ensures { IsTrue result → HasRestlessCluster (A.rule rule.now)
-        (after (A.rule rule.now) (cells_on at words.now) look.ahead) look.horizon look.period }
+    ensures { IsTrue result → HasRestlessCluster (rule_of rule.now)
+        (after (rule_of rule.now) (cells_on at words.now) look.ahead) look.horizon look.period }
 {
     for bounds in boxes {
         if *tries == 0 {
