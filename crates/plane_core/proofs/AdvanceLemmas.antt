@@ -21,7 +21,6 @@ use Rattle.plane_core.specs.Places.{IsCovered, IsInnerCell, IsOnBoard, compared_
 use Rattle.plane_core.specs.Bounds.{AreSidesWithin}
 use Rattle.plane_core.specs.Rules.{Numbers}
 use Rattle.plane_core.specs.Spans.{AreWidened, HoldCovered, LieInSpans}
-use Rattle.plane_core.specs.Words.{life}
 use Rattle.plane_core.proofs.BoardLemmas.{blank_board}
 use Rattle.plane_core.proofs.CaseLemmas.{same_or_not}
 use Rattle.plane_core.proofs.GenerationLemmas.{after-none}
@@ -145,11 +144,10 @@ no_boxes (b ∷ bs) e = absurd (omega (arith, e))
 
 -- ---- the board's words and boxes
 
-pub laid_board : (at : Frame) (rule : Numbers) (is_life : Bool) (words : List ℕ) (boxes : List Bounds) → IsFrame at → (is_life ≡ true → rule ≡ life)
-    → FillsFrame at words → All (AreSidesWithin box_bound) boxes → HoldAll boxes (cells_on at words) → IsBoard at rule is_life words boxes true
-laid_board at rule is_life words boxes frame is long sides all = record {
+pub laid_board : (at : Frame) (rule : Numbers) (words : List ℕ) (boxes : List Bounds) → IsFrame at
+    → FillsFrame at words → All (AreSidesWithin box_bound) boxes → HoldAll boxes (cells_on at words) → IsBoard at rule words boxes true
+laid_board at rule words boxes frame long sides all = record {
   frame = frame;
-  life = is;
   long = long;
   sides = sides;
   quiet = quiet-start rule (cells_on at words) boxes all;
@@ -157,40 +155,37 @@ laid_board at rule is_life words boxes frame is long sides all = record {
 }
 
 -- a board that was emptied
-pub empty_board : (rule : Numbers) (at : Frame) (is_life : Bool) (old words : List ℕ) (boxes none : List Bounds) (holds_all : Bool)
-    (before spans : List Span) → none ≡ [] → IsSpannedBoard at rule is_life old boxes holds_all before → length words ≡ length old
-    → length spans ≡ length before → ((i : ℕ) → slice_index words i ≡ 0) → IsSpannedBoard at rule is_life words none true spans
-empty_board rule at is_life old words boxes none holds_all before spans nothing was long wide zeros = record {
-  board = blank_board at rule is_life words none true was.board.frame was.board.life (long ∙ was.board.long) nothing (no_cells at words zeros);
+pub empty_board : (rule : Numbers) (at : Frame) (old words : List ℕ) (boxes none : List Bounds) (holds_all : Bool)
+    (before spans : List Span) → none ≡ [] → IsSpannedBoard at rule old boxes holds_all before → length words ≡ length old
+    → length spans ≡ length before → ((i : ℕ) → slice_index words i ≡ 0) → IsSpannedBoard at rule words none true spans
+empty_board rule at old words boxes none holds_all before spans nothing was long wide zeros = record {
+  board = blank_board at rule words none true was.board.frame (long ∙ was.board.long) nothing (no_cells at words zeros);
   spanned = zero_spans at words spans zeros (wide ∙ was.spanned.lanes);
   plane = was.plane;
 }
 
--- the boxes of a board are right for a leap by answers of its rule
-pub is_ready : (run rule : Numbers) (at : Frame) (n : ℕ) (is_life : Bool) (words : List ℕ) (boxes : List Bounds) (holds_all : Bool) (spans : List Span)
-    → run ≡ rule → IsSpannedBoard at rule is_life words boxes holds_all spans → (n % 2 ≡ 1 → holds_all ≡ true)
-    → IsReady run at n words boxes spans
-is_ready run rule at n is_life words boxes holds_all spans same spanned enough =
-    subst (λ (r : Numbers). IsReady r at n words boxes spans) (sym same) record {
-      frame = spanned.board.frame;
-      long = spanned.board.long;
-      sides = spanned.board.sides;
-      right = record { even = λ even. spanned.board.quiet; odd = λ odd. spanned.board.all (enough odd) };
-      spanned = spanned.spanned;
-    }
+-- the boxes of a board are right for a leap
+pub is_ready : (rule : Numbers) (at : Frame) (n : ℕ) (words : List ℕ) (boxes : List Bounds) (holds_all : Bool) (spans : List Span)
+    → IsSpannedBoard at rule words boxes holds_all spans → (n % 2 ≡ 1 → holds_all ≡ true) → IsReady rule at n words boxes spans
+is_ready rule at n words boxes holds_all spans spanned enough = record {
+  frame = spanned.board.frame;
+  long = spanned.board.long;
+  sides = spanned.board.sides;
+  right = record { even = λ even. spanned.board.quiet; odd = λ odd. spanned.board.all (enough odd) };
+  spanned = spanned.spanned;
+}
 
 -- and after it
-pub leapt_board : (run rule : Numbers) (at : Frame) (n : ℕ) (is_life : Bool) (old new : List ℕ) (boxes later : List Bounds) (holds_all : Bool)
-    (before spans : List Span) → run ≡ rule → IsSpannedBoard at rule is_life old boxes holds_all before → length new ≡ length old
-    → length spans ≡ length before → HasGoneOn run at n old new later spans → IsSpannedBoard at rule is_life new later (n % 2 == 1) spans
-leapt_board run rule at n is_life old new boxes later holds_all before spans same was long wide leapt = record {
+pub leapt_board : (rule : Numbers) (at : Frame) (n : ℕ) (old new : List ℕ) (boxes later : List Bounds) (holds_all : Bool)
+    (before spans : List Span) → IsSpannedBoard at rule old boxes holds_all before → length new ≡ length old
+    → length spans ≡ length before → HasGoneOn rule at n old new later spans → IsSpannedBoard at rule new later (n % 2 == 1) spans
+leapt_board rule at n old new boxes later holds_all before spans was long wide leapt = record {
   board = record {
     frame = was.board.frame;
-    life = was.board.life;
     long = long ∙ was.board.long;
     sides = leapt.sides;
     quiet = elim (odd_or_even n) [
-      | inl even ↦ subst (λ (r : Numbers). IsQuiet r (cells_on at new) later) same (leapt.right.even even)
+      | inl even ↦ leapt.right.even even
       | inr odd ↦ quiet-start rule (cells_on at new) later (leapt.right.odd odd)
     ];
     all = λ e. leapt.right.odd (eqb-true (n % 2) 1 e);
@@ -207,14 +202,14 @@ box_sides S cells boxes is pattern sides k b low =
     fewer_sides plane_bound box_bound _ (omega arith) (sides plane_bound (ap (λ (T : List Cell). lies_within plane_bound T) is ∙ pattern.on_plane) k b low)
 
 -- a board on which a pattern was laid, and what it shows
-pub laid_spanned : (rule : Numbers) (at : Frame) (is_life : Bool) (words : List ℕ) (boxes : List Bounds) (spans : List Span) (S cells : List Cell)
-    → cells ≡ S → IsPattern S → IsFrame at → AreSidesWithin plane_bound (bounds_of at) → (is_life ≡ true → rule ≡ life) → FillsFrame at words
+pub laid_spanned : (rule : Numbers) (at : Frame) (words : List ℕ) (boxes : List Bounds) (spans : List Span) (S cells : List Cell)
+    → cells ≡ S → IsPattern S → IsFrame at → AreSidesWithin plane_bound (bounds_of at) → FillsFrame at words
     → length spans ≡ at.lanes → LieOn at S → Shows at words cells → LieInSpans at spans cells → HoldAll boxes cells
     → ((n : ℕ) → lies_within n cells ≡ true → All (AreSidesWithin n) boxes)
-    → IsSpannedBoard at rule is_life words boxes true spans × (cells_on at words ≡ S)
-laid_spanned rule at is_life words boxes spans S cells same pattern frame plane is long wide on shown live held sides = (
+    → IsSpannedBoard at rule words boxes true spans × (cells_on at words ≡ S)
+laid_spanned rule at words boxes spans S cells same pattern frame plane long wide on shown live held sides = (
   record {
-    board = laid_board at rule is_life words boxes frame is long (box_sides S cells boxes same pattern sides)
+    board = laid_board at rule words boxes frame long (box_sides S cells boxes same pattern sides)
         (subst (λ (T : List Cell). HoldAll boxes T) (same ∙ sym shows) held);
     spanned = record { lanes = wide; live = subst (λ (T : List Cell). LieInSpans at spans T) (same ∙ sym shows) live };
     plane = plane;

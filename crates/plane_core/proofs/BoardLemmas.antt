@@ -13,18 +13,16 @@ use Rattle.plane_core.specs.Cells.{IsPattern, has, on_plane, plane_bound}
 use Rattle.plane_core.specs.Frames.{FillsFrame, IsFrame, Shows, bounds_of, board_cell}
 use Rattle.plane_core.specs.OnBoard.{cells_on}
 use Rattle.plane_core.specs.Rules.{Numbers}
-use Rattle.plane_core.specs.Words.{life}
 use Rattle.plane_core.proofs.BoxRoundLemmas.{lies_in}
 use Rattle.plane_core.proofs.OnBoardLemmas.{cells_in_order, cells_lie_on, shows_cells}
 use Rattle.plane_core.proofs.QuietLemmas.{quiet-start}
 
 -- a board without a live cell needs no boxes
-pub blank_board : (at : Frame) (rule : Numbers) (is_life : Bool) (words : List ℕ) (boxes : List Bounds) (holds_all : Bool) → IsFrame at
-    → (is_life ≡ true → rule ≡ life) → FillsFrame at words → boxes ≡ [] → cells_on at words ≡ [] → IsBoard at rule is_life words boxes holds_all
-blank_board at rule is_life words boxes holds_all frame is long none empty = subst (λ (bs : List Bounds). IsBoard at rule is_life words bs holds_all)
+pub blank_board : (at : Frame) (rule : Numbers) (words : List ℕ) (boxes : List Bounds) (holds_all : Bool) → IsFrame at
+    → FillsFrame at words → boxes ≡ [] → cells_on at words ≡ [] → IsBoard at rule words boxes holds_all
+blank_board at rule words boxes holds_all frame long none empty = subst (λ (bs : List Bounds). IsBoard at rule words bs holds_all)
     (sym none) record {
       frame = frame;
-      life = is;
       long = long;
       sides = All-nil (AreSidesWithin box_bound);
       quiet = quiet-start rule (cells_on at words) [] all;

@@ -174,13 +174,12 @@ unfolding on_plane
 lies_in_bound S pattern = lies_wider S plane_bound box_bound (omega arith) pattern.on_plane
 
 -- a board may have wider boxes
-pub wider_board : (at : Frame) (rule : Numbers) (is_life : Bool) (words : List ℕ) (boxes later : List Bounds) (holds_all : Bool) (spans : List Span)
-    → IsSpannedBoard at rule is_life words boxes holds_all spans → All (AreSidesWithin box_bound) later → AreWider boxes later
-    → IsSpannedBoard at rule is_life words later holds_all spans
-wider_board at rule is_life words boxes later holds_all spans is sides wider = record {
+pub wider_board : (at : Frame) (rule : Numbers) (words : List ℕ) (boxes later : List Bounds) (holds_all : Bool) (spans : List Span)
+    → IsSpannedBoard at rule words boxes holds_all spans → All (AreSidesWithin box_bound) later → AreWider boxes later
+    → IsSpannedBoard at rule words later holds_all spans
+wider_board at rule words boxes later holds_all spans is sides wider = record {
   board = record {
     frame = is.board.frame;
-    life = is.board.life;
     long = is.board.long;
     sides = sides;
     quiet = λ c far. is.board.quiet c (λ near. far (wider 2 c near));
@@ -191,15 +190,14 @@ wider_board at rule is_life words boxes later holds_all spans is sides wider = r
 }
 
 -- and fewer cells, if its boxes hold those that are gone
-pub fewer_board : (at : Frame) (rule : Numbers) (is_life : Bool) (old new : List ℕ) (boxes later : List Bounds) (holds_all : Bool) (spans : List Span)
-    (gone : List Cell) → IsSpannedBoard at rule is_life old boxes holds_all spans → length new ≡ length old
+pub fewer_board : (at : Frame) (rule : Numbers) (old new : List ℕ) (boxes later : List Bounds) (holds_all : Bool) (spans : List Span)
+    (gone : List Cell) → IsSpannedBoard at rule old boxes holds_all spans → length new ≡ length old
     → cells_on at new ≡ without (cells_on at old) gone → All (AreSidesWithin box_bound) later → AreWider boxes later → HoldAll later gone
-    → IsSpannedBoard at rule is_life new later holds_all spans
-fewer_board at rule is_life old new boxes later holds_all spans gone is long cells sides wider held =
-    let before = wider_board at rule is_life old boxes later holds_all spans is sides wider in record {
+    → IsSpannedBoard at rule new later holds_all spans
+fewer_board at rule old new boxes later holds_all spans gone is long cells sides wider held =
+    let before = wider_board at rule old boxes later holds_all spans is sides wider in record {
       board = record {
         frame = is.board.frame;
-        life = is.board.life;
         long = long ∙ is.board.long;
         sides = sides;
         quiet = quiet-changed rule (cells_on at old) (cells_on at new) boxes later later (cells_in_order at old) (cells_in_order at new)

@@ -12,7 +12,6 @@ use Rattle.plane_core.specs.Bounds.{AreSidesWithin}
 use Rattle.plane_core.specs.OnBoard.{cells_on}
 use Rattle.plane_core.specs.Rules.{Numbers}
 use Rattle.plane_core.specs.Spans.{AreSpans, LieInSpans}
-use Rattle.plane_core.specs.Words.{life}
 
 -- a pattern under a rule
 pub record Running : Type 0 where
@@ -25,18 +24,17 @@ pub record AreRightFor (rule : Numbers) (cells : List Cell) (boxes : List Bounds
   pub odd : n % 2 ≡ 1 → HoldAll boxes cells
 
 -- a board's words and boxes
-pub record IsBoard (at : Frame) (rule : Numbers) (is_life : Bool) (words : List ℕ) (boxes : List Bounds) (holds_all : Bool) : Type 0 where
+pub record IsBoard (at : Frame) (rule : Numbers) (words : List ℕ) (boxes : List Bounds) (holds_all : Bool) : Type 0 where
   pub frame : IsFrame at
-  pub life : is_life ≡ true → rule ≡ life
   pub long : FillsFrame at words
   pub sides : All (AreSidesWithin box_bound) boxes
   pub quiet : IsQuiet rule (cells_on at words) boxes
   pub all : holds_all ≡ true → HoldAll boxes (cells_on at words)
 
 -- and the spans of its lanes, which have all live cells; it lies on the plane
-pub record IsSpannedBoard (at : Frame) (rule : Numbers) (is_life : Bool) (words : List ℕ) (boxes : List Bounds) (holds_all : Bool)
+pub record IsSpannedBoard (at : Frame) (rule : Numbers) (words : List ℕ) (boxes : List Bounds) (holds_all : Bool)
     (spans : List Span) : Type 0 where
-  pub board : IsBoard at rule is_life words boxes holds_all
+  pub board : IsBoard at rule words boxes holds_all
   pub spanned : AreSpans at (cells_on at words) spans
   pub plane : AreSidesWithin plane_bound (bounds_of at)
 

@@ -1,3 +1,4 @@
+pub mod Answers
 pub mod Boards
 pub mod Bounds
 pub mod Boxes

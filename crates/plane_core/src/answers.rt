@@ -15,7 +15,6 @@
 //! type of its own, so that each loop over windows is built once for Life and once for any rule.
 ghost use Rattle.std.specs.Prelude.{◌≡◌, ◌==◌, ◌+◌, ◌-◌, ◌*◌, ◌<◌, ◌≤◌, ◌%◌, true, ℕ, slice_index};
 ghost use Rattle.std.specs.Int.{bit_at};
-ghost use Rattle.plane_core.specs.Answers.{rule_of};
 ghost use Rattle.plane_core.specs.Lanes.{AnswersRows, AnswersTotal, AreBeside, bit_of};
 ghost use Rattle.plane_core.specs.Rules.{Numbers, is_birth, is_survival};
 ghost use Rattle.plane_core.specs.Tallies.{lives_by};
@@ -64,7 +63,7 @@ pub(crate) struct AnyRule {
 
 impl AnyRule {
     /// The answers of a rule.
-    fn new(rule: &Rule) -> AnyRule
+    pub(crate) fn new(rule: &Rule) -> AnyRule
         ensures { result.rule ≡ rule.now }
     {
         let mut dead = [0; 10];
@@ -136,25 +135,6 @@ impl Answering for AnyRule {
     #[inline(always)]
     fn answer(&self, up: Sum, here: RowSums, down: Sum, now: u64x4) -> u64x4 {
         self.at_nine(summed(up, here.all, down), now)
-    }
-}
-
-/// The answers of a rule. Life's are of a type of their own, so that it has a loop of its own.
-#[derive(Clone, Copy)]
-pub(crate) enum Answers {
-    Life,
-    Any(AnyRule),
-}
-
-impl Answers {
-    /// The answers of a rule.
-    pub(crate) fn new(rule: &Rule) -> Answers
-        ensures { rule_of result ≡ rule.now }
-    {
-        if *rule == Rule::life() {
-            return Answers::Life;
-        }
-        Answers::Any(AnyRule::new(rule))
     }
 }
 

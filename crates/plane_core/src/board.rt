@@ -31,7 +31,7 @@ mod reach;
 mod removal;
 mod view;
 
-use crate::answers::Answers;
+use crate::answering::Answers;
 use crate::bounds::Bounds;
 use crate::boxes::next_boxes;
 use crate::cell::Cell;

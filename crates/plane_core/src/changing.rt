@@ -6,7 +6,7 @@
 //! . O O . . . . O      . . . . . . . .      are alive.
 //! . . . . . O O O      . . . . . . 1 .
 //! ```
-use crate::answers::Answers;
+use crate::answering::Answers;
 use crate::flood::INSIDE;
 use crate::rows::unpacked;
 use crate::window::generations;

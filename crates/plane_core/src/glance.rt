@@ -20,7 +20,7 @@ ghost use Rattle.plane_core.specs.LonePatterns.{Holds, IsInWindow};
 ghost use Rattle.plane_core.specs.Refusing.{HasRestlessCluster};
 ghost use Rattle.plane_core.specs.declared.cell.Cell.{Cell};
 
-use crate::answers::Answers;
+use crate::answering::Answers;
 use crate::cell::Cell;
 use crate::coordinate::{apart, back};
 use crate::frame::farthest;

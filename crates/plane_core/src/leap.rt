@@ -15,7 +15,7 @@ ghost use Rattle.plane_core.specs.Frames.{FillsFrame, IsFrame};
 ghost use Rattle.plane_core.specs.Leaps.{ArePutBack, AreRun, HasLeapt, IsRun, IsRunAt, TellsChanges};
 ghost use Rattle.plane_core.specs.Places.{IsOnBoard};
 
-use crate::answers::Answers;
+use crate::answering::Answers;
 use crate::change::Change;
 use crate::difference::difference_of;
 use crate::frame::Frame;

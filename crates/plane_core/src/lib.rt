@@ -4,6 +4,7 @@
 //! for the finite set.
 #![tactic(auto)]
 
+mod answering;
 mod answers;
 /// A pattern on a board, which goes on by leaps.
 pub mod board;

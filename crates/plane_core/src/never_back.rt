@@ -22,7 +22,7 @@ ghost use Rattle.plane_core.specs.Lanes.{bit_of};
 ghost use Rattle.plane_core.specs.Windows.{row_at};
 ghost use Rattle.plane_core.specs.declared.cell.Cell.{Cell};
 
-use crate::answers::Answers;
+use crate::answering::Answers;
 use crate::window::generation;
 use std::simd::u64x4;
 
@@ -35,11 +35,7 @@ struct Corner {
 
 /// Whether it is seen that no generation from 1 to `most` is the pattern again, moved or not, and that each lies in the
 /// window. The pattern is what `start` shows, and lies in the window whole. `false` says nothing.
-pub(crate) fn never_back<const N: usize>(
-    start: &[u64x4; N],
-    rule: &Answers,
-    most: u32,
-) -> bool
+pub(crate) fn never_back<const N: usize>(start: &[u64x4; N], rule: &Answers, most: u32) -> bool
     requires some { 0 < N }
     requires few { N ≤ 16 }
     ensures { IsTrue result → (cells : List Cell) (left top : ℤ) → Holds N left top start.now cells

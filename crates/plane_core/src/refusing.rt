@@ -12,7 +12,7 @@ ghost use Rattle.std.specs.Prelude.{◌≤◌, ℕ, IsTrue};
 ghost use Rattle.plane_core.specs.Answers.{rule_of};
 ghost use Rattle.plane_core.specs.Refusing.{HoldsCluster, LiesInExcerpt, RefusesAll};
 
-use crate::answers::Answers;
+use crate::answering::Answers;
 use crate::changing::{Spot, changing_cells, first_cell};
 use crate::excerpt::{excerpt, excerpt_round};
 use crate::flood::flood;

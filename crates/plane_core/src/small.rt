@@ -14,9 +14,8 @@ ghost use Rattle.plane_core.specs.Frames.{IsFrame, bounds_of};
 ghost use Rattle.plane_core.specs.Generations.{next};
 ghost use Rattle.plane_core.specs.Glances.{IsInland};
 ghost use Rattle.plane_core.specs.OnBoard.{cells_on};
-ghost use Rattle.plane_core.specs.Windows.{IsNextWindow};
 
-use crate::answers::Answers;
+use crate::answering::Answers;
 use crate::frame::Frame;
 use crate::glance::{place_round, window_of};
 use crate::listing::list;

@@ -14,7 +14,7 @@ ghost use Rattle.std.specs.Int.{bit_at};
 ghost use Rattle.plane_core.specs.Answers.{rule_of};
 ghost use Rattle.plane_core.specs.Refusing.{HasStray, ShowsStray};
 
-use crate::answers::Answers;
+use crate::answering::Answers;
 use crate::never_back::{columns_of, first_row, in_any_lane, last_row, row};
 use crate::window::generation;
 use std::simd::u64x4;

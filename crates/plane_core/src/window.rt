@@ -19,7 +19,8 @@ ghost use Rattle.plane_core.specs.Generations.{after};
 ghost use Rattle.plane_core.specs.Windows.{IsNextWindow, IsShownInside};
 ghost use Rattle.plane_core.specs.declared.cell.Cell.{Cell};
 
-use crate::answers::{Answering, Answers, Life};
+use crate::answering::Answers;
+use crate::answers::{Answering, Life};
 use crate::lanes::{across, earlier_sum, later_sum};
 use std::simd::u64x4;
 
@@ -55,11 +56,7 @@ fn generation_by<const N: usize, A: Answering>(window: &mut [u64x4; N], rule: &A
 
 /// Makes so many generations.
 #[inline(always)]
-pub(crate) fn generations<const N: usize>(
-    window: &mut [u64x4; N],
-    rule: &Answers,
-    count: usize,
-)
+pub(crate) fn generations<const N: usize>(window: &mut [u64x4; N], rule: &Answers, count: usize)
     requires { 0 < N }
     ensures { (cells : List Cell) (left top : ℤ) (depth : ℕ) → InOrder cells
         → IsShownInside N left top depth window.old cells

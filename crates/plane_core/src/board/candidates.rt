@@ -21,7 +21,7 @@ ghost use Rattle.plane_core.specs.Frames.{FillsFrame, IsFrame, bounds_of};
 ghost use Rattle.plane_core.specs.OnBoard.{cells_on};
 ghost use Rattle.plane_core.specs.declared.cell.Cell.{Cell};
 
-use crate::answers::Answers;
+use crate::answering::Answers;
 use crate::board::Board;
 use crate::board::view::View;
 use crate::bounds::Bounds;

@@ -16,7 +16,7 @@ ghost use Rattle.plane_core.specs.Generations.{after};
 ghost use Rattle.plane_core.specs.OnBoard.{cells_on};
 ghost use Rattle.plane_core.specs.Refusing.{HasRestlessCluster};
 
-use crate::answers::Answers;
+use crate::answering::Answers;
 use crate::board::Board;
 use crate::board::view::{View, is_large};
 use crate::bounds::Bounds;
@@ -56,13 +56,7 @@ impl Board {
 }
 
 /// Whether it is seen that the pattern, so many generations ahead, has a restless cluster. `false` says nothing.
-fn refuses_near(
-    words: &[u64],
-    at: Frame,
-    boxes: &[Bounds],
-    rule: &Answers,
-    look: Look,
-) -> bool
+fn refuses_near(words: &[u64], at: Frame, boxes: &[Bounds], rule: &Answers, look: Look) -> bool
     requires long { FillsFrame at words.now }
     requires ahead { look.ahead ≤ 1 }
     ensures { IsTrue result → HasRestlessCluster (rule_of rule.now)

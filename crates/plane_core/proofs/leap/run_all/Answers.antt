@@ -1,38 +1,39 @@
 use Rattle.std.proofs.Common.{◌≡◌, ◌∙◌, pos, arith, length, subst}
 use Rattle.std.proofs.lemmas.List.{get_or_default}
 use Rattle.std.proofs.lemmas.Result.{IfOk-from_err}
+use Rattle.plane_core.specs.Answers.{rule_of}
 use Rattle.plane_core.specs.declared.place.Place.{Place}
 use Rattle.plane_core.specs.Leaps.{IsRunAt}
 use Rattle.plane_core.proofs.LeapLemmas.{run_more}
 use Rattle.plane_core.proofs.leap.run_all.Goals as goal
 
 pub run_at-ran-requires-clause-frame : goal.run_at-ran-requires-clause-frame
-run_at-ran-requires-clause-frame g c = c.requires.frame
+run_at-ran-requires-clause-frame c = c.requires.frame
 
 pub run_at-ran-requires-clause-long : goal.run_at-ran-requires-clause-long
-run_at-ran-requires-clause-long g c = c.requires.long
+run_at-ran-requires-clause-long c = c.requires.long
 
 pub run_at-ran-requires-clause-on_board : goal.run_at-ran-requires-clause-on_board
-run_at-ran-requires-clause-on_board g c =
+run_at-ran-requires-clause-on_board c =
     c.requires.on_board c.loop-place.place-index (record { left = pos 0; top = pos 0 }) c.loop-place-test.true
 
 pub run_at-ran-requires-clause-some : goal.run_at-ran-requires-clause-some
-run_at-ran-requires-clause-some g c = c.requires.some
+run_at-ran-requires-clause-some c = c.requires.some
 
 pub run_at-ran-requires-clause-few : goal.run_at-ran-requires-clause-few
-run_at-ran-requires-clause-few g c = c.requires.few
+run_at-ran-requires-clause-few c = c.requires.few
 
 pub returns-in_err-push : goal.returns-in_err-push
-returns-in_err-push g c = IfOk-from_err _ _ c.from_residual.ensures.0
+returns-in_err-push c = IfOk-from_err _ _ c.from_residual.ensures.0
 
 pub returns-in_err-push-2 : goal.returns-in_err-push-2
-returns-in_err-push-2 g c = IfOk-from_err _ _ c.from_residual-in_err-push-2.ensures.0
+returns-in_err-push-2 c = IfOk-from_err _ _ c.from_residual-in_err-push-2.ensures.0
 
 pub loop-place-preserved : goal.loop-place-preserved
-loop-place-preserved g c =
+loop-place-preserved c =
     let at = c.args.at in
     let words = c.args.words.now in
-    let rule = g.A.Answering.rule c.args.rule.now in
+    let rule = rule_of c.args.rule.now in
     let count = c.args.count in
     let places = c.args.places.now in
     let done = c.loop-place.place-index in
@@ -44,7 +45,7 @@ loop-place-preserved g c =
     c.in_ok-push.ensures.items c.in_ok-push-2.ensures.items
 
 pub returns : goal.returns
-returns g c =
+returns c =
     let all : c.loop-place.place-index ≡ length c.args.places.now = omega arith in
     record {
       held_long = c.loop-place.invariant.held_long ∙ all;

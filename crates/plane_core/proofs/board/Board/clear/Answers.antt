@@ -1,5 +1,6 @@
 use Rattle.std.proofs.Common.{◌≡◌, ◌∙◌, ap, length}
 use Rattle.std.proofs.lemmas.List.{with_items_is}
+use Rattle.plane_core.specs.Answers.{rule_of}
 use Rattle.plane_core.proofs.BoardLemmas.{blank_board}
 use Rattle.plane_core.proofs.SpanLemmas.{empty_spans}
 use Rattle.plane_core.proofs.board.Board.clear.Goals as goal
@@ -23,8 +24,8 @@ invariant_of-self c =
     let held : length spans ≡ length c.as_mut_slice-2.result.now = c.empty.auto.spans in
     let lanes : length spans ≡ inside.spans.len = held ∙ c.as_mut_slice-2.ensures.len in
     rw (with_items_is inside.words new long, with_items_is inside.spans spans lanes) record {
-      board = blank_board inside.at c.new-self-inside.result.rule c.is_life-self-inside.result new c.clear.new.self.items _ c.self.invariant.board.frame
-          (λ life. c.new-self-inside.ensures ∙ c.is_life-self-inside.ensures life) (kept ∙ ap length c.as_mut_slice.ensures.value ∙ c.self.invariant.board.long)
+      board = blank_board inside.at (rule_of c.new-self-inside.result) new c.clear.new.self.items _ c.self.invariant.board.frame
+          (kept ∙ ap length c.as_mut_slice.ensures.value ∙ c.self.invariant.board.long)
           c.clear.ensures.items c.empty.ensures;
       spanned = empty_spans inside.at new spans c.empty.ensures
           (held ∙ ap length c.as_mut_slice-2.ensures.value ∙ c.self.invariant.spanned.lanes);

@@ -1,5 +1,6 @@
 use Rattle.std.proofs.Common.{◌≡◌, ◌∙◌, List, arith, subst, sym}
 use Rattle.std.proofs.lemmas.Bool.{eqb-true}
+use Rattle.plane_core.specs.Answers.{rule_of}
 use Rattle.plane_core.specs.declared.bounds.Bounds.{Bounds}
 use Rattle.plane_core.specs.Boxes.{IsQuiet}
 use Rattle.plane_core.specs.Generations.{after}
@@ -15,5 +16,5 @@ returns c none n even =
     let words = c.self.inside.words.items in
     let empty = no_boxes c.self.inside.boxes.items (omega (arith, eqb-true _ _ (sym c.is_empty.ensures ∙ none))) in
     subst (λ (b : Running). after b.rule b.cells n ≡ b.cells) c.self.view_is
-    (still_forever c.self.inside.answers.rule (cells_on at words) n (cells_in_order at words)
-    (subst (λ (boxes : List Bounds). IsQuiet c.self.inside.answers.rule (cells_on at words) boxes) empty c.self.invariant.board.quiet) even)
+    (still_forever (rule_of c.self.inside.answers) (cells_on at words) n (cells_in_order at words)
+    (subst (λ (boxes : List Bounds). IsQuiet (rule_of c.self.inside.answers) (cells_on at words) boxes) empty c.self.invariant.board.quiet) even)

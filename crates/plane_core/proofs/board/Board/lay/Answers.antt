@@ -1,6 +1,7 @@
 use Rattle.std.proofs.Common.{◌≡◌, ◌∙◌, ℕ, List, ap, length, slice_index, true}
 use Rattle.std.proofs.lemmas.List.{length-replicate, with_items_is}
 use Rattle.std.proofs.lemmas.Result.{IfOk-from_err}
+use Rattle.plane_core.specs.Answers.{rule_of}
 use Rattle.plane_core.specs.Boards.{IsSpannedBoard}
 use Rattle.plane_core.specs.OnBoard.{cells_on}
 use Rattle.plane_core.proofs.AdvanceLemmas.{laid_spanned}
@@ -53,12 +54,11 @@ pub widen_by_cells-requires-clause-long : goal.widen_by_cells-requires-clause-lo
 widen_by_cells-requires-clause-long c =
     ap length (c.as_mut_slice-2.ensures.value ∙ c.in_ok-spans.ensures.items_if_clones_equal (λ y h. h)) ∙ length-replicate _ _
 
-laid : (c : goal.After-new-2) → IsSpannedBoard c.args.at c.new.result.rule c.is_life.result c.fill.new.words c.boxes_round.new.boxes.items true
+laid : (c : goal.After-new-2) → IsSpannedBoard c.args.at (rule_of c.new.result) c.fill.new.words c.boxes_round.new.boxes.items true
     c.widen_by_cells.new.spans × (cells_on c.args.at c.fill.new.words ≡ c.args.pattern.now)
 laid c =
-    laid_spanned c.new.result.rule c.args.at c.is_life.result c.fill.new.words c.boxes_round.new.boxes.items c.widen_by_cells.new.spans
+    laid_spanned (rule_of c.new.result) c.args.at c.fill.new.words c.boxes_round.new.boxes.items c.widen_by_cells.new.spans
     c.args.pattern.now c.cells-cells.result.now c.cells-cells.ensures.cells c.cells-cells.ensures.pattern c.requires.frame c.requires.plane
-    (λ life. c.new.ensures ∙ c.is_life.ensures life)
     (c.fill.auto.words ∙ ap length (c.as_mut_slice.ensures.value ∙ c.in_ok-words.ensures.items_if_clones_equal (λ y h. h)) ∙ length-replicate _ _
     ∙ c.count.ensures.count)
     (c.widen_by_cells.auto.spans ∙ ap length (c.as_mut_slice-2.ensures.value ∙ c.in_ok-spans.ensures.items_if_clones_equal (λ y h. h))

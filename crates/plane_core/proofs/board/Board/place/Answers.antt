@@ -1,6 +1,7 @@
 use Rattle.std.proofs.Common.{◌≡◌, ◌∙◌, ◌*◌, ap, length, refl, sym, true}
 use Rattle.std.proofs.lemmas.Bool.{false≢true}
 use Rattle.std.proofs.lemmas.List.{with_items_is}
+use Rattle.plane_core.specs.Answers.{rule_of}
 use Rattle.plane_core.specs.Boards.{IsSpannedBoard, Running}
 use Rattle.plane_core.specs.OnBoard.{cells_on}
 use Rattle.plane_core.proofs.AdvanceLemmas.{laid_spanned}
@@ -49,12 +50,12 @@ pub widen_by_cells-requires-clause-long : goal.widen_by_cells-requires-clause-lo
 widen_by_cells-requires-clause-long c =
     ap length c.as_mut_slice-in-Ok.ensures.value ∙ c.self.invariant.spanned.lanes ∙ sym c.in-Some.ensures.lanes
 
-laid : (c : goal.After-self-in-Ok-2-1) → IsSpannedBoard c.in-Some.at c.self.inside.answers.rule c.self.inside.is_life c.fill.new.words
+laid : (c : goal.After-self-in-Ok-2-1) → IsSpannedBoard c.in-Some.at (rule_of c.self.inside.answers) c.fill.new.words
     c.boxes_round.new.boxes.items true c.widen_by_cells.new.spans × (cells_on c.in-Some.at c.fill.new.words ≡ c.args.pattern.now)
 laid c =
-    laid_spanned c.self.inside.answers.rule c.in-Some.at c.self.inside.is_life c.fill.new.words c.boxes_round.new.boxes.items
+    laid_spanned (rule_of c.self.inside.answers) c.in-Some.at c.fill.new.words c.boxes_round.new.boxes.items
     c.widen_by_cells.new.spans c.args.pattern.now c.cells-cells.result.now c.cells-cells.ensures.cells c.cells-cells.ensures.pattern
-    c.in-Some.ensures.frame c.in-Some.ensures.plane c.self.invariant.board.life
+    c.in-Some.ensures.frame c.in-Some.ensures.plane
     (c.fill.auto.words ∙ ap length c.as_mut_slice.ensures.value ∙ c.self.invariant.board.long
     ∙ sym (λ i. c.in-Some.ensures.lanes i * c.in-Some.ensures.rows i))
     (c.widen_by_cells.auto.spans ∙ ap length c.as_mut_slice-in-Ok.ensures.value ∙ c.self.invariant.spanned.lanes ∙ sym c.in-Some.ensures.lanes)
@@ -73,8 +74,8 @@ pub invariant_of-self-in-Err : goal.invariant_of-self-in-Err
 invariant_of-self-in-Err c =
     let inside = c.self.inside in
     record {
-      board = blank_board inside.at inside.answers.rule inside.is_life inside.words.items c.clear.new.self.items inside.holds_all
-          c.self.invariant.board.frame c.self.invariant.board.life c.self.invariant.board.long c.clear.ensures.items
+      board = blank_board inside.at (rule_of inside.answers) inside.words.items c.clear.new.self.items inside.holds_all
+          c.self.invariant.board.frame c.self.invariant.board.long c.clear.ensures.items
           (ap (λ (b : Running). b.cells) c.self.view_is ∙ c.requires.empty);
       spanned = c.self.invariant.spanned;
       plane = c.self.invariant.plane;

@@ -1,4 +1,5 @@
 use Rattle.std.proofs.Common.{ℕ, List, subst}
+use Rattle.plane_core.specs.Answers.{rule_of}
 use Rattle.plane_core.specs.Boards.{Running}
 use Rattle.plane_core.specs.Generations.{after}
 use Rattle.plane_core.specs.OnBoard.{cells_on}
@@ -8,6 +9,6 @@ use Rattle.plane_core.proofs.board.Board.refuses.Goals as goal
 pub returns : goal.returns
 returns c = λ e.
     let inside = c.self.inside in
-    let near = subst (λ (ws : List ℕ). HasRestlessCluster inside.answers.rule (after inside.answers.rule (cells_on inside.at ws) c.args.ahead) c.args.horizon
-    c.args.period) c.as_slice-words.ensures.value (c.refuses_near-2.ensures e) in
+    let near = subst (λ (ws : List ℕ). HasRestlessCluster (rule_of inside.answers) (after (rule_of inside.answers) (cells_on inside.at ws) c.args.ahead) c.args.horizon
+    c.args.period) c.as_slice-words.ensures.value (c.refuses_near.ensures e) in
     subst (λ (b : Running). HasRestlessCluster b.rule (after b.rule b.cells c.args.ahead) c.args.horizon c.args.period) c.self.view_is near

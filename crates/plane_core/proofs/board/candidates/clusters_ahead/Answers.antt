@@ -7,43 +7,43 @@ use Rattle.plane_core.proofs.OnBoardLemmas.{cells_in_order}
 use Rattle.plane_core.proofs.board.candidates.clusters_ahead.Goals as goal
 
 pub bounds-boxes-bounds-index : goal.bounds-boxes-bounds-index
-bounds-boxes-bounds-index g c = c.loop-bounds-test.true
+bounds-boxes-bounds-index c = c.loop-bounds-test.true
 
 pub loop-bounds-preserved-then-not-is_small_box : goal.loop-bounds-preserved-then-not-is_small_box
-loop-bounds-preserved-then-not-is_small_box g c = c.loop-bounds.invariant
+loop-bounds-preserved-then-not-is_small_box c = c.loop-bounds.invariant
 
 pub window-window-requires-clause-long : goal.window-window-requires-clause-long
-window-window-requires-clause-long g c = c.requires.long
+window-window-requires-clause-long c = c.requires.long
 
 pub window-window-requires-clause-lanes : goal.window-window-requires-clause-lanes
-window-window-requires-clause-lanes g c = c.in-Some.ensures.lanes
+window-window-requires-clause-lanes c = c.in-Some.ensures.lanes
 
 pub window-window-requires-clause-rows : goal.window-window-requires-clause-rows
-window-window-requires-clause-rows g c = c.in-Some.ensures.rows
+window-window-requires-clause-rows c = c.in-Some.ensures.rows
 
 pub frame-requires-clause-frame : goal.frame-requires-clause-frame
-frame-requires-clause-frame g c = c.requires.frame
+frame-requires-clause-frame c = c.requires.frame
 
 pub frame-requires-clause-plane : goal.frame-requires-clause-plane
-frame-requires-clause-plane g c = c.requires.plane
+frame-requires-clause-plane c = c.requires.plane
 
 pub frame-requires-clause-lanes : goal.frame-requires-clause-lanes
-frame-requires-clause-lanes g c = c.in-Some.ensures.lanes
+frame-requires-clause-lanes c = c.in-Some.ensures.lanes
 
 pub frame-requires-clause-rows : goal.frame-requires-clause-rows
-frame-requires-clause-rows g c = c.in-Some.ensures.rows
+frame-requires-clause-rows c = c.in-Some.ensures.rows
 
 pub add_grown-requires-clause-frame : goal.add_grown-requires-clause-frame
-add_grown-requires-clause-frame g c = c.frame.ensures.frame
+add_grown-requires-clause-frame c = c.frame.ensures.frame
 
 pub add_grown-requires-clause-plane : goal.add_grown-requires-clause-plane
-add_grown-requires-clause-plane g c = c.frame.ensures.plane
+add_grown-requires-clause-plane c = c.frame.ensures.plane
 
 pub add_grown-requires-clause-lanes : goal.add_grown-requires-clause-lanes
-add_grown-requires-clause-lanes g c = c.frame.ensures.lanes
+add_grown-requires-clause-lanes c = c.frame.ensures.lanes
 
 pub add_grown-requires-clause-rows : goal.add_grown-requires-clause-rows
-add_grown-requires-clause-rows g c = c.frame.ensures.rows
+add_grown-requires-clause-rows c = c.frame.ensures.rows
 
 -- what is shown here is shown there, where the two are one place
 shown_at : (rows : List ℕ) (cells : List Cell) (left top x y : ℤ) → x ≡ left → y ≡ top → ShowsInRows left top rows cells → ShowsInRows x y rows cells
@@ -54,7 +54,7 @@ none : 0 ≤ 2
 none = omega arith
 
 pub loop-bounds-preserved : goal.loop-bounds-preserved
-loop-bounds-preserved g c =
+loop-bounds-preserved c =
     let at = c.args.at in
     let words = c.args.words.now in
     let S = cells_on at words in
@@ -66,4 +66,4 @@ loop-bounds-preserved g c =
     c.loop-bounds.invariant
 
 pub returns : goal.returns
-returns g c = c.loop-bounds.invariant
+returns c = c.loop-bounds.invariant

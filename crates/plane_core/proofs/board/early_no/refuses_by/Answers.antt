@@ -1,5 +1,6 @@
 use Rattle.std.proofs.Common.{arith, ◌+ℤ◌, pos}
 use Rattle.std.proofs.lemmas.Bool.{false≢true}
+use Rattle.plane_core.specs.Answers.{rule_of}
 use Rattle.plane_core.specs.OnBoard.{cells_on}
 use Rattle.plane_core.proofs.OnBoardLemmas.{cells_in_order}
 use Rattle.plane_core.specs.Generations.{after}
@@ -7,25 +8,25 @@ use Rattle.plane_core.proofs.RunLemmas.{in_order-after}
 use Rattle.plane_core.proofs.board.early_no.refuses_by.Goals as goal
 
 pub bounds-boxes-bounds-index : goal.bounds-boxes-bounds-index
-bounds-boxes-bounds-index g c = c.loop-bounds-test.true
+bounds-boxes-bounds-index c = c.loop-bounds-test.true
 
 pub returns-then-tries-eq0 : goal.returns-then-tries-eq0
-returns-then-tries-eq0 g c = λ e. absurd (false≢true e)
+returns-then-tries-eq0 c = λ e. absurd (false≢true e)
 
 pub window-window-requires-clause-long : goal.window-window-requires-clause-long
-window-window-requires-clause-long g c = c.requires.long
+window-window-requires-clause-long c = c.requires.long
 
 pub window-window-requires-clause-lanes : goal.window-window-requires-clause-lanes
-window-window-requires-clause-lanes g c = c.in-Some.ensures.lanes
+window-window-requires-clause-lanes c = c.in-Some.ensures.lanes
 
 pub window-window-requires-clause-rows : goal.window-window-requires-clause-rows
-window-window-requires-clause-rows g c = c.in-Some.ensures.rows
+window-window-requires-clause-rows c = c.in-Some.ensures.rows
 
 pub returns-then-refuses : goal.returns-then-refuses
-returns-then-refuses g c = λ _.
+returns-then-refuses c = λ _.
     let at = c.args.at in
     let words = c.args.words.now in
-    let rule = g.A.Answering.rule c.args.rule.now in
+    let rule = rule_of c.args.rule.now in
     let S = cells_on at words in
     let left = at.left +ℤ pos c.in-Some.view.x in
     let top = at.top +ℤ pos c.in-Some.view.y in
@@ -34,4 +35,4 @@ returns-then-refuses g c = λ _.
     (λ r i a b d f. shown r i (omega arith) (omega arith) (omega arith) (omega arith))
 
 pub returns : goal.returns
-returns g c = λ e. absurd (false≢true e)
+returns c = λ e. absurd (false≢true e)

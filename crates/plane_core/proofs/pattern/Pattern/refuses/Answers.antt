@@ -1,22 +1,14 @@
-use Rattle.std.proofs.Common.{List, subst, sym}
+use Rattle.std.proofs.Common.{List, subst}
 use Rattle.plane_core.specs.declared.cell.Cell.{Cell}
 use Rattle.plane_core.specs.LonePatterns.{Holds}
 use Rattle.plane_core.specs.Refusing.{RefusesAll}
 use Rattle.plane_core.specs.Rules.{Numbers}
 use Rattle.plane_core.proofs.pattern.Pattern.refuses.Goals as goal
 
-pub returns-then-is_life : goal.returns-then-is_life
-returns-then-is_life c seen =
-    let left = c.in-Some.place.left in
-    let top = c.in-Some.place.top in
-    let held = subst (λ (S : List Cell). Holds 16 left top c.window_of-window.result S) c.cells.ensures.cells c.window_of-window.ensures in
-    subst (λ (rule : Numbers). RefusesAll rule 16 c.window_of-window.result 0 c.args.horizon c.args.period) (sym (c.is_life.ensures c.if-is_life.true))
-    (c.refuses.ensures seen) c.args.self.now left top held.in_order held.shown
-
-pub returns-else-is_life : goal.returns-else-is_life
-returns-else-is_life c seen =
+pub returns : goal.returns
+returns c seen =
     let left = c.in-Some.place.left in
     let top = c.in-Some.place.top in
     let held = subst (λ (S : List Cell). Holds 16 left top c.window_of-window.result S) c.cells.ensures.cells c.window_of-window.ensures in
     subst (λ (rule : Numbers). RefusesAll rule 16 c.window_of-window.result 0 c.args.horizon c.args.period) c.new.ensures
-    (c.refuses-else-is_life.ensures seen) c.args.self.now left top held.in_order held.shown
+    (c.refuses.ensures seen) c.args.self.now left top held.in_order held.shown

@@ -2,7 +2,7 @@ use Rattle.std.proofs.Common.{◌∙◌, sym}
 use Rattle.std.proofs.lemmas.Bool.Decides.{Decides-and}
 use Rattle.std.specs.Cmp.{booleans_Decides}
 use Rattle.std.specs.Cmp.Lexicographic.{pointwise_decides}
-use Rattle.plane_core.proofs.answers.is_life.Goals as goal
+use Rattle.plane_core.proofs.answering.is_life.Goals as goal
 
 pub returns : goal.returns
 returns c e =

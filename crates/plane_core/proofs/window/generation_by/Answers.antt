@@ -7,7 +7,7 @@ use Rattle.std.proofs.Common.{sym}
 use borrow.Author.Count.{falls}
 use Rattle.plane_core.proofs.OrderLemmas.{at_end, below_same, from_next, itself, last_low, last_next, next_later, next_low, not_next, one_at_least}
 use Rattle.plane_core.proofs.OrderLemmas.{this_low}
-use Rattle.plane_core.proofs.window.generation.Goals as goal
+use Rattle.plane_core.proofs.window.generation_by.Goals as goal
 
 pub loop-k-init : goal.loop-k-init
 loop-k-init g c =

@@ -1,7 +1,7 @@
 use Rattle.std.proofs.Common.{◌≡◌, ◌≤◌, ℕ, [], length, slice_index_or}
 use Rattle.plane_core.specs.Lanes.{AreBeside}
 use Rattle.plane_core.proofs.WindowLemmas.{AreAbove, AreHere, AreMade}
-use Rattle.plane_core.proofs.window.generation.Given as goal
+use Rattle.plane_core.proofs.window.generation_by.Given as goal
 
 abbrev pub invariant-loop-k : goal.invariant-loop-k
 invariant-loop-k g l =
