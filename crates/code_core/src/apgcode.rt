@@ -149,12 +149,7 @@ pub fn readings()
 
 /// Adds the text of a name.
 #[tactic(auto, unfolding(crate::specs::Apgcodes::code_text))]
-fn spell(
-    code: &mut String,
-    kind: Kind,
-    number: u64,
-    text: Option<&str>,
-) -> Result<(), OutOfMemory>
+fn spell(code: &mut String, kind: Kind, number: u64, text: Option<&str>) -> Result<(), OutOfMemory>
     ensures { OnOk result (string_bytes code.new
         ≡ string_bytes code.old ++ code_text kind number (option_map (λ t. t.now) text.entry)) }
 {

@@ -12,7 +12,7 @@
 //! ```
 //!
 //! Life, the rule that is run most, is answered by fewer operations, which count the eight neighbours alone. It is a
-//! type of its own, so that each loop over windows is built once for Life and once for any rule.
+//! type of its own, so that the loop of a generation is built once for Life and once for any rule.
 ghost use Rattle.std.specs.Prelude.{◌≡◌, ◌==◌, ◌+◌, ◌-◌, ◌*◌, ◌<◌, ◌≤◌, ◌%◌, true, ℕ, slice_index};
 ghost use Rattle.std.specs.Int.{bit_at};
 ghost use Rattle.plane_core.specs.Lanes.{AnswersRows, AnswersTotal, AreBeside, bit_of};

@@ -7,7 +7,7 @@
 //! (3, 3)         . . . O . . .           (3, 2)
 //!                . . . O . . .
 //! ```
-ghost use Rattle.std.specs.Prelude.{◌≡◌, ◌<◌, ℕ, IfOk, IfSome, slice_index};
+ghost use Rattle.std.specs.Prelude.{◌≡◌, IfOk, IfSome};
 ghost use Rattle.plane_core.specs.Bounds.{AreSidesWithin};
 ghost use Rattle.plane_core.specs.Cells.{plane_bound};
 ghost use Rattle.plane_core.specs.Frames.{IsFrame, bounds_of};
@@ -28,7 +28,6 @@ use crate::spans::Span;
 use crate::window::generation;
 use memory::OutOfMemory;
 use std::alloc::Global;
-use std::simd::u64x4;
 
 /// For how many cells there is room from the start where a pattern is listed.
 const ROOM: usize = 20;
