@@ -9,7 +9,9 @@ use crate::rule::Rule;
 /// The answers of a rule.
 #[derive(Clone, Copy)]
 pub(crate) enum Answers {
+    /// Those of Life.
     Life,
+    /// Those of any rule.
     Any(AnyRule),
 }
 

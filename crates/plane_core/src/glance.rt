@@ -11,7 +11,7 @@
 //! +----------------+
 //! ```
 //!
-//! Only the 'no' is sure: what may have come back, or has come to the rim, is run elsewhere. Life has a loop of its own.
+//! Only the 'no' is sure: what may have come back, or has come to the rim, is run elsewhere.
 ghost use Rattle.std.specs.Prelude.{◌≡◌, ◌<◌, ◌≤◌, ℕ, IfSome, IsTrue, false, true};
 ghost use Rattle.plane_core.specs.Cells.{InOrder, has};
 ghost use Rattle.plane_core.specs.Generations.{NeverBack, after, touches_edge};

@@ -20,7 +20,7 @@
 //! then the whole is what it was as well, and all that follows has been seen. Even before that a cluster that is itself
 //! again isn't stepped, since its next generation is known.
 
-ghost use Rattle.std.specs.Prelude.{◌≡◌, ◌<◌, ◌≤◌, ◌↔◌, ◌⊎◌, [], ℕ, All, IfNone, IfOk, IfSome, IsTrue, flat_map, length, map};
+ghost use Rattle.std.specs.Prelude.{◌≡◌, ◌<◌, ◌≤◌, ◌↔◌, ℕ, All, IfNone, IfOk, IfSome, IsTrue, flat_map, length, map};
 ghost use Rattle.std.specs.Prelude.{◌==◌, filter, true};
 ghost use Rattle.plane_core.specs.Cells.{InOrder};
 ghost use Rattle.plane_core.specs.Clusters.{Partition};
@@ -163,7 +163,7 @@ fn keep_apart(
         (λ apart. IsTrue apart ↔ ((g : ℕ) → g ≤ horizon → KeepApart rule.now (union_of clusters.now) clusters.now g)) }
 {
     let mut whole = union(alloc, clusters)?;
-    let stepped = next_of_all(alloc, rule, clusters, &[], clusters)?;
+    let stepped = next_of_each(alloc, rule, clusters)?;
     let first = stepped.as_slice();
     // The clusters are always a generation ahead of the whole, until that is stepped too.
     let mut alone = next_of_all(alloc, rule, clusters, first, clusters)?;
@@ -197,8 +197,23 @@ fn are_back(later: &[Pattern], patterns: &[Pattern]) -> bool
     true
 }
 
-/// The next generation of each of the patterns, run alone. The first ones of the clusters at their places are known, or
-/// none of them is.
+/// The next generation of each of the patterns, run alone.
+fn next_of_each(
+    alloc: Global,
+    rule: &Rule,
+    patterns: &[Pattern],
+) -> Result<Vec<Pattern>, OutOfMemory>
+    requires { All (λ pattern. lies_within 999999 pattern ≡ true) patterns.now }
+    ensures { IfOk result (λ later. later.items ≡ map (next rule.now) patterns.now) }
+{
+    let mut later = Vec::with_capacity(alloc, patterns.len())?;
+    for pattern in patterns {
+        later.push(next(alloc, rule, pattern)?)?;
+    }
+    Ok(later)
+}
+
+/// The next generation of each of the patterns, run alone, where that of the cluster at its place is known.
 fn next_of_all(
     alloc: Global,
     rule: &Rule,
@@ -206,37 +221,33 @@ fn next_of_all(
     first: &[Pattern],
     patterns: &[Pattern],
 ) -> Result<Vec<Pattern>, OutOfMemory>
-    requires first { (first.now ≡ []) ⊎ (first.now ≡ map (next rule.now) clusters.now) }
+    requires first { first.now ≡ map (next rule.now) clusters.now }
     requires long { length patterns.now ≡ length clusters.now }
     requires near { All (λ pattern. lies_within 999999 pattern ≡ true) patterns.now }
     ensures { IfOk result (λ later. later.items ≡ map (next rule.now) patterns.now) }
 {
     let mut later = Vec::with_capacity(alloc, patterns.len())?;
     for (place, pattern) in patterns.iter().enumerate() {
-        let next = next_beside(alloc, rule, clusters, first, place, pattern)?;
+        let next = next_beside(alloc, rule, &clusters[place], &first[place], pattern)?;
         later.push(next)?;
     }
     Ok(later)
 }
 
-/// The next generation of a pattern, run alone. If the pattern is the cluster at its place again, that is the first one
-/// of the cluster, where it is known. A still life always is.
+/// The next generation of a pattern, which is known if the pattern is the cluster again. A still life always is.
 fn next_beside(
     alloc: Global,
     rule: &Rule,
-    clusters: &[Pattern],
-    first: &[Pattern],
-    place: usize,
+    cluster: &Pattern,
+    first: &Pattern,
     pattern: &Pattern,
 ) -> Result<Pattern, OutOfMemory>
-    requires first { (first.now ≡ []) ⊎ (first.now ≡ map (next rule.now) clusters.now) }
-    requires place { place < length clusters.now }
+    requires first { first.now ≡ next rule.now cluster.now }
     requires near { lies_within 999999 pattern.now ≡ true }
     ensures { IfOk result (λ later. later ≡ next rule.now pattern.now) }
 {
-    if let Some(first) = first.get(place)
-        && are_same(pattern.cells(), clusters[place].cells())
-    {
+    let same = are_same(pattern.cells(), cluster.cells());
+    if same {
         return first.copy(alloc);
     }
     next(alloc, rule, pattern)

@@ -17,11 +17,9 @@ ghost use Rattle.plane_core.specs.Bounds.{AreSidesWithin};
 ghost use Rattle.plane_core.specs.Cells.{InOrder, plane_bound};
 ghost use Rattle.plane_core.specs.Clusters.{IsCluster};
 ghost use Rattle.plane_core.specs.Floods.{ShowsInRows};
-ghost use Rattle.plane_core.specs.Frames.{FillsFrame, IsFrame, bounds_of};
-ghost use Rattle.plane_core.specs.OnBoard.{cells_on};
+ghost use Rattle.plane_core.specs.Frames.{IsFrame, bounds_of};
 ghost use Rattle.plane_core.specs.declared.cell.Cell.{Cell};
 
-use crate::answering::Answers;
 use crate::board::Board;
 use crate::board::view::View;
 use crate::bounds::Bounds;
@@ -58,48 +56,31 @@ impl Board {
     {
         let words = self.words.as_slice();
         let boxes = self.boxes.as_slice();
-        clusters_ahead(alloc, words, self.at, boxes, &self.answers)
-    }
-}
-
-/// Candidates of the small boxes that lie ahead of the others, for as long as there are tries left. Of each box the view
-/// is looked at, if it lies on the board.
-fn clusters_ahead(
-    alloc: Global,
-    words: &[u64],
-    at: Frame,
-    boxes: &[Bounds],
-    rule: &Answers,
-) -> Result<Vec<Pattern>, OutOfMemory>
-    requires frame { IsFrame at }
-    requires plane { AreSidesWithin plane_bound (bounds_of at) }
-    requires long { FillsFrame at words.now }
-    ensures { IfOk result (λ clusters. All (IsCluster (cells_on at words.now)) clusters.items) }
-{
-    let mut clusters = Vec::new(alloc);
-    let mut tries = BOXES;
-    for bounds in boxes {
-        if tries == 0 {
-            break;
+        let mut clusters = Vec::new(alloc);
+        let mut tries = BOXES;
+        for bounds in boxes {
+            if tries == 0 {
+                break;
+            }
+            if !is_small_box(*bounds) || !leads_somewhere(boxes, *bounds) {
+                continue;
+            }
+            tries -= 1;
+            let Some(view) = View::round(self.at, *bounds) else {
+                continue;
+            };
+            let window = view.window(words, self.at);
+            let mut changing = changing_cells(&window, &self.answers);
+            add_grown(
+                alloc,
+                view.frame(self.at),
+                &unpacked(&window),
+                &mut changing,
+                &mut clusters,
+            )?;
         }
-        if !is_small_box(*bounds) || !leads_somewhere(boxes, *bounds) {
-            continue;
-        }
-        tries -= 1;
-        let Some(view) = View::round(at, *bounds) else {
-            continue;
-        };
-        let window = view.window(words, at);
-        let mut changing = changing_cells(&window, rule);
-        add_grown(
-            alloc,
-            view.frame(at),
-            &unpacked(&window),
-            &mut changing,
-            &mut clusters,
-        )?;
+        Ok(clusters)
     }
-    Ok(clusters)
 }
 
 /// Whether the box is so small that a ship and little else may change in it.
@@ -159,8 +140,8 @@ fn meets(one: Bounds, other: Bounds) -> bool {
         && other.top.saturating_sub(one.bottom) <= 1
 }
 
-/// Adds the clusters of the cells that change in a window that lies here, if they are small and not among the others yet: two
-/// boxes may lie near each other. Their cells are struck out.
+/// Adds the clusters of the cells that change in a window that lies here, if they are small and not among the others
+/// yet: two boxes may lie near each other. Their cells are struck out.
 fn add_grown(
     alloc: Global,
     at: Frame,

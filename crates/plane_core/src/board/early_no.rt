@@ -51,22 +51,20 @@ impl Board {
         };
         let words = self.words.as_slice();
         let boxes = self.boxes.as_slice();
-        refuses_near(words, self.at, boxes, &self.answers, look)
+        let mut tries = TRIES;
+        if refuses_by(words, self.at, boxes, &self.answers, look, true, &mut tries) {
+            return true;
+        }
+        refuses_by(
+            words,
+            self.at,
+            boxes,
+            &self.answers,
+            look,
+            false,
+            &mut tries,
+        )
     }
-}
-
-/// Whether it is seen that the pattern, so many generations ahead, has a restless cluster. `false` says nothing.
-fn refuses_near(words: &[u64], at: Frame, boxes: &[Bounds], rule: &Answers, look: Look) -> bool
-    requires long { FillsFrame at words.now }
-    requires ahead { look.ahead ≤ 1 }
-    ensures { IsTrue result → HasRestlessCluster (rule_of rule.now)
-        (after (rule_of rule.now) (cells_on at words.now) look.ahead) look.horizon look.period }
-{
-    let mut tries = TRIES;
-    if refuses_by(words, at, boxes, rule, look, true, &mut tries) {
-        return true;
-    }
-    refuses_by(words, at, boxes, rule, look, false, &mut tries)
 }
 
 /// Tries the boxes that are large, or those that aren't, for as long as there are tries left. Of each box the view is

@@ -1,4 +1,4 @@
-use Rattle.std.proofs.Common.{◌≡◌, ◌∙◌, ◌+◌, ◌<◌, ◌≤◌, ap, sym, refl, subst, ℕ, length, map, All, true, arith, flat_map, get_or, inl, inr, List}
+use Rattle.std.proofs.Common.{◌≡◌, ◌∙◌, ◌+◌, ◌<◌, ◌≤◌, ap, sym, refl, subst, ℕ, length, map, All, true, arith, flat_map, get_or, List}
 use Rattle.std.proofs.lemmas.Bool.{false≢true}
 use Rattle.std.proofs.lemmas.List.{length-map}
 use Rattle.std.proofs.lemmas.Result.{IfOk-from_err}
@@ -28,8 +28,12 @@ loop-init c = record {
 pub union-requires : goal.union-requires
 union-requires c = λ k d low. within_more survey_reach 999999 (get_or c.args.clusters.now k d) (omega arith) (c.requires.near k d low)
 
+pub next_of_each-requires : goal.next_of_each-requires
+next_of_each-requires c =
+    λ k d low. within_more survey_reach 999999 (get_or c.args.clusters.now k d) (omega arith) (c.requires.near k d low)
+
 pub next_of_all-requires-clause-first : goal.next_of_all-requires-clause-first
-next_of_all-requires-clause-first c = inl refl
+next_of_all-requires-clause-first c = c.as_slice-first.ensures.value ∙ c.in_ok-stepped.ensures
 
 pub next_of_all-requires-clause-long : goal.next_of_all-requires-clause-long
 next_of_all-requires-clause-long c = refl
@@ -62,7 +66,7 @@ pub are_back-back-requires : goal.are_back-back-requires
 are_back-back-requires c = ap length (c.as_slice-parts.ensures.value ∙ c.loop.invariant.alone) ∙ length-map _ _
 
 pub next_of_all-requires-in-loop-clause-first : goal.next_of_all-requires-in-loop-clause-first
-next_of_all-requires-in-loop-clause-first c = inr (c.as_slice-first.ensures.value ∙ c.in_ok-stepped.ensures)
+next_of_all-requires-in-loop-clause-first c = c.as_slice-first.ensures.value ∙ c.in_ok-stepped.ensures
 
 pub next_of_all-requires-in-loop-clause-long : goal.next_of_all-requires-in-loop-clause-long
 next_of_all-requires-in-loop-clause-long c = ap length (c.as_slice-parts.ensures.value ∙ c.loop.invariant.alone) ∙ length-map _ _
@@ -73,16 +77,6 @@ next_of_all-requires-in-loop-clause-near c =
     let most : c.args.horizon ≤ 4096 = c.requires.horizon in
     subst (All (λ part. lies_within 999999 part ≡ true)) (sym (c.as_slice-parts.ensures.value ∙ c.loop.invariant.alone))
     (alone_near c.args.rule.now c.args.clusters.now (c.loop.counter + 1) c.requires.near (omega arith))
-
-pub next_of_all-requires-2-clause-first : goal.next_of_all-requires-2-clause-first
-next_of_all-requires-2-clause-first c = inr (c.as_slice-first.ensures.value ∙ c.in_ok-stepped.ensures)
-
-pub next_of_all-requires-2-clause-long : goal.next_of_all-requires-2-clause-long
-next_of_all-requires-2-clause-long c = refl
-
-pub next_of_all-requires-2-clause-near : goal.next_of_all-requires-2-clause-near
-next_of_all-requires-2-clause-near c =
-    λ k d low. within_more survey_reach 999999 (get_or c.args.clusters.now k d) (omega arith) (c.requires.near k d low)
 
 -- a generation in which they don't keep apart
 pub returns-then-not-same : goal.returns-then-not-same
