@@ -127,12 +127,7 @@ shape_of_name kind number text low shape =
           (all_on is_code_byte digits (ending text) (digit_bytes digits (decimal_is_IsNumeral number low).0.1) (ending_bytes text shape)));
     }
 
--- a text that was empty, once a name was added, is the name
-pub spelled_name : (kind : Kind) (number : ℕ) (text : Option (List ℕ)) (old new : List ℕ) → old ≡ [] → new ≡ old ++ code_text kind number text
-    → new ≡ code_text kind number text
-spelled_name kind number text old new none added = added ∙ ap (λ (front : List ℕ). front ++ code_text kind number text) none
-
--- and says its kind and its number
+-- a name says its kind and its number
 pub says_name : (kind : Kind) (number : ℕ) (text : Option (List ℕ)) (code : List ℕ) → number < 2 ^ 64 → IfSome text HasTextShape
     → code ≡ code_text kind number text → (kind_in code ≡ kind) × (number_in code ≡ number) × HasCodeShape code
 says_name kind number text code low shape is =

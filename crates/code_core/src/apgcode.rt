@@ -21,7 +21,7 @@ ghost use Rattle.code_core.specs.declared.apgcode.Kind.{Kind};
 
 use itoa::Buffer;
 use memory::OutOfMemory;
-use std::alloc::Global;
+use std::alloc::{AllocError, Global};
 use std::cmp::Ordering;
 use std::fmt;
 use std::hash::{Hash, Hasher};
@@ -89,10 +89,8 @@ impl Apgcode {
         requires { IfSome (option_map (λ t. t.now) text) HasTextShape }
         ensures { IfOk result (λ code. code ≡ code_text kind number (option_map (λ t. t.now) text.entry)) }
     {
-        let mut code = String::new(alloc);
-        spell(&mut code, kind, number, text)?;
         Ok(Apgcode {
-            text: code,
+            text: spelled(alloc, kind, number, text)?,
             kind,
             number,
         })
@@ -128,12 +126,10 @@ impl Apgcode {
     pub fn copy(&self, alloc: Global) -> Result<Apgcode, OutOfMemory>
         ensures { IfOk result (λ code. code ≡ self.now) }
     {
-        let Apgcode { text, kind, number } = self;
-        let text = String::from_str(alloc, text.as_str())?;
         Ok(Apgcode {
-            text,
-            kind: *kind,
-            number: *number,
+            text: String::from_str(alloc, self.text())?,
+            kind: self.kind,
+            number: self.number,
         })
     }
 }
@@ -147,30 +143,20 @@ pub fn readings()
         → number_in (code_text kind number text) ≡ number }
 {}
 
-/// Adds the text of a name.
+/// The text of a name.
 #[tactic(auto, unfolding(crate::specs::Apgcodes::code_text))]
-fn spell(code: &mut String, kind: Kind, number: u64, text: Option<&str>) -> Result<(), OutOfMemory>
-    ensures { OnOk result (string_bytes code.new
-        ≡ string_bytes code.old ++ code_text kind number (option_map (λ t. t.now) text.entry)) }
+fn spelled(
+    alloc: Global,
+    kind: Kind,
+    number: u64,
+    text: Option<&str>,
+) -> Result<String, AllocError>
+    ensures { IfOk result (λ code. string_bytes code ≡ code_text kind number (option_map (λ t. t.now) text.entry)) }
 {
-    code.push_str(opening(text))?;
-    code.push_str(kind.letter())?;
-    code.push_str(Buffer::new().format(number))?;
-    let Some(text) = text else {
-        return Ok(());
-    };
-    code.push_str("_")?;
-    code.push_str(text)?;
-    Ok(())
-}
-
-/// How a name begins.
-fn opening(text: Option<&str>) -> &'static str
-    ensures { result.now ≡ opening (option_map (λ t. t.now) text.entry) }
-{
+    let letter = kind.letter();
     match text {
-        Some(_) => "x",
-        None => "ov_",
+        Some(text) => format!(in alloc; "x{letter}{number}_{text}"),
+        None => format!(in alloc; "ov_{letter}{number}"),
     }
 }
 

@@ -26,6 +26,7 @@ use memory::OutOfMemory;
 use plane_core::cell::Cell;
 use plane_core::pattern::{FromCellsError, Pattern};
 use std::alloc::Global;
+use std::fmt;
 use thiserror::Error;
 
 /// The most bytes that a text may have to be read. The cells of such a text lie on the plane, since a byte goes at most
@@ -36,28 +37,42 @@ pub const TEXT_LIMIT: usize = 10_000;
 #[derive(Clone, Copy, Debug, PartialEq, Eq, Error)]
 pub enum WechslerFault {
     /// The text is longer than 10,000 bytes.
-    #[error("text longer than 10000 bytes")]
     TooLong,
     /// A byte that isn't one of `0` to `9` and `a` to `z`.
-    #[error("bad byte at {place}")]
     BadByte { place: usize },
     /// A `y` that begins a run and isn't followed by one of `0` to `9` and `a` to `z`.
-    #[error("run without a length at {place}")]
     ShortRun { place: usize },
     /// No column has a live cell.
-    #[error("no live cell")]
     Empty,
+}
+
+impl fmt::Display for WechslerFault {
+    fn fmt<W: fmt::Write>(&self, f: &mut fmt::Formatter<W>) -> fmt::Result {
+        match self {
+            WechslerFault::TooLong => f.write_str("text longer than 10000 bytes"),
+            WechslerFault::BadByte { place } => write!(f, "bad byte at {place}"),
+            WechslerFault::ShortRun { place } => write!(f, "run without a length at {place}"),
+            WechslerFault::Empty => f.write_str("no live cell"),
+        }
+    }
 }
 
 /// Why no pattern was read.
 #[derive(Clone, Copy, Debug, PartialEq, Eq, Error)]
 pub enum WechslerError {
     /// The text says no pattern.
-    #[error(transparent)]
     Fault(WechslerFault),
     /// Memory ran out.
-    #[error("out of memory")]
     Memory(OutOfMemory),
+}
+
+impl fmt::Display for WechslerError {
+    fn fmt<W: fmt::Write>(&self, f: &mut fmt::Formatter<W>) -> fmt::Result {
+        match self {
+            WechslerError::Fault(fault) => fault.fmt(f),
+            WechslerError::Memory(_) => f.write_str("out of memory"),
+        }
+    }
 }
 
 impl<E: Into<OutOfMemory>> From<E> for WechslerError {
@@ -151,7 +166,9 @@ fn fault_in(text: &[u8]) -> Option<WechslerFault>
 fn fault_at(place: usize, remainder: &[u8]) -> Option<WechslerFault>
     ensures { result ≡ fault_without_token place remainder.now }
 {
-    let byte = remainder.first()?;
+    let Some(byte) = remainder.first() else {
+        return None;
+    };
     if is_character(*byte) {
         Some(WechslerFault::ShortRun { place })
     } else {
@@ -272,14 +289,18 @@ fn first_token(text: &[u8]) -> Option<(Token, &[u8])>
     ensures token { IfSome result (λ first. Begins text.now first.0 first.1.now) }
     ensures none { IfNone result (IsStuck text.now) }
 {
-    let (byte, remainder) = text.split_first()?;
+    let Some((byte, remainder)) = text.split_first() else {
+        return None;
+    };
     if !is_character(*byte) {
         return None;
     }
     if *byte != MANY_EMPTY {
         return Some((single(*byte), remainder));
     }
-    let (length, remainder) = remainder.split_first()?;
+    let Some((length, remainder)) = remainder.split_first() else {
+        return None;
+    };
     if !is_character(*length) {
         return None;
     }

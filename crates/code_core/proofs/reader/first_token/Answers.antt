@@ -8,28 +8,27 @@ use Rattle.code_core.proofs.reader.first_token.Goals as goal
 
 pub returns-then-byte-ne-MANY_EMPTY-clause-token : goal.returns-then-byte-ne-MANY_EMPTY-clause-token
 returns-then-byte-ne-MANY_EMPTY-clause-token c =
-    Begins_single c.args.text.now c.single.result c.in_ok-byte.byte.now c.in_ok-byte.remainder.now c.in_ok-byte.ensures.cases.0 c.single.ensures
+    Begins_single c.args.text.now c.single.result c.in-Some.byte.now c.in-Some.remainder.now c.in-Some.ensures.cases.0 c.single.ensures
     (sym c.is_character.ensures ∙ c.if-not-is_character.false) c.if-byte-ne-MANY_EMPTY.true
 
-pub returns-in_err-byte-clause-none : goal.returns-in_err-byte-clause-none
-returns-in_err-byte-clause-none c =
-    rw c.from_residual.ensures (stuck_at_end c.args.text.now c.in_err-byte.ensures.cases)
+pub returns-in_default-clause-none : goal.returns-in_default-clause-none
+returns-in_default-clause-none c = stuck_at_end c.args.text.now c.in_default.ensures.cases
 
 pub returns-then-not-is_character-clause-none : goal.returns-then-not-is_character-clause-none
 returns-then-not-is_character-clause-none c =
-    subst IsStuck (sym c.in_ok-byte.ensures.cases.0)
+    subst IsStuck (sym c.in-Some.ensures.cases.0)
     (λ h. absurd (false≢true (sym c.if-not-is_character.true ∙ c.is_character.ensures ∙ h)))
 
-pub returns-in_err-length-clause-none : goal.returns-in_err-length-clause-none
-returns-in_err-length-clause-none c =
-    rw c.from_residual-in_err-length.ensures (subst IsStuck (sym c.in_ok-byte.ensures.cases.0)
-    (λ h. (c.if-byte-ne-MANY_EMPTY.false, no_character c.in_ok-byte.remainder.now c.in_err-length.ensures.cases)))
+pub returns-in_default-split_first-clause-none : goal.returns-in_default-split_first-clause-none
+returns-in_default-split_first-clause-none c =
+    subst IsStuck (sym c.in-Some.ensures.cases.0)
+    (λ h. (c.if-byte-ne-MANY_EMPTY.false, no_character c.in-Some.remainder.now c.in_default-split_first.ensures.cases))
 
 pub returns-then-not-is_character-2-clause-none : goal.returns-then-not-is_character-2-clause-none
 returns-then-not-is_character-2-clause-none c =
-    subst IsStuck (sym c.in_ok-byte.ensures.cases.0) (λ h. (
+    subst IsStuck (sym c.in-Some.ensures.cases.0) (λ h. (
       c.if-byte-ne-MANY_EMPTY.false,
-      ap has_character c.in_ok-length.ensures.cases.0 ∙ sym c.is_character-2.ensures ∙ c.if-not-is_character-2.true,
+      ap has_character c.in-Some-split_first.ensures.cases.0 ∙ sym c.is_character-2.ensures ∙ c.if-not-is_character-2.true,
     ))
 
 pub character_value-requires : goal.character_value-requires
@@ -37,15 +36,9 @@ character_value-requires c = sym c.is_character-2.ensures ∙ c.if-not-is_charac
 
 pub returns-clause-token : goal.returns-clause-token
 returns-clause-token c =
-    let length = c.in_ok-length.length.now in
-    let remainder = c.in_ok-length.remainder.now in
+    let length = c.in-Some-split_first.length.now in
+    let remainder = c.in-Some-split_first.remainder.now in
     subst₂ (λ (text : List ℕ) (token : Token). Begins text token remainder)
-    (sym (c.in_ok-byte.ensures.cases.0 ∙ (λ i. c.if-byte-ne-MANY_EMPTY.false i ∷ c.in_ok-length.ensures.cases.0 i)))
+    (sym (c.in-Some.ensures.cases.0 ∙ (λ i. c.if-byte-ne-MANY_EMPTY.false i ∷ c.in-Some-split_first.ensures.cases.0 i)))
     (ap (λ n. Gap (n + 4)) (sym c.character_value.ensures.value))
     (Begins_long_gap length remainder (sym c.is_character-2.ensures ∙ c.if-not-is_character-2.false))
-
-pub returns-in_err-byte-clause-token : goal.returns-in_err-byte-clause-token
-returns-in_err-byte-clause-token c = rw c.from_residual.ensures tt
-
-pub returns-in_err-length-clause-token : goal.returns-in_err-length-clause-token
-returns-in_err-length-clause-token c = rw c.from_residual-in_err-length.ensures tt
