@@ -176,31 +176,17 @@ fn fault_at(place: usize, remainder: &[u8]) -> Option<WechslerFault>
     }
 }
 
-/// The pattern of a text that has no fault.
+/// The pattern of a text that has no fault, whose cells are found column by column.
 ///
 /// # Errors
 ///
 /// `Memory` alone.
+#[tactic(auto, using(crate::proofs::TokenReading::shorter))]
 fn pattern_in(alloc: Global, text: &[u8]) -> Result<Pattern, WechslerError>
     requires short { length text.now ≤ TEXT_LIMIT }
     requires sound { result_err (wechsler_pattern text.now) ≡ None }
     ensures pattern { IfOk result (λ read. wechsler_pattern text.now ≡ Ok read) }
     ensures memory { IfErr result (λ error. error ≡ Memory out_of_memory) }
-{
-    let cells = cells_in(alloc, text)?;
-    match Pattern::from_cells(alloc, &cells) {
-        Ok(pattern) => Ok(pattern),
-        Err(FromCellsError::Memory(error)) => Err(WechslerError::Memory(error)),
-        Err(FromCellsError::OutOfPlane { .. }) => unreachable!(),
-    }
-}
-
-/// The cells of a text, column by column.
-#[tactic(auto, using(crate::proofs::TokenReading::shorter))]
-fn cells_in(alloc: Global, text: &[u8]) -> Result<Vec<Cell>, OutOfMemory>
-    requires { length text.now ≤ TEXT_LIMIT }
-    ensures { (tokens : List Token) → Spells tokens text.now
-        → IfOk result (λ cells. cells.items ≡ cells_from 0 0 tokens) }
 {
     let mut cells = Vec::new(alloc);
     let mut head = Head { strip: 0, x: 0 };
@@ -209,7 +195,11 @@ fn cells_in(alloc: Global, text: &[u8]) -> Result<Vec<Cell>, OutOfMemory>
         head = push_token(&mut cells, head, token)?;
         remainder = more;
     }
-    Ok(cells)
+    match Pattern::from_cells(alloc, cells.as_slice()) {
+        Ok(pattern) => Ok(pattern),
+        Err(FromCellsError::Memory(error)) => Err(WechslerError::Memory(error)),
+        Err(FromCellsError::OutOfPlane { .. }) => unreachable!(),
+    }
 }
 
 /// Where the next column of a text stands.
