@@ -27,7 +27,7 @@ const ROUNDS: usize = 64;
 pub(crate) fn flood(rows: &[u64; 64], flood: &mut [u64; 64], row: usize, column: u32) -> bool
     ensures { IsTrue result → IsFlooded rows.now flood.new row column }
 {
-    if !may_begin(rows, row, column) {
+    if row < 4 || row >= 60 || column < 4 || column >= 60 || (rows[row] >> column) & 1 == 0 {
         return false;
     }
     *flood = begun(row, column);
@@ -42,20 +42,6 @@ pub(crate) fn flood(rows: &[u64; 64], flood: &mut [u64; 64], row: usize, column:
         }
     }
     false
-}
-
-/// Whether there is a cell, and it lies well inside.
-fn may_begin(rows: &[u64; 64], row: usize, column: u32) -> bool
-    ensures place { IsTrue result → IsWellInside row column }
-    ensures alive { IsTrue result → bit_in rows.now row column ≡ 1 }
-{
-    if row < 4 || row >= 60 {
-        return false;
-    }
-    if column < 4 || column >= 60 {
-        return false;
-    }
-    (rows[row] >> column) & 1 != 0
 }
 
 /// A flood of one cell.

@@ -111,16 +111,7 @@ pub(crate) fn row<const N: usize>(window: &[u64x4; N], r: usize) -> u64
     requires low { r < 4 * N }
     ensures { result ≡ row_at N window.now r }
 {
-    lane(window[r % N], r / N)
-}
-
-/// The word in a lane.
-#[inline(always)]
-fn lane(vector: u64x4, j: usize) -> u64
-    requires { j < 4 }
-    ensures { result ≡ slice_index vector j }
-{
-    vector.to_array()[j]
+    window[r % N].to_array()[r / N]
 }
 
 /// A row of the window, or an empty one past its end.
@@ -147,21 +138,10 @@ pub(crate) fn is_rim_clear<const N: usize>(window: &[u64x4; N], columns: u64) ->
     if row(window, 4 * N - 1) != 0 {
         return false;
     }
-    are_sides_clear(columns)
-}
-
-/// Whether neither the first nor the last column is among these.
-#[inline(always)]
-fn are_sides_clear(columns: u64) -> bool
-    ensures { IsTrue result → (bit_at columns 0 ≡ 0) × (bit_at columns 63 ≡ 0) }
-{
     if columns & 1 != 0 {
         return false;
     }
-    if columns >> 63 != 0 {
-        return false;
-    }
-    true
+    columns >> 63 == 0
 }
 
 /// Whether two windows have the same cells.
@@ -185,8 +165,8 @@ fn marked(marks: u64x4, a: u64x4, b: u64x4) -> u64x4
 }
 
 /// Whether the second window may show what the first one shows, moved or not. Given are the columns of both that have a
-/// live cell.
-#[inline(always)]
+/// live cell. Where they are alike, the rows are compared, counted from the first row and the first column with a live
+/// cell.
 fn may_be_again<const N: usize>(
     start: &[u64x4; N],
     from: u64,
@@ -209,27 +189,6 @@ fn may_be_again<const N: usize>(
     if from >> from.trailing_zeros() != columns >> columns.trailing_zeros() {
         return false;
     }
-    are_rows_again(start, from, now, columns)
-}
-
-/// Whether the rows of both are the same, counted from the first row and the first column with a live cell.
-fn are_rows_again<const N: usize>(
-    start: &[u64x4; N],
-    from: u64,
-    now: &[u64x4; N],
-    columns: u64,
-) -> bool
-    requires some { 0 < N }
-    requires few { N ≤ 16 }
-    requires alive { 0 < from }
-    requires alive_now { 0 < columns }
-    requires from { IsColumns N start.now from }
-    requires columns { IsColumns N now.now columns }
-    requires whole { AreVectors N start.now }
-    requires whole_now { AreVectors N now.now }
-    ensures { (cells : List Cell) (left top dx dy : ℤ) → Holds N left top start.now cells
-        → Holds N left top now.now (shifted dx dy cells) → IsTrue result }
-{
     let Some(first) = corner_of(start, from) else {
         return true;
     };

@@ -1,4 +1,7 @@
-use Rattle.std.proofs.Common.{ℕ, ◌<◌, ◌∙◌, arith, sym}
+use Rattle.std.proofs.Common.{ℕ, ◌≡◌, ◌≢◌, ◌/◌, ◌^◌, ◌<◌, ◌∙◌, arith, bit_and, sym}
+use Rattle.std.specs.Int.{bit_at}
+use Rattle.std.specs.List.{slice_index}
+use Rattle.std.proofs.lemmas.Grind.{common_steps}
 use Rattle.std.proofs.lemmas.Bool.{false≢true}
 use Rattle.plane_core.proofs.FloodLemmas.{all_flooded, grown_more, grown_none}
 use Rattle.plane_core.proofs.flood.flood.Goals as goal
@@ -6,10 +9,14 @@ use Rattle.plane_core.proofs.flood.flood.Goals as goal
 within_64 : (n : ℕ) → n < 60 → n < 64
 within_64 n low = omega (arith, low)
 
+-- a bit that a shifted word shows
+lit : (w i : ℕ) → bit_and (w / 2 ^ i) 1 ≢ 0 → bit_at w i ≡ 1
+lit w i some = grind (arith, common_steps)
+
 pub loop-init : goal.loop-init
 loop-init c =
-    let well = c.may_begin.ensures.place c.if-not-may_begin.false in
-    let a = well.above in let b = well.below in
+    let a = c.if-row-lt4.false in
+    let b = c.if-row-ge60.false in
     record { least = omega arith; low = omega arith; high = omega arith; grown = grown_none c.args.rows.now c.begun.result }
 
 pub loop-preserved : goal.loop-preserved
@@ -23,18 +30,19 @@ loop-preserved c = record {
 pub returns-then-lies_inside : goal.returns-then-lies_inside
 returns-then-lies_inside c = λ e.
     all_flooded c.args.rows.now c.begun.result c.grow-new.new.flood c.args.row c.args.column c.begun.ensures.start
-    (c.may_begin.ensures.alive c.if-not-may_begin.false) (c.may_begin.ensures.place c.if-not-may_begin.false) c.begun.ensures.only
+    (lit (slice_index c.args.rows.now c.args.row) c.args.column c.if-rows-row-eq0.false) (record { above = c.if-row-lt4.false; below = c.if-row-ge60.false; west = c.if-column-lt4.false; east = c.if-column-ge60.false })
+    c.begun.ensures.only
     (grown_more c.args.rows.now c.begun.result c.loop.flood c.grow-new.new.flood c.loop.invariant.grown c.grow-new.ensures)
     (c.lies_inside.ensures c.if-lies_inside.true) (c.is_closed.ensures e)
 
 pub returns-else-lies_inside : goal.returns-else-lies_inside
 returns-else-lies_inside c = λ e. absurd (false≢true (sym c.if-lies_inside.false ∙ e))
 
-pub returns-then-not-may_begin : goal.returns-then-not-may_begin
-returns-then-not-may_begin c = λ e. absurd (false≢true e)
+pub returns-then-row-lt4 : goal.returns-then-row-lt4
+returns-then-row-lt4 c = λ e. absurd (false≢true e)
 
 pub begun-requires-clause-row : goal.begun-requires-clause-row
-begun-requires-clause-row c = within_64 _ (c.may_begin.ensures.place c.if-not-may_begin.false).below
+begun-requires-clause-row c = within_64 _ c.if-row-ge60.false
 
 pub earlier_first-first-requires-clause-low : goal.earlier_first-first-requires-clause-low
 earlier_first-first-requires-clause-low c = c.loop.invariant.least

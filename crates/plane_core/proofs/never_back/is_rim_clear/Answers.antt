@@ -1,4 +1,5 @@
-use Rattle.std.proofs.Common.{◌≡◌, ◌*◌, ◌<◌, ℕ, List, arith, inl, inr}
+use Rattle.std.proofs.Common.{◌≡◌, ◌*◌, ◌/◌, ◌^◌, ◌<◌, ℕ, IsTrue, List, arith, bit_and, inl, inr, nat_eq}
+use Rattle.std.proofs.lemmas.Grind.{common_steps}
 use Rattle.std.specs.Int.{bit_at}
 use Rattle.std.proofs.lemmas.Nat.Bits.{bit_at-lt}
 use Rattle.plane_core.specs.LonePatterns.{IsColumns}
@@ -15,12 +16,22 @@ dark n x w i r columns none low = elim (same_or_not (bit_at (row_at n x r) i) 1)
   | inr apart ↦ omega (arith, apart, bit_at-lt (row_at n x r) i)
 ]
 
+-- the first column and the last, by the word
+first_dark : (w : ℕ) → bit_and w 1 ≡ 0 → bit_at w 0 ≡ 0
+first_dark w none = grind (arith, common_steps)
+
+last_dark : (w : ℕ) → IsTrue (nat_eq (w / 2 ^ 63) 0) → bit_at w 63 ≡ 0
+last_dark w none = grind (arith, common_steps)
+
 pub returns : goal.returns
-returns g c = λ clear. let sides = c.are_sides_clear.ensures clear in record {
+returns g c = λ clear.
+    let first : bit_at c.args.columns 0 ≡ 0 = first_dark c.args.columns c.if-columns-ne0.false in
+    let last : bit_at c.args.columns 63 ≡ 0 = last_dark c.args.columns clear in
+    record {
   top = omega (arith, c.row.ensures, c.if-row-ne0.false);
   bottom = omega (arith, c.row-2.ensures, c.if-row-ne0-2.false);
-  left = λ r low. dark g.row.N c.args.window.now c.args.columns 0 r c.requires.columns sides.0 low;
-  right = λ r low. dark g.row.N c.args.window.now c.args.columns 63 r c.requires.columns sides.1 low;
+  left = λ r low. dark g.row.N c.args.window.now c.args.columns 0 r c.requires.columns first low;
+  right = λ r low. dark g.row.N c.args.window.now c.args.columns 63 r c.requires.columns last low;
 }
 
 pub row-requires : goal.row-requires
