@@ -1,7 +1,7 @@
 use Rattle.std.proofs.Common.{ℕ, ◌≡◌, ◌≢◌, ◌/◌, ◌^◌, ◌<◌, ◌∙◌, arith, bit_and, sym}
 use Rattle.std.specs.Int.{bit_at}
 use Rattle.std.specs.List.{slice_index}
-use Rattle.std.proofs.lemmas.Grind.{common_steps}
+use Rattle.std.proofs.lemmas.Nat.Bits.{bit_at-lt, shr_and_one}
 use Rattle.std.proofs.lemmas.Bool.{false≢true}
 use Rattle.plane_core.proofs.FloodLemmas.{all_flooded, grown_more, grown_none}
 use Rattle.plane_core.proofs.flood.flood.Goals as goal
@@ -11,7 +11,7 @@ within_64 n low = omega (arith, low)
 
 -- a bit that a shifted word shows
 lit : (w i : ℕ) → bit_and (w / 2 ^ i) 1 ≢ 0 → bit_at w i ≡ 1
-lit w i some = grind (arith, common_steps)
+lit w i some = omega (arith, bit_at-lt w i, shr_and_one w i, some)
 
 pub loop-init : goal.loop-init
 loop-init c =
