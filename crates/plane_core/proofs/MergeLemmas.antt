@@ -1,14 +1,14 @@
 -- The merge of three lists of tallies, one cell at a time.
 use Rattle.std.proofs.Common.{◌≡◌, ◌+◌, ◌<◌, ◌≤◌, Bool, true, false, ◌||◌, ◌&&◌, List, [], ◌∷◌, ◌++◌, arith}
-use Rattle.std.proofs.Common.{cond, refl, ap, ◌∙◌, sym, inl, inr, ◌⊎◌, length, Some, append_assoc}
+use Rattle.std.proofs.Common.{cond, refl, ap, ◌∙◌, sym, inl, inr, ◌⊎◌, length, None, Option, Some, append_assoc, append-nil, subst}
 use Rattle.std.specs.List.{list_all}
 use Rattle.std.proofs.lemmas.Bool.{and_parts, and_from}
 use Rattle.plane_core.specs.declared.cell.Cell.{Cell}
 use Rattle.plane_core.specs.declared.tally.Tally.{Tally}
 use Rattle.plane_core.specs.Cells.{same_cell, InOrder}
-use Rattle.plane_core.specs.Tallies.{cells_of, counted_at, alive_at, count_first, alive_first, remainder_at, first_of, earlier_of}
+use Rattle.plane_core.specs.Tallies.{cells_of, counted_at, alive_at, count_first, alive_first, remainder_at, first_of, earlier_of, IsMerged}
 use Rattle.plane_core.proofs.TallyLemmas.{total-append, alive_at-append, cells_of-append, total-remainder_at, alive_at-remainder_at, NoneEarlier, later_than_both}
-use Rattle.plane_core.proofs.TallyLemmas.{one_of_both, itself, none_earlier, begins, push_order, length-remainder_at, length-begins}
+use Rattle.plane_core.proofs.TallyLemmas.{one_of_both, itself, none_earlier, begins, push_order, length-remainder_at, length-begins, neither, none_left}
 
 -- what a merge has done, and what is left of its three lists
 pub record Merging (left middle right sums left_remainder middle_remainder right_remainder : List Tally) : Type 0 where
@@ -156,3 +156,42 @@ pub sum_small : (left middle right sums left_remainder middle_remainder right_re
     → count_first c left_remainder + count_first c middle_remainder + count_first c right_remainder < 256
 sum_small left middle right sums left_remainder middle_remainder right_remainder c m small =
     omega (arith, m.totals c, small c, first_in_total c left_remainder, first_in_total c middle_remainder, first_in_total c right_remainder)
+
+-- at the start nothing is merged
+pub merging_none : (left middle right : List Tally) → InOrder (cells_of left) → InOrder (cells_of middle) → InOrder (cells_of right)
+    → Merging left middle right [] left middle right
+merging_none left middle right left_order middle_order right_order = record {
+  totals = λ x. omega arith;
+  alive = λ x. refl;
+  left_order = left_order;
+  middle_order = middle_order;
+  right_order = right_order;
+  no_others = λ p all_left all_middle all_right. (refl, all_left, all_middle, all_right);
+}
+
+or-false : (a : Bool) → (a || false) ≡ a
+or-false true = refl
+or-false false = refl
+
+-- and where no list has a cell left, all is
+pub merging_all : (left middle right sums left_remainder middle_remainder right_remainder : List Tally)
+    → Merging left middle right sums left_remainder middle_remainder right_remainder
+    → earlier_of (first_of left_remainder) (earlier_of (first_of middle_remainder) (first_of right_remainder)) ≡ None → IsMerged left middle right sums
+merging_all left middle right sums left_remainder middle_remainder right_remainder m none =
+    let outer = neither (first_of left_remainder) (earlier_of (first_of middle_remainder) (first_of right_remainder)) none in
+    let both = neither (first_of middle_remainder) (first_of right_remainder) outer.1 in
+    let done : Merging left middle right sums [] [] [] =
+    subst (λ (ts : List Tally). Merging left middle right sums ts [] []) (none_left left_remainder outer.0)
+    (subst (λ (ts : List Tally). Merging left middle right sums left_remainder ts []) (none_left middle_remainder both.0)
+    (subst (λ (ts : List Tally). Merging left middle right sums left_remainder middle_remainder ts) (none_left right_remainder both.1) m)) in
+    record {
+      totals = λ c. omega (arith, done.totals c);
+      alive = λ c. sym (or-false (alive_at sums c)) ∙ done.alive c;
+      in_order = subst InOrder (append-nil (cells_of sums)) done.left_order;
+      no_others = λ p all_left all_middle all_right. (done.no_others p all_left all_middle all_right).0;
+    }
+
+-- the earliest cell, by the first cells of the lists
+pub earliest_of : (a b c o : Option Cell) (left middle right : List Tally) → a ≡ first_of left → b ≡ first_of middle → c ≡ first_of right
+    → o ≡ earlier_of a (earlier_of b c) → earlier_of (first_of left) (earlier_of (first_of middle) (first_of right)) ≡ o
+earliest_of a b c o left middle right first second third is = (λ i. earlier_of (sym first i) (earlier_of (sym second i) (sym third i))) ∙ sym is

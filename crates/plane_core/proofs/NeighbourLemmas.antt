@@ -1,14 +1,15 @@
 -- Tallies moved by a step, and the counts of a cell and its neighbours.
-use Rattle.std.proofs.Common.{◌≡◌, ℕ, ℤ, pos, negsuc, ◌+ℤ◌, neg_ℤ, ◌+◌, ◌≤◌, true, false, List, [], ◌∷◌, arith, cond, refl, ap, ◌∙◌, map, unsigned_abs, leb}
+use Rattle.std.proofs.Common.{◌≡◌, ℕ, ℤ, pos, negsuc, ◌+ℤ◌, neg_ℤ, ◌+◌, ◌-◌, ◌<◌, ◌≤◌, ◌&&◌, true, false, List, [], ◌∷◌, arith, cond, refl, ap, ◌∙◌, map, unsigned_abs, leb, length, get_or, take, drop, sym}
+use Rattle.std.proofs.lemmas.List.{take_all}
 use Rattle.std.specs.List.{list_all}
 use Rattle.std.specs.Ordering.{int_cmp, is_eq, ordering_then}
 use Rattle.std.proofs.lemmas.Int.{ints}
 use Rattle.std.proofs.lemmas.Bool.{and_parts, and_from, leb-true, le-leb}
 use Rattle.plane_core.specs.declared.cell.Cell.{Cell}
 use Rattle.plane_core.specs.declared.tally.Tally.{Tally}
-use Rattle.plane_core.specs.Cells.{plane_bound, moved_by, has, InOrder, on_plane, near_plane}
+use Rattle.plane_core.specs.Cells.{plane_bound, moved_by, same_cell, has, InOrder, on_plane, near_plane}
 use Rattle.plane_core.specs.Generations.{around}
-use Rattle.plane_core.specs.Tallies.{cells_of, counted_at, one_of, moved_tally, IsMerged, AddsNeighbours, CountsNeighbourhoods}
+use Rattle.plane_core.specs.Tallies.{cells_of, counted_at, count_first, alive_first, remainder_at, one_of, moved_tally, AreMovable, IsMerged, AddsNeighbours, CountsNeighbourhoods}
 use Rattle.plane_core.proofs.CellLemmas.{cell_cmp-moved}
 use Rattle.plane_core.proofs.SetLemmas.{IsBefore, in_order-head, in_order-tail, in_order-cons, in_order-nil}
 use Rattle.plane_core.proofs.NeighbourhoodLemmas.{neighbourhood_total-around}
@@ -88,6 +89,41 @@ adds_neighbours dx dy ts sums u v m = record {
       (all_moved_near dx dy ts u v on);
 }
 
+-- tallies that are moved by nothing
+pub moved_nowhere : (ts : List Tally) → map (moved_tally (pos 0) (pos 0)) ts ≡ ts
+moved_nowhere [] = refl
+moved_nowhere (t ∷ ts) = λ i. record { cell = record { y = on t.cell.y i; x = on t.cell.x i }; count = t.count; alive = t.alive } ∷ moved_nowhere ts i
+  where
+    on : (a : ℤ) → a +ℤ pos 0 ≡ a
+    on a = omega (arith, ints)
+
+-- all but the first tally can be moved as well, and each one that can
+pub tail_movable : (dx dy : ℤ) (t : Tally) (ts : List Tally) → AreMovable dx dy (t ∷ ts) → AreMovable dx dy ts
+tail_movable dx dy t ts m = record { right = m.right; down = m.down; near = (and_parts (near_plane t.cell) (list_all near_plane (cells_of ts)) m.near).1 }
+
+pub first_near : (dx dy : ℤ) (t : Tally) (ts : List Tally) → AreMovable dx dy (t ∷ ts) → near_plane t.cell ≡ true
+first_near dx dy t ts m = (and_parts (near_plane t.cell) (list_all near_plane (cells_of ts)) m.near).0
+
+-- a shift the other way, and none
+pub back_movable : (dx dy : ℤ) (ts : List Tally) → AreMovable dx dy ts → AreMovable (neg_ℤ dx) (neg_ℤ dy) ts
+back_movable dx dy ts m = record { right = neg_small dx m.right; down = neg_small dy m.down; near = m.near }
+
+pub still_movable : (dx dy : ℤ) (ts : List Tally) → AreMovable dx dy ts → AreMovable (pos 0) (pos 0) ts
+still_movable dx dy ts m = record { right = omega arith; down = omega arith; near = m.near }
+
+-- the totals of the three lists
+pub totals_moved : (dx dy bx by : ℤ) (ts : List Tally) → bx ≡ neg_ℤ dx → by ≡ neg_ℤ dy
+    → ((c : Cell) → counted_at ts (moved_by dx dy c) + (counted_at ts c + counted_at ts (moved_by (neg_ℤ dx) (neg_ℤ dy) c)) < 256)
+    → (c : Cell) → counted_at (map (moved_tally bx by) ts) c + (counted_at (map (moved_tally (pos 0) (pos 0)) ts) c + counted_at (map (moved_tally dx dy) ts) c) < 256
+totals_moved dx dy bx by ts x y small c =
+    rw (x, y, moved_nowhere ts) (omega (arith, small c, total-moved dx dy ts c, total-moved_back dx dy ts c))
+
+-- the merge of the three lists, as it ends
+pub adds_merged : (dx dy bx by : ℤ) (ts sums : List Tally) → bx ≡ neg_ℤ dx → by ≡ neg_ℤ dy → AreMovable dx dy ts
+    → IsMerged (map (moved_tally bx by) ts) (map (moved_tally (pos 0) (pos 0)) ts) (map (moved_tally dx dy) ts) sums → AddsNeighbours dx dy ts sums
+adds_merged dx dy bx by ts sums x y m merged =
+    adds_neighbours dx dy ts sums m.right m.down (rw (x, y, moved_nowhere ts) at merged)
+
 -- ---- a row of three cells, and three rows
 
 pub one_small : (S : List Cell) (c : Cell) → InOrder S → counted_at (map one_of S) c ≤ 1
@@ -107,3 +143,34 @@ counts_neighbourhoods S rows neighbourhoods o r b = record {
   alive = λ c. b.alive c ∙ r.alive c ∙ alive_at-ones S c;
   in_order = b.in_order;
 }
+
+-- ---- the first tally of a list, once it is moved
+
+-- it is one of c: what is left is the remainder
+pub moved_remainder : (dx dy : ℤ) (ts : List Tally) (c m : Cell) (d : Tally) → 1 ≤ length ts → m ≡ moved_by dx dy ((get_or ts 0 d).cell) → same_cell c m ≡ true
+    → map (moved_tally dx dy) (take (length ts - 1) (drop 1 ts)) ≡ remainder_at c (map (moved_tally dx dy) ts)
+moved_remainder dx dy [] c m d some is same = absurd (omega arith)
+moved_remainder dx dy (t ∷ ts) c m d some is same =
+    ap (map (moved_tally dx dy)) (take_all (length (t ∷ ts) - 1) ts (omega arith))
+    ∙ sym (ap (λ b. cond b (map (moved_tally dx dy) ts) (map (moved_tally dx dy) (t ∷ ts))) (ap (same_cell c) (sym is) ∙ same))
+
+-- there is none, or it is one of another cell: nothing is taken
+pub record TakesNothing (c : Cell) (moved : List Tally) : Type 0 where
+  pub count : 0 ≡ count_first c moved
+  pub alive : false ≡ alive_first c moved
+  pub remainder : moved ≡ remainder_at c moved
+
+pub nothing_left : (dx dy : ℤ) (ts : List Tally) (c : Cell) → length ts < 1 → TakesNothing c (map (moved_tally dx dy) ts)
+nothing_left dx dy [] c none = record { count = refl; alive = refl; remainder = refl }
+nothing_left dx dy (t ∷ ts) c none = absurd (omega arith)
+
+pub of_another : (dx dy : ℤ) (ts : List Tally) (c m : Cell) (d : Tally) → 1 ≤ length ts → m ≡ moved_by dx dy ((get_or ts 0 d).cell) → same_cell c m ≡ false
+    → TakesNothing c (map (moved_tally dx dy) ts)
+of_another dx dy [] c m d some is other = absurd (omega arith)
+of_another dx dy (t ∷ ts) c m d some is other =
+    let apart : same_cell c (moved_by dx dy t.cell) ≡ false = ap (same_cell c) (sym is) ∙ other in
+    record {
+      count = ap (λ b. cond b t.count 0) (sym apart);
+      alive = ap (λ b. b && t.alive) (sym apart);
+      remainder = ap (λ b. cond b (map (moved_tally dx dy) ts) (map (moved_tally dx dy) (t ∷ ts))) (sym apart);
+    }

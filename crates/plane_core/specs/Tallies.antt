@@ -1,7 +1,7 @@
 -- How a generation is counted: a list of tallies has, for cells in order, how many live cells were counted there.
 use Rattle.std.specs.Ordering.{match_ordering}
 use Rattle.std.specs.List.{list_all}
-use Rattle.std.specs.Prelude.{◌≡◌, Option, Some, None, ℕ, ℤ, ◌+◌, ◌-◌, Bool, true, false, ◌&&◌, ◌||◌, List, [], ◌∷◌, map, neg_ℤ, if◌then◌else◌}
+use Rattle.std.specs.Prelude.{◌≡◌, Option, Some, None, ℕ, ℤ, ◌+◌, ◌-◌, ◌≤◌, Bool, true, false, ◌&&◌, ◌||◌, List, [], ◌∷◌, map, neg_ℤ, unsigned_abs, if◌then◌else◌}
 use Rattle.plane_core.specs.declared.cell.Cell.{Cell}
 use Rattle.plane_core.specs.declared.tally.Tally.{Tally}
 use Rattle.plane_core.specs.Cells.{cell_cmp, same_cell, has, moved_by, on_plane, near_plane, InOrder}
@@ -29,6 +29,12 @@ one_of c = record { cell = c; count = 1; alive = true }
 -- the tally, counted at another cell
 abbrev pub moved_tally : ℤ → ℤ → Tally → Tally
 moved_tally dx dy t = record { cell = moved_by dx dy t.cell; count = t.count; alive = t.alive }
+
+-- the tallies can be counted at the cells (dx, dy) further, a column and a row further at most: no number gets too large
+pub record AreMovable (dx dy : ℤ) (tallies : List Tally) : Type 0 where
+  pub right : unsigned_abs dx ≤ 1
+  pub down : unsigned_abs dy ≤ 1
+  pub near : list_all near_plane (cells_of tallies) ≡ true
 
 -- a cell is alive next, where count is the number of live cells of its neighbourhood, itself among them where it is alive
 abbrev pub lives_by : Numbers → ℕ → Bool → Bool

@@ -12,12 +12,10 @@
 //!
 //! A live cell is counted in its own neighbourhood. So the four cells with a 3 are alive next under Life: one is dead
 //! and has three neighbours, and the others are alive and have two.
-ghost use Rattle.std.specs.Prelude.{◌≡◌, true, ℕ, ◌+◌, ◌<◌, ◌^◌, List, [], ◌∷◌, ◌||◌, ◌≤◌, map, filter, IfOk};
-ghost use Rattle.std.specs.Prelude.{MatchOption, unsigned_abs, neg_ℤ};
-ghost use Rattle.std.specs.List.{list_all};
+ghost use Rattle.std.specs.Prelude.{◌≡◌, ◌+◌, ◌<◌, ◌≤◌, map, filter, neg_ℤ, true, unsigned_abs, IfOk};
 ghost use Rattle.plane_core.specs.Cells.{InOrder, IsPattern, moved_by, near_plane};
-ghost use Rattle.plane_core.specs.Tallies.{AddsNeighbours, CountsNeighbourhoods, IsMerged, cells_of, counted_at};
-ghost use Rattle.plane_core.specs.Tallies.{alive_at, alive_first, count_first, earlier_of, first_of, moved_tally};
+ghost use Rattle.plane_core.specs.Tallies.{AddsNeighbours, AreMovable, CountsNeighbourhoods, cells_of, counted_at};
+ghost use Rattle.plane_core.specs.Tallies.{alive_first, count_first, earlier_of, first_of, moved_tally};
 ghost use Rattle.plane_core.specs.Tallies.{one_of, remainder_at, tally_lives};
 ghost use Rattle.plane_core.specs.declared.cell.Cell.{Cell};
 ghost use Rattle.plane_core.specs.declared.tally.Tally.{Tally};
@@ -38,17 +36,6 @@ pub(crate) struct Tally {
 }
 
 impl Tally {
-    /// The tally, counted at the cell (dx, dy) further.
-    fn moved(self, dx: i32, dy: i32) -> Tally
-        requires near { near_plane self.cell ≡ true }
-        requires right { unsigned_abs dx ≤ 1 }
-        requires down { unsigned_abs dy ≤ 1 }
-        ensures { result ≡ moved_tally dx dy self }
-    {
-        let cell = self.cell.moved(dx, dy);
-        Tally { cell, ..self }
-    }
-
     /// Whether the cell is alive next, if the count is that of its neighbourhood. A live cell is counted there itself.
     fn lives(self, rule: &Rule) -> bool
         ensures { result ≡ tally_lives rule.now self }
@@ -68,8 +55,8 @@ pub(crate) fn neighbourhoods(alloc: Global, cells: &[Cell]) -> Result<Vec<Tally>
     ensures { IfOk result (λ tallies. CountsNeighbourhoods cells.now tallies.items) }
 {
     let ones = counted(alloc, cells)?;
-    let rows = with_neighbours(alloc, ones.as_slice(), 1, 0)?;
-    with_neighbours(alloc, rows.as_slice(), 0, 1)
+    let rows = with_neighbours(alloc, ones.as_slice(), Shift { dx: 1, dy: 0 })?;
+    with_neighbours(alloc, rows.as_slice(), Shift { dx: 0, dy: 1 })
 }
 
 /// The cells that are alive next, by the counts of their neighbourhoods.
@@ -89,27 +76,6 @@ pub(crate) fn selected(
     Ok(cells)
 }
 
-/// Each cell's count together with those of the two cells a step (dx, dy) from it, one on either side.
-fn with_neighbours(
-    alloc: Global,
-    tallies: &[Tally],
-    dx: i32,
-    dy: i32,
-) -> Result<Vec<Tally>, OutOfMemory>
-    requires near { list_all near_plane (cells_of tallies.now) ≡ true }
-    requires in_order { InOrder (cells_of tallies.now) }
-    requires right { unsigned_abs dx ≤ 1 }
-    requires down { unsigned_abs dy ≤ 1 }
-    requires small { (c : Cell)
-        → counted_at tallies.now (moved_by dx dy c)
-        + (counted_at tallies.now c + counted_at tallies.now (moved_by (neg_ℤ dx) (neg_ℤ dy) c)) < 256 }
-    ensures { IfOk result (λ sums. AddsNeighbours dx dy tallies.now sums.items) }
-{
-    let left = moved(alloc, tallies, negated(dx), negated(dy))?;
-    let right = moved(alloc, tallies, dx, dy)?;
-    merged(alloc, left.as_slice(), tallies, right.as_slice())
-}
-
 /// Each cell of the pattern, counted once at itself.
 fn counted(alloc: Global, cells: &[Cell]) -> Result<Vec<Tally>, OutOfMemory>
     ensures { IfOk result (λ tallies. tallies.items ≡ map one_of cells.now) }
@@ -125,46 +91,71 @@ fn counted(alloc: Global, cells: &[Cell]) -> Result<Vec<Tally>, OutOfMemory>
     Ok(tallies)
 }
 
-/// The tallies, each counted at the cell (dx, dy) further.
-fn moved(alloc: Global, tallies: &[Tally], dx: i32, dy: i32) -> Result<Vec<Tally>, OutOfMemory>
-    requires near { list_all near_plane (cells_of tallies.now) ≡ true }
-    requires right { unsigned_abs dx ≤ 1 }
-    requires down { unsigned_abs dy ≤ 1 }
-    ensures { IfOk result (λ moved. moved.items ≡ map (moved_tally dx dy) tallies.now) }
-{
-    let mut moved = Vec::with_capacity(alloc, tallies.len())?;
-    for tally in tallies {
-        moved.push(tally.moved(dx, dy))?;
-    }
-    Ok(moved)
+/// By how much a list of tallies is moved: by a column or a row at most.
+#[derive(Clone, Copy)]
+struct Shift {
+    dx: i32,
+    dy: i32,
 }
 
-/// Three lists of tallies in order, made one: what is counted at a cell is what the three have there together, and
-/// the middle list says what is alive.
-fn merged(
+impl Shift {
+    /// The cell a shift further.
+    fn of(self, cell: Cell) -> Cell
+        requires near { near_plane cell ≡ true }
+        requires right { unsigned_abs self.dx ≤ 1 }
+        requires down { unsigned_abs self.dy ≤ 1 }
+        ensures { result ≡ moved_by self.dx self.dy cell }
+    {
+        cell.moved(self.dx, self.dy)
+    }
+
+    /// The shift the other way.
+    fn back(self) -> Shift
+        requires right { unsigned_abs self.dx ≤ 1 }
+        requires down { unsigned_abs self.dy ≤ 1 }
+        ensures { result ≡ record { dx = neg_ℤ self.dx; dy = neg_ℤ self.dy } }
+    {
+        Shift {
+            dx: negated(self.dx),
+            dy: negated(self.dy),
+        }
+    }
+}
+
+/// Each cell's count together with those of the two cells a shift from it, one on either side. The list is gone along
+/// three times at once, moved to one side, not at all, and to the other.
+fn with_neighbours(
     alloc: Global,
-    left: &[Tally],
-    middle: &[Tally],
-    right: &[Tally],
+    tallies: &[Tally],
+    by: Shift,
 ) -> Result<Vec<Tally>, OutOfMemory>
-    requires orders { InOrder (cells_of left.now) × InOrder (cells_of middle.now) × InOrder (cells_of right.now) }
-    requires small { (c : Cell) → counted_at left.now c + (counted_at middle.now c + counted_at right.now c) < 256 }
-    ensures { IfOk result (λ sums. IsMerged left.now middle.now right.now sums.items) }
+    requires movable { AreMovable by.dx by.dy tallies.now }
+    requires in_order { InOrder (cells_of tallies.now) }
+    requires small { (c : Cell)
+        → counted_at tallies.now (moved_by by.dx by.dy c)
+        + (counted_at tallies.now c + counted_at tallies.now (moved_by (neg_ℤ by.dx) (neg_ℤ by.dy) c)) < 256 }
+    ensures { IfOk result (λ sums. AddsNeighbours by.dx by.dy tallies.now sums.items) }
 {
-    let (mut left_remainder, mut middle_remainder, mut right_remainder) = (left, middle, right);
+    let back = by.back();
+    let none = Shift { dx: 0, dy: 0 };
+    let (mut left, mut middle, mut right) = (tallies, tallies, tallies);
     let mut sums = Vec::new(alloc);
-    while let Some(cell) = earliest(left_remainder, middle_remainder, right_remainder) {
-        let from_left = take_at(left_remainder, cell);
-        let from_middle = take_at(middle_remainder, cell);
-        let from_right = take_at(right_remainder, cell);
+    while let Some(cell) = earliest(
+        first_cell(left, back),
+        first_cell(middle, none),
+        first_cell(right, by),
+    ) {
+        let from_left = take_at(left, back, cell);
+        let from_middle = take_at(middle, none, cell);
+        let from_right = take_at(right, by, cell);
         sums.push(Tally {
             cell,
             count: from_left.count + from_middle.count + from_right.count,
             alive: from_middle.alive,
         })?;
-        left_remainder = from_left.remainder;
-        middle_remainder = from_middle.remainder;
-        right_remainder = from_right.remainder;
+        left = from_left.remainder;
+        middle = from_middle.remainder;
+        right = from_right.remainder;
     }
     Ok(sums)
 }
@@ -177,14 +168,17 @@ struct Taken<'a> {
     remainder: &'a [Tally],
 }
 
-/// Takes the first tally off the list if it is one of this cell.
-fn take_at(tallies: &[Tally], cell: Cell) -> Taken<'_>
-    ensures count { result.count ≡ count_first cell tallies.now }
-    ensures alive { result.alive ≡ alive_first cell tallies.now }
-    ensures remainder { result.remainder.now ≡ remainder_at cell tallies.now }
+/// Takes the first tally off the list if it is one of this cell, once it is moved.
+fn take_at(tallies: &[Tally], by: Shift, cell: Cell) -> Taken<'_>
+    requires { AreMovable by.dx by.dy tallies.now }
+    ensures count { result.count ≡ count_first cell (map (moved_tally by.dx by.dy) tallies.now) }
+    ensures alive { result.alive ≡ alive_first cell (map (moved_tally by.dx by.dy) tallies.now) }
+    ensures remainder { map (moved_tally by.dx by.dy) result.remainder.now
+        ≡ remainder_at cell (map (moved_tally by.dx by.dy) tallies.now) }
+    ensures movable { AreMovable by.dx by.dy result.remainder.now }
 {
     match tallies {
-        [first, remainder @ ..] if cell == first.cell => Taken {
+        [first, remainder @ ..] if cell == by.of(first.cell) => Taken {
             count: first.count,
             alive: first.alive,
             remainder,
@@ -197,14 +191,11 @@ fn take_at(tallies: &[Tally], cell: Cell) -> Taken<'_>
     }
 }
 
-/// The earliest cell of three lists of tallies.
-fn earliest(left: &[Tally], middle: &[Tally], right: &[Tally]) -> Option<Cell>
-    ensures { result ≡ earlier_of (first_of left.now) (earlier_of (first_of middle.now) (first_of right.now)) }
+/// The earliest of three cells, where there are some.
+fn earliest(a: Option<Cell>, b: Option<Cell>, c: Option<Cell>) -> Option<Cell>
+    ensures { result ≡ earlier_of a (earlier_of b c) }
 {
-    earlier(
-        first_cell(left),
-        earlier(first_cell(middle), first_cell(right)),
-    )
+    earlier(a, earlier(b, c))
 }
 
 /// The earlier of two cells.
@@ -221,12 +212,13 @@ fn earlier(a: Option<Cell>, b: Option<Cell>) -> Option<Cell>
     }
 }
 
-/// The cell of the first tally.
-fn first_cell(tallies: &[Tally]) -> Option<Cell>
-    ensures { result ≡ first_of tallies.now }
+/// The cell of the first tally, once it is moved.
+fn first_cell(tallies: &[Tally], by: Shift) -> Option<Cell>
+    requires { AreMovable by.dx by.dy tallies.now }
+    ensures { result ≡ first_of (map (moved_tally by.dx by.dy) tallies.now) }
 {
     match tallies {
         [] => None,
-        [first, ..] => Some(first.cell),
+        [first, ..] => Some(by.of(first.cell)),
     }
 }

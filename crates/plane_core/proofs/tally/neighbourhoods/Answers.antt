@@ -8,10 +8,10 @@ use Rattle.plane_core.proofs.GenerationLemmas.{cells_of-ones}
 use Rattle.plane_core.proofs.NeighbourLemmas.{all_near, one_small, row_small, counts_neighbourhoods}
 use Rattle.plane_core.proofs.tally.neighbourhoods.Goals as goal
 
-pub with_neighbours-requires-clause-near : goal.with_neighbours-requires-clause-near
-with_neighbours-requires-clause-near c =
+pub with_neighbours-requires-clause-movable : goal.with_neighbours-requires-clause-movable
+with_neighbours-requires-clause-movable c =
     let ones : c.as_slice.result.now ≡ map one_of c.args.cells.now = c.as_slice.ensures.value ∙ c.in_ok-ones.ensures in
-    rw (ones, cells_of-ones) (all_near c.args.cells.now c.requires.on_plane)
+    record { right = omega arith; down = omega arith; near = rw (ones, cells_of-ones) (all_near c.args.cells.now c.requires.on_plane) }
 
 pub with_neighbours-requires-clause-in_order : goal.with_neighbours-requires-clause-in_order
 with_neighbours-requires-clause-in_order c =
@@ -29,11 +29,11 @@ with_neighbours-requires-clause-small c = λ x.
       one_small c.args.cells.now (moved_by (negsuc 0) (pos 0) x) in_order,
     ))
 
-pub with_neighbours-requires-2-clause-near : goal.with_neighbours-requires-2-clause-near
-with_neighbours-requires-2-clause-near c =
+pub with_neighbours-requires-2-clause-movable : goal.with_neighbours-requires-2-clause-movable
+with_neighbours-requires-2-clause-movable c =
     let ones : c.as_slice.result.now ≡ map one_of c.args.cells.now = c.as_slice.ensures.value ∙ c.in_ok-ones.ensures in
     let on : list_all on_plane (cells_of c.as_slice.result.now) ≡ true = rw (ones, cells_of-ones) c.requires.on_plane in
-    rw c.as_slice-2.ensures.value (c.in_ok-rows.ensures.near on)
+    record { right = omega arith; down = omega arith; near = rw c.as_slice-2.ensures.value (c.in_ok-rows.ensures.near on) }
 
 pub with_neighbours-requires-2-clause-small : goal.with_neighbours-requires-2-clause-small
 with_neighbours-requires-2-clause-small c = λ x.
