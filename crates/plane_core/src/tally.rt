@@ -80,7 +80,7 @@ pub(crate) fn selected(
 fn counted(alloc: Global, cells: &[Cell]) -> Result<Vec<Tally>, OutOfMemory>
     ensures { IfOk result (λ tallies. tallies.items ≡ map one_of cells.now) }
 {
-    let mut tallies = Vec::with_capacity(alloc, cells.len())?;
+    let mut tallies = Vec::new(alloc);
     for cell in cells {
         tallies.push(Tally {
             cell: *cell,
