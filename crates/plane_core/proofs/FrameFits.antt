@@ -40,6 +40,9 @@ fits_window_end y n low few = record { fits = omega arith }
 pub window_low : (at : Frame) (y : ℕ) → IsFrame at → y + 40 ≤ at.rows → y < 2 ^ 32
 window_low at y frame inside = let h = frame.rows in omega arith
 
+pub fits_row_below : (at : Frame) (y : ℕ) → IsFrame at → y < at.rows → Fits w64 (y + 1)
+fits_row_below at y frame inside = let h = frame.rows in record { fits = omega arith }
+
 pub fits_lane_beside : (at : Frame) (x : ℕ) → IsFrame at → x / 64 + 1 < at.lanes → Fits w64 (x / 64 + 1)
 fits_lane_beside at x frame inside = let h = frame.lanes in record { fits = omega arith }
 

@@ -82,25 +82,7 @@ fn widen(spans: &mut [Span], lane: usize, rows: Span)
     spans[lane] = spans[lane].joined(rows);
 }
 
-/// Widens the spans by the inner part of a window, which may lie in two lanes.
-fn widen_by_one(at: Frame, spans: &mut [Span], place: Place)
-    requires frame { IsFrame at }
-    requires on_board { IsOnBoard at place }
-    requires long { length spans.old ≡ at.lanes }
-    ensures kept { AreWidened spans.old spans.new }
-    ensures covered { HoldInner at spans.new place }
-{
-    let lane = column_of(at, place) / 64;
-    let row = row_of(at, place);
-    let rows = Span {
-        from: row + 4,
-        end: row + 36,
-    };
-    widen(spans, lane, rows);
-    widen(spans, lane + 1, rows);
-}
-
-/// Widens the spans by the inner parts of windows.
+/// Widens the spans by the inner parts of windows, each of which may lie in two lanes.
 pub(crate) fn widen_by(at: Frame, spans: &mut [Span], places: &[Place])
     requires frame { IsFrame at }
     requires on_board { All (IsOnBoard at) places.now }
@@ -109,25 +91,15 @@ pub(crate) fn widen_by(at: Frame, spans: &mut [Span], places: &[Place])
     ensures covered { HoldCovered at spans.new places.now }
 {
     for place in places {
-        widen_by_one(at, spans, *place);
+        let lane = column_of(at, *place) / 64;
+        let row = row_of(at, *place);
+        let rows = Span {
+            from: row + 4,
+            end: row + 36,
+        };
+        widen(spans, lane, rows);
+        widen(spans, lane + 1, rows);
     }
-}
-
-/// Widens the spans by a cell.
-fn widen_by_cell(at: Frame, spans: &mut [Span], cell: Cell)
-    requires frame { IsFrame at }
-    requires within { IsWithin (bounds_of at) cell }
-    requires long { length spans.old ≡ at.lanes }
-    ensures kept { AreWidened spans.old spans.new }
-    ensures held { LieInSpans at spans.new (cell ∷ []) }
-{
-    let lane = at.across(cell) / 64;
-    let row = at.down(cell);
-    let rows = Span {
-        from: row,
-        end: row + 1,
-    };
-    widen(spans, lane, rows);
 }
 
 /// Widens the spans by cells.
@@ -139,7 +111,13 @@ pub(crate) fn widen_by_cells(at: Frame, spans: &mut [Span], cells: &[Cell])
     ensures held { LieInSpans at spans.new cells.now }
 {
     for cell in cells {
-        widen_by_cell(at, spans, *cell);
+        let lane = at.across(*cell) / 64;
+        let row = at.down(*cell);
+        let rows = Span {
+            from: row,
+            end: row + 1,
+        };
+        widen(spans, lane, rows);
     }
 }
 
