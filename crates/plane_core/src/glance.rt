@@ -76,7 +76,9 @@ pub(crate) fn place_round(pattern: &Pattern) -> Option<Place>
     ensures inside { IfSome result
         (λ place. (c : Cell) → has pattern.now c ≡ true → IsInWindow 16 place.left place.top c) }
 {
-    let bounds = pattern.bounds()?;
+    let Some(bounds) = pattern.bounds() else {
+        return None;
+    };
     if farthest(bounds) > INLAND {
         return None;
     }

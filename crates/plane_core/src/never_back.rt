@@ -212,7 +212,9 @@ fn corner_of<const N: usize>(window: &[u64x4; N], columns: u64) -> Option<Corner
     requires alive { 0 < columns }
     ensures { IfSome result (IsCorner N window.now columns) }
 {
-    let row = first_row(window)?;
+    let Some(row) = first_row(window) else {
+        return None;
+    };
     Some(Corner {
         row,
         column: columns.trailing_zeros(),
