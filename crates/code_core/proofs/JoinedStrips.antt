@@ -1,6 +1,7 @@
 -- The text of a pattern, strip by strip.
-use Rattle.std.proofs.Common.{◌≡◌, ℕ, zero, suc, ◌+◌, ◌≤◌, ◌/◌, List, [], ◌∷◌, ◌++◌, map, arith, refl, ap, sym, ◌∙◌}
+use Rattle.std.proofs.Common.{◌≡◌, ℕ, zero, suc, ◌+◌, ◌<◌, ◌≤◌, ◌/◌, ◌==◌, List, [], ◌∷◌, ◌++◌, map, arith, false, true, append-nil, if◌then◌else◌, refl, ap, sym, ◌∙◌}
 use Rattle.std.specs.List.{flat_map, range_with_len}
+use Rattle.std.proofs.lemmas.Bool.Decides.{nat_tests}
 use Rattle.std.proofs.lemmas.Grind.{flat_map-append}
 use Rattle.std.proofs.lemmas.List.{append_assoc}
 use Rattle.std.proofs.lemmas.List.FromFn.{map-range_with_len_more}
@@ -23,9 +24,9 @@ strip_of cells width k = strip_tokens (strip cells width k)
 unfoldable pub strips_text : List Cell → ℕ → ℕ → List ℕ
 strips_text cells width n = spelled (joined_strips (map (strip_of cells width) (range_with_len 0 n)))
 
-pub strips_begin : (cells : List Cell) (width : ℕ) → strips_text cells width 1 ≡ flat_map spelling (strip_tokens (strip cells width 0))
+pub strips_none : (cells : List Cell) (width : ℕ) → strips_text cells width 0 ≡ []
 unfolding strips_text
-strips_begin cells width = refl
+strips_none cells width = refl
 
 pub strips_more : (cells : List Cell) (width n : ℕ) → 1 ≤ n → strips_text cells width (n + 1) ≡ (strips_text cells width n ++ 122 ∷ [])
     ++ flat_map spelling (strip_tokens (strip cells width n))
@@ -39,6 +40,26 @@ strips_more cells width (suc n) h =
     ∙ ap spelled (joined-push (f 0) (map f (range_with_len 1 n)) last)
     ∙ flat_map-append spelling (joined_strips (map f before)) (NextStrip ∷ last)
     ∙ sym (append_assoc (spelled (joined_strips (map f before))) (122 ∷ []) (spelled last))
+
+-- what stands before a strip: nothing before the first, and a `z` (122) before each other
+pub parted_first : (k : ℕ) (old new : List ℕ) → k ≤ 0 → new ≡ old → new ≡ old ++ (if k == 0 then [] else 122 ∷ [])
+parted_first k old new low same =
+    let none : (k == 0) ≡ true = grind (arith, nat_tests) in
+    rw none (same ∙ sym (append-nil old))
+
+pub parted_other : (k : ℕ) (old new : List ℕ) → 0 < k → new ≡ old ++ 122 ∷ [] → new ≡ old ++ (if k == 0 then [] else 122 ∷ [])
+parted_other k old new some is =
+    let other : (k == 0) ≡ false = grind (arith, nat_tests) in
+    rw other is
+
+-- one strip more, which a `z` (122) parts from those above it, if there are some
+pub strips_step : (cells : List Cell) (width n : ℕ) → strips_text cells width (n + 1)
+    ≡ (strips_text cells width n ++ (if n == 0 then [] else 122 ∷ [])) ++ flat_map spelling (strip_tokens (strip cells width n))
+unfolding strips_text
+strips_step cells width zero = refl
+strips_step cells width (suc n) =
+    let some : (suc n == 0) ≡ false = grind (arith, nat_tests) in
+    rw some (strips_more cells width (suc n) (omega arith))
 
 pub strips_are : (cells : List Cell) (right bottom : ℕ) → flat_map spelling (tokens_of cells right bottom) ≡ strips_text cells (right + 1) (bottom / 5 + 1)
 unfolding strips_text tokens_of

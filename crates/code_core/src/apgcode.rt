@@ -145,12 +145,7 @@ pub fn readings()
 
 /// The text of a name.
 #[tactic(auto, unfolding(crate::specs::Apgcodes::code_text))]
-fn spelled(
-    alloc: Global,
-    kind: Kind,
-    number: u64,
-    text: Option<&str>,
-) -> Result<String, AllocError>
+fn spelled(alloc: Global, kind: Kind, number: u64, text: Option<&str>) -> Result<String, AllocError>
     ensures { IfOk result (λ code. string_bytes code ≡ code_text kind number (option_map (λ t. t.now) text.entry)) }
 {
     let letter = kind.letter();

@@ -16,7 +16,7 @@
 //! before it, and so nothing is written of a run that ends a strip.
 
 ghost use Rattle.std.specs.Prelude.{◌≡◌, ◌+◌, ◌<◌, ◌≤◌, ◌++◌, ◌∷◌, [], pos, Some, IfOk, OnOk, flat_map, option_map};
-ghost use Rattle.std.specs.Prelude.{replicate, if◌then◌else◌, ◌==◌};
+ghost use Rattle.std.specs.Prelude.{codes, replicate, if◌then◌else◌, ◌==◌};
 ghost use Rattle.std.specs.String.{string_bytes};
 ghost use Rattle.plane_core.specs.Bounds.{at_corner, box_of};
 ghost use Rattle.plane_core.specs.Cells.{cell_at, distance, has};
@@ -100,15 +100,14 @@ fn text_in(alloc: Global, pattern: &Pattern, bounds: Bounds) -> Result<String, O
         tokens_of (at_corner pattern.now) (distance bounds.left bounds.right) (distance bounds.top bounds.bottom))) }
 {
     let mut text = String::new(alloc);
-    push_strip(&mut text, pattern, bounds, 0)?;
-    for k in 1..last_row(bounds) / STRIP + 1 {
-        text.push('z')?;
+    for k in 0..last_row(bounds) / STRIP + 1 {
         push_strip(&mut text, pattern, bounds, k)?;
     }
     Ok(text)
 }
 
-/// Adds the text of strip k, of which there are at most eight, of a pattern with this box.
+/// Adds the text of strip k, of which there are at most eight, of a pattern with this box. A `z` parts it from the strip
+/// before it.
 fn push_strip(
     text: &mut String,
     pattern: &Pattern,
@@ -118,9 +117,12 @@ fn push_strip(
     requires bounds { box_of pattern.now ≡ Some bounds }
     requires width { distance bounds.left bounds.right < CODE_SIDE_LIMIT }
     requires strip { k < 8 }
-    ensures { OnOk result (string_bytes text.new ≡ string_bytes text.old ++ flat_map spelling (
-        strip_tokens (strip (at_corner pattern.now) (distance bounds.left bounds.right + 1) k))) }
+    ensures { OnOk result (string_bytes text.new ≡ (string_bytes text.old ++ (if k == 0 then [] else codes "z"))
+        ++ flat_map spelling (strip_tokens (strip (at_corner pattern.now) (distance bounds.left bounds.right + 1) k))) }
 {
+    if k > 0 {
+        text.push('z')?;
+    }
     let mut gap = 0;
     for x in 0..last_column(bounds) + 1 {
         let value = column(pattern, bounds, k, x);

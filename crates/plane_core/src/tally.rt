@@ -124,11 +124,7 @@ impl Shift {
 
 /// Each cell's count together with those of the two cells a shift from it, one on either side. The list is gone along
 /// three times at once, moved to one side, not at all, and to the other.
-fn with_neighbours(
-    alloc: Global,
-    tallies: &[Tally],
-    by: Shift,
-) -> Result<Vec<Tally>, OutOfMemory>
+fn with_neighbours(alloc: Global, tallies: &[Tally], by: Shift) -> Result<Vec<Tally>, OutOfMemory>
     requires movable { AreMovable by.dx by.dy tallies.now }
     requires in_order { InOrder (cells_of tallies.now) }
     requires small { (c : Cell)

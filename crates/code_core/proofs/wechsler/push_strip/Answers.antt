@@ -1,8 +1,10 @@
-use Rattle.std.proofs.Common.{◌+◌, ◌<◌, arith}
+use Rattle.std.proofs.Common.{◌≡◌, ◌==◌, ◌+◌, ◌<◌, ◌++◌, ◌∷◌, ◌∙◌, [], ℕ, List, ap, arith, if◌then◌else◌, string_bytes}
 use Rattle.plane_core.specs.Bounds.{at_corner}
 use Rattle.plane_core.specs.Cells.{distance}
-use Rattle.code_core.proofs.StripLemmas.{strip_more-live, strip_more-empty, strip_done}
-use Rattle.code_core.proofs.wechsler.push_strip.Goals.{then-value-eq0, else-value-eq0+in_ok-push_column}
+use Rattle.code_core.specs.Texts.{strip, strip_tokens}
+use Rattle.code_core.proofs.JoinedStrips.{parted_first, parted_other}
+use Rattle.code_core.proofs.StripLemmas.{spelled, strip_more-live, strip_more-empty, strip_done}
+use Rattle.code_core.proofs.wechsler.push_strip.Goals.{then-k-gt0+in_ok-push, else-k-gt0, then-value-eq0, else-value-eq0+in_ok-push_column}
 use Rattle.code_core.proofs.wechsler.push_strip.Goals as goal
 
 pub loop-x-preserved : goal.loop-x-preserved
@@ -28,4 +30,11 @@ pub returns : goal.returns
 returns c =
     let cells = at_corner c.args.pattern.now in
     let width = distance c.args.bounds.left c.args.bounds.right + 1 in
+    let old = string_bytes c.args.text.now in
+    let begun : string_bytes c.if-k-gt0.text ≡ old ++ (if c.args.k == 0 then [] else 122 ∷ []) = elim c.if-k-gt0.branch [
+      | then-k-gt0+in_ok-push w ↦ parted_other c.args.k old _ w.if-k-gt0.true
+          (ap string_bytes w.text-is ∙ w.in_ok-push.ensures.bytes ∙ ap (λ (bytes : List ℕ). old ++ bytes) (w.in_ok-push.ensures.ascii (omega arith)))
+      | else-k-gt0 w ↦ parted_first c.args.k old _ w.if-k-gt0.false (ap string_bytes w.text-is)
+    ] in
     strip_done cells width c.args.k c.loop-x.gap c.loop-x.x _ _ (omega (arith, c.last_column-x-end.ensures)) c.loop-x.invariant.1
+    ∙ ap (λ (bytes : List ℕ). bytes ++ spelled (strip_tokens (strip cells width c.args.k))) begun

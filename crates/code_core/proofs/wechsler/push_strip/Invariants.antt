@@ -9,4 +9,4 @@ use Rattle.code_core.proofs.wechsler.push_strip.Given as goal
 abbrev pub invariant-loop-x : goal.invariant-loop-x
 invariant-loop-x l =
     (l.gap ≤ l.x) × (string_bytes l.text ++ remainder_text (at_corner l.pattern) (distance l.bounds.left l.bounds.right + 1)
-    l.k l.gap l.x ≡ string_bytes l.fn.text ++ remainder_text (at_corner l.pattern) (distance l.bounds.left l.bounds.right + 1) l.k 0 0)
+    l.k l.gap l.x ≡ string_bytes l.initial.text ++ remainder_text (at_corner l.pattern) (distance l.bounds.left l.bounds.right + 1) l.k 0 0)

@@ -1,8 +1,8 @@
-use Rattle.std.proofs.Common.{◌≡◌, ◌+◌, ◌/◌, ◌++◌, List, ℕ, arith, ap, flat_map, sym, ◌∙◌}
+use Rattle.std.proofs.Common.{◌≡◌, ◌+◌, ◌/◌, ◌++◌, [], ◌∷◌, ◌==◌, List, ℕ, arith, ap, flat_map, sym, ◌∙◌, if◌then◌else◌}
 use Rattle.std.proofs.lemmas.Result.{IfOk-from_err}
 use Rattle.plane_core.specs.Bounds.{at_corner}
 use Rattle.plane_core.specs.Cells.{distance}
-use Rattle.code_core.proofs.JoinedStrips.{strips_are, strips_begin, strips_more, strips_text}
+use Rattle.code_core.proofs.JoinedStrips.{strips_are, strips_none, strips_step, strips_text}
 use Rattle.code_core.specs.Texts.{strip, strip_tokens}
 use Rattle.code_core.specs.Tokens.{spelling}
 use Rattle.code_core.proofs.wechsler.text_in.Goals as goal
@@ -16,37 +16,27 @@ returns c =
     let all : c.loop-k.k ≡ bottom / 5 + 1 = omega arith in
     c.loop-k.invariant ∙ ap (strips_text cells (right + 1)) all ∙ sym (strips_are cells right bottom)
 
-pub push_strip-requires-in-loop-k-clause-bounds : goal.push_strip-requires-in-loop-k-clause-bounds
-push_strip-requires-in-loop-k-clause-bounds c = c.requires.bounds
+pub push_strip-requires-clause-bounds : goal.push_strip-requires-clause-bounds
+push_strip-requires-clause-bounds c = c.requires.bounds
 
-pub push_strip-requires-in-loop-k-clause-width : goal.push_strip-requires-in-loop-k-clause-width
-push_strip-requires-in-loop-k-clause-width c = c.requires.width
+pub push_strip-requires-clause-width : goal.push_strip-requires-clause-width
+push_strip-requires-clause-width c = c.requires.width
 
-pub push_strip-requires-in-loop-k-clause-strip : goal.push_strip-requires-in-loop-k-clause-strip
-push_strip-requires-in-loop-k-clause-strip c = omega (arith, c.last_row.ensures, c.requires.height)
+pub push_strip-requires-clause-strip : goal.push_strip-requires-clause-strip
+push_strip-requires-clause-strip c = omega (arith, c.last_row.ensures, c.requires.height)
 
 pub loop-k-init : goal.loop-k-init
 loop-k-init c =
-    let cells = at_corner c.args.pattern.now in
-    let width = distance c.args.bounds.left c.args.bounds.right + 1 in
-    c.in_ok-push_strip.ensures
-    ∙ ap (λ (bytes : List ℕ). bytes ++ flat_map spelling (strip_tokens (strip cells width 0))) c.new-text.ensures.bytes
-    ∙ sym (strips_begin cells width)
+    c.new-text.ensures.bytes ∙ sym (strips_none (at_corner c.args.pattern.now) (distance c.args.bounds.left c.args.bounds.right + 1))
 
 pub loop-k-preserved : goal.loop-k-preserved
 loop-k-preserved c =
     let cells = at_corner c.args.pattern.now in
     let width = distance c.args.bounds.left c.args.bounds.right + 1 in
-    c.in_ok-push_strip-2.ensures
-    ∙ ap (λ (bytes : List ℕ). bytes ++ flat_map spelling (strip_tokens (strip cells width c.loop-k.k)))
-    (c.in_ok-push.ensures.bytes ∙ (λ i. c.loop-k.invariant i ++ c.in_ok-push.ensures.ascii (omega arith) i))
-    ∙ sym (strips_more cells width c.loop-k.k (omega arith))
+    let k = c.loop-k.k in
+    c.in_ok-push_strip.ensures
+    ∙ ap (λ (bytes : List ℕ). (bytes ++ (if k == 0 then [] else 122 ∷ [])) ++ flat_map spelling (strip_tokens (strip cells width k))) c.loop-k.invariant
+    ∙ sym (strips_step cells width k)
 
 pub returns-in_err-push_strip : goal.returns-in_err-push_strip
 returns-in_err-push_strip c = IfOk-from_err _ _ c.from_residual.ensures.0
-
-pub returns-in_err-push : goal.returns-in_err-push
-returns-in_err-push c = IfOk-from_err _ _ c.from_residual-in_err-push.ensures.0
-
-pub returns-in_err-push_strip-2 : goal.returns-in_err-push_strip-2
-returns-in_err-push_strip-2 c = IfOk-from_err _ _ c.from_residual-in_err-push_strip-2.ensures.0

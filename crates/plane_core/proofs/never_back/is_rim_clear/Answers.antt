@@ -28,11 +28,11 @@ returns g c = λ clear.
     let first : bit_at c.args.columns 0 ≡ 0 = first_dark c.args.columns c.if-columns-ne0.false in
     let last : bit_at c.args.columns 63 ≡ 0 = last_dark c.args.columns clear in
     record {
-  top = omega (arith, c.row.ensures, c.if-row-ne0.false);
-  bottom = omega (arith, c.row-2.ensures, c.if-row-ne0-2.false);
-  left = λ r low. dark g.row.N c.args.window.now c.args.columns 0 r c.requires.columns first low;
-  right = λ r low. dark g.row.N c.args.window.now c.args.columns 63 r c.requires.columns last low;
-}
+      top = omega (arith, c.row.ensures, c.if-row-ne0.false);
+      bottom = omega (arith, c.row-2.ensures, c.if-row-ne0-2.false);
+      left = λ r low. dark g.row.N c.args.window.now c.args.columns 0 r c.requires.columns first low;
+      right = λ r low. dark g.row.N c.args.window.now c.args.columns 63 r c.requires.columns last low;
+    }
 
 pub row-requires : goal.row-requires
 row-requires g c = (few_vectors g.row.N c.requires.few, (c.requires.some, first_row_low g.row.N c.requires.some))
