@@ -111,10 +111,7 @@ fn listed(alloc: Global, counts: BTreeMap<Apgcode, u64>) -> Result<Objects, OutO
     ensures entries { IfOk result (λ objects. objects ≡ counts.entries) }
     ensures lawful { IfOk result AreObjects }
 {
-    let mut counted = Vec::with_capacity(alloc, counts.len())?;
-    for object in counts {
-        counted.push(object)?;
-    }
+    let counted = counts.into_iter().collect(alloc)?;
     Ok(Objects { counted })
 }
 
