@@ -58,11 +58,7 @@ fn numbers(alloc: Global, count: usize) -> Result<Vec<usize>, OutOfMemory>
     ensures count { IfOk result (λ numbers. length numbers.items ≡ count) }
     ensures below { IfOk result (λ numbers. All (λ k. k < count) numbers.items) }
 {
-    let mut numbers = Vec::with_capacity(alloc, count)?;
-    for place in 0..count {
-        numbers.push(place)?;
-    }
-    Ok(numbers)
+    Ok((0..count).collect(alloc)?)
 }
 
 /// Joins the group of the cluster at this place with those of the clusters before it that it may meet.
