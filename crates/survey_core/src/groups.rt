@@ -36,21 +36,13 @@ pub(crate) fn groups(
     ensures { IfOk result (λ groups. AreGroups horizon sweeps.now groups.items) }
 {
     if sweeps.len() > MOST_GROUPED {
-        return one_group(alloc, sweeps.len());
+        return Ok(vec![in alloc; 0; sweeps.len()]?);
     }
     let mut groups = numbers(alloc, sweeps.len())?;
     for place in 0..sweeps.len() {
         join(horizon, sweeps, place, groups.as_mut_slice());
     }
     Ok(groups)
-}
-
-/// All clusters in one group.
-fn one_group(alloc: Global, count: usize) -> Result<Vec<usize>, OutOfMemory>
-    ensures count { IfOk result (λ groups. length groups.items ≡ count) }
-    ensures one { IfOk result (λ groups. All (λ k. k ≡ 0) groups.items) }
-{
-    Ok(vec![in alloc; 0; count]?)
 }
 
 /// The first numbers.
