@@ -152,11 +152,8 @@ impl Harbour {
         ensures rule { IfOk result (λ harbour. harbour.rule ≡ self.rule) }
         ensures cells { IfOk result (λ harbour. harbour.cells ≡ self.cells) }
     {
-        if !self.is_time_to_look(limit, generations) {
-            return Ok(self);
-        }
         let slow = is_slow(rule);
-        if !slow {
+        if !slow || !self.is_time_to_look(limit, generations) {
             return Ok(self);
         }
         let Harbour {

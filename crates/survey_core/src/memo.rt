@@ -205,7 +205,7 @@ impl Memo {
         if self.sees_change(rule, limit, patterns) {
             return Ok(None);
         }
-        let mut sweeps = Vec::with_capacity(alloc, patterns.len())?;
+        let mut sweeps = Vec::new(alloc);
         for pattern in patterns {
             match self.sweep(alloc, rule, limit, pattern)? {
                 Some(sweep) => sweeps.push(sweep)?,
@@ -261,9 +261,7 @@ impl Memo {
         let Some(sweep) = Sweep::find(alloc, rule, limit, pattern)? else {
             return Ok(None);
         };
-        if pattern.population() <= MOST_CELLS {
-            self.keep(alloc, rule, limit, pattern, sweep)?;
-        }
+        self.keep(alloc, rule, limit, pattern, sweep)?;
         Ok(Some(sweep))
     }
 
@@ -292,7 +290,9 @@ impl Memo {
     fn recalled_sweep(&self, rule: &Rule, limit: u32, pattern: &Pattern) -> Option<Sweep>
         ensures { IfSome result (IsSweep rule.now limit pattern.now) }
     {
-        let (known, shift) = self.recalled(rule, limit, pattern)?;
+        let Some((known, shift)) = self.recalled(rule, limit, pattern) else {
+            return None;
+        };
         moved_sweep(known.sweep, shift)
     }
 
@@ -300,21 +300,20 @@ impl Memo {
     fn recalled(&self, rule: &Rule, limit: u32, pattern: &Pattern) -> Option<(&Known, (i32, i32))>
         ensures { IfSome result (λ found. IsAbout rule.now limit pattern.now found.1 found.0.now) }
     {
-        let known = self.at(pattern)?;
+        let slots = self.slots.as_slice();
+        let Some(Some(known)) = slots.get(slot_of(pattern, slots.len())) else {
+            return None;
+        };
         if known.limit != limit || !is_same(&known.rule, rule) {
             return None;
         }
-        let shift = known.shape.shift_to(pattern)?;
+        let Some(shift) = known.shape.shift_to(pattern) else {
+            return None;
+        };
         Some((known, shift))
     }
 
-    /// What stands in the slot of a pattern. It may be about another shape.
-    fn at(&self, pattern: &Pattern) -> Option<&Known> {
-        let slots = self.slots.as_slice();
-        slots.get(slot_of(pattern, slots.len()))?.as_ref()
-    }
-
-    /// Names a pattern, and keeps what is known of it in its slot.
+    /// Names a pattern, and keeps what is known of it in its slot, unless it is large.
     fn keep(
         &mut self,
         alloc: Global,
@@ -330,7 +329,7 @@ impl Memo {
         requires sweep { IsSweep rule.now limit pattern.now sweep }
     {
         let slot = slot_of(pattern, self.slots.len());
-        if slot >= self.slots.len() {
+        if slot >= self.slots.len() || pattern.population() > MOST_CELLS {
             return Ok(());
         }
         let code = code_of(alloc, rule, limit, pattern)?;
