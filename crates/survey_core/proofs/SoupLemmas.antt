@@ -66,8 +66,8 @@ soup_is_small digest =
     has-list_all (is_within 15) (set_of (live_in_square digest 256))
     (λ c e. list_all-has (is_within 15) (live_in_square digest 256) (cells_near digest) c (sym (has-set_of (live_in_square digest 256) c) ∙ e))
 
-pub soup_on_plane : (digest : List ℕ) → position off_plane (live_in_square digest 256) ≡ None
-soup_on_plane digest = none_off (live_in_square digest 256) (within_more 15 999999 (live_in_square digest 256) (omega arith) (cells_near digest))
+pub soup_near : (digest : List ℕ) → lies_within 999999 (live_in_square digest 256) ≡ true
+soup_near digest = within_more 15 999999 (live_in_square digest 256) (omega arith) (cells_near digest)
 
 -- ---- cell by cell
 

@@ -215,28 +215,20 @@ impl Memo {
         Ok(Some(sweeps))
     }
 
-    /// Whether it is seen at a glance that one of the patterns doesn't come back within so many generations.
+    /// Whether it is seen at a glance that one of the patterns doesn't come back within so many generations. One that is
+    /// remembered does.
     fn sees_change(&self, rule: &Rule, limit: u32, patterns: &[Pattern]) -> bool
         ensures { IsTrue result → ¬ All (ComesBack rule.now limit) patterns.now }
     {
         for pattern in patterns {
-            let seen = self.sees_that_it_changes(rule, limit, pattern);
-            if seen {
+            if self.recalled(rule, limit, pattern).is_some() {
+                continue;
+            }
+            if pattern.is_seen_to_change(rule, limit) {
                 return true;
             }
         }
         false
-    }
-
-    /// Whether it is seen at a glance that a pattern doesn't come back within so many generations. One that is
-    /// remembered does.
-    pub(crate) fn sees_that_it_changes(&self, rule: &Rule, limit: u32, pattern: &Pattern) -> bool
-        ensures { IsTrue result → ¬ ComesBack rule.now limit pattern.now }
-    {
-        if self.recalled(rule, limit, pattern).is_some() {
-            return false;
-        }
-        pattern.is_seen_to_change(rule, limit)
     }
 
     /// The sweep of a pattern, or `None` if it doesn't come back within so many generations.

@@ -65,10 +65,7 @@ pub(crate) fn clusters_at_rest(
     };
     let groups = groups(alloc, horizon, sweeps.as_slice())?;
     let apart = groups_keep_apart(alloc, rule, horizon, parts, groups.as_slice())?;
-    if !apart {
-        return Ok(None);
-    }
-    Ok(Some(clusters))
+    Ok(apart.then_some(clusters))
 }
 
 /// Whether in each group the clusters, each run alone, keep apart and make up their union up to the horizon.
