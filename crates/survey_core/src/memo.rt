@@ -358,20 +358,27 @@ fn moved_sweep(sweep: Sweep, shift: (i32, i32)) -> Option<Sweep>
     ensures { IfSome result (λ moved. moved ≡ moved_sweep shift sweep) }
 {
     let Sweep { recurrence, bounds } = sweep;
+    let Some((left, right)) = moved(bounds.left, bounds.right, shift.0) else {
+        return None;
+    };
+    let Some((top, bottom)) = moved(bounds.top, bounds.bottom, shift.1) else {
+        return None;
+    };
     let bounds = Bounds {
-        left: moved(bounds.left, shift.0)?,
-        top: moved(bounds.top, shift.1)?,
-        right: moved(bounds.right, shift.0)?,
-        bottom: moved(bounds.bottom, shift.1)?,
+        left,
+        top,
+        right,
+        bottom,
     };
     Some(Sweep { recurrence, bounds })
 }
 
-/// A column or row, moved.
-fn moved(at: i32, by: i32) -> Option<i32>
-    ensures { IfSome result (λ to. to ≡ at +ℤ by) }
+/// The first and the last column or row, moved.
+fn moved(first: i32, last: i32, by: i32) -> Option<(i32, i32)>
+    ensures first { IfSome result (λ to. to.0 ≡ first +ℤ by) }
+    ensures last { IfSome result (λ to. to.1 ≡ last +ℤ by) }
 {
-    at.checked_add(by)
+    first.checked_add(by).zip(last.checked_add(by))
 }
 
 /// The code of a pattern that comes back within so many generations.
