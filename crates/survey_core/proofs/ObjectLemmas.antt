@@ -119,18 +119,3 @@ length_more codes code n is = length-append codes (code ∷ []) ∙ ap (λ (m : 
 
 pub count_by_more : (p : List ℕ → Bool) (codes : List (List ℕ)) (code : List ℕ) → count_by p (codes ++ code ∷ []) ≡ count_by p codes + (if p code then 1 else 0)
 count_by_more p codes code = sum_by-append (λ x. cond (p x) 1 0) codes (code ∷ []) ∙ ap (λ (n : ℕ). count_by p codes + n) (zero-add (cond (p code) 1 0))
-
--- a list of objects with the counts of the clusters' codes is that of their objects
-pub are_objects_of : {E : Type 0} (rule : Numbers) (limit : ℕ) (clusters : List (List Cell)) (codes : List (List ℕ))
-    (entries : List (List ℕ × ℕ))
-    (listed : Result (List (List ℕ × ℕ)) E) → IfOk listed (λ objects. objects ≡ entries) → IfOk listed AreObjects
-    → AllZip (λ cluster code. IsCode rule cluster limit code) clusters codes
-    → ((code : List ℕ) → count_of entries code ≡ count_by (is_code code) codes)
-    → IfOk listed (AreObjectsOf rule limit clusters)
-are_objects_of rule limit clusters codes entries (Ok objects) is lawful named counts = record {
-  lawful = lawful;
-  codes = codes;
-  named = named;
-  counts = λ code. ap (λ (os : List (List ℕ × ℕ)). count_of os code) is ∙ counts code;
-}
-are_objects_of rule limit clusters codes entries (Err e) is lawful named counts = tt

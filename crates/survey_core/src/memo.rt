@@ -296,7 +296,7 @@ impl Memo {
         let Some(Some(known)) = slots.get(slot_of(pattern, slots.len())) else {
             return None;
         };
-        if known.limit != limit || !is_same(&known.rule, rule) {
+        if known.limit != limit || known.rule != *rule {
             return None;
         }
         let Some(shift) = known.shape.shift_to(pattern) else {
@@ -335,13 +335,6 @@ impl Memo {
         });
         Ok(())
     }
-}
-
-/// Whether the rules are the same.
-fn is_same(one: &Rule, other: &Rule) -> bool
-    ensures { IsTrue result → one.now ≡ other.now }
-{
-    one == other
 }
 
 /// As many slots as a memo has, with nothing in them.
