@@ -1,7 +1,7 @@
 -- Counting objects by their codes, and multiples of their periods.
 use Rattle.std.proofs.Common.{◌≡◌, ◌∙◌, ap, sym, refl, subst, ℕ, ◌+◌, ◌*◌, ◌/◌, ◌%◌, ◌<◌, ◌≤◌, ◌↔◌, add-zero, zero-add, mul_comm, nat_eq, Bool, true}
 use Rattle.std.proofs.Common.{false, sum, IsTrue, cond, List, [], ◌∷◌, ◌++◌, take, get_or, count_by, length, Option, Some, IfSome, unwrap_or, arith}
-use Rattle.std.proofs.Common.{if◌then◌else◌, IfOk, Result, Ok, Err}
+use Rattle.std.proofs.Common.{if◌then◌else◌}
 use Rattle.std.specs.BTreeMap.{BTreeMap, IsOrdered, insert_entry}
 use Rattle.std.specs.Cmp.Lexicographic.{nat_list_cmp_total, slice_cmp}
 use Rattle.std.specs.FinMap.{nat_cmp-IsAntisymmetric, slice_cmp-IsAntisymmetric}
@@ -21,7 +21,7 @@ use Rattle.std.proofs.Math.Nat.{div-add-mod, mul-mod_left}
 use Rattle.plane_core.specs.declared.cell.Cell.{Cell}
 use Rattle.plane_core.specs.Rules.{Numbers}
 use Rattle.code_core.specs.Names.{IsCode}
-use Rattle.survey_core.specs.Objects.{AreObjects, AreObjectsOf, CountsAreSome, IsMultiple, count_of, is_code}
+use Rattle.survey_core.specs.Objects.{AreObjects, CountsAreSome, IsMultiple, count_of, is_code}
 
 -- a multiple of n is what n divides without a rest
 pub multiple_then : (m n : ℕ) → IsTrue (nat_eq (m % n) 0) ↔ IsMultiple m n

@@ -32,11 +32,7 @@ pub(crate) struct Alone {
 
 impl Alone {
     /// A cluster that hasn't been run yet.
-    pub(crate) fn start(
-        alloc: Global,
-        rule: &Rule,
-        cluster: &Pattern,
-    ) -> Result<Alone, OutOfMemory>
+    pub(crate) fn start(alloc: Global, rule: &Rule, cluster: &Pattern) -> Result<Alone, OutOfMemory>
         requires { lies_within survey_reach cluster.now ≡ true }
         ensures { IfOk result (λ alone. alone ≡ alone_at rule.now 0 cluster.now) }
     {

@@ -1,4 +1,4 @@
-use Rattle.std.proofs.Common.{◌≡◌, ◌∙◌, ◌++◌, [], ap, flat_map, get_or, sym, take, List}
+use Rattle.std.proofs.Common.{◌∙◌, ◌++◌, [], ap, flat_map, get_or, sym, take, List}
 use Rattle.std.proofs.lemmas.List.{flat_map_more, map_more, take_all}
 use Rattle.plane_core.specs.declared.cell.Cell.{Cell}
 use Rattle.survey_core.specs.declared.alone.Alone.{Alone}

@@ -1,4 +1,4 @@
-use Rattle.std.proofs.Common.{◌∙◌, ap, refl, subst, sym, List, ◌≡◌}
+use Rattle.std.proofs.Common.{◌∙◌, refl, subst, sym, List, ◌≡◌}
 use Rattle.std.proofs.lemmas.Bool.{false≢true}
 use Rattle.std.proofs.lemmas.List.{take_all}
 use Rattle.survey_core.specs.declared.alone.Alone.{Alone}

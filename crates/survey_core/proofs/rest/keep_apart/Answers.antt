@@ -1,4 +1,4 @@
-use Rattle.std.proofs.Common.{◌≡◌, ◌∙◌, ◌+◌, ◌<◌, ◌≤◌, ap, sym, refl, subst, ℕ, map, All, true, arith, flat_map, get_or, List}
+use Rattle.std.proofs.Common.{◌≡◌, ◌∙◌, ◌+◌, ◌<◌, ◌≤◌, ap, sym, refl, subst, ℕ, All, true, arith, flat_map, get_or, List}
 use Rattle.std.proofs.lemmas.Bool.{false≢true}
 use Rattle.std.proofs.lemmas.Result.{IfOk-from_err}
 use Rattle.plane_core.specs.declared.cell.Cell.{Cell}
@@ -6,7 +6,7 @@ use Rattle.plane_core.specs.Cells.{InOrder}
 use Rattle.plane_core.specs.Generations.{after, lies_within, next}
 use Rattle.plane_core.proofs.GenerationLemmas.{after-none, after-more}
 use Rattle.plane_core.proofs.SetLemmas.{in_order-set_of}
-use Rattle.survey_core.specs.Alone.{alone_at, clusters_of, latest_of}
+use Rattle.survey_core.specs.Alone.{clusters_of, latest_of}
 use Rattle.survey_core.specs.Groups.{union_of}
 use Rattle.survey_core.specs.Rest.{KeepApart}
 use Rattle.survey_core.specs.UnderWay.{survey_reach}

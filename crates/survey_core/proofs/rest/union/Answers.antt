@@ -1,5 +1,4 @@
 use Rattle.std.proofs.Common.{◌∙◌, ap}
-use Rattle.plane_core.specs.Cells.{set_of}
 use Rattle.plane_core.specs.Generations.{lies_within}
 use Rattle.survey_core.specs.Alone.{latest_of}
 use Rattle.survey_core.proofs.PlaneLemmas.{within_all}

@@ -4,7 +4,7 @@ use Rattle.plane_core.specs.declared.cell.Cell.{Cell}
 use Rattle.plane_core.specs.Bounds.{IsWithin}
 use Rattle.plane_core.specs.Cells.{set_of}
 use Rattle.plane_core.specs.Generations.{lies_within}
-use Rattle.survey_core.specs.Soups.{soup_of, square}
+use Rattle.survey_core.specs.Soups.{square}
 use Rattle.survey_core.proofs.SoupLemmas.{soup_in_square, soup_near}
 use Rattle.survey_core.proofs.soup.soup_of_digest.Goals as goal
 

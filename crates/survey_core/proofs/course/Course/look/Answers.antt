@@ -1,4 +1,4 @@
-use Rattle.std.proofs.Common.{◌≡◌, ◌∙◌, ◌≤◌, IfOk, List, ap, arith, subst, sym, true}
+use Rattle.std.proofs.Common.{◌≡◌, ◌∙◌, ◌≤◌, IfOk, List, ap, arith, subst, sym}
 use Rattle.plane_core.specs.declared.cell.Cell.{Cell}
 use Rattle.plane_core.specs.Generations.{after, lies_within, next}
 use Rattle.plane_core.proofs.GenerationLemmas.{after-none}
