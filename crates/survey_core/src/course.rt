@@ -96,13 +96,11 @@ impl Course {
     pub(crate) fn is_seen_to_move(&self, profile: &Profile) -> bool
         ensures { IsTrue result → ¬ IsAtRest self.now.rule profile.now self.now.cells }
     {
+        let horizon = profile.horizon();
+        let period = profile.period();
         match &self.place {
-            Kept::Listed(pattern) => {
-                pattern.refuses(&self.rule, profile.horizon(), profile.period())
-            }
-            Kept::Shown(harbour, ahead) => {
-                harbour.refuses(*ahead, profile.horizon(), profile.period())
-            }
+            Kept::Listed(pattern) => pattern.refuses(&self.rule, horizon, period),
+            Kept::Shown(harbour, ahead) => harbour.refuses(*ahead, horizon, period),
         }
     }
 
