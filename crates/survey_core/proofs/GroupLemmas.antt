@@ -5,7 +5,7 @@ use Rattle.std.specs.List.{list_any}
 use Rattle.std.proofs.lemmas.Bool.{eqb-true, false≢true, ltb-false, ltb-true}
 use Rattle.std.proofs.lemmas.Bool.Decides.{Decides-eqb}
 use Rattle.std.proofs.lemmas.List.Elements.{All-cons}
-use Rattle.std.proofs.lemmas.List.{get_or_default, get_or-map, length-map, length-take-le, take_more}
+use Rattle.std.proofs.lemmas.List.{append-nil, get_or_default, get_or-map, length-map, length-take-le, take_more}
 use Rattle.std.proofs.lemmas.List.Kept.{AllPairs-cons}
 use Rattle.plane_core.specs.declared.cell.Cell.{Cell}
 use Rattle.plane_core.specs.Cells.{InOrder, has, king_distance}
@@ -441,7 +441,7 @@ members-append k (h ∷ gs) (p ∷ ps) g part same =
     go true more = ap (λ (ms : List (List Cell)). p ∷ ms) more
     go false more = more
 
-pub members_more : (k : ℕ) (gs : List ℕ) (parts : List (List Cell)) (i : ℕ) (d : List Cell) → i < length parts → length gs ≡ length parts
+members_more : (k : ℕ) (gs : List ℕ) (parts : List (List Cell)) (i : ℕ) (d : List Cell) → i < length parts → length gs ≡ length parts
     → members k (take (i + 1) gs) (take (i + 1) parts)
     ≡ members k (take i gs) (take i parts) ++ cond (get_or gs i 0 == k) (get_or parts i d ∷ []) []
 members_more k gs parts i d low same =
@@ -452,3 +452,18 @@ members_more k gs parts i d low same =
   where
     length_take : {X : Type 0} (xs : List X) (i : ℕ) → i < length xs → length (take i xs) ≡ i
     length_take xs i h = length-take-le i xs (omega arith)
+
+-- the next part is one of another group, or one more of the group
+pub members_other : (k : ℕ) (gs : List ℕ) (parts : List (List Cell)) (i : ℕ) → i < length parts → length gs ≡ length parts → get_or gs i 0 ≢ k
+    → members k (take (i + 1) gs) (take (i + 1) parts) ≡ members k (take i gs) (take i parts)
+members_other k gs parts i low same ne =
+    let other : (get_or gs i 0 == k) ≡ false = false_unless (get_or gs i 0 == k) (λ e. ne (eqb-true _ _ e)) in
+    members_more k gs parts i [] low same
+    ∙ ap (λ (b : Bool). members k (take i gs) (take i parts) ++ cond b (get_or parts i [] ∷ []) []) other
+    ∙ append-nil (members k (take i gs) (take i parts))
+
+pub members_one : (k : ℕ) (gs : List ℕ) (parts : List (List Cell)) (i : ℕ) (d : List Cell) → i < length parts → length gs ≡ length parts
+    → get_or gs i 0 ≡ k → members k (take (i + 1) gs) (take (i + 1) parts) ≡ members k (take i gs) (take i parts) ++ get_or parts i d ∷ []
+members_one k gs parts i d low same is =
+    members_more k gs parts i d low same
+    ∙ ap (λ (b : Bool). members k (take i gs) (take i parts) ++ cond b (get_or parts i d ∷ []) []) ((Decides-eqb _ _).1 is)

@@ -1,6 +1,7 @@
 -- Groups as they are joined.
-use Rattle.std.proofs.Common.{◌≡◌, ◌≢◌, ◌==◌, ◌∙◌, ◌<◌, ap, sym, refl, subst, ℕ, Bool, true, false, List, arith, cond, get_or, inl, inr, length}
+use Rattle.std.proofs.Common.{◌≡◌, ◌≢◌, ◌==◌, ◌∙◌, ◌<◌, ap, sym, refl, subst, ℕ, Bool, true, false, List, arith, cond, get_or, inl, inr, length, IfNone, IfSome}
 use Rattle.std.proofs.Common.{[], ◌∷◌, ◌+◌, eq-or-lt_of_le, get_or-set_other, get_or-set_same, nat_lt, set, ◌≤◌}
+use Rattle.std.specs.Bool.{then_some}
 use Rattle.std.proofs.lemmas.Bool.{ltb-false, ltb-true}
 use Rattle.std.proofs.lemmas.Bool.Decides.{Decides-eqb}
 use Rattle.std.proofs.lemmas.List.{get_or_default}
@@ -153,3 +154,12 @@ pub groups_of_rest : (rule : Numbers) (profile : Settling) (cells : List Cell) (
 groups_of_rest rule profile cells clusters sweeps groups order found right rest k =
     group_keeps rule cells groups clusters profile.horizon order (right.numbers.count ∙ found.count)
     (groups_stay_apart rule profile.period profile.horizon clusters sweeps groups found right) (partition_law cells clusters rest.parts) rest.apart k
+
+-- what is given if a test is passed
+pub some_if : {X : Type 0} (b : Bool) (x : X) (P : X → Type 0) → (b ≡ true → P x) → IfSome (then_some b x) P
+some_if true x P given = given refl
+some_if false x P given = tt
+
+pub none_if : {X : Type 0} (b : Bool) (x : X) (P : Type 0) → (b ≡ false → P) → IfNone (then_some b x) P
+none_if true x P given = tt
+none_if false x P given = given refl

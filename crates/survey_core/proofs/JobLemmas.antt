@@ -19,7 +19,7 @@ profiles_decide p q =
     (Decides-and _ _ (Decides-eqb p.period q.period) (Decides-and _ _ (Decides-eqb p.horizon q.horizon)
     (Decides-and _ _ (Decides-eqb p.stride q.stride) (Decides-eqb p.limit q.limit))))
 
-rules_decide : (r s : Numbers) → Decides (same_rule r s) (r ≡ s)
+pub rules_decide : (r s : Numbers) → Decides (same_rule r s) (r ≡ s)
 rules_decide r s =
     Decides-like (same_rule r s)
     (λ e i. record { births = e.0 i; survivals = e.1 i })

@@ -12,6 +12,7 @@ mod OffLemmas
 mod PartitionLemmas
 mod PlacedFindings
 mod RestLemmas
+mod RunLemmas
 mod SeedLemmas
 mod ShipLemmas
 mod SortedClusters

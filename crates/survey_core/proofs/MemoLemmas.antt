@@ -1,5 +1,5 @@
 -- What is known of a shape holds of each pattern that it is about.
-use Rattle.std.proofs.Common.{◌≡◌, sym, subst, ℕ, ℤ, List, All, IfSome, Option, None, Some, arith}
+use Rattle.std.proofs.Common.{◌≡◌, ◌∙◌, refl, sym, subst, ℕ, ℤ, Bool, false, not, true, List, All, IfSome, Option, None, Some, arith}
 use Rattle.std.proofs.lemmas.Int.{ints}
 use Rattle.std.proofs.lemmas.List.Elements.{All-map}
 use Rattle.plane_core.specs.declared.bounds.Bounds.{Bounds}
@@ -12,9 +12,11 @@ use Rattle.plane_core.proofs.PlacementLemmas.{in_order-shifted}
 use Rattle.code_core.specs.Names.{IsCode}
 use Rattle.code_core.proofs.MovedCodes.{after-shifted, codes_moved, recurs-shifted}
 use Rattle.survey_core.specs.declared.sweep.Sweep.{Sweep}
+use Rattle.survey_core.specs.Jobs.{same_rule}
 use Rattle.survey_core.specs.Memos.{Fact, IsAbout, IsKnown, moved_bounds, moved_sweep}
 use Rattle.survey_core.specs.Rest.{ComesBack}
 use Rattle.survey_core.specs.Sweeps.{IsSweep}
+use Rattle.survey_core.proofs.JobLemmas.{rules_decide}
 
 -- what is never itself again doesn't come back
 pub never_back : (rule : Numbers) (limit : ℕ) (cells : List Cell) → NeverBack rule cells limit → ¬ ComesBack rule limit cells
@@ -65,3 +67,11 @@ pub sweep_told : (rule : Numbers) (limit : ℕ) (cells : List Cell) (shift : ℤ
 sweep_told rule limit cells shift fact None known about is = tt
 sweep_told rule limit cells shift fact (Some sweep) known about is =
     subst (IsSweep rule limit cells) (sym is) (sweep_known rule limit cells shift fact known about)
+
+-- two rules that don't differ
+pub same_rules : (one other : Numbers) (differs : Bool) → differs ≡ not (same_rule one other) → differs ≡ false → one ≡ other
+same_rules one other differs told same = (rules_decide one other).0 (not_false (same_rule one other) (sym told ∙ same))
+  where
+    not_false : (b : Bool) → not b ≡ false → b ≡ true
+    not_false true e = refl
+    not_false false e = sym e

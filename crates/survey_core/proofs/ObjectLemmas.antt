@@ -1,7 +1,7 @@
 -- Counting objects by their codes, and multiples of their periods.
 use Rattle.std.proofs.Common.{◌≡◌, ◌∙◌, ap, sym, refl, subst, ℕ, ◌+◌, ◌*◌, ◌/◌, ◌%◌, ◌<◌, ◌≤◌, ◌↔◌, add-zero, zero-add, mul_comm, nat_eq, Bool, true}
 use Rattle.std.proofs.Common.{false, sum, IsTrue, cond, List, [], ◌∷◌, ◌++◌, take, get_or, count_by, length, Option, Some, IfSome, unwrap_or, arith}
-use Rattle.std.proofs.Common.{if◌then◌else◌, IfOk, Result, Ok, Err}
+use Rattle.std.proofs.Common.{if◌then◌else◌}
 use Rattle.std.specs.BTreeMap.{BTreeMap, IsOrdered, insert_entry}
 use Rattle.std.specs.Cmp.Lexicographic.{nat_list_cmp_total, slice_cmp}
 use Rattle.std.specs.FinMap.{nat_cmp-IsAntisymmetric, slice_cmp-IsAntisymmetric}
@@ -21,7 +21,7 @@ use Rattle.std.proofs.Math.Nat.{div-add-mod, mul-mod_left}
 use Rattle.plane_core.specs.declared.cell.Cell.{Cell}
 use Rattle.plane_core.specs.Rules.{Numbers}
 use Rattle.code_core.specs.Names.{IsCode}
-use Rattle.survey_core.specs.Objects.{AreObjects, AreObjectsOf, CountsAreSome, IsMultiple, count_of, is_code}
+use Rattle.survey_core.specs.Objects.{AreObjects, CountsAreSome, IsMultiple, count_of, is_code}
 
 -- a multiple of n is what n divides without a rest
 pub multiple_then : (m n : ℕ) → IsTrue (nat_eq (m % n) 0) ↔ IsMultiple m n
@@ -119,18 +119,3 @@ length_more codes code n is = length-append codes (code ∷ []) ∙ ap (λ (m : 
 
 pub count_by_more : (p : List ℕ → Bool) (codes : List (List ℕ)) (code : List ℕ) → count_by p (codes ++ code ∷ []) ≡ count_by p codes + (if p code then 1 else 0)
 count_by_more p codes code = sum_by-append (λ x. cond (p x) 1 0) codes (code ∷ []) ∙ ap (λ (n : ℕ). count_by p codes + n) (zero-add (cond (p code) 1 0))
-
--- a list of objects with the counts of the clusters' codes is that of their objects
-pub are_objects_of : {E : Type 0} (rule : Numbers) (limit : ℕ) (clusters : List (List Cell)) (codes : List (List ℕ))
-    (entries : List (List ℕ × ℕ))
-    (listed : Result (List (List ℕ × ℕ)) E) → IfOk listed (λ objects. objects ≡ entries) → IfOk listed AreObjects
-    → AllZip (λ cluster code. IsCode rule cluster limit code) clusters codes
-    → ((code : List ℕ) → count_of entries code ≡ count_by (is_code code) codes)
-    → IfOk listed (AreObjectsOf rule limit clusters)
-are_objects_of rule limit clusters codes entries (Ok objects) is lawful named counts = record {
-  lawful = lawful;
-  codes = codes;
-  named = named;
-  counts = λ code. ap (λ (os : List (List ℕ × ℕ)). count_of os code) is ∙ counts code;
-}
-are_objects_of rule limit clusters codes entries (Err e) is lawful named counts = tt

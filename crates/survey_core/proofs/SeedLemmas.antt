@@ -1,9 +1,9 @@
 -- Texts without an invisible byte.
 use Rattle.std.proofs.Common.{◌≡◌, refl, ℕ, suc, ◌+◌, ◌≤◌, Bool, true, false, not, List, [], ◌∷◌, position, length, None, Some, nat_lt, arith, cond, ◌&&◌}
-use Rattle.std.proofs.Common.{◌∙◌, ◌++◌, ◌-◌, ◌<◌, ap, append_assoc, get_or, replicate, set, sym, take}
-use Rattle.std.specs.List.{list_all, prefix_len}
+use Rattle.std.proofs.Common.{◌∙◌, ◌++◌, ◌-◌, ◌<◌, ap, append_assoc, drop, get_or, replicate, set, sym, take}
+use Rattle.std.specs.List.{list_all, position_from, prefix_len}
 use Rattle.std.proofs.lemmas.Bool.{ltb-false}
-use Rattle.std.proofs.lemmas.List.{length-take-le, set_at, take_all, take_more}
+use Rattle.std.proofs.lemmas.List.{drop_all, drop_more, length-take-le, set_at, take_all, take_more}
 use Rattle.survey_core.specs.Seeds.{is_invisible, is_visible}
 
 -- no byte is invisible, so all are visible
@@ -42,3 +42,22 @@ pub padded_all : (bytes : List ℕ) (place : ℕ) → place ≤ length bytes →
 padded_all bytes place low high =
     let end : place ≡ length bytes = omega arith in
     (λ i. take_all place bytes high i ++ replicate (64 - end i) 0)
+
+-- the first byte that isn't visible, of those from a place on
+from_place : (bytes : List ℕ) (i : ℕ) → i < length bytes
+    → position_from is_invisible i (drop i bytes)
+    ≡ cond (is_invisible (get_or bytes i 0)) (Some i) (position_from is_invisible (i + 1) (drop (i + 1) bytes))
+from_place bytes i low = ap (position_from is_invisible i) (drop_more bytes i 0 low)
+
+pub invisible_here : (bytes : List ℕ) (i : ℕ) → i < length bytes → is_visible (get_or bytes i 0) ≡ false
+    → position_from is_invisible i (drop i bytes) ≡ Some i
+invisible_here bytes i low e =
+    from_place bytes i low ∙ ap (λ (b : Bool). cond (not b) (Some i) (position_from is_invisible (i + 1) (drop (i + 1) bytes))) e
+
+pub invisible_later : (bytes : List ℕ) (i : ℕ) → i < length bytes → is_visible (get_or bytes i 0) ≡ true
+    → position_from is_invisible i (drop i bytes) ≡ position_from is_invisible (i + 1) (drop (i + 1) bytes)
+invisible_later bytes i low e =
+    from_place bytes i low ∙ ap (λ (b : Bool). cond (not b) (Some i) (position_from is_invisible (i + 1) (drop (i + 1) bytes))) e
+
+pub invisible_nowhere : (bytes : List ℕ) (i : ℕ) → length bytes ≤ i → position_from is_invisible i (drop i bytes) ≡ None
+invisible_nowhere bytes i all = ap (position_from is_invisible i) (drop_all i bytes all)

@@ -1,6 +1,6 @@
 -- The live cells of the square, one place after another, and that they lie near the origin.
-use Rattle.std.proofs.Common.{◌≡◌, ◌∙◌, ap, sym, refl, ℕ, zero, suc, ◌+◌, ◌<◌, ◌≤◌, ◌/◌, ◌%◌, Bool, true, false, List, [], ◌∷◌, ◌++◌, position}
-use Rattle.std.proofs.Common.{filter, map, None, arith, cond, add-zero, add-one, zero-add, nat_le, All, decimal, eq-or-lt_of_le, inl, inr, pos, subst, unsigned_abs, ◌*◌}
+use Rattle.std.proofs.Common.{◌≡◌, ◌∙◌, ap, sym, refl, ℕ, zero, suc, ◌+◌, ◌<◌, ◌≤◌, ◌/◌, ◌%◌, Bool, true, false, List, [], ◌∷◌, ◌++◌}
+use Rattle.std.proofs.Common.{filter, map, arith, cond, add-zero, add-one, zero-add, nat_le, All, decimal, eq-or-lt_of_le, inl, inr, pos, subst, unsigned_abs, ◌*◌}
 use Rattle.std.proofs.lemmas.Int.{ints}
 use Rattle.std.proofs.lemmas.List.Elements.{All-from_recursion}
 use Rattle.std.specs.List.{list_all, range_with_len}
@@ -9,14 +9,14 @@ use Rattle.std.proofs.lemmas.List.{append-nil, map-append}
 use Rattle.std.proofs.lemmas.List.Elements.{filter-append}
 use Rattle.plane_core.specs.declared.cell.Cell.{Cell}
 use Rattle.plane_core.specs.Bounds.{IsWithin}
-use Rattle.plane_core.specs.Cells.{cell_at, has, is_within, off_plane, same_cell, set_of}
+use Rattle.plane_core.specs.Cells.{cell_at, has, is_within, same_cell, set_of}
 use Rattle.plane_core.specs.Generations.{lies_within}
 use Rattle.plane_core.proofs.SearchLemmas.{has-list_all, list_all-has}
 use Rattle.plane_core.proofs.CellLemmas.{same_cell-itself, same_cell-same}
 use Rattle.plane_core.proofs.PartLemmas.{false_unless}
 use Rattle.plane_core.proofs.SetLemmas.{all-has, has-cases, has-head, has-set_of}
 use Rattle.sha2.specs.Sha256.{sha256}
-use Rattle.survey_core.proofs.PlaneLemmas.{none_off, within_more}
+use Rattle.survey_core.proofs.PlaneLemmas.{within_more}
 use Rattle.survey_core.specs.Soups.{SoupsByCells, is_alive_at, is_set, live_in_square, square, square_cell}
 
 range-more : (a n : ℕ) → range_with_len a (suc n) ≡ range_with_len a n ++ (a + n) ∷ []
@@ -66,8 +66,8 @@ soup_is_small digest =
     has-list_all (is_within 15) (set_of (live_in_square digest 256))
     (λ c e. list_all-has (is_within 15) (live_in_square digest 256) (cells_near digest) c (sym (has-set_of (live_in_square digest 256) c) ∙ e))
 
-pub soup_on_plane : (digest : List ℕ) → position off_plane (live_in_square digest 256) ≡ None
-soup_on_plane digest = none_off (live_in_square digest 256) (within_more 15 999999 (live_in_square digest 256) (omega arith) (cells_near digest))
+pub soup_near : (digest : List ℕ) → lies_within 999999 (live_in_square digest 256) ≡ true
+soup_near digest = within_more 15 999999 (live_in_square digest 256) (omega arith) (cells_near digest)
 
 -- ---- cell by cell
 

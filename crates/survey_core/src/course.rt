@@ -82,7 +82,13 @@ impl Course {
     {
         match &self.place {
             Kept::Listed(pattern) => pattern.copy(alloc),
-            Kept::Shown(harbour, ahead) => shown(alloc, &self.rule, harbour, *ahead),
+            Kept::Shown(harbour, ahead) => {
+                let pattern = harbour.pattern(alloc, &self.rule)?;
+                if *ahead == 0 {
+                    return Ok(pattern);
+                }
+                next(alloc, &self.rule, &pattern)
+            }
         }
     }
 
@@ -90,13 +96,11 @@ impl Course {
     pub(crate) fn is_seen_to_move(&self, profile: &Profile) -> bool
         ensures { IsTrue result → ¬ IsAtRest self.now.rule profile.now self.now.cells }
     {
+        let horizon = profile.horizon();
+        let period = profile.period();
         match &self.place {
-            Kept::Listed(pattern) => {
-                pattern.refuses(&self.rule, profile.horizon(), profile.period())
-            }
-            Kept::Shown(harbour, ahead) => {
-                harbour.refuses(*ahead, profile.horizon(), profile.period())
-            }
+            Kept::Listed(pattern) => pattern.refuses(&self.rule, horizon, period),
+            Kept::Shown(harbour, ahead) => harbour.refuses(*ahead, horizon, period),
         }
     }
 
@@ -133,20 +137,6 @@ impl Course {
             memo.board = Some(harbour.into_board());
         }
     }
-}
-
-/// The pattern so many generations after what a board and its ships are: none or one.
-fn shown(alloc: Global, rule: &Rule, harbour: &Harbour, ahead: u32) -> Result<Pattern, OutOfMemory>
-    requires rule { harbour.now.rule ≡ rule.now }
-    requires few { ahead ≤ 1 }
-    requires near { lies_within survey_reach harbour.now.cells ≡ true }
-    ensures { IfOk result (λ pattern. pattern ≡ after rule.now harbour.now.cells ahead) }
-{
-    let pattern = harbour.pattern(alloc, rule)?;
-    if ahead == 0 {
-        return Ok(pattern);
-    }
-    next(alloc, rule, &pattern)
 }
 
 /// Goes on to the next look from wherever the pattern is kept.

@@ -36,7 +36,7 @@ pub(crate) fn groups(
     ensures { IfOk result (λ groups. AreGroups horizon sweeps.now groups.items) }
 {
     if sweeps.len() > MOST_GROUPED {
-        return one_group(alloc, sweeps.len());
+        return Ok(vec![in alloc; 0; sweeps.len()]?);
     }
     let mut groups = numbers(alloc, sweeps.len())?;
     for place in 0..sweeps.len() {
@@ -45,24 +45,12 @@ pub(crate) fn groups(
     Ok(groups)
 }
 
-/// All clusters in one group.
-fn one_group(alloc: Global, count: usize) -> Result<Vec<usize>, OutOfMemory>
-    ensures count { IfOk result (λ groups. length groups.items ≡ count) }
-    ensures one { IfOk result (λ groups. All (λ k. k ≡ 0) groups.items) }
-{
-    Ok(vec![in alloc; 0; count]?)
-}
-
 /// The first numbers.
 fn numbers(alloc: Global, count: usize) -> Result<Vec<usize>, OutOfMemory>
     ensures count { IfOk result (λ numbers. length numbers.items ≡ count) }
     ensures below { IfOk result (λ numbers. All (λ k. k < count) numbers.items) }
 {
-    let mut numbers = Vec::with_capacity(alloc, count)?;
-    for place in 0..count {
-        numbers.push(place)?;
-    }
-    Ok(numbers)
+    Ok((0..count).collect(alloc)?)
 }
 
 /// Joins the group of the cluster at this place with those of the clusters before it that it may meet.

@@ -18,11 +18,13 @@ ghost use Rattle.survey_core.specs.Harbours.{AreCandidates, IsHarbour, IsNoneOf,
 ghost use Rattle.survey_core.specs.Harbours.{whole_at};
 ghost use Rattle.survey_core.specs.UnderWay.{StaysNear, survey_reach};
 
+use crate::alone::are_same;
+use crate::later::pattern_of;
 use crate::memo::Memo;
-use crate::rest::{are_same, union};
 use crate::ships::{Ship, at_time, ship_of};
 use memory::OutOfMemory;
 use plane_core::board::Board;
+use plane_core::cell::Cell;
 use plane_core::frontier::is_slow;
 use plane_core::pattern::Pattern;
 use plane_core::rule::Rule;
@@ -150,11 +152,8 @@ impl Harbour {
         ensures rule { IfOk result (λ harbour. harbour.rule ≡ self.rule) }
         ensures cells { IfOk result (λ harbour. harbour.cells ≡ self.cells) }
     {
-        if !self.is_time_to_look(limit, generations) {
-            return Ok(self);
-        }
         let slow = is_slow(rule);
-        if !slow {
+        if !slow || !self.is_time_to_look(limit, generations) {
             return Ok(self);
         }
         let Harbour {
@@ -292,11 +291,26 @@ fn whole(
     if ships.is_empty() {
         return Ok(pattern);
     }
-    let mut parts = Vec::new(alloc);
-    parts.push(pattern)?;
+    together(alloc, rule, time, pattern.cells(), ships)
+}
+
+/// The cells of a board and of some ships.
+fn together(
+    alloc: Global,
+    rule: &Rule,
+    time: u32,
+    board: &[Cell],
+    ships: &[Ship],
+) -> Result<Pattern, OutOfMemory>
+    requires traced { All (IsTraced rule.now time) ships.now }
+    requires early { time ≤ latest_time + 10001 }
+    requires near { lies_within survey_reach (whole_at rule.now time board.now ships.now) ≡ true }
+    ensures { IfOk result (λ pattern. pattern ≡ whole_at rule.now time board.now ships.now) }
+{
+    let mut cells = Vec::from_slice(alloc, board)?;
     for ship in ships {
-        let cells = at_time(alloc, rule, ship, time)?;
-        parts.push(cells)?;
+        let ship = at_time(alloc, rule, ship, time)?;
+        cells.extend_from_slice(ship.cells())?;
     }
-    union(alloc, parts.as_slice())
+    pattern_of(alloc, cells.as_slice())
 }

@@ -1,13 +1,27 @@
-//! Later generations of patterns that lie so far from the edge of the plane that no step can fail there.
+//! Patterns that lie so far from the edge of the plane that no step can fail there, and their later generations.
 ghost use Rattle.std.specs.Prelude.{◌≡◌, ◌≤◌, IfOk, true};
+ghost use Rattle.plane_core.specs.Cells.{set_of};
 ghost use Rattle.plane_core.specs.Generations.{after, lies_within, next};
 ghost use Rattle.survey_core.specs.UnderWay.{survey_reach};
 
 use memory::OutOfMemory;
+use plane_core::cell::Cell;
 use plane_core::generation::StepError;
-use plane_core::pattern::Pattern;
+use plane_core::pattern::{FromCellsError, Pattern};
 use plane_core::rule::Rule;
 use std::alloc::Global;
+
+/// The pattern of these cells, none of which touches the edge of the plane.
+pub(crate) fn pattern_of(alloc: Global, cells: &[Cell]) -> Result<Pattern, OutOfMemory>
+    requires { lies_within 999999 cells.now ≡ true }
+    ensures { IfOk result (λ pattern. pattern ≡ set_of cells.now) }
+{
+    match Pattern::from_cells(alloc, cells) {
+        Ok(pattern) => Ok(pattern),
+        Err(FromCellsError::Memory(error)) => Err(error),
+        Err(FromCellsError::OutOfPlane { .. }) => unreachable!(),
+    }
+}
 
 /// The next generation of a pattern that doesn't touch the edge of the plane.
 pub(crate) fn next(alloc: Global, rule: &Rule, pattern: &Pattern) -> Result<Pattern, OutOfMemory>

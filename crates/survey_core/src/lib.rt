@@ -21,6 +21,8 @@ pub mod ships;
 pub mod soup;
 /// Where a pattern that comes back lies, turn by turn.
 pub mod sweep;
+/// Clusters that are run alone.
+mod alone;
 /// The way of a pattern from look to look.
 mod course;
 /// Groups of clusters that may meet.

@@ -205,7 +205,7 @@ impl Memo {
         if self.sees_change(rule, limit, patterns) {
             return Ok(None);
         }
-        let mut sweeps = Vec::with_capacity(alloc, patterns.len())?;
+        let mut sweeps = Vec::new(alloc);
         for pattern in patterns {
             match self.sweep(alloc, rule, limit, pattern)? {
                 Some(sweep) => sweeps.push(sweep)?,
@@ -215,28 +215,20 @@ impl Memo {
         Ok(Some(sweeps))
     }
 
-    /// Whether it is seen at a glance that one of the patterns doesn't come back within so many generations.
+    /// Whether it is seen at a glance that one of the patterns doesn't come back within so many generations. One that is
+    /// remembered does.
     fn sees_change(&self, rule: &Rule, limit: u32, patterns: &[Pattern]) -> bool
         ensures { IsTrue result → ¬ All (ComesBack rule.now limit) patterns.now }
     {
         for pattern in patterns {
-            let seen = self.sees_that_it_changes(rule, limit, pattern);
-            if seen {
+            if self.recalled(rule, limit, pattern).is_some() {
+                continue;
+            }
+            if pattern.is_seen_to_change(rule, limit) {
                 return true;
             }
         }
         false
-    }
-
-    /// Whether it is seen at a glance that a pattern doesn't come back within so many generations. One that is
-    /// remembered does.
-    pub(crate) fn sees_that_it_changes(&self, rule: &Rule, limit: u32, pattern: &Pattern) -> bool
-        ensures { IsTrue result → ¬ ComesBack rule.now limit pattern.now }
-    {
-        if self.recalled(rule, limit, pattern).is_some() {
-            return false;
-        }
-        pattern.is_seen_to_change(rule, limit)
     }
 
     /// The sweep of a pattern, or `None` if it doesn't come back within so many generations.
@@ -261,9 +253,7 @@ impl Memo {
         let Some(sweep) = Sweep::find(alloc, rule, limit, pattern)? else {
             return Ok(None);
         };
-        if pattern.population() <= MOST_CELLS {
-            self.keep(alloc, rule, limit, pattern, sweep)?;
-        }
+        self.keep(alloc, rule, limit, pattern, sweep)?;
         Ok(Some(sweep))
     }
 
@@ -292,7 +282,9 @@ impl Memo {
     fn recalled_sweep(&self, rule: &Rule, limit: u32, pattern: &Pattern) -> Option<Sweep>
         ensures { IfSome result (IsSweep rule.now limit pattern.now) }
     {
-        let (known, shift) = self.recalled(rule, limit, pattern)?;
+        let Some((known, shift)) = self.recalled(rule, limit, pattern) else {
+            return None;
+        };
         moved_sweep(known.sweep, shift)
     }
 
@@ -300,21 +292,20 @@ impl Memo {
     fn recalled(&self, rule: &Rule, limit: u32, pattern: &Pattern) -> Option<(&Known, (i32, i32))>
         ensures { IfSome result (λ found. IsAbout rule.now limit pattern.now found.1 found.0.now) }
     {
-        let known = self.at(pattern)?;
-        if known.limit != limit || !is_same(&known.rule, rule) {
+        let slots = self.slots.as_slice();
+        let Some(Some(known)) = slots.get(slot_of(pattern, slots.len())) else {
+            return None;
+        };
+        if known.limit != limit || known.rule != *rule {
             return None;
         }
-        let shift = known.shape.shift_to(pattern)?;
+        let Some(shift) = known.shape.shift_to(pattern) else {
+            return None;
+        };
         Some((known, shift))
     }
 
-    /// What stands in the slot of a pattern. It may be about another shape.
-    fn at(&self, pattern: &Pattern) -> Option<&Known> {
-        let slots = self.slots.as_slice();
-        slots.get(slot_of(pattern, slots.len()))?.as_ref()
-    }
-
-    /// Names a pattern, and keeps what is known of it in its slot.
+    /// Names a pattern, and keeps what is known of it in its slot, unless it is large.
     fn keep(
         &mut self,
         alloc: Global,
@@ -330,7 +321,7 @@ impl Memo {
         requires sweep { IsSweep rule.now limit pattern.now sweep }
     {
         let slot = slot_of(pattern, self.slots.len());
-        if slot >= self.slots.len() {
+        if slot >= self.slots.len() || pattern.population() > MOST_CELLS {
             return Ok(());
         }
         let code = code_of(alloc, rule, limit, pattern)?;
@@ -344,13 +335,6 @@ impl Memo {
         });
         Ok(())
     }
-}
-
-/// Whether the rules are the same.
-fn is_same(one: &Rule, other: &Rule) -> bool
-    ensures { IsTrue result → one.now ≡ other.now }
-{
-    one == other
 }
 
 /// As many slots as a memo has, with nothing in them.
@@ -367,20 +351,27 @@ fn moved_sweep(sweep: Sweep, shift: (i32, i32)) -> Option<Sweep>
     ensures { IfSome result (λ moved. moved ≡ moved_sweep shift sweep) }
 {
     let Sweep { recurrence, bounds } = sweep;
+    let Some((left, right)) = moved(bounds.left, bounds.right, shift.0) else {
+        return None;
+    };
+    let Some((top, bottom)) = moved(bounds.top, bounds.bottom, shift.1) else {
+        return None;
+    };
     let bounds = Bounds {
-        left: moved(bounds.left, shift.0)?,
-        top: moved(bounds.top, shift.1)?,
-        right: moved(bounds.right, shift.0)?,
-        bottom: moved(bounds.bottom, shift.1)?,
+        left,
+        top,
+        right,
+        bottom,
     };
     Some(Sweep { recurrence, bounds })
 }
 
-/// A column or row, moved.
-fn moved(at: i32, by: i32) -> Option<i32>
-    ensures { IfSome result (λ to. to ≡ at +ℤ by) }
+/// The first and the last column or row, moved.
+fn moved(first: i32, last: i32, by: i32) -> Option<(i32, i32)>
+    ensures first { IfSome result (λ to. to.0 ≡ first +ℤ by) }
+    ensures last { IfSome result (λ to. to.1 ≡ last +ℤ by) }
 {
-    at.checked_add(by)
+    first.checked_add(by).zip(last.checked_add(by))
 }
 
 /// The code of a pattern that comes back within so many generations.

@@ -69,7 +69,8 @@ impl Objects {
             let code = memo.code(alloc, rule, limit, cluster)?;
             count(&mut counts, code)?;
         }
-        listed(alloc, counts)
+        let counted = counts.into_iter().collect(alloc)?;
+        Ok(Objects { counted })
     }
 
     /// Whether the objects stay for good: no spaceship is among them, and the least common multiple of their periods
@@ -103,19 +104,6 @@ fn count(counts: &mut BTreeMap<Apgcode, u64>, code: Apgcode) -> Result<(), OutOf
     let before = counts.get(&code).copied().unwrap_or(0);
     counts.insert(code, before + 1)?;
     Ok(())
-}
-
-/// The counts as a list.
-fn listed(alloc: Global, counts: BTreeMap<Apgcode, u64>) -> Result<Objects, OutOfMemory>
-    requires { CountsAreSome counts.entries }
-    ensures entries { IfOk result (λ objects. objects ≡ counts.entries) }
-    ensures lawful { IfOk result AreObjects }
-{
-    let mut counted = Vec::with_capacity(alloc, counts.len())?;
-    for object in counts {
-        counted.push(object)?;
-    }
-    Ok(Objects { counted })
 }
 
 /// Whether none of the objects is a spaceship.

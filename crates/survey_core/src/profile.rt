@@ -2,6 +2,7 @@
 ghost use Rattle.std.specs.Prelude.{◌≡◌};
 ghost use Rattle.survey_core.specs.Profiles.{IsProfile, is_from_to, profile_of, standard};
 
+use std::fmt;
 use std::marker::Model;
 use thiserror::Error;
 
@@ -9,17 +10,24 @@ use thiserror::Error;
 #[derive(Clone, Copy, Debug, PartialEq, Eq, Error)]
 pub enum ProfileError {
     /// The period is not 1 to 64.
-    #[error("bad period")]
     Period,
     /// The horizon is not the period to 4,096.
-    #[error("bad horizon")]
     Horizon,
     /// The stride is not 1 to 10,000.
-    #[error("bad stride")]
     Stride,
     /// The limit is over 100,000.
-    #[error("bad limit")]
     Limit,
+}
+
+impl fmt::Display for ProfileError {
+    fn fmt<W: fmt::Write>(&self, f: &mut fmt::Formatter<W>) -> fmt::Result {
+        f.write_str(match self {
+            ProfileError::Period => "bad period",
+            ProfileError::Horizon => "bad horizon",
+            ProfileError::Stride => "bad stride",
+            ProfileError::Limit => "bad limit",
+        })
+    }
 }
 
 /// When a pattern counts as settled, in four numbers of generations.

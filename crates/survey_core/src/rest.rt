@@ -20,23 +20,24 @@
 //! then the whole is what it was as well, and all that follows has been seen. Even before that a cluster that is itself
 //! again isn't stepped, since its next generation is known.
 
-ghost use Rattle.std.specs.Prelude.{◌≡◌, ◌<◌, ◌≤◌, ◌↔◌, ℕ, All, IfNone, IfOk, IfSome, IsTrue, flat_map, length, map};
+ghost use Rattle.std.specs.Prelude.{◌≡◌, ◌<◌, ◌≤◌, ◌↔◌, ℕ, All, IfNone, IfOk, IfSome, IsTrue, length, map};
 ghost use Rattle.std.specs.Prelude.{◌==◌, filter, true};
 ghost use Rattle.plane_core.specs.Cells.{InOrder};
 ghost use Rattle.plane_core.specs.Clusters.{Partition};
-ghost use Rattle.plane_core.specs.Generations.{lies_within, next};
+ghost use Rattle.plane_core.specs.Generations.{lies_within};
+ghost use Rattle.survey_core.specs.Alone.{alone_at, clusters_of, latest_of};
 ghost use Rattle.survey_core.specs.Groups.{GroupKeeps, ShareNoCell, members, union_of};
 ghost use Rattle.survey_core.specs.Rest.{IsAtRest, KeepApart, RestsAs};
 ghost use Rattle.survey_core.specs.RestLaws.{AtRestForGood, EmptyIsAtRest, GroupsRunAlone, PartsRunAlone};
 ghost use Rattle.survey_core.specs.UnderWay.{survey_reach};
 
+use crate::alone::{Alone, all_cells, are_back, are_same, step_each};
 use crate::groups::groups;
-use crate::later::next;
+use crate::later::{next, pattern_of};
 use crate::memo::Memo;
 use crate::profile::Profile;
 use memory::OutOfMemory;
-use plane_core::cell::Cell;
-use plane_core::pattern::{FromCellsError, Pattern};
+use plane_core::pattern::Pattern;
 use plane_core::rule::Rule;
 use std::alloc::Global;
 
@@ -64,10 +65,7 @@ pub(crate) fn clusters_at_rest(
     };
     let groups = groups(alloc, horizon, sweeps.as_slice())?;
     let apart = groups_keep_apart(alloc, rule, horizon, parts, groups.as_slice())?;
-    if !apart {
-        return Ok(None);
-    }
-    Ok(Some(clusters))
+    Ok(apart.then_some(clusters))
 }
 
 /// Whether in each group the clusters, each run alone, keep apart and make up their union up to the horizon.
@@ -91,8 +89,8 @@ fn groups_keep_apart(
         if count_of(groups, number) < 2 {
             continue;
         }
-        let members = members(alloc, number, groups, clusters)?;
-        let keeps = keep_apart(alloc, rule, horizon, members.as_slice())?;
+        let mut members = members(alloc, rule, number, groups, clusters)?;
+        let keeps = keep_apart(alloc, rule, horizon, members.as_mut_slice())?;
         if !keeps {
             return Ok(false);
         }
@@ -114,37 +112,27 @@ fn count_of(groups: &[usize], number: usize) -> usize
     count
 }
 
-/// The clusters of the group with this number.
+/// The clusters of the group with this number, to be run alone.
 fn members(
     alloc: Global,
+    rule: &Rule,
     number: usize,
     groups: &[usize],
     clusters: &[Pattern],
-) -> Result<Vec<Pattern>, OutOfMemory>
-    requires { length groups.now ≡ length clusters.now }
-    ensures { IfOk result (λ found. found.items ≡ members number groups.now clusters.now) }
+) -> Result<Vec<Alone>, OutOfMemory>
+    requires near { All (λ cluster. lies_within survey_reach cluster ≡ true) clusters.now }
+    requires count { length groups.now ≡ length clusters.now }
+    ensures { IfOk result
+        (λ found. found.items ≡ map (alone_at rule.now 0) (members number groups.now clusters.now)) }
 {
     let mut members = Vec::new(alloc);
     for (place, cluster) in clusters.iter().enumerate() {
         if groups[place] != number {
             continue;
         }
-        members.push(cluster.copy(alloc)?)?;
+        members.push(Alone::start(alloc, rule, cluster)?)?;
     }
     Ok(members)
-}
-
-/// The cells of all the patterns.
-pub(crate) fn union(alloc: Global, parts: &[Pattern]) -> Result<Pattern, OutOfMemory>
-    requires { All (λ part. lies_within 999999 part ≡ true) parts.now }
-    ensures { IfOk result (λ whole. whole ≡ union_of parts.now) }
-{
-    let cells = all_cells(alloc, parts)?;
-    match Pattern::from_cells(alloc, cells.as_slice()) {
-        Ok(whole) => Ok(whole),
-        Err(FromCellsError::Memory(error)) => Err(error),
-        Err(FromCellsError::OutOfPlane { .. }) => unreachable!(),
-    }
 }
 
 /// Whether the clusters, each run alone, keep apart and make up what their union becomes, in each generation up to the
@@ -153,140 +141,55 @@ fn keep_apart(
     alloc: Global,
     rule: &Rule,
     horizon: u32,
-    clusters: &[Pattern],
+    clusters: &mut [Alone],
 ) -> Result<bool, OutOfMemory>
+    requires start { clusters.old ≡ map (alone_at rule.now 0) (clusters_of clusters.old) }
     requires horizon { horizon ≤ 4096 }
-    requires near { All (λ cluster. lies_within survey_reach cluster ≡ true) clusters.now }
-    requires order { All InOrder clusters.now }
-    requires off { ShareNoCell clusters.now }
+    requires near { All (λ cluster. lies_within survey_reach cluster ≡ true) (clusters_of clusters.old) }
+    requires order { All InOrder (clusters_of clusters.old) }
+    requires off { ShareNoCell (clusters_of clusters.old) }
     ensures { IfOk result
-        (λ apart. IsTrue apart ↔ ((g : ℕ) → g ≤ horizon → KeepApart rule.now (union_of clusters.now) clusters.now g)) }
+        (λ apart. IsTrue apart
+        ↔ ((g : ℕ) → g ≤ horizon
+        → KeepApart rule.now (union_of (clusters_of clusters.old)) (clusters_of clusters.old) g)) }
 {
     let mut whole = union(alloc, clusters)?;
-    let stepped = next_of_each(alloc, rule, clusters)?;
-    let first = stepped.as_slice();
-    // The clusters are always a generation ahead of the whole, until that is stepped too.
-    let mut alone = next_of_all(alloc, rule, clusters, first, clusters)?;
     for _ in 0..horizon {
         whole = next(alloc, rule, &whole)?;
-        let parts = alone.as_slice();
-        let same = make_up(alloc, parts, &whole)?;
+        step_each(alloc, rule, clusters)?;
+        let same = make_up(alloc, clusters, &whole)?;
         if !same {
             return Ok(false);
         }
-        let back = are_back(parts, clusters);
-        if back {
+        if are_back(clusters) {
             return Ok(true);
         }
-        alone = next_of_all(alloc, rule, clusters, first, parts)?;
     }
     Ok(true)
 }
 
-/// Whether each of the patterns is the one at its place again.
-fn are_back(later: &[Pattern], patterns: &[Pattern]) -> bool
-    requires { length later.now ≡ length patterns.now }
-    ensures { IsTrue result ↔ (later.now ≡ patterns.now) }
+/// The cells of all the clusters as they are now.
+fn union(alloc: Global, clusters: &[Alone]) -> Result<Pattern, OutOfMemory>
+    requires { All (λ part. lies_within 999999 part ≡ true) (latest_of clusters.now) }
+    ensures { IfOk result (λ whole. whole ≡ union_of (latest_of clusters.now)) }
 {
-    for (place, pattern) in patterns.iter().enumerate() {
-        let same = are_same(later[place].cells(), pattern.cells());
-        if !same {
-            return false;
-        }
-    }
-    true
+    let cells = all_cells(alloc, clusters)?;
+    pattern_of(alloc, cells.as_slice())
 }
 
-/// The next generation of each of the patterns, run alone.
-fn next_of_each(
-    alloc: Global,
-    rule: &Rule,
-    patterns: &[Pattern],
-) -> Result<Vec<Pattern>, OutOfMemory>
-    requires { All (λ pattern. lies_within 999999 pattern ≡ true) patterns.now }
-    ensures { IfOk result (λ later. later.items ≡ map (next rule.now) patterns.now) }
+/// Whether the clusters as they are now share no cell, and are the whole together.
+fn make_up(alloc: Global, clusters: &[Alone], whole: &Pattern) -> Result<bool, OutOfMemory>
+    requires in_order { All InOrder (latest_of clusters.now) }
+    requires near { All (λ part. lies_within 999999 part ≡ true) (latest_of clusters.now) }
+    ensures { IfOk result (λ same. IsTrue same ↔ Partition whole.now (latest_of clusters.now)) }
 {
-    let mut later = Vec::with_capacity(alloc, patterns.len())?;
-    for pattern in patterns {
-        later.push(next(alloc, rule, pattern)?)?;
-    }
-    Ok(later)
-}
-
-/// The next generation of each of the patterns, run alone, where that of the cluster at its place is known.
-fn next_of_all(
-    alloc: Global,
-    rule: &Rule,
-    clusters: &[Pattern],
-    first: &[Pattern],
-    patterns: &[Pattern],
-) -> Result<Vec<Pattern>, OutOfMemory>
-    requires first { first.now ≡ map (next rule.now) clusters.now }
-    requires long { length patterns.now ≡ length clusters.now }
-    requires near { All (λ pattern. lies_within 999999 pattern ≡ true) patterns.now }
-    ensures { IfOk result (λ later. later.items ≡ map (next rule.now) patterns.now) }
-{
-    let mut later = Vec::with_capacity(alloc, patterns.len())?;
-    for (place, pattern) in patterns.iter().enumerate() {
-        let next = next_beside(alloc, rule, &clusters[place], &first[place], pattern)?;
-        later.push(next)?;
-    }
-    Ok(later)
-}
-
-/// The next generation of a pattern, which is known if the pattern is the cluster again. A still life always is.
-fn next_beside(
-    alloc: Global,
-    rule: &Rule,
-    cluster: &Pattern,
-    first: &Pattern,
-    pattern: &Pattern,
-) -> Result<Pattern, OutOfMemory>
-    requires first { first.now ≡ next rule.now cluster.now }
-    requires near { lies_within 999999 pattern.now ≡ true }
-    ensures { IfOk result (λ later. later ≡ next rule.now pattern.now) }
-{
-    let same = are_same(pattern.cells(), cluster.cells());
-    if same {
-        return first.copy(alloc);
-    }
-    next(alloc, rule, pattern)
-}
-
-/// Whether the parts share no cell, and are the whole together.
-fn make_up(alloc: Global, parts: &[Pattern], whole: &Pattern) -> Result<bool, OutOfMemory>
-    requires in_order { All InOrder parts.now }
-    requires near { All (λ part. lies_within 999999 part ≡ true) parts.now }
-    ensures { IfOk result (λ same. IsTrue same ↔ Partition whole.now parts.now) }
-{
-    let cells = all_cells(alloc, parts)?;
+    let cells = all_cells(alloc, clusters)?;
     let all = whole.cells();
     if cells.len() != all.len() {
         return Ok(false);
     }
-    match Pattern::from_cells(alloc, cells.as_slice()) {
-        Ok(union) => Ok(are_same(union.cells(), all)),
-        Err(FromCellsError::Memory(error)) => Err(error),
-        Err(FromCellsError::OutOfPlane { .. }) => unreachable!(),
-    }
-}
-
-/// Whether the two lists are the same.
-pub(crate) fn are_same(one: &[Cell], other: &[Cell]) -> bool
-    ensures { IsTrue result ↔ (one.now ≡ other.now) }
-{
-    one == other
-}
-
-/// The cells of the patterns, those of the first pattern first.
-fn all_cells(alloc: Global, patterns: &[Pattern]) -> Result<Vec<Cell>, OutOfMemory>
-    ensures { IfOk result (λ cells. cells.items ≡ flat_map (λ pattern. pattern) patterns.now) }
-{
-    let mut cells = Vec::new(alloc);
-    for pattern in patterns {
-        cells.extend_from_slice(pattern.cells())?;
-    }
-    Ok(cells)
+    let union = pattern_of(alloc, cells.as_slice())?;
+    Ok(are_same(union.cells(), all))
 }
 
 /// The laws of patterns at rest: the empty pattern is at rest, and a pattern whose objects stay for good keeps them

@@ -2,6 +2,7 @@
 ghost use Rattle.std.specs.Prelude.{◌≡◌, ◌≤◌, ◌-◌, ◌++◌, length, position, replicate};
 ghost use Rattle.survey_core.specs.Seeds.{IsSeed, is_invisible, is_visible, most_bytes, seed_read};
 
+use std::fmt;
 use std::marker::Model;
 use thiserror::Error;
 
@@ -12,11 +13,18 @@ pub const MOST_BYTES: usize = 64;
 #[derive(Clone, Copy, Debug, PartialEq, Eq, Error)]
 pub enum SeedFault {
     /// The text has over 64 bytes.
-    #[error("seed too long")]
     TooLong,
     /// The byte at `place` is the first that isn't a visible ASCII character. Places count from 0.
-    #[error("bad byte in seed at {place}")]
     BadByte { place: usize },
+}
+
+impl fmt::Display for SeedFault {
+    fn fmt<W: fmt::Write>(&self, f: &mut fmt::Formatter<W>) -> fmt::Result {
+        match self {
+            SeedFault::TooLong => f.write_str("seed too long"),
+            SeedFault::BadByte { place } => write!(f, "bad byte in seed at {place}"),
+        }
+    }
 }
 
 /// A text from which soups are made: at most 64 bytes, each one of `!` to `~`. It may be empty.
@@ -82,7 +90,12 @@ impl Seed {
 fn first_invisible(bytes: &[u8]) -> Option<usize>
     ensures { result ≡ position is_invisible bytes.now }
 {
-    bytes.iter().position(|byte| !is_visible(*byte))
+    for (place, byte) in bytes.iter().enumerate() {
+        if !is_visible(*byte) {
+            return Some(place);
+        }
+    }
+    None
 }
 
 /// The bytes, and zeros after them.

@@ -23,7 +23,7 @@ fn hash_from(first: Cell, cells: &[Cell]) -> u64 {
     hash
 }
 
-/// How far it is from one column or row to another, and 2^32 more, so that it isn't negative.
+/// How far it is from one column or row to another, modulo 2^32, so that it isn't negative.
 fn from_to(from: i32, to: i32) -> u64 {
-    (i64::from(to) - i64::from(from) + 0x1_0000_0000) as u64
+    u64::from(to.wrapping_sub(from).cast_unsigned())
 }

@@ -16,11 +16,12 @@ ghost use Rattle.survey_core.specs.Soups.{SoupsByCells, is_alive_at, live_in_squ
 ghost use Rattle.survey_core.specs.Soups.{square_cell};
 
 use crate::job::Job;
+use crate::later::pattern_of;
 use crate::seed::Seed;
 use itoa::Buffer;
 use memory::OutOfMemory;
 use plane_core::cell::Cell;
-use plane_core::pattern::{FromCellsError, Pattern};
+use plane_core::pattern::Pattern;
 use sha2::{Digest, Sha256};
 use std::alloc::Global;
 
@@ -48,11 +49,7 @@ pub fn soup_of_digest(alloc: Global, digest: &[u8; 32]) -> Result<Pattern, OutOf
     ensures small { IfOk result (All (IsWithin square)) }
 {
     let cells = live_cells(alloc, digest)?;
-    match Pattern::from_cells(alloc, cells.as_slice()) {
-        Ok(pattern) => Ok(pattern),
-        Err(FromCellsError::Memory(error)) => Err(error),
-        Err(FromCellsError::OutOfPlane { .. }) => unreachable!(),
-    }
+    pattern_of(alloc, cells.as_slice())
 }
 
 /// A law of all soups, cell by cell: the one in column x of row y, both 0 to 15, is alive exactly if its bit is set.

@@ -7,10 +7,10 @@ use Rattle.plane_core.specs.Generations.{lies_within}
 use Rattle.survey_core.specs.declared.sweep.Sweep.{Sweep}
 use Rattle.survey_core.specs.Grouping.{AreGroups}
 use Rattle.survey_core.specs.Groups.{GroupKeeps, ShareNoCell}
-use Rattle.survey_core.specs.Rest.{ComesBack, RestsAs}
+use Rattle.survey_core.specs.Rest.{ComesBack, IsAtRest, RestsAs}
 use Rattle.survey_core.specs.Sweeps.{AreSweeps}
 use Rattle.survey_core.specs.UnderWay.{survey_reach}
-use Rattle.survey_core.proofs.GroupingLemmas.{groups_of_rest, rest_by_groups}
+use Rattle.survey_core.proofs.GroupingLemmas.{groups_of_rest, none_if, rest_by_groups, some_if}
 use Rattle.survey_core.proofs.RestLemmas.{clusters_near, clusters_off, clusters_some, same_clusters}
 use Rattle.survey_core.proofs.rest.clusters_at_rest.Goals as goal
 
@@ -43,43 +43,46 @@ groups_keep_apart-requires-clause-off c =
     subst ShareNoCell (sym c.as_slice-parts.ensures.value)
     (clusters_off c.args.pattern.now c.in_ok-clusters.clusters.items c.in_ok-clusters.ensures.clusters)
 
--- or those of a group don't keep apart
-pub returns-then-not-apart-clause-moves : goal.returns-then-not-apart-clause-moves
-returns-then-not-apart-clause-moves c = λ rest.
-    let found : AreSweeps c.args.rule.now c.args.profile.now.period c.in_ok-clusters.clusters.items c.in-Some.sweeps.items =
+-- the sweeps and the groups, as they are known of the clusters
+swept : (c : goal.After-drop-sweeps-2)
+    → AreSweeps c.args.rule.now c.args.profile.now.period c.in_ok-clusters.clusters.items c.in-Some.sweeps.items
+swept c =
     subst (λ (p : ℕ). AreSweeps c.args.rule.now p c.in_ok-clusters.clusters.items c.in-Some.sweeps.items) c.period-limit.ensures.period
     (subst (λ (parts : List (List Cell)). AreSweeps c.args.rule.now c.period-limit.result parts c.in-Some.sweeps.items) c.as_slice-parts.ensures.value
-    (rw c.in-Some.is at c.in_ok-sweeps.ensures.sweeps)) in
-    let right : AreGroups c.args.profile.now.horizon c.in-Some.sweeps.items c.in_ok-groups.groups.items =
+    (rw c.in-Some.is at c.in_ok-sweeps.ensures.sweeps))
+
+grouped : (c : goal.After-drop-sweeps-2) → AreGroups c.args.profile.now.horizon c.in-Some.sweeps.items c.in_ok-groups.groups.items
+grouped c =
     subst (λ (h : ℕ). AreGroups h c.in-Some.sweeps.items c.in_ok-groups.groups.items) c.horizon-horizon.ensures.horizon
-    (subst (λ (sweeps : List Sweep). AreGroups c.horizon-horizon.result sweeps c.in_ok-groups.groups.items) c.as_slice.ensures.value c.in_ok-groups.ensures) in
+    (subst (λ (sweeps : List Sweep). AreGroups c.horizon-horizon.result sweeps c.in_ok-groups.groups.items) c.as_slice.ensures.value c.in_ok-groups.ensures)
+
+-- the clusters of some group don't keep apart
+pub returns-clause-moves : goal.returns-clause-moves
+returns-clause-moves c =
+    rw c.then_some.ensures (none_if c.in_ok-apart.apart c.in_ok-clusters.clusters (¬ IsAtRest c.args.rule.now c.args.profile.now c.args.pattern.now) (λ not_apart rest.
     let order : InOrder c.args.pattern.now = c.cells-in_order.ensures.pattern.in_order in
     let same : RestsAs c.args.rule.now c.args.profile.now c.args.pattern.now c.in_ok-clusters.clusters.items =
     same_clusters c.args.rule.now c.args.profile.now c.args.pattern.now c.in_ok-clusters.clusters.items c.in_ok-clusters.ensures.clusters rest in
-    false≢true (sym c.if-not-apart.true ∙ c.in_ok-apart.ensures.1 (λ k low.
+    false≢true (sym not_apart ∙ c.in_ok-apart.ensures.1 (λ k low.
     subst (λ (h : ℕ). GroupKeeps c.args.rule.now c.as_slice-2.result.now c.as_slice-parts.result.now h k) (sym c.horizon-horizon.ensures.horizon)
     (subst (λ (parts : List (List Cell)). GroupKeeps c.args.rule.now c.as_slice-2.result.now parts c.args.profile.now.horizon k) (sym c.as_slice-parts.ensures.value)
     (subst (λ (gs : List ℕ). GroupKeeps c.args.rule.now gs c.in_ok-clusters.clusters.items c.args.profile.now.horizon k) (sym c.as_slice-2.ensures.value)
     (groups_of_rest c.args.rule.now c.args.profile.now c.args.pattern.now c.in_ok-clusters.clusters.items c.in-Some.sweeps.items
-    c.in_ok-groups.groups.items order found right same k)))))
+    c.in_ok-groups.groups.items order (swept c) (grouped c) same k)))))))
 
+-- or those of each do
 pub returns-clause-rest : goal.returns-clause-rest
 returns-clause-rest c =
-    let found : AreSweeps c.args.rule.now c.args.profile.now.period c.in_ok-clusters.clusters.items c.in-Some.sweeps.items =
-    subst (λ (p : ℕ). AreSweeps c.args.rule.now p c.in_ok-clusters.clusters.items c.in-Some.sweeps.items) c.period-limit.ensures.period
-    (subst (λ (parts : List (List Cell)). AreSweeps c.args.rule.now c.period-limit.result parts c.in-Some.sweeps.items) c.as_slice-parts.ensures.value
-    (rw c.in-Some.is at c.in_ok-sweeps.ensures.sweeps)) in
-    let right : AreGroups c.args.profile.now.horizon c.in-Some.sweeps.items c.in_ok-groups.groups.items =
-    subst (λ (h : ℕ). AreGroups h c.in-Some.sweeps.items c.in_ok-groups.groups.items) c.horizon-horizon.ensures.horizon
-    (subst (λ (sweeps : List Sweep). AreGroups c.horizon-horizon.result sweeps c.in_ok-groups.groups.items) c.as_slice.ensures.value c.in_ok-groups.ensures) in
+    rw c.then_some.ensures (some_if c.in_ok-apart.apart c.in_ok-clusters.clusters
+    (λ clusters. RestsAs c.args.rule.now c.args.profile.now c.args.pattern.now clusters.items) (λ apart.
     let order : InOrder c.args.pattern.now = c.cells-in_order.ensures.pattern.in_order in
-    let each = c.in_ok-apart.ensures.0 c.if-not-apart.false in
+    let each = c.in_ok-apart.ensures.0 apart in
     rest_by_groups c.args.rule.now c.args.profile.now c.args.pattern.now c.in_ok-clusters.clusters.items c.in-Some.sweeps.items
-    c.in_ok-groups.groups.items order c.in_ok-clusters.ensures.clusters found right (λ k low.
+    c.in_ok-groups.groups.items order c.in_ok-clusters.ensures.clusters (swept c) (grouped c) (λ k low.
     subst (λ (h : ℕ). GroupKeeps c.args.rule.now c.in_ok-groups.groups.items c.in_ok-clusters.clusters.items h k) c.horizon-horizon.ensures.horizon
     (subst (λ (parts : List (List Cell)). GroupKeeps c.args.rule.now c.in_ok-groups.groups.items parts c.horizon-horizon.result k) c.as_slice-parts.ensures.value
     (subst (λ (gs : List ℕ). GroupKeeps c.args.rule.now gs c.as_slice-parts.result.now c.horizon-horizon.result k) c.as_slice-2.ensures.value
-    (each k (subst (λ (parts : List (List Cell)). k < length parts) (sym c.as_slice-parts.ensures.value) low)))))
+    (each k (subst (λ (parts : List (List Cell)). k < length parts) (sym c.as_slice-parts.ensures.value) low)))))))
 
 pub sweeps-requires-clause-least : goal.sweeps-requires-clause-least
 sweeps-requires-clause-least c =

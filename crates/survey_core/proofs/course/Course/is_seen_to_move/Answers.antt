@@ -10,11 +10,11 @@ returns-in-Shown c seen rest =
     let rule = is.0 ∙ ap (λ (u : UnderWay). u.rule) c.self.view_is in
     let cells = sym (ap kept c.in-Shown.is) ∙ ap (λ (u : UnderWay). u.cells) c.self.view_is in
     refused_moves c.args.self.now.rule c.args.profile.now c.args.self.now.cells
-    (refused_same _ _ _ _ _ _ _ _ rule cells c.horizon-in-Shown.ensures.horizon c.period-in-Shown.ensures.period (c.refuses-in-Shown.ensures seen)) rest
+    (refused_same _ _ _ _ _ _ _ _ rule cells c.horizon-horizon.ensures.horizon c.period-period.ensures.period (c.refuses-in-Shown.ensures seen)) rest
 
 pub returns-in-Listed : goal.returns-in-Listed
 returns-in-Listed c seen rest =
     let rule = ap (λ (u : UnderWay). u.rule) c.self.view_is in
     let cells = sym (ap kept c.in-Listed.is) ∙ ap (λ (u : UnderWay). u.cells) c.self.view_is in
     refused_moves c.args.self.now.rule c.args.profile.now c.args.self.now.cells
-    (refused_same _ _ _ _ _ _ _ _ rule cells c.horizon.ensures.horizon c.period.ensures.period (c.refuses.ensures seen)) rest
+    (refused_same _ _ _ _ _ _ _ _ rule cells c.horizon-horizon.ensures.horizon c.period-period.ensures.period (c.refuses.ensures seen)) rest

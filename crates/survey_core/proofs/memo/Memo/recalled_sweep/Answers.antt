@@ -6,7 +6,7 @@ use Rattle.survey_core.proofs.memo.Memo.recalled_sweep.Goals as goal
 
 pub returns : goal.returns
 returns c =
-    sweep_told c.args.rule.now c.args.limit c.args.pattern.now c.in_ok-known.shift c.in_ok-known.known.now c.moved_sweep.result
-    (subst IsKnown c.known.view_is c.known.invariant) c.in_ok-known.ensures
-    (subst (λ (sweep : Sweep). IfSome c.moved_sweep.result (λ moved. moved ≡ moved_sweep c.in_ok-known.shift sweep))
+    sweep_told c.args.rule.now c.args.limit c.args.pattern.now c.in-Some.shift c.in-Some.known.now c.moved_sweep.result
+    (subst IsKnown c.known.view_is c.known.invariant) c.in-Some.ensures
+    (subst (λ (sweep : Sweep). IfSome c.moved_sweep.result (λ moved. moved ≡ moved_sweep c.in-Some.shift sweep))
     (ap (λ (fact : Fact). fact.sweep) c.known.view_is) c.moved_sweep.ensures)

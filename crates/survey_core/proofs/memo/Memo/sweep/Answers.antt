@@ -10,8 +10,8 @@ returns-in_default-2-clause-never c = rw c.in_default-2.is at c.in_ok-sweep.ensu
 pub keep-requires-clause-sweep : goal.keep-requires-clause-sweep
 keep-requires-clause-sweep c = rw c.in-Some-2.is at c.in_ok-sweep.ensures.sweep
 
-pub returns-in_ok-keep-clause-sweep : goal.returns-in_ok-keep-clause-sweep
-returns-in_ok-keep-clause-sweep c = rw c.in-Some-2.is at c.in_ok-sweep.ensures.sweep
+pub returns-clause-sweep : goal.returns-clause-sweep
+returns-clause-sweep c = rw c.in-Some-2.is at c.in_ok-sweep.ensures.sweep
 
 pub returns-in_err-sweep-clause-sweep : goal.returns-in_err-sweep-clause-sweep
 returns-in_err-sweep-clause-sweep c = IfOk-from_err _ _ c.from_residual.ensures.0
@@ -51,6 +51,3 @@ keep-requires-clause-some c = c.requires.some
 
 pub keep-requires-clause-near : goal.keep-requires-clause-near
 keep-requires-clause-near c = c.requires.near
-
-pub returns-else-population-le-MOST_CELLS-clause-sweep : goal.returns-else-population-le-MOST_CELLS-clause-sweep
-returns-else-population-le-MOST_CELLS-clause-sweep c = rw c.in-Some-2.is at c.in_ok-sweep.ensures.sweep

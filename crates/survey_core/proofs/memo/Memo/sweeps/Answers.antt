@@ -29,7 +29,7 @@ returns-then-sees_change-clause-never c = c.if-sees_change.ensures refl
 
 pub loop-pattern-init : goal.loop-pattern-init
 loop-pattern-init c = record {
-  count = ap length c.in_ok-sweeps.ensures.items;
+  count = ap length c.new-sweeps.ensures.items;
   each = λ i d e low. absurd (omega arith);
 }
 
@@ -53,17 +53,11 @@ returns-clause-sweeps c =
     subst (λ (parts : List (List Cell)). AreSweeps c.args.rule.now c.args.limit parts c.loop-pattern.sweeps.items)
     (take_all c.loop-pattern.pattern-index c.args.patterns.now c.loop-pattern-test.false) c.loop-pattern.invariant
 
-pub returns-in_err-sweeps-clause-sweeps : goal.returns-in_err-sweeps-clause-sweeps
-returns-in_err-sweeps-clause-sweeps c = IfOk-from_err _ _ c.from_residual.ensures.0
-
-pub returns-in_err-sweeps-clause-never : goal.returns-in_err-sweeps-clause-never
-returns-in_err-sweeps-clause-never c = IfOk-from_err _ _ c.from_residual.ensures.0
-
 pub returns-in_err-sweep-clause-sweeps : goal.returns-in_err-sweep-clause-sweeps
-returns-in_err-sweep-clause-sweeps c = IfOk-from_err _ _ c.from_residual-in_err-sweep.ensures.0
+returns-in_err-sweep-clause-sweeps c = IfOk-from_err _ _ c.from_residual.ensures.0
 
 pub returns-in_err-sweep-clause-never : goal.returns-in_err-sweep-clause-never
-returns-in_err-sweep-clause-never c = IfOk-from_err _ _ c.from_residual-in_err-sweep.ensures.0
+returns-in_err-sweep-clause-never c = IfOk-from_err _ _ c.from_residual.ensures.0
 
 pub returns-in_err-push-in-Some-clause-sweeps : goal.returns-in_err-push-in-Some-clause-sweeps
 returns-in_err-push-in-Some-clause-sweeps c = IfOk-from_err _ _ c.from_residual-in_err-push-in-Some.ensures.0

@@ -1,5 +1,5 @@
-use Rattle.std.proofs.Common.{◌≤◌, arith, count_by, sum, ◌≡◌, ◌≢◌, true, ◌∙◌, ◌+◌, ◌<◌, ap, sym, subst, ℕ, List, [], ◌∷◌, ◌++◌, length, if◌then◌else◌}
-use Rattle.std.proofs.lemmas.Result.{IfOk-from_err, IfOk-weaker}
+use Rattle.std.proofs.Common.{◌≤◌, arith, count_by, rules, sum, ◌≡◌, ◌≢◌, true, ◌∙◌, ◌+◌, ◌<◌, ap, sym, subst, ℕ, List, [], ◌∷◌, ◌++◌, length, if◌then◌else◌}
+use Rattle.std.proofs.lemmas.Result.{IfOk-from_err}
 use Rattle.std.proofs.lemmas.List.{take_all}
 use Rattle.std.proofs.lemmas.List.Sums.{count_by-le-length}
 use Rattle.std.specs.List.{AllZip}
@@ -7,10 +7,10 @@ use Rattle.std.specs.Map.{values_of}
 use Rattle.code_core.specs.Names.{IsCode}
 use Rattle.plane_core.specs.declared.cell.Cell.{Cell}
 use Rattle.plane_core.specs.Generations.{lies_within}
-use Rattle.survey_core.specs.Objects.{is_code}
+use Rattle.survey_core.specs.Objects.{AreObjects, count_of, is_code}
 use Rattle.survey_core.specs.Rest.{ComesBack}
 use Rattle.survey_core.specs.UnderWay.{survey_reach}
-use Rattle.survey_core.proofs.ObjectLemmas.{are_objects_of, codes_more, count_by_more, length_more}
+use Rattle.survey_core.proofs.ObjectLemmas.{codes_more, count_by_more, entries_are_objects, length_more}
 use Rattle.survey_core.proofs.objects.Objects.of_clusters.Goals as goal
 
 pub code-requires-clause-back : goal.code-requires-clause-back
@@ -46,9 +46,6 @@ code-requires-clause-near c =
 pub count-requires-clause-some : goal.count-requires-clause-some
 count-requires-clause-some c = c.loop-cluster.invariant.4
 
-pub listed-requires : goal.listed-requires
-listed-requires c = c.loop-cluster.invariant.4
-
 pub returns-in_err-code-clause-objects : goal.returns-in_err-code-clause-objects
 returns-in_err-code-clause-objects c = IfOk-from_err _ _ c.from_residual.ensures.0
 
@@ -67,19 +64,27 @@ count-requires-clause-room c = λ code.
     let few : count_by (is_code code) codes ≤ length codes = count_by-le-length (is_code code) codes in
     omega (arith, c.loop-cluster.invariant.3 code, c.loop-cluster.invariant.2)
 
+-- the list has the entries of the map
+same : (c : goal.In_ok-counted) → c.in_ok-counted.counted.items ≡ c.loop-cluster.counts.entries
+same c = search rules
+
+lawful : (c : goal.In_ok-counted) → AreObjects c.in_ok-counted.counted.items
+lawful c =
+    subst AreObjects (sym (same c))
+    (entries_are_objects c.loop-cluster.counts c.into_iter.ensures.into_iter_gives.5 c.loop-cluster.invariant.4)
+
+pub invariant_of-result : goal.invariant_of-result
+invariant_of-result c = lawful c
+
 pub returns-clause-objects : goal.returns-clause-objects
-returns-clause-objects c =
-    are_objects_of c.args.rule.now c.args.limit c.args.clusters.now c.loop-cluster.invariant.0
-    c.loop-cluster.counts.entries c.listed.result
-    c.listed.ensures.entries c.listed.ensures.lawful
-    (subst (λ (clusters : List (List Cell)). AllZip (λ cluster code. IsCode c.args.rule.now cluster c.args.limit code)
-    clusters c.loop-cluster.invariant.0)
-    (take_all c.loop-cluster.cluster-index c.args.clusters.now c.loop-cluster-test.false) c.loop-cluster.invariant.1)
-    c.loop-cluster.invariant.3
+returns-clause-objects c = record {
+  lawful = lawful c;
+  codes = c.loop-cluster.invariant.0;
+  named = subst (λ (clusters : List (List Cell)). AllZip (λ cluster code. IsCode c.args.rule.now cluster c.args.limit code)
+      clusters c.loop-cluster.invariant.0)
+      (take_all c.loop-cluster.cluster-index c.args.clusters.now c.loop-cluster-test.false) c.loop-cluster.invariant.1;
+  counts = λ code. ap (λ (os : List (List ℕ × ℕ)). count_of os code) (same c) ∙ c.loop-cluster.invariant.3 code;
+}
 
 pub returns-clause-number : goal.returns-clause-number
-returns-clause-number c =
-    IfOk-weaker c.listed.result (λ objects. objects ≡ c.loop-cluster.counts.entries)
-    (λ objects. sum (values_of objects) ≡ length c.args.clusters.now)
-    (λ objects is. ap (λ (os : List (List ℕ × ℕ)). sum (values_of os)) is ∙ c.loop-cluster.invariant.5 ∙ omega arith)
-    c.listed.ensures.entries
+returns-clause-number c = ap (λ (os : List (List ℕ × ℕ)). sum (values_of os)) (same c) ∙ c.loop-cluster.invariant.5 ∙ omega arith

@@ -1,0 +1,105 @@
+//! Clusters that are run alone, each by itself, a generation at a time.
+//!
+//! What becomes of a cluster next is kept, so that it isn't made anew each time that the cluster is itself again:
+//!
+//! ```text
+//! cluster    first    latest, after 1, 2, 3 .. generations
+//! OOO        .O.      .O.    OOO    .O.
+//!            .O.      .O.           .O.
+//!            .O.      .O.           .O.
+//! ```
+ghost use Rattle.std.specs.Prelude.{◌≡◌, ◌↔◌, All, IfOk, IsTrue, OnOk, flat_map, map, true};
+ghost use Rattle.plane_core.specs.Generations.{lies_within, next};
+ghost use Rattle.survey_core.specs.Alone.{alone_at, clusters_of, latest_of, stepped};
+ghost use Rattle.survey_core.specs.UnderWay.{survey_reach};
+
+use crate::later::next;
+use memory::OutOfMemory;
+use plane_core::cell::Cell;
+use plane_core::pattern::Pattern;
+use plane_core::rule::Rule;
+use std::alloc::Global;
+
+/// A cluster that is run alone.
+#[derive(Drop)]
+pub(crate) struct Alone {
+    cluster: Pattern,
+    /// Its next generation.
+    first: Pattern,
+    /// The cluster so many generations later.
+    latest: Pattern,
+}
+
+impl Alone {
+    /// A cluster that hasn't been run yet.
+    pub(crate) fn start(alloc: Global, rule: &Rule, cluster: &Pattern) -> Result<Alone, OutOfMemory>
+        requires { lies_within survey_reach cluster.now ≡ true }
+        ensures { IfOk result (λ alone. alone ≡ alone_at rule.now 0 cluster.now) }
+    {
+        Ok(Alone {
+            cluster: cluster.copy(alloc)?,
+            first: next(alloc, rule, cluster)?,
+            latest: cluster.copy(alloc)?,
+        })
+    }
+
+    /// The next generation, which is known if the cluster is itself again. A still life always is.
+    fn next(&self, alloc: Global, rule: &Rule) -> Result<Pattern, OutOfMemory>
+        requires first { self.now.first ≡ next rule.now self.now.cluster }
+        requires near { lies_within 999999 self.now.latest ≡ true }
+        ensures { IfOk result (λ later. later ≡ next rule.now self.now.latest) }
+    {
+        let same = are_same(self.latest.cells(), self.cluster.cells());
+        if same {
+            return self.first.copy(alloc);
+        }
+        next(alloc, rule, &self.latest)
+    }
+}
+
+/// Runs each of the clusters for a generation.
+pub(crate) fn step_each(
+    alloc: Global,
+    rule: &Rule,
+    clusters: &mut [Alone],
+) -> Result<(), OutOfMemory>
+    requires first { All (λ alone. alone.first ≡ next rule.now alone.cluster) clusters.old }
+    requires near { All (λ alone. lies_within 999999 alone.latest ≡ true) clusters.old }
+    ensures { OnOk result (clusters.new ≡ map (stepped rule.now) clusters.old) }
+{
+    for cluster in clusters.iter_mut() {
+        cluster.latest = cluster.next(alloc, rule)?;
+    }
+    Ok(())
+}
+
+/// Whether each of the clusters is itself again.
+pub(crate) fn are_back(clusters: &[Alone]) -> bool
+    ensures { IsTrue result ↔ (latest_of clusters.now ≡ clusters_of clusters.now) }
+{
+    for alone in clusters {
+        let same = are_same(alone.latest.cells(), alone.cluster.cells());
+        if !same {
+            return false;
+        }
+    }
+    true
+}
+
+/// The cells of all the clusters as they are now, those of the first cluster first.
+pub(crate) fn all_cells(alloc: Global, clusters: &[Alone]) -> Result<Vec<Cell>, OutOfMemory>
+    ensures { IfOk result (λ cells. cells.items ≡ flat_map (λ cells. cells) (latest_of clusters.now)) }
+{
+    let mut cells = Vec::new(alloc);
+    for alone in clusters {
+        cells.extend_from_slice(alone.latest.cells())?;
+    }
+    Ok(cells)
+}
+
+/// Whether the two lists are the same.
+pub(crate) fn are_same(one: &[Cell], other: &[Cell]) -> bool
+    ensures { IsTrue result ↔ (one.now ≡ other.now) }
+{
+    one == other
+}
