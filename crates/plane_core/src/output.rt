@@ -3,16 +3,22 @@ ghost use Rattle.std.specs.Prelude.{◌≡◌, ◌<◌, ◌≤◌, [], IfOk, OnE
 ghost use Rattle.std.specs.Io.KnownBytes.{Appends};
 ghost use Rattle.plane_core.specs.Out.{Writes};
 
+use std::fmt;
 use std::io::{self, ErrorKind, Write};
 use std::marker::Model;
 use thiserror::Error;
 
 /// A write failed or took no byte. Who holds one got it from a writer.
 #[derive(Clone, Copy, Debug, PartialEq, Eq, Error)]
-#[error("write failed")]
 pub struct WriteError {
     /// What the writer failed with. `None` if it took no byte, or was interrupted 2^64 times.
     kind: Option<ErrorKind>,
+}
+
+impl fmt::Display for WriteError {
+    fn fmt<W: fmt::Write>(&self, f: &mut fmt::Formatter<W>) -> fmt::Result {
+        f.write_str("write failed")
+    }
 }
 
 impl WriteError {

@@ -9,6 +9,7 @@ ghost use Rattle.plane_core.specs.declared.pattern.FromCellsError.TheVariants.{M
 use crate::cell::Cell;
 use memory::OutOfMemory;
 use std::alloc::Global;
+use std::fmt::{self, Display};
 use std::marker::Model;
 use thiserror::Error;
 
@@ -16,11 +17,20 @@ use thiserror::Error;
 #[derive(Clone, Copy, Debug, PartialEq, Eq, Error)]
 pub enum FromCellsError {
     /// The cell at this index, counted from 0, is the first past the bound.
-    #[error("cell {index} lies past the bound of the plane")]
     OutOfPlane { index: usize },
     /// Memory ran out.
-    #[error(transparent)]
     Memory(OutOfMemory),
+}
+
+impl fmt::Display for FromCellsError {
+    fn fmt<W: fmt::Write>(&self, f: &mut fmt::Formatter<W>) -> fmt::Result {
+        match self {
+            FromCellsError::OutOfPlane { index } => {
+                write!(f, "cell {index} lies past the bound of the plane")
+            }
+            FromCellsError::Memory(refused) => refused.fmt(f),
+        }
+    }
 }
 
 impl<E: Into<OutOfMemory>> From<E> for FromCellsError {

@@ -23,17 +23,25 @@ use crate::orientation::Orientation;
 use crate::pattern::{Pattern, in_order};
 use memory::OutOfMemory;
 use std::alloc::Global;
+use std::fmt::{self, Display};
 use thiserror::Error;
 
 /// Why a pattern can't be put somewhere.
 #[derive(Clone, Copy, Debug, PartialEq, Eq, Error)]
 pub enum PlaceError {
     /// A cell would lie past the bound.
-    #[error("a cell would lie past the bound of the plane")]
     OutOfPlane,
     /// Memory ran out.
-    #[error(transparent)]
     Memory(OutOfMemory),
+}
+
+impl fmt::Display for PlaceError {
+    fn fmt<W: fmt::Write>(&self, f: &mut fmt::Formatter<W>) -> fmt::Result {
+        match self {
+            PlaceError::OutOfPlane => f.write_str("a cell would lie past the bound of the plane"),
+            PlaceError::Memory(refused) => refused.fmt(f),
+        }
+    }
 }
 
 impl<E: Into<OutOfMemory>> From<E> for PlaceError {

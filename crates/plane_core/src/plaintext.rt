@@ -29,6 +29,7 @@ use crate::output::{Out, WriteError};
 use crate::pattern::Pattern;
 use memory::OutOfMemory;
 use std::alloc::Global;
+use std::fmt::{self, Display};
 use std::io::Write;
 use thiserror::Error;
 
@@ -54,22 +55,38 @@ const DEAD_CELLS: [u8; 64] = [DEAD; 64];
 #[derive(Clone, Copy, Debug, PartialEq, Eq, Error)]
 pub enum PlaintextFault {
     /// A byte of a row is none of `.`, `O` and `*`. Lines and columns count from 1.
-    #[error("bad byte at line {line} column {column}")]
     BadByte { line: usize, column: usize },
     /// A `.`, `O` or `*` stands past the 1,000th column or the 1,000th row.
-    #[error("pattern larger than 1000 by 1000")]
     TooLarge,
+}
+
+impl fmt::Display for PlaintextFault {
+    fn fmt<W: fmt::Write>(&self, f: &mut fmt::Formatter<W>) -> fmt::Result {
+        match self {
+            PlaintextFault::BadByte { line, column } => {
+                write!(f, "bad byte at line {line} column {column}")
+            }
+            PlaintextFault::TooLarge => f.write_str("pattern larger than 1000 by 1000"),
+        }
+    }
 }
 
 /// Why a text was not read.
 #[derive(Clone, Copy, Debug, PartialEq, Eq, Error)]
 pub enum PlaintextError {
     /// The text is not a plaintext pattern.
-    #[error(transparent)]
     Fault(PlaintextFault),
     /// Memory ran out.
-    #[error(transparent)]
     Memory(OutOfMemory),
+}
+
+impl fmt::Display for PlaintextError {
+    fn fmt<W: fmt::Write>(&self, f: &mut fmt::Formatter<W>) -> fmt::Result {
+        match self {
+            PlaintextError::Fault(fault) => fault.fmt(f),
+            PlaintextError::Memory(refused) => refused.fmt(f),
+        }
+    }
 }
 
 impl Pattern {

@@ -5,6 +5,7 @@ ghost use Rattle.plane_core.specs.Rules.{Numbers, IsRule, IsFirstFault, is_birth
 ghost use Rattle.plane_core.specs.Rules.{begins, numbers_at, rule_read};
 
 use crate::output::{Out, WriteError};
+use std::fmt;
 use std::io::Write;
 use std::marker::Model;
 use thiserror::Error;
@@ -13,11 +14,18 @@ use thiserror::Error;
 #[derive(Clone, Copy, Debug, PartialEq, Eq, Error)]
 pub enum RuleFault {
     /// The byte at `place` can't stand there, or the text ends there too early. Places count from 0.
-    #[error("bad rule at {place}")]
     BadRule { place: usize },
     /// A `0` stands directly after the `b`.
-    #[error("birth on zero neighbours")]
     BirthZero,
+}
+
+impl fmt::Display for RuleFault {
+    fn fmt<W: fmt::Write>(&self, f: &mut fmt::Formatter<W>) -> fmt::Result {
+        match self {
+            RuleFault::BadRule { place } => write!(f, "bad rule at {place}"),
+            RuleFault::BirthZero => f.write_str("birth on zero neighbours"),
+        }
+    }
 }
 
 /// A Life-like rule without birth on zero neighbours, as Conway's Life, `b3s23`.
