@@ -282,6 +282,12 @@ between c b d first second row near = go (before_cases c b first) (before_cases 
         let even : distance b.y d.y ≤ 2 = omega (arith, ints, right.0) in
         (omega (arith, west, level), omega (arith, east, even))
 
+-- the place just before a place, joined with it if their cells are near
+pub joins_before : (cells : List Cell) (parents : List ℕ) (place : ℕ) → (NeedsJoin cells (place - 1) place → Joined parents (place - 1) place)
+    → (k : ℕ) → k + 1 ≡ place → NeedsJoin cells k place → Joined parents k place
+joins_before cells parents place joined k next =
+    let before : place - 1 ≡ k = omega (arith, next) in subst (λ j. NeedsJoin cells j place → Joined parents j place) before joined
+
 -- the place before and two rows are all that is near and stands earlier
 pub joins_rows : (cells : List Cell) (a b c : List ℕ) (place : ℕ) → InOrder cells → place < length cells → Keeps a b → Keeps b c
     → ((k : ℕ) → k + 1 ≡ place → NeedsJoin cells k place → Joined a k place)

@@ -54,7 +54,8 @@ pub(crate) fn join_all(cells: &[Cell], parents: &mut [usize])
     ensures joined { JoinsAll cells.now parents.new (length cells.now) }
 {
     let mut cursors = Cursors { above: 0, top: 0 };
-    for place in 0..cells.len() {
+    // The first place has none before it.
+    for place in 1..cells.len() {
         cursors = join_place(cells, parents, place, cursors);
     }
 }
@@ -62,7 +63,7 @@ pub(crate) fn join_all(cells: &[Cell], parents: &mut [usize])
 /// Joins this place with those before it whose cells are near. The result is the cursors for the next place.
 fn join_place(cells: &[Cell], parents: &mut [usize], place: usize, cursors: Cursors) -> Cursors
     requires pattern { IsPattern cells.now }
-    requires place { place < length cells.now }
+    requires place { (0 < place) × (place < length cells.now) }
     requires forest { IsForest cells.now parents.old }
     requires cursors { AreBehind cells.now cursors place }
     ensures forest { IsForest cells.now parents.new }
@@ -70,8 +71,8 @@ fn join_place(cells: &[Cell], parents: &mut [usize], place: usize, cursors: Curs
     ensures joined { (k : ℕ) → k < place → NeedsJoin cells.now k place → Joined parents.new k place }
     ensures cursors { AreBehind cells.now result place }
 {
+    join_if_near(cells, parents, place - 1, place);
     let cell = cells[place];
-    join_before(cells, parents, place);
     let above = join_row(
         cells,
         parents,
@@ -91,21 +92,6 @@ fn join_place(cells: &[Cell], parents: &mut [usize], place: usize, cursors: Curs
     Cursors { above, top }
 }
 
-/// Joins this place with the one just before it if their cells are near.
-fn join_before(cells: &[Cell], parents: &mut [usize], place: usize)
-    requires pattern { IsPattern cells.now }
-    requires place { place < length cells.now }
-    requires forest { IsForest cells.now parents.old }
-    ensures forest { IsForest cells.now parents.new }
-    ensures keeps { Keeps parents.old parents.new }
-    ensures joined { (k : ℕ) → k + 1 ≡ place → NeedsJoin cells.now k place → Joined parents.new k place }
-{
-    if place == 0 {
-        return;
-    }
-    join_if_near(cells, parents, place - 1, place);
-}
-
 /// Joins this place with those before it whose cells are near and lie between two cells, these included. The result is
 /// the first place that may be one.
 #[inline(always)]
@@ -118,7 +104,7 @@ fn join_row(
     to: Cell,
 ) -> usize
     requires pattern { IsPattern cells.now }
-    requires place { place < length cells.now }
+    requires place { (0 < place) × (place < length cells.now) }
     requires forest { IsForest cells.now parents.old }
     requires cursor { IsPassed cells.now cursor from }
     requires above { from.y <ℤ (cell_of cells.now place).y }
@@ -151,15 +137,12 @@ fn skipped(cells: &[Cell], cursor: usize, from: Cell) -> usize
 /// just before stands in the same row and is near, it is the one past all that are near both.
 fn fresh_from(cells: &[Cell], place: usize, from: Cell) -> Cell
     requires pattern { IsPattern cells.now }
-    requires place { place < length cells.now }
+    requires place { (0 < place) × (place < length cells.now) }
     requires above { from.y <ℤ (cell_of cells.now place).y }
     ensures { (k : ℕ) → k < place → cell_cmp (cell_of cells.now k) from ≢ Less
         → cell_cmp (cell_of cells.now k) result ≡ Less
         → king_distance (cell_of cells.now k) (cell_of cells.now place) ≤ 2 → IsBridged cells.now k place }
 {
-    if place == 0 {
-        return from;
-    }
     let before = cells[place - 1];
     if before.y != cells[place].y {
         return from;

@@ -148,19 +148,23 @@ impl Rule {
         ensures rule { IsRule self.now }
     {
         let Rule { births, survivals } = self;
-        out.put(b"b")?;
-        write_digits(out, 1, births)?;
-        out.put(b"s")?;
-        write_digits(out, 0, survivals)
+        write_numbers(out, b'b', 1, births)?;
+        write_numbers(out, b's', 0, survivals)
     }
 }
 
-/// Writes the digits of the numbers from `least` on that the table answers true.
-fn write_digits<V: Write>(out: &mut Out<V>, least: u8, answers: &[bool]) -> Result<(), WriteError>
+/// Writes a letter, and the digits of the numbers from `least` on that the table answers true.
+fn write_numbers<V: Write>(
+    out: &mut Out<V>,
+    letter: u8,
+    least: u8,
+    answers: &[bool],
+) -> Result<(), WriteError>
     requires fresh { out.old.failed ≡ false }
     requires digits { least + length answers.now ≤ 10 }
-    ensures { Writes V.contents out.old out.new result (digits least answers.now) }
+    ensures { Writes V.contents out.old out.new result (letter ∷ digits least answers.now) }
 {
+    out.put(&[letter])?;
     for (i, answer) in answers.iter().enumerate() {
         if *answer {
             out.put(&[b'0' + least + i as u8])?;

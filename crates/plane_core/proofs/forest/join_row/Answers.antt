@@ -34,7 +34,7 @@ pub join_up_to-requires-clause-pattern : goal.join_up_to-requires-clause-pattern
 join_up_to-requires-clause-pattern c = c.requires.pattern
 
 pub join_up_to-requires-clause-place : goal.join_up_to-requires-clause-place
-join_up_to-requires-clause-place c = c.requires.place
+join_up_to-requires-clause-place c = c.requires.place.1
 
 pub join_up_to-requires-clause-forest : goal.join_up_to-requires-clause-forest
 join_up_to-requires-clause-forest c = c.requires.forest
