@@ -422,11 +422,11 @@ less Equal is = absurd (false≢true is)
 less Greater is = absurd (false≢true is)
 
 -- one root more
-pub roots-more : (parents : List ℕ) (n : ℕ) → length parents ≡ n → ((k : ℕ) → k < n → parent_of parents k ≡ k)
-    → (k : ℕ) → k < n + 1 → parent_of (parents ++ n ∷ []) k ≡ k
-roots-more parents n long roots =
-    below_more (λ k. parent_of (parents ++ n ∷ []) k ≡ k) n
-    (λ k low. get_or_append_left parents (n ∷ []) 0 k (subst (λ m. k < m) (sym long) low) ∙ roots k low) (get_or_push parents n 0 n long)
+pub roots-more : (parents : List ℕ) (n : ℕ) → n < length parents → ((k : ℕ) → k < n → parent_of parents k ≡ k)
+    → (k : ℕ) → k < n + 1 → parent_of (set parents n n) k ≡ k
+roots-more parents n low roots =
+    below_more (λ k. parent_of (set parents n n) k ≡ k) n
+    (λ k less. get_or-set_other parents n k n 0 (λ same. absurd (omega (arith, less, same))) ∙ roots k less) (get_or-set_same parents n n 0 low)
 
 -- a place for each cell, each a root
 pub forest-roots : (cells : List Cell) (parents : List ℕ) → length parents ≡ length cells

@@ -106,7 +106,7 @@ fn gather(
     }
     let number = parents[parent];
     parents[place] = number;
-    extend(clusters, number, cells[place])
+    clusters[number].push(cells[place])
 }
 
 /// For how many cells a new cluster has room. Of the clusters that a soup leaves, few have more.
@@ -121,13 +121,4 @@ fn begin(alloc: Global, clusters: &mut Vec<Pattern>, cell: Cell) -> Result<(), O
     first.push(cell)?;
     clusters.push(Pattern::from_ordered(first))?;
     Ok(())
-}
-
-/// Puts a cell at the end of a cluster.
-fn extend(clusters: &mut [Pattern], number: usize, cell: Cell) -> Result<(), OutOfMemory>
-    requires number { number < length clusters.old }
-    requires pattern { IsPattern (get_or clusters.old number [] ++ cell ∷ []) }
-    ensures { OnOk result (clusters.new ≡ set clusters.old number (get_or clusters.old number [] ++ cell ∷ [])) }
-{
-    clusters[number].push(cell)
 }

@@ -38,9 +38,9 @@ pub(crate) fn roots(alloc: Global, count: usize) -> Result<Vec<usize>, OutOfMemo
     ensures count { IfOk result (λ parents. length parents.items ≡ count) }
     ensures roots { IfOk result (λ parents. (k : ℕ) → k < count → parent_of parents.items k ≡ k) }
 {
-    let mut parents = Vec::with_capacity(alloc, count)?;
+    let mut parents = vec![in alloc; 0; count]?;
     for place in 0..count {
-        parents.push(place)?;
+        parents[place] = place;
     }
     Ok(parents)
 }

@@ -86,8 +86,7 @@ impl Pattern {
         if touches(self.cells()) {
             return Err(StepError::Edge);
         }
-        let pattern = self.next(alloc, rule)?;
-        Ok(pattern)
+        self.next(alloc, rule).map_err(StepError::Memory)
     }
 
     /// The next generation: in a window if it fits, on a board if one is worth it, and else cell by cell.

@@ -1,5 +1,6 @@
 use Rattle.std.proofs.Common.{◌≡◌, ◌∙◌, ◌+◌, ◌*◌, ◌<◌, Fits, OnOk, ap, arith, rules, get_or, length, set, subst, sym, w64, List, ◌++◌, ◌∷◌, []}
-use Rattle.std.proofs.lemmas.List.{with_items_is}
+use Rattle.std.specs.Vec.{vec_len}
+use Rattle.std.proofs.lemmas.List.{get_or_default}
 use Rattle.std.proofs.lemmas.Result.{on_ok_weaker}
 use Rattle.plane_core.specs.declared.cell.Cell.{Cell}
 use Rattle.plane_core.specs.Cells.{IsPattern}
@@ -29,23 +30,28 @@ offset_bounds-parents-parent c =
     let long : Fits w64 (length c.args.parents.now * 8) = search rules in
     omega (arith, most, c.requires.place, c.requires.gathering.size, long)
 
-pub extend-requires-clause-number : goal.extend-requires-clause-number
-extend-requires-clause-number c =
-    subst (λ (clusters : List (List Cell)). parent_of c.args.parents.now (parent_of c.args.parents.now c.args.place) < length clusters) (sym c.deref_mut.ensures.value)
-    (number_is_inside c.args.cells.now c.args.parents.now c.args.clusters.now.items c.args.place c.requires.place c.requires.gathering c.if-parent-place.false)
+-- the cluster of the place to which this one leads
+pub index_mut-requires : goal.index_mut-requires
+index_mut-requires c =
+    let number = number_is_inside c.args.cells.now c.args.parents.now c.args.clusters.now.items c.args.place c.requires.place c.requires.gathering
+    c.if-parent-place.false in
+    let long : length c.args.clusters.now.items ≡ vec_len c.args.clusters.now = search rules in
+    subst (λ n. parent_of c.args.parents.now (parent_of c.args.parents.now c.args.place) < n) long number
 
-pub extend-requires-clause-pattern : goal.extend-requires-clause-pattern
-extend-requires-clause-pattern c =
-    subst (λ (clusters : List (List Cell)). IsPattern (get_or clusters (parent_of c.args.parents.now (parent_of c.args.parents.now c.args.place)) []
-    ++ cell_of c.args.cells.now c.args.place ∷ [])) (sym c.deref_mut.ensures.value)
+pub push-requires : goal.push-requires
+push-requires c =
+    subst (λ cluster. IsPattern (cluster ++ cell_of c.args.cells.now c.args.place ∷ []))
+    (sym (c.index_mut.ensures.value ∙ get_or_default c.args.clusters.now.items _ _ [] (number_is_inside c.args.cells.now c.args.parents.now
+    c.args.clusters.now.items c.args.place c.requires.place c.requires.gathering c.if-parent-place.false)))
     (pattern_grown c.args.cells.now c.args.parents.now c.args.clusters.now.items c.args.place c.requires.place c.requires.gathering
     c.requires.pattern c.if-parent-place.false)
 
 pub returns : goal.returns
 returns c =
     let n = parent_of c.args.parents.now (parent_of c.args.parents.now c.args.place) in
-    let fits : length c.extend.new.clusters ≡ c.args.clusters.now.len = omega (arith, c.extend.auto.clusters, c.deref_mut.ensures.len) in
+    let is = c.index_mut.ensures.value ∙ get_or_default c.args.clusters.now.items n _ [] (number_is_inside c.args.cells.now c.args.parents.now
+    c.args.clusters.now.items c.args.place c.requires.place c.requires.gathering c.if-parent-place.false) in
     gathering-grown c.args.cells.now c.args.parents.now c.args.clusters.now.items c.args.place c.requires.place c.requires.gathering
-    c.extend.result _ c.requires.pattern c.if-parent-place.false
-    (on_ok_weaker c.extend.result (λ is. with_items_is c.args.clusters.now c.extend.new.clusters fits ∙ is
-    ∙ ap (λ (cs : List (List Cell)). set cs n (get_or cs n [] ++ cell_of c.args.cells.now c.args.place ∷ [])) c.deref_mut.ensures.value) c.extend.ensures)
+    c.push.result _ c.requires.pattern c.if-parent-place.false
+    (on_ok_weaker c.push.result (λ pushed. ap (set c.args.clusters.now.items n)
+    (pushed ∙ ap (λ (cluster : List Cell). cluster ++ cell_of c.args.cells.now c.args.place ∷ []) is)) c.push.ensures)
