@@ -118,7 +118,11 @@ fn join_row(
     let first = skipped(cells, cursor, from);
     let fresh = fresh_from(cells, place, from);
     let start = skipped(cells, first, fresh);
-    join_up_to(cells, parents, place, start, to);
+    let mut at = start;
+    while at < place && cells[at] <= to {
+        join_if_near(cells, parents, at, place);
+        at += 1;
+    }
     first
 }
 
@@ -162,23 +166,6 @@ fn past(cell: Cell, row: Cell) -> Cell
     Cell {
         y: row.y,
         x: along(cell.x, 3),
-    }
-}
-
-/// Joins this place with those from the first one on whose cells are near, up to the cell at which it ends.
-fn join_up_to(cells: &[Cell], parents: &mut [usize], place: usize, first: usize, to: Cell)
-    requires pattern { IsPattern cells.now }
-    requires place { place < length cells.now }
-    requires forest { IsForest cells.now parents.old }
-    ensures forest { IsForest cells.now parents.new }
-    ensures keeps { Keeps parents.old parents.new }
-    ensures joined { (k : ℕ) → first ≤ k → k < place → cell_cmp to (cell_of cells.now k) ≢ Less
-        → NeedsJoin cells.now k place → Joined parents.new k place }
-{
-    let mut at = first;
-    while at < place && cells[at] <= to {
-        join_if_near(cells, parents, at, place);
-        at += 1;
     }
 }
 

@@ -269,13 +269,6 @@ fn pattern_in(alloc: Global, text: &[u8]) -> Result<Pattern, OutOfMemory>
     Ok(Pattern::from_ordered(cells))
 }
 
-fn dead_cells(count: usize) -> &'static [u8]
-    requires { count ≤ 64 }
-    ensures { result.now ≡ replicate count dot }
-{
-    &DEAD_CELLS[..count]
-}
-
 /// Writes as many dead cells as the gap is wide, and then a byte.
 fn put_after_gap<V: Write>(out: &mut Out<V>, gap: u32, byte: u8) -> Result<(), WriteError>
     requires { out.old.failed ≡ false }
@@ -284,7 +277,7 @@ fn put_after_gap<V: Write>(out: &mut Out<V>, gap: u32, byte: u8) -> Result<(), W
     let mut left = gap as usize;
     while left > 0 {
         let some = left.min(DEAD_CELLS.len());
-        out.put(dead_cells(some))?;
+        out.put(&DEAD_CELLS[..some])?;
         left -= some;
     }
     out.put(&[byte])
