@@ -8,7 +8,6 @@
 ghost use Rattle.std.specs.Prelude.{◌≡◌, map, ℤ, true, false};
 ghost use Rattle.std.specs.Prelude.{Some, None, IfOk, IfErr, OnOk, if◌then◌else◌};
 ghost use Rattle.std.specs.List.{list_all};
-ghost use Rattle.std.specs.Option.{option_map};
 ghost use Rattle.memory.specs.Evidence.{out_of_memory};
 ghost use Rattle.plane_core.specs.Bounds.{box_of, shifted};
 ghost use Rattle.plane_core.specs.Orientations.{corner_placement, landed, turned, turned_cell};
@@ -69,11 +68,12 @@ impl Pattern {
             dx,
             dy,
         };
-        if !placement.keeps_all(self.cells()) {
+        let cells = self.cells();
+        if !placement.keeps_all(cells) {
             return Err(PlaceError::OutOfPlane);
         }
-        let cells = placement.place_all(alloc, self.cells())?;
-        Ok(Pattern::from_ordered(cells))
+        let placed = placement.place_all(alloc, cells)?;
+        Ok(Pattern::from_ordered(placed))
     }
 
     /// The image of the pattern in an orientation, moved so that its least x and its least y are 0. The empty pattern
@@ -88,14 +88,13 @@ impl Pattern {
         ensures plane { OnOk result (list_all on_plane (turned orientation self.now) ≡ true) }
         ensures refused { IfErr result (RefusesPlace (turned orientation self.now)) }
     {
-        let Some(placement) = to_corner(self.cells(), orientation) else {
-            return Ok(Pattern::from_ordered(Vec::new(alloc)));
-        };
-        if !placement.keeps_all(self.cells()) {
+        let cells = self.cells();
+        let placement = to_corner(cells, orientation);
+        if !placement.keeps_all(cells) {
             return Err(PlaceError::OutOfPlane);
         }
-        let cells = placement.place_all(alloc, self.cells())?;
-        Ok(Pattern::from_ordered(in_order(cells)))
+        let placed = placement.place_all(alloc, cells)?;
+        Ok(Pattern::from_ordered(in_order(placed)))
     }
 }
 
@@ -170,15 +169,21 @@ fn image_box(cells: &[Cell], orientation: Orientation) -> Option<Bounds>
     bounds
 }
 
-/// How cells are to lie so that their image is at the corner. It is `None` if there is no cell.
-fn to_corner(cells: &[Cell], orientation: Orientation) -> Option<Placement>
+/// How cells are to lie so that their image is at the corner.
+fn to_corner(cells: &[Cell], orientation: Orientation) -> Placement
     requires { list_all on_plane cells.now ≡ true }
-    ensures { result ≡ option_map (corner_placement orientation) (box_of (map (turned_cell orientation) cells.now)) }
+    ensures { result ≡ corner_placement orientation (box_of (map (turned_cell orientation) cells.now)) }
 {
-    let bounds = image_box(cells, orientation)?;
-    Some(Placement {
-        orientation,
-        dx: negated(bounds.left),
-        dy: negated(bounds.top),
-    })
+    match image_box(cells, orientation) {
+        None => Placement {
+            orientation,
+            dx: 0,
+            dy: 0,
+        },
+        Some(bounds) => Placement {
+            orientation,
+            dx: negated(bounds.left),
+            dy: negated(bounds.top),
+        },
+    }
 }
