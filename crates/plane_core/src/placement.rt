@@ -114,10 +114,13 @@ impl Placement {
         ensures { result ≡ (if on_plane (landed self cell) then Some (landed self cell) else None) }
     {
         let Cell { x, y } = self.orientation.image_of(cell);
-        match (sum_on_plane(x, self.dx), sum_on_plane(y, self.dy)) {
-            (Some(x), Some(y)) => Some(Cell { y, x }),
-            _ => None,
-        }
+        let Some(x) = sum_on_plane(x, self.dx) else {
+            return None;
+        };
+        let Some(y) = sum_on_plane(y, self.dy) else {
+            return None;
+        };
+        Some(Cell { y, x })
     }
 
     /// Where a cell lands, if it is known to land on the plane.

@@ -114,7 +114,7 @@ fn with_neighbours(
 fn counted(alloc: Global, cells: &[Cell]) -> Result<Vec<Tally>, OutOfMemory>
     ensures { IfOk result (λ tallies. tallies.items ≡ map one_of cells.now) }
 {
-    let mut tallies = Vec::with_capacity(alloc, cells.len())?;
+    let mut tallies = Vec::new(alloc);
     for cell in cells {
         tallies.push(Tally {
             cell: *cell,
