@@ -185,8 +185,7 @@ impl Pattern {
         let Some(past) = self.run_side(alloc, rule, generations, cuts - 1, cut, false)? else {
             return Ok(None);
         };
-        let whole = before.united(&past)?;
-        Ok(Some(whole))
+        before.united(&past).map(Some)
     }
 
     /// What becomes of the cells before a cut, or of those past it.
