@@ -144,7 +144,7 @@ impl Pattern {
     pub fn has(&self, x: i32, y: i32) -> bool
         ensures { result ≡ has self.now (cell_at x y) }
     {
-        is_member(self.cells.as_slice(), &Cell { y, x })
+        self.cells().binary_search(&Cell { y, x }).is_ok()
     }
 }
 
@@ -163,14 +163,6 @@ fn first_off_plane(cells: &[Cell]) -> Option<usize>
         }
     }
     None
-}
-
-/// Whether a list in order has the cell.
-fn is_member(cells: &[Cell], cell: &Cell) -> bool
-    requires { InOrder cells.now }
-    ensures { result ≡ has cells.now cell.now }
-{
-    cells.binary_search(cell).is_ok()
 }
 
 /// The cells in order, each once. Those that are read off a board are so already.

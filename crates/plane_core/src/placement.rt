@@ -15,7 +15,7 @@ ghost use Rattle.plane_core.specs.Cells.{on_plane};
 ghost use Rattle.plane_core.specs.Refusals.{RefusesPlace};
 ghost use Rattle.plane_core.specs.declared.placement.PlaceError.TheVariants.{Memory};
 
-use crate::bounds::{Bounds, grown};
+use crate::bounds::grown;
 use crate::cell::Cell;
 use crate::coordinate::{negated, sum_on_plane};
 use crate::orientation::Orientation;
@@ -123,15 +123,6 @@ impl Placement {
         Some(Cell { y, x })
     }
 
-    /// Where a cell lands, if it is known to land on the plane.
-    fn place(self, cell: Cell) -> Cell
-        requires cell { on_plane cell ≡ true }
-        requires landed { on_plane (landed self cell) ≡ true }
-        ensures { result ≡ landed self cell }
-    {
-        self.landing(cell).unwrap()
-    }
-
     /// Whether all cells land on the plane.
     fn keeps_all(self, cells: &[Cell]) -> bool
         requires { list_all on_plane cells.now ≡ true }
@@ -153,23 +144,10 @@ impl Placement {
     {
         let mut placed = Vec::with_capacity(alloc, cells.len())?;
         for cell in cells {
-            placed.push(self.place(*cell))?;
+            placed.push(self.landing(*cell).unwrap())?;
         }
         Ok(placed)
     }
-}
-
-/// The least box round the image of the cells.
-#[tactic(auto, using(crate::proofs::BoundsLemmas::image_box_more))]
-fn image_box(cells: &[Cell], orientation: Orientation) -> Option<Bounds>
-    requires { list_all on_plane cells.now ≡ true }
-    ensures { result ≡ box_of (map (turned_cell orientation) cells.now) }
-{
-    let mut bounds = None;
-    for cell in cells {
-        bounds = Some(grown(bounds, orientation.image_of(*cell)));
-    }
-    bounds
 }
 
 /// How cells are to lie so that their image is at the corner.
@@ -177,7 +155,11 @@ fn to_corner(cells: &[Cell], orientation: Orientation) -> Placement
     requires { list_all on_plane cells.now ≡ true }
     ensures { result ≡ corner_placement orientation (box_of (map (turned_cell orientation) cells.now)) }
 {
-    match image_box(cells, orientation) {
+    let mut bounds = None;
+    for cell in cells {
+        bounds = Some(grown(bounds, orientation.image_of(*cell)));
+    }
+    match bounds {
         None => Placement {
             orientation,
             dx: 0,
