@@ -129,10 +129,15 @@ impl Pattern {
         requires { out.old.failed ≡ false }
         ensures { Writes V.contents out.old out.new result (plain self.now) }
     {
-        match self.bounds() {
-            None => Ok(()),
-            Some(bounds) => write_rows(out, self.cells(), bounds),
+        let Some(bounds) = self.bounds() else {
+            return Ok(());
+        };
+        let mut remainder = self.cells();
+        for y in bounds.top..bounds.bottom + 1 {
+            write_row(out, remainder, bounds, y)?;
+            remainder = below(remainder, y);
         }
+        Ok(())
     }
 }
 
@@ -320,19 +325,4 @@ fn write_row<V: Write>(
         x = cell.x + 1;
     }
     put_after_gap(out, x.abs_diff(bounds.right + 1), LINE_FEED)
-}
-
-/// Writes the rows of the cells' box.
-fn write_rows<V: Write>(out: &mut Out<V>, cells: &[Cell], bounds: Bounds) -> Result<(), WriteError>
-    requires fresh { out.old.failed ≡ false }
-    requires bounds { IsBox bounds }
-    requires cells { IsAhead bounds.top bounds cells.now }
-    ensures { Writes V.contents out.old out.new result (box_text (Some bounds) cells.now) }
-{
-    let mut remainder = cells;
-    for y in bounds.top..bounds.bottom + 1 {
-        write_row(out, remainder, bounds, y)?;
-        remainder = below(remainder, y);
-    }
-    Ok(())
 }
