@@ -2,7 +2,6 @@
 use Rattle.std.proofs.Common.{◌≡◌, ℕ, ℤ, ◌≤◌, neg_ℤ, unsigned_abs, Bool, true, ◌&&◌, List, [], ◌∷◌}
 use Rattle.std.proofs.Common.{arith, refl, ap, ◌∙◌, sym, subst, map, Option, Some, None, Any, leb}
 use Rattle.std.specs.List.{list_all}
-use Rattle.std.specs.Option.{option_map}
 use Rattle.std.specs.Ordering.{match_ordering}
 use Rattle.std.specs.declared.cmp.Ordering.{Ordering}
 use Rattle.std.specs.declared.cmp.Ordering.TheVariants.{Less, Equal, Greater}
@@ -13,7 +12,6 @@ use Rattle.plane_core.specs.declared.bounds.Bounds.{Bounds}
 use Rattle.plane_core.specs.declared.cell.Cell.{Cell}
 use Rattle.plane_core.specs.declared.orientation.Orientation.{Orientation}
 use Rattle.plane_core.specs.declared.orientation.Orientation.TheVariants.{Same, Quarter, Half, ThreeQuarter, Mirror, Flip, Diagonal, AntiDiagonal}
-use Rattle.plane_core.specs.declared.placement.Placement.{Placement}
 use Rattle.plane_core.specs.Bounds.{box_of, grown, shifted, cornered, IsLeastBox}
 use Rattle.plane_core.specs.Cells.{plane_bound, cell_cmp, moved_by, put, set_of, InOrder, on_plane, IsPattern}
 use Rattle.plane_core.specs.Orientations.{turned_cell, landed, corner_placement, image, turned}

@@ -9,7 +9,6 @@
 //! ```
 ghost use Rattle.std.specs.Prelude.{◌≡◌, ◌↔◌, [], ℕ, IsNone, IfSome};
 ghost use Rattle.plane_core.specs.Bounds.{IsRoundBoth, AreSidesWithin, IsLeastBox, IsWithin, box_at, box_of, grown, widened};
-ghost use Rattle.plane_core.specs.Cells.{IsPattern};
 ghost use Rattle.plane_core.specs.declared.cell.Cell.{Cell};
 
 use crate::cell::Cell;

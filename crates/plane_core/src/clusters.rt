@@ -7,7 +7,7 @@
 //! The places are gone through in order. A root begins the next cluster; any other place goes into the cluster of the
 //! place to which it leads, which stands earlier. So the clusters come in the order of their first cells, and the cells
 //! of each in their own.
-ghost use Rattle.std.specs.Prelude.{◌≡◌, ◌+◌, ◌<◌, ◌++◌, [], ◌∷◌, length, All, IfOk, OnOk, get_or, set};
+ghost use Rattle.std.specs.Prelude.{◌≡◌, ◌+◌, ◌<◌, ◌++◌, [], ◌∷◌, length, All, IfOk, OnOk};
 ghost use Rattle.plane_core.specs.Cells.{IsPattern};
 ghost use Rattle.plane_core.specs.Clusters.{AreClusters};
 ghost use Rattle.plane_core.specs.Clusters.{ClustersAreDetermined, ClustersLieApart, ClustersMoveAlong};

@@ -1,6 +1,5 @@
 //! A writer that remembers whether a write has failed, and the error for that.
-ghost use Rattle.std.specs.Prelude.{◌≡◌, ◌<◌, ◌≤◌, [], IfOk, OnErr, false, is_err, length, take};
-ghost use Rattle.std.specs.Io.KnownBytes.{Appends};
+ghost use Rattle.std.specs.Prelude.{◌≡◌, ◌<◌, [], false};
 ghost use Rattle.plane_core.specs.Out.{Writes};
 
 use std::fmt;

@@ -19,9 +19,9 @@ ghost use Rattle.plane_core.specs.Cells.{IsPattern, cell_at, has};
 ghost use Rattle.plane_core.specs.declared.cell.Cell.{Cell};
 ghost use Rattle.plane_core.specs.declared.plaintext.PlaintextFault.{PlaintextFault};
 ghost use Rattle.plane_core.specs.Generations.{lies_within};
-ghost use Rattle.plane_core.specs.Plaintext.{is_live, fault_at, first_fault, live_cells, pattern, row_text, box_text};
+ghost use Rattle.plane_core.specs.Plaintext.{is_live, fault_at, first_fault, live_cells, pattern, row_text};
 ghost use Rattle.plane_core.specs.Plaintext.{plain, FitsThousandSquare};
-ghost use Rattle.plane_core.specs.PlaintextPlaces.{Place, byte_at, dot, is_comment, line_feed, places_of_row, places, side_limit};
+ghost use Rattle.plane_core.specs.PlaintextPlaces.{byte_at, dot, is_comment, line_feed, places_of_row, places, side_limit};
 
 use crate::bounds::Bounds;
 use crate::cell::Cell;

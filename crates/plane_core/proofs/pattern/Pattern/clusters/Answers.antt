@@ -1,9 +1,9 @@
-use Rattle.std.proofs.Common.{◌≡◌, ◌∙◌, ℕ, List, length, subst, sym}
+use Rattle.std.proofs.Common.{List, subst, sym}
 use Rattle.std.specs.Prelude.{IfOk}
 use Rattle.plane_core.specs.declared.cell.Cell.{Cell}
 use Rattle.plane_core.specs.Cells.{IsPattern}
 use Rattle.plane_core.specs.Clusters.{AreClusters}
-use Rattle.plane_core.specs.Forest.{IsForest, JoinsAll}
+use Rattle.plane_core.specs.Forest.{IsForest}
 use Rattle.plane_core.proofs.ForestLemmas.{forest-roots}
 use Rattle.plane_core.proofs.pattern.Pattern.clusters.Goals as goal
 

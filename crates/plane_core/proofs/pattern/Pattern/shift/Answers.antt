@@ -1,4 +1,4 @@
-use Rattle.std.proofs.Common.{◌≡◌, ◌∙◌, FitsSigned, List, map, subst, sym, true, w32}
+use Rattle.std.proofs.Common.{◌≡◌, ◌∙◌, FitsSigned, List, subst, sym, true, w32}
 use Rattle.std.proofs.lemmas.Int.{to_z-of_z}
 use Rattle.std.proofs.lemmas.Result.{err_from_is_err_and}
 use Rattle.std.specs.List.{list_all}

@@ -1,4 +1,4 @@
-use Rattle.std.proofs.Common.{◌≡◌, ◌∙◌, ◌&&◌, ℤ, Bool, true, false, Option, Some, None, FitsSigned, cond, refl, rules, subst, sym, w32}
+use Rattle.std.proofs.Common.{◌≡◌, ◌&&◌, ℤ, Bool, true, false, Option, Some, None, FitsSigned, cond, refl, rules, subst, w32}
 use Rattle.std.proofs.lemmas.Int.{to_z-of_z}
 use Rattle.plane_core.specs.declared.cell.Cell.{Cell}
 use Rattle.plane_core.specs.declared.placement.Placement.{Placement}
