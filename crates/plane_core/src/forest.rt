@@ -12,9 +12,9 @@
 //! what lies too far to the left; it never goes back, since the next cell lies further right or further down. In its
 //! own row a cell is joined with the one just before it, and that one, if near, has been joined with all that is near
 //! both: so of the rows above mostly one cell is left, or none.
-ghost use Rattle.std.specs.Prelude.{◌≡◌, ◌≢◌, ◌+◌, ◌+ℤ◌, ◌<◌, ◌<ℤ◌, ◌≤◌, ℕ, true, IfOk, List, length, nat_le, pos};
+ghost use Rattle.std.specs.Prelude.{◌≡◌, ◌≢◌, ◌+◌, ◌<◌, ◌<ℤ◌, ◌≤◌, ℕ, true, IfOk, List, length, nat_le};
 ghost use Rattle.std.specs.declared.cmp.Ordering.TheVariants.{Less};
-ghost use Rattle.plane_core.specs.Cells.{IsPattern, cell_at, cell_cmp, king_distance, on_plane};
+ghost use Rattle.plane_core.specs.Cells.{IsPattern, cell_cmp, king_distance, on_plane};
 ghost use Rattle.plane_core.specs.Forest.{AreBehind, IsBridged, IsForest, IsPassed, Joined, JoinsAll, JoinsLinked};
 ghost use Rattle.plane_core.specs.Forest.{Keeps, LeadsBack, NeedsJoin};
 ghost use Rattle.plane_core.specs.Clusters.{Linked};
@@ -154,18 +154,9 @@ fn fresh_from(cells: &[Cell], place: usize, from: Cell) -> Cell
     if !are_near(before, cells[place]) {
         return from;
     }
-    past(before, from)
-}
-
-/// The cell three columns further right than this one, in the row of the other.
-#[tactic(auto, unfolding(crate::specs::Cells::on_plane))]
-fn past(cell: Cell, row: Cell) -> Cell
-    requires { on_plane cell ≡ true }
-    ensures { result ≡ cell_at (cell.x +ℤ pos 3) row.y }
-{
     Cell {
-        y: row.y,
-        x: along(cell.x, 3),
+        y: from.y,
+        x: along(before.x, 3),
     }
 }
 
