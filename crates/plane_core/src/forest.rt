@@ -15,7 +15,7 @@
 ghost use Rattle.std.specs.Prelude.{◌≡◌, ◌≢◌, ◌+◌, ◌<◌, ◌<ℤ◌, ◌≤◌, ℕ, true, IfOk, List, length, nat_le};
 ghost use Rattle.std.specs.declared.cmp.Ordering.TheVariants.{Less};
 ghost use Rattle.plane_core.specs.Cells.{IsPattern, cell_cmp, king_distance, on_plane};
-ghost use Rattle.plane_core.specs.Forest.{AreBehind, IsBridged, IsForest, IsPassed, Joined, JoinsAll, JoinsLinked};
+ghost use Rattle.plane_core.specs.Forest.{IsBridged, IsForest, IsPassed, Joined, JoinsAll, JoinsLinked};
 ghost use Rattle.plane_core.specs.Forest.{Keeps, LeadsBack, NeedsJoin};
 ghost use Rattle.plane_core.specs.Clusters.{Linked};
 ghost use Rattle.plane_core.specs.Forest.{cell_of, parent_of};
@@ -56,40 +56,26 @@ pub(crate) fn join_all(cells: &[Cell], parents: &mut [usize])
     let mut cursors = Cursors { above: 0, top: 0 };
     // The first place has none before it.
     for place in 1..cells.len() {
-        cursors = join_place(cells, parents, place, cursors);
+        join_if_near(cells, parents, place - 1, place);
+        let cell = cells[place];
+        let above = join_row(
+            cells,
+            parents,
+            place,
+            cursors.above,
+            cell.moved(-2, -1),
+            cell.moved(2, -1),
+        );
+        let top = join_row(
+            cells,
+            parents,
+            place,
+            cursors.top,
+            cell.moved(-2, -2),
+            cell.moved(2, -2),
+        );
+        cursors = Cursors { above, top };
     }
-}
-
-/// Joins this place with those before it whose cells are near. The result is the cursors for the next place.
-fn join_place(cells: &[Cell], parents: &mut [usize], place: usize, cursors: Cursors) -> Cursors
-    requires pattern { IsPattern cells.now }
-    requires place { (0 < place) × (place < length cells.now) }
-    requires forest { IsForest cells.now parents.old }
-    requires cursors { AreBehind cells.now cursors place }
-    ensures forest { IsForest cells.now parents.new }
-    ensures keeps { Keeps parents.old parents.new }
-    ensures joined { (k : ℕ) → k < place → NeedsJoin cells.now k place → Joined parents.new k place }
-    ensures cursors { AreBehind cells.now result place }
-{
-    join_if_near(cells, parents, place - 1, place);
-    let cell = cells[place];
-    let above = join_row(
-        cells,
-        parents,
-        place,
-        cursors.above,
-        cell.moved(-2, -1),
-        cell.moved(2, -1),
-    );
-    let top = join_row(
-        cells,
-        parents,
-        place,
-        cursors.top,
-        cell.moved(-2, -2),
-        cell.moved(2, -2),
-    );
-    Cursors { above, top }
 }
 
 /// Joins this place with those before it whose cells are near and lie between two cells, these included. The result is
