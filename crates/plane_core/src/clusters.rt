@@ -5,8 +5,8 @@
 //!      . . . O . . .          cluster  0  0  1  1  0
 //!
 //! The places are gone through in order. A root begins the next cluster; any other place goes into the cluster of the
-//! place to which it leads, which stands earlier. So the clusters come in the order of their first cells, and the cells
-//! of each in their own.
+//! place to which it leads, which stands earlier. That place has its cluster's number by then, in place of where it
+//! led. So the clusters come in the order of their first cells, and the cells of each in their own.
 ghost use Rattle.std.specs.Prelude.{◌≡◌, ◌+◌, ◌<◌, ◌++◌, [], ◌∷◌, length, All, IfOk, OnOk};
 ghost use Rattle.plane_core.specs.Cells.{IsPattern};
 ghost use Rattle.plane_core.specs.Clusters.{AreClusters};
