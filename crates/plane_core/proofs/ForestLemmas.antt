@@ -1,12 +1,12 @@
 -- Forests over the places of a pattern's cells: roots, joined trees, and cursors.
-use Rattle.std.proofs.Common.{◌≡◌, ◌≢◌, ℕ, ℤ, ◌+◌, ◌-◌, ◌+ℤ◌, ◌<◌, ◌≤◌, ◌<ℤ◌, max, min, pos, negsuc, true, false, List, [], ◌∷◌, ◌++◌, arith, refl, ap, ◌∙◌, sym, subst, inl, inr, ◌⊎◌, length, set}
+use Rattle.std.proofs.Common.{◌≡◌, ◌≢◌, ℕ, ℤ, ◌+◌, ◌-◌, ◌+ℤ◌, ◌<◌, ◌≤◌, ◌<ℤ◌, max, min, pos, negsuc, true, false, List, arith, refl, ap, ◌∙◌, sym, subst, inl, inr, ◌⊎◌, length, set}
 use Rattle.std.specs.Cmp.{int_ranks}
 use Rattle.std.specs.Ordering.{int_cmp, is_le, is_lt, ordering_then, MatchOrdering}
 use Rattle.std.specs.declared.cmp.Ordering.{Ordering}
 use Rattle.std.specs.declared.cmp.Ordering.TheVariants.{Less, Equal, Greater}
 use Rattle.std.proofs.lemmas.Bool.{cases_eq, cases_lt, false≢true}
 use Rattle.std.proofs.lemmas.Int.{ints}
-use Rattle.std.proofs.lemmas.List.{get_or-set_same, get_or-set_other, get_or_append_left, get_or_push, length-set}
+use Rattle.std.proofs.lemmas.List.{get_or-set_same, get_or-set_other, length-set}
 use Rattle.std.proofs.lemmas.List.Elements.{Contains-get_or}
 use Rattle.std.proofs.lemmas.Map.Keys.{Less-from_sorted}
 use borrow.Author.Count.{below_more}
@@ -282,6 +282,12 @@ between c b d first second row near = go (before_cases c b first) (before_cases 
         let even : distance b.y d.y ≤ 2 = omega (arith, ints, right.0) in
         (omega (arith, west, level), omega (arith, east, even))
 
+-- the place just before a place, joined with it if their cells are near
+pub joins_before : (cells : List Cell) (parents : List ℕ) (place : ℕ) → (NeedsJoin cells (place - 1) place → Joined parents (place - 1) place)
+    → (k : ℕ) → k + 1 ≡ place → NeedsJoin cells k place → Joined parents k place
+joins_before cells parents place joined k next =
+    let before : place - 1 ≡ k = omega (arith, next) in subst (λ j. NeedsJoin cells j place → Joined parents j place) before joined
+
 -- the place before and two rows are all that is near and stands earlier
 pub joins_rows : (cells : List Cell) (a b c : List ℕ) (place : ℕ) → InOrder cells → place < length cells → Keeps a b → Keeps b c
     → ((k : ℕ) → k + 1 ≡ place → NeedsJoin cells k place → Joined a k place)
@@ -416,11 +422,11 @@ less Equal is = absurd (false≢true is)
 less Greater is = absurd (false≢true is)
 
 -- one root more
-pub roots-more : (parents : List ℕ) (n : ℕ) → length parents ≡ n → ((k : ℕ) → k < n → parent_of parents k ≡ k)
-    → (k : ℕ) → k < n + 1 → parent_of (parents ++ n ∷ []) k ≡ k
-roots-more parents n long roots =
-    below_more (λ k. parent_of (parents ++ n ∷ []) k ≡ k) n
-    (λ k low. get_or_append_left parents (n ∷ []) 0 k (subst (λ m. k < m) (sym long) low) ∙ roots k low) (get_or_push parents n 0 n long)
+pub roots-more : (parents : List ℕ) (n : ℕ) → n < length parents → ((k : ℕ) → k < n → parent_of parents k ≡ k)
+    → (k : ℕ) → k < n + 1 → parent_of (set parents n n) k ≡ k
+roots-more parents n low roots =
+    below_more (λ k. parent_of (set parents n n) k ≡ k) n
+    (λ k less. get_or-set_other parents n k n 0 (λ same. absurd (omega (arith, less, same))) ∙ roots k less) (get_or-set_same parents n n 0 low)
 
 -- a place for each cell, each a root
 pub forest-roots : (cells : List Cell) (parents : List ℕ) → length parents ≡ length cells

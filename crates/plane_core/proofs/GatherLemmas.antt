@@ -1,15 +1,17 @@
 -- How the trees of a forest become clusters: places get numbers, and the cells with one number are a cluster.
 use Rattle.std.proofs.Common.{◌≡◌, ◌≢◌, ◌==◌, ℕ, ◌+◌, ◌<◌, ◌≤◌, zero, suc, Bool, true, false, cond, List, [], ◌∷◌, ◌++◌, arith, refl, ap, ◌∙◌, sym, subst, inl, inr, ◌⊎◌}
-use Rattle.std.proofs.Common.{length, get_or, set, All, Any, Result, Ok, Err}
-use Rattle.std.specs.Prelude.{IfOk, OnOk}
+use Rattle.std.proofs.Common.{length, take, get_or, set, All, Any, Result}
+use Rattle.std.specs.Prelude.{OnOk}
 use Rattle.std.specs.declared.cmp.Ordering.TheVariants.{Less}
 use Rattle.std.proofs.lemmas.Bool.{false≢true, cases_eq, cases_lt, eqb-true, eq-eqb, ne_eqb}
-use Rattle.std.proofs.lemmas.List.{get_or_append_left, get_or_push, get_or_default, get_or-set_same, get_or-set_other, length-set, length_push, append-nil}
+use Rattle.std.proofs.lemmas.List.{get_or_append_left, get_or_push, get_or_default, get_or-set_same, get_or-set_other, length-set, length_push, append-nil, drop-set-lt, get_or-drop, get_or-take, take_more_set}
+use Rattle.std.proofs.lemmas.Grind.{drop_more_same}
+use Rattle.std.proofs.lemmas.Result.{on_ok_weaker}
 use Rattle.std.proofs.lemmas.List.Quantifiers.{all_pairs_push}
 use Rattle.plane_core.specs.declared.cell.Cell.{Cell}
 use Rattle.plane_core.specs.Cells.{cell_cmp, king_distance, has, on_plane, InOrder, IsPattern}
 use Rattle.plane_core.specs.Clusters.{Leads, Linked, IsCluster, AreClusters, FirstBefore}
-use Rattle.plane_core.specs.Forest.{cell_of, parent_of, numbered, IsForest, ArePutInClusters, JoinsAll, Labels}
+use Rattle.plane_core.specs.Forest.{cell_of, parent_of, numbered, IsForest, IsGathering, ArePutInClusters, JoinsAll, Labels}
 use Rattle.plane_core.proofs.SetLemmas.{IsBefore, has-cases, has-head, or_right, in_order-head, in_order-tail, in_order-cons, in_order-nil}
 use Rattle.plane_core.proofs.SearchLemmas.{list_all-has, has-list_all}
 use Rattle.plane_core.proofs.ClusterLemmas.{king_distance-sym, linked-itself, linked-trans, linked-sym}
@@ -173,7 +175,7 @@ first_one [] d e h before = absurd (false≢true h)
 first_one (x ∷ xs) d e h before = before x (has-head x xs)
 
 -- a root begins the next cluster
-pub gathering-root : (cells : List Cell) (parents numbers : List ℕ) (clusters : List (List Cell)) (place : ℕ) → InOrder cells → IsForest cells parents
+gathering-root : (cells : List Cell) (parents numbers : List ℕ) (clusters : List (List Cell)) (place : ℕ) → InOrder cells → IsForest cells parents
     → place < length cells → parent_of parents place ≡ place → ArePutInClusters cells parents numbers clusters place
     → ArePutInClusters cells parents (numbers ++ length clusters ∷ []) (clusters ++ (cell_of cells place ∷ []) ∷ []) (place + 1)
 gathering-root cells parents numbers clusters place o f low root g = record {
@@ -247,7 +249,7 @@ first-longer (c ∷ cs) [] xs ys h = absurd h
 first-longer (c ∷ cs) (d ∷ ds) xs ys h = h
 
 -- any other place goes into the cluster of the place to which it leads
-pub gathering-other : (cells : List Cell) (parents numbers : List ℕ) (clusters : List (List Cell)) (place n : ℕ) → InOrder cells → IsForest cells parents
+gathering-other : (cells : List Cell) (parents numbers : List ℕ) (clusters : List (List Cell)) (place n : ℕ) → InOrder cells → IsForest cells parents
     → place < length cells → parent_of parents place ≢ place → n ≡ get_or numbers (parent_of parents place) 0
     → ArePutInClusters cells parents numbers clusters place
     → ArePutInClusters cells parents (numbers ++ n ∷ []) (set clusters n (get_or clusters n [] ++ cell_of cells place ∷ [])) (place + 1)
@@ -317,7 +319,7 @@ gathering-other cells parents numbers clusters place n o f low branch is g = rec
     )
 
 -- what such a cluster is with the cell
-pub pattern-other : (cells : List Cell) (parents numbers : List ℕ) (clusters : List (List Cell)) (place n : ℕ) → IsPattern cells → place < length cells
+pattern-other : (cells : List Cell) (parents numbers : List ℕ) (clusters : List (List Cell)) (place n : ℕ) → IsPattern cells → place < length cells
     → n < length clusters → ArePutInClusters cells parents numbers clusters place → IsPattern (get_or clusters n [] ++ cell_of cells place ∷ [])
 pattern-other cells parents numbers clusters place n is low inside g =
     subst IsPattern (numbered-this n numbers cells place g.size low
@@ -430,7 +432,7 @@ gathered_patterns cells parents numbers clusters place is g n d low =
     subst IsPattern (sym (get_or_default clusters n d [] low ∙ g.lists n low)) (is_pattern-numbered n numbers cells is)
 
 -- the number of a place that isn't a root is that of a cluster
-pub number_inside : (cells : List Cell) (parents numbers : List ℕ) (clusters : List (List Cell)) (place n : ℕ) → IsForest cells parents
+number_inside : (cells : List Cell) (parents numbers : List ℕ) (clusters : List (List Cell)) (place n : ℕ) → IsForest cells parents
     → place < length cells → parent_of parents place ≢ place → n ≡ get_or numbers (parent_of parents place) 0
     → ArePutInClusters cells parents numbers clusters place → n < length clusters
 number_inside cells parents numbers clusters place n f low branch is g =
@@ -441,29 +443,64 @@ number_inside cells parents numbers clusters place n f low branch is g =
 
 -- ---- a step of the loop
 
--- the place is a root where its parent has no number yet
-pub is_root : (cells : List Cell) (parents numbers : List ℕ) (clusters : List (List Cell)) (place : ℕ) → IsForest cells parents → place < length cells
-    → length numbers ≤ parent_of parents place → ArePutInClusters cells parents numbers clusters place → parent_of parents place ≡ place
-is_root cells parents numbers clusters place f low late g =
-    let most : parent_of parents place ≤ place = f.back place (omega (arith, low, f.size)) in
-    omega (arith, most, late, g.size)
+-- places that get a number, one after another
+module _ (cells : List Cell) (parents : List ℕ) (clusters : List (List Cell)) (place : ℕ) (low : place < length cells)
+    (g : IsGathering cells parents clusters place) where
+  -- a place that wasn't passed leads as in the forest
+  leads : parent_of g.forest place ≡ parent_of parents place
+  leads =
+      let here : place ≡ place + 0 = omega arith in
+      ap (parent_of g.forest) here ∙ sym (get_or-drop place g.forest 0 0) ∙ ap (λ ps. get_or ps 0 0) (sym g.others) ∙ get_or-drop place parents 0 0
+      ∙ ap (parent_of parents) (sym here)
 
-pub is_branch : (cells : List Cell) (parents numbers : List ℕ) (clusters : List (List Cell)) (place : ℕ) → parent_of parents place < length numbers
-    → ArePutInClusters cells parents numbers clusters place → parent_of parents place ≢ place
-is_branch cells parents numbers clusters place early g = λ e. absurd (omega (arith, early, g.size, e))
+  pub parent_inside : parent_of parents place ≤ place
+  parent_inside = let most = g.is_forest.back place (omega (arith, low, g.is_forest.size)) in omega (arith, most, leads)
 
--- a root begins a cluster
-pub gathering-begun : {E : Type 0} (begun : Result ℕ E) (cells : List Cell) (parents numbers : List ℕ) (clusters new : List (List Cell)) (place : ℕ)
-    → IsPattern cells → IsForest cells parents → place < length cells → length numbers ≤ parent_of parents place
-    → ArePutInClusters cells parents numbers clusters place → IfOk begun (λ number. number ≡ length clusters)
-    → OnOk begun (new ≡ clusters ++ (cell_of cells place ∷ []) ∷ [])
-    → IfOk begun (λ number. ArePutInClusters cells parents (numbers ++ number ∷ []) new (place + 1))
-gathering-begun (Ok number) cells parents numbers clusters new place p f low late g is grown =
-    rw (is, grown) (gathering-root cells parents numbers clusters place p.in_order f low (is_root cells parents numbers clusters place f low late g) g)
-gathering-begun (Err e) cells parents numbers clusters new place p f low late g is grown = tt
+  -- the number at the place to which a place leads
+  number_there : parent_of parents place ≢ place → parent_of parents (parent_of parents place) ≡ get_or (take place parents) (parent_of g.forest place) 0
+  number_there branch =
+      let most = parent_inside in
+      let early : parent_of parents place < place = omega (arith, most, branch) in
+      sym (get_or-take place parents (parent_of parents place) 0 early) ∙ ap (λ k. get_or (take place parents) k 0) (sym leads)
+
+  one_more : (n : ℕ) (new : List (List Cell)) → ArePutInClusters cells g.forest (take place parents ++ n ∷ []) new (place + 1)
+      → IsGathering cells (set parents place n) new (place + 1)
+  one_more n new more = record {
+    forest = g.forest;
+    is_forest = g.is_forest;
+    joined = g.joined;
+    size = length-set parents place n ∙ g.size;
+    passed = subst (λ ns. ArePutInClusters cells g.forest ns new (place + 1)) (sym (take_more_set parents place n (omega (arith, low, g.size)))) more;
+    others = drop-set-lt (place + 1) parents place n (omega arith) ∙ drop_more_same parents g.forest place g.others;
+  }
+
+  -- a root begins a cluster
+  pub gathering-begun : {E : Type 0} (begun : Result (Unit {0}) E) (new : List (List Cell)) → IsPattern cells → parent_of parents place ≡ place
+      → OnOk begun (new ≡ clusters ++ (cell_of cells place ∷ []) ∷ []) → OnOk begun (IsGathering cells (set parents place (length clusters)) new (place + 1))
+  gathering-begun begun new p root grown = on_ok_weaker begun (λ is. one_more (length clusters) new
+      (subst (λ cs. ArePutInClusters cells g.forest (take place parents ++ length clusters ∷ []) cs (place + 1)) (sym is)
+      (gathering-root cells g.forest (take place parents) clusters place p.in_order g.is_forest low (leads ∙ root) g.passed))) grown
+
+  -- the cluster of any other place is one of those that were begun, and is a pattern with the cell
+  pub number_is_inside : parent_of parents place ≢ place → parent_of parents (parent_of parents place) < length clusters
+  number_is_inside branch = number_inside cells g.forest (take place parents) clusters place _ g.is_forest low
+      (λ e. branch (sym leads ∙ e)) (number_there branch) g.passed
+
+  pub pattern_grown : IsPattern cells → parent_of parents place ≢ place
+      → IsPattern (get_or clusters (parent_of parents (parent_of parents place)) [] ++ cell_of cells place ∷ [])
+  pattern_grown p branch = pattern-other cells g.forest (take place parents) clusters place _ p low (number_is_inside branch) g.passed
+
+  pub gathering-grown : {E : Type 0} (grown : Result (Unit {0}) E) (new : List (List Cell)) → IsPattern cells → parent_of parents place ≢ place
+      → OnOk grown (new ≡ set clusters (parent_of parents (parent_of parents place))
+      (get_or clusters (parent_of parents (parent_of parents place)) [] ++ cell_of cells place ∷ []))
+      → OnOk grown (IsGathering cells (set parents place (parent_of parents (parent_of parents place))) new (place + 1))
+  gathering-grown grown new p branch told = on_ok_weaker grown (λ is. one_more _ new
+      (subst (λ cs. ArePutInClusters cells g.forest (take place parents ++ parent_of parents (parent_of parents place) ∷ []) cs (place + 1)) (sym is)
+      (gathering-other cells g.forest (take place parents) clusters place _ p.in_order g.is_forest low (λ e. branch (sym leads ∙ e)) (number_there branch)
+      g.passed))) told
 
 -- no place has been passed yet
-pub gathering-none : (cells : List Cell) (parents numbers : List ℕ) (clusters : List (List Cell)) → numbers ≡ [] → clusters ≡ []
+gathering-none : (cells : List Cell) (parents numbers : List ℕ) (clusters : List (List Cell)) → numbers ≡ [] → clusters ≡ []
     → ArePutInClusters cells parents numbers clusters 0
 gathering-none cells parents numbers clusters none empty =
     rw (none, empty) (record {
@@ -476,3 +513,14 @@ gathering-none cells parents numbers clusters none empty =
       linked = λ j k less more same. absurd (omega (arith, less));
       in_order = λ i j d less more. absurd (omega (arith, more));
     })
+
+pub gathering-start : (cells : List Cell) (parents : List ℕ) (clusters : List (List Cell)) → IsForest cells parents → JoinsAll cells parents (length cells)
+    → clusters ≡ [] → IsGathering cells parents clusters 0
+gathering-start cells parents clusters f joined empty = record {
+  forest = parents;
+  is_forest = f;
+  joined = joined;
+  size = f.size;
+  passed = gathering-none cells parents [] clusters refl empty;
+  others = refl;
+}

@@ -20,22 +20,26 @@ digits-drop-false n i answers h e =
     rw (add-one i, drop-cons answers i false, e) (ap (λ (k : ℕ). digits k (drop (suc i) answers)) (omega arith))
 
 -- one more digit joins those in front of the place
-pub digits-front-true : (n i : ℕ) (answers : List Bool) (front : List ℕ) → i < length answers → get_or answers i false ≡ true
-    → digits n answers ≡ front ++ digits (n + i) (drop i answers)
-    → digits n answers ≡ (front ++ (48 + n + i) ∷ []) ++ digits (n + (i + 1)) (drop (i + 1) answers)
-digits-front-true n i answers front h e p =
+pub digits-front-true : (n i : ℕ) (answers : List Bool) (front text : List ℕ) → i < length answers → get_or answers i false ≡ true
+    → text ≡ front ++ digits (n + i) (drop i answers)
+    → text ≡ (front ++ (48 + n + i) ∷ []) ++ digits (n + (i + 1)) (drop (i + 1) answers)
+digits-front-true n i answers front text h e p =
     p ∙ ap (λ (xs : List ℕ). front ++ xs) (digits-drop-true n i answers h e)
     ∙ sym (append_assoc front ((48 + n + i) ∷ []) (digits (n + (i + 1)) (drop (i + 1) answers)))
 
-pub digits-front-false : (n i : ℕ) (answers : List Bool) (front : List ℕ) → i < length answers → get_or answers i false ≡ false
-    → digits n answers ≡ front ++ digits (n + i) (drop i answers) → digits n answers ≡ front ++ digits (n + (i + 1)) (drop (i + 1) answers)
-digits-front-false n i answers front h e p = p ∙ ap (λ (xs : List ℕ). front ++ xs) (digits-drop-false n i answers h e)
+pub digits-front-false : (n i : ℕ) (answers : List Bool) (front text : List ℕ) → i < length answers → get_or answers i false ≡ false
+    → text ≡ front ++ digits (n + i) (drop i answers) → text ≡ front ++ digits (n + (i + 1)) (drop (i + 1) answers)
+digits-front-false n i answers front text h e p = p ∙ ap (λ (xs : List ℕ). front ++ xs) (digits-drop-false n i answers h e)
+
+-- before the first place there is the letter
+pub digits-front-start : (n letter : ℕ) (answers : List Bool) → letter ∷ digits n answers ≡ (letter ∷ []) ++ digits (n + 0) (drop 0 answers)
+digits-front-start n letter answers = ap (λ (k : ℕ). letter ∷ digits k answers) (omega arith)
 
 -- past the last place nothing is left
-pub digits-front-end : (n i : ℕ) (answers : List Bool) (front : List ℕ) → length answers ≤ i
-    → digits n answers ≡ front ++ digits (n + i) (drop i answers) → digits n answers ≡ front
+pub digits-front-end : (n i : ℕ) (answers : List Bool) (front text : List ℕ) → length answers ≤ i
+    → text ≡ front ++ digits (n + i) (drop i answers) → text ≡ front
 unfolding digits
-digits-front-end n i answers front h p = p ∙ ap (λ (xs : List Bool). front ++ digits (n + i) xs) (drop_all i answers h) ∙ append-nil front
+digits-front-end n i answers front text h p = p ∙ ap (λ (xs : List Bool). front ++ digits (n + i) xs) (drop_all i answers h) ∙ append-nil front
 
 -- ---- what a table answers for a number
 

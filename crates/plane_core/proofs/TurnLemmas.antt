@@ -2,7 +2,6 @@
 use Rattle.std.proofs.Common.{◌≡◌, ℕ, ℤ, ◌≤◌, neg_ℤ, unsigned_abs, Bool, true, ◌&&◌, List, [], ◌∷◌}
 use Rattle.std.proofs.Common.{arith, refl, ap, ◌∙◌, sym, subst, map, Option, Some, None, Any, leb}
 use Rattle.std.specs.List.{list_all}
-use Rattle.std.specs.Option.{option_map}
 use Rattle.std.specs.Ordering.{match_ordering}
 use Rattle.std.specs.declared.cmp.Ordering.{Ordering}
 use Rattle.std.specs.declared.cmp.Ordering.TheVariants.{Less, Equal, Greater}
@@ -13,7 +12,6 @@ use Rattle.plane_core.specs.declared.bounds.Bounds.{Bounds}
 use Rattle.plane_core.specs.declared.cell.Cell.{Cell}
 use Rattle.plane_core.specs.declared.orientation.Orientation.{Orientation}
 use Rattle.plane_core.specs.declared.orientation.Orientation.TheVariants.{Same, Quarter, Half, ThreeQuarter, Mirror, Flip, Diagonal, AntiDiagonal}
-use Rattle.plane_core.specs.declared.placement.Placement.{Placement}
 use Rattle.plane_core.specs.Bounds.{box_of, grown, shifted, cornered, IsLeastBox}
 use Rattle.plane_core.specs.Cells.{plane_bound, cell_cmp, moved_by, put, set_of, InOrder, on_plane, IsPattern}
 use Rattle.plane_core.specs.Orientations.{turned_cell, landed, corner_placement, image, turned}
@@ -83,13 +81,13 @@ list_all-set_of p cs = both_true (list_all p (set_of cs)) (list_all p cs)
     (λ h. has-list_all p (set_of cs) (λ c e. list_all-has p cs h c (sym (has-set_of cs c) ∙ e)))
 
 landed-map : (o : Orientation) (b : Bounds) (cs : List Cell)
-    → map (landed (corner_placement o b)) cs ≡ shifted (neg_ℤ b.left) (neg_ℤ b.top) (map (turned_cell o) cs)
+    → map (landed (corner_placement o (Some b))) cs ≡ shifted (neg_ℤ b.left) (neg_ℤ b.top) (map (turned_cell o) cs)
 landed-map o b [] = refl
-landed-map o b (c ∷ cs) = ap (λ (ds : List Cell). landed (corner_placement o b) c ∷ ds) (landed-map o b cs)
+landed-map o b (c ∷ cs) = ap (λ (ds : List Cell). landed (corner_placement o (Some b)) c ∷ ds) (landed-map o b cs)
 
 -- the set of the landed cells is the image at the corner
 pub landed-turned : (o : Orientation) (cs : List Cell) (b : Bounds) → box_of (map (turned_cell o) cs) ≡ Some b
-    → set_of (map (landed (corner_placement o b)) cs) ≡ turned o cs
+    → set_of (map (landed (corner_placement o (Some b))) cs) ≡ turned o cs
 unfolding turned image
 landed-turned o cs b e =
     ap set_of (landed-map o b cs)
@@ -97,8 +95,8 @@ landed-turned o cs b e =
     ∙ sym (ap (λ (box : Option Bounds). cornered box (set_of (map (turned_cell o) cs))) (box_of-set_of (map (turned_cell o) cs) ∙ e))
 
 pub landed-plane : (o : Orientation) (cs : List Cell) (b : Bounds) → box_of (map (turned_cell o) cs) ≡ Some b
-    → list_all on_plane (map (landed (corner_placement o b)) cs) ≡ list_all on_plane (turned o cs)
-landed-plane o cs b e = sym (list_all-set_of on_plane (map (landed (corner_placement o b)) cs)) ∙ ap (list_all on_plane) (landed-turned o cs b e)
+    → list_all on_plane (map (landed (corner_placement o (Some b))) cs) ≡ list_all on_plane (turned o cs)
+landed-plane o cs b e = sym (list_all-set_of on_plane (map (landed (corner_placement o (Some b))) cs)) ∙ ap (list_all on_plane) (landed-turned o cs b e)
 
 pub turned-empty : (o : Orientation) (cs : List Cell) → box_of (map (turned_cell o) cs) ≡ None → turned o cs ≡ []
 unfolding turned image
@@ -165,30 +163,23 @@ image_corner_small o cs b e on = corner_small (map (turned_cell o) cs) b e (imag
 
 -- ---- what the placement to the corner does
 
-corner_cases : (o : Orientation) (cs : List Cell) (p : Placement) → Some p ≡ option_map (corner_placement o) (box_of (map (turned_cell o) cs))
-    → (b : Bounds) × (box_of (map (turned_cell o) cs) ≡ Some b) × (p ≡ corner_placement o b)
-corner_cases o cs p e = go (box_of (map (turned_cell o) cs)) refl e
-  where
-    go : (b : Option Bounds) → box_of (map (turned_cell o) cs) ≡ b → Some p ≡ option_map (corner_placement o) b
-        → (b : Bounds) × (box_of (map (turned_cell o) cs) ≡ Some b) × (p ≡ corner_placement o b)
-    go None is e = absurd cc
-    go (Some b) is e = (b, is, cc)
+no_cells : (o : Orientation) (cs : List Cell) → box_of (map (turned_cell o) cs) ≡ None → cs ≡ []
+no_cells o [] e = refl
+no_cells o (c ∷ cs) e = absurd cc
 
 -- the set of the cells so placed is the image at the corner
-pub placed-turned : (o : Orientation) (cs : List Cell) (p : Placement) → Some p ≡ option_map (corner_placement o) (box_of (map (turned_cell o) cs))
-    → set_of (map (landed p) cs) ≡ turned o cs
-placed-turned o cs p e = let b = corner_cases o cs p e in ap (λ (q : Placement). set_of (map (landed q) cs)) b.2 ∙ landed-turned o cs b.0 b.1
-
-pub placed-plane : (o : Orientation) (cs : List Cell) (p : Placement) → Some p ≡ option_map (corner_placement o) (box_of (map (turned_cell o) cs))
-    → list_all on_plane (map (landed p) cs) ≡ list_all on_plane (turned o cs)
-placed-plane o cs p e = let b = corner_cases o cs p e in ap (λ (q : Placement). list_all on_plane (map (landed q) cs)) b.2 ∙ landed-plane o cs b.0 b.1
-
-pub unplaced-turned : (o : Orientation) (cs : List Cell) → None ≡ option_map (corner_placement o) (box_of (map (turned_cell o) cs)) → turned o cs ≡ []
-unplaced-turned o cs e = turned-empty o cs (go (box_of (map (turned_cell o) cs)) refl e)
+pub placed-turned : (o : Orientation) (cs : List Cell) → set_of (map (landed (corner_placement o (box_of (map (turned_cell o) cs)))) cs) ≡ turned o cs
+placed-turned o cs = go (box_of (map (turned_cell o) cs)) refl
   where
-    go : (b : Option Bounds) → box_of (map (turned_cell o) cs) ≡ b → None ≡ option_map (corner_placement o) b → box_of (map (turned_cell o) cs) ≡ None
-    go None is e = is
-    go (Some b) is e = absurd cc
+    go : (b : Option Bounds) → box_of (map (turned_cell o) cs) ≡ b → set_of (map (landed (corner_placement o b)) cs) ≡ turned o cs
+    go None e = ap (λ (ds : List Cell). set_of (map (landed (corner_placement o None)) ds)) (no_cells o cs e) ∙ sym (turned-empty o cs e)
+    go (Some b) e = landed-turned o cs b e
 
-pub is_pattern-nil : IsPattern []
-is_pattern-nil = record { in_order = in_order-nil; on_plane = refl }
+pub placed-plane : (o : Orientation) (cs : List Cell)
+    → list_all on_plane (map (landed (corner_placement o (box_of (map (turned_cell o) cs)))) cs) ≡ list_all on_plane (turned o cs)
+placed-plane o cs = go (box_of (map (turned_cell o) cs)) refl
+  where
+    go : (b : Option Bounds) → box_of (map (turned_cell o) cs) ≡ b → list_all on_plane (map (landed (corner_placement o b)) cs) ≡ list_all on_plane (turned o cs)
+    go None e = ap (λ (ds : List Cell). list_all on_plane (map (landed (corner_placement o None)) ds)) (no_cells o cs e)
+        ∙ ap (list_all on_plane) (sym (turned-empty o cs e))
+    go (Some b) e = landed-plane o cs b e

@@ -1,5 +1,5 @@
 -- How clusters are found: the places of a pattern's list become a forest. Each leads to an earlier place or is a root.
-use Rattle.std.specs.Prelude.{◌≡◌, ◌+◌, ◌-◌, ◌<◌, ◌≤◌, ◌==◌, ℕ, ℤ, pos, negsuc, List, [], ◌∷◌, cond, get_or, length}
+use Rattle.std.specs.Prelude.{◌≡◌, ◌+◌, ◌-◌, ◌<◌, ◌≤◌, ◌==◌, ℕ, ℤ, pos, negsuc, List, [], ◌∷◌, cond, drop, get_or, length, take}
 use Rattle.std.specs.List.{AllPairs}
 use Rattle.std.specs.declared.cmp.Ordering.TheVariants.{Less}
 use Rattle.plane_core.specs.declared.cell.Cell.{Cell}
@@ -85,3 +85,12 @@ pub record ArePutInClusters (cells : List Cell) (parents numbers : List ℕ) (cl
   pub used : (n : ℕ) → n < length clusters → (k : ℕ) × (k < place) × (get_or numbers k 0 ≡ n)
   pub linked : (j k : ℕ) → j < place → k < place → get_or numbers j 0 ≡ get_or numbers k 0 → Linked cells (cell_of cells j) (cell_of cells k)
   pub in_order : AllPairs FirstBefore clusters
+
+-- The places that were passed have the numbers of their clusters, and the others lead as they did in the forest.
+pub record IsGathering (cells : List Cell) (parents : List ℕ) (clusters : List (List Cell)) (place : ℕ) : Type 0 where
+  pub forest : List ℕ
+  pub is_forest : IsForest cells forest
+  pub joined : JoinsAll cells forest (length cells)
+  pub size : length parents ≡ length cells
+  pub passed : ArePutInClusters cells forest (take place parents) clusters place
+  pub others : drop place parents ≡ drop place forest

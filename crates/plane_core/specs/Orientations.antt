@@ -1,5 +1,5 @@
 -- The eight orientations of a pattern: the symmetries of the square.
-use Rattle.std.specs.Prelude.{List, [], ◌∷◌, map, neg_ℤ}
+use Rattle.std.specs.Prelude.{List, [], ◌∷◌, map, neg_ℤ, pos, Option, None, Some}
 use Rattle.plane_core.specs.declared.cell.Cell.{Cell}
 use Rattle.plane_core.specs.declared.orientation.Orientation.{Orientation}
 use Rattle.plane_core.specs.declared.orientation.Orientation.TheVariants.{Same, Quarter, Half, ThreeQuarter, Mirror, Flip, Diagonal, AntiDiagonal}
@@ -27,9 +27,10 @@ turned_cell AntiDiagonal c = cell_at (neg_ℤ c.y) (neg_ℤ c.x)
 abbrev pub landed : Placement → Cell → Cell
 landed p c = moved_by p.dx p.dy (turned_cell p.orientation c)
 
--- the placement that moves an image with this box to the corner
-abbrev pub corner_placement : Orientation → Bounds → Placement
-corner_placement o b = record { orientation = o; dx = neg_ℤ b.left; dy = neg_ℤ b.top }
+-- the placement that moves an image with this box to the corner; an image without a cell is there
+abbrev pub corner_placement : Orientation → Option Bounds → Placement
+corner_placement o None = record { orientation = o; dx = pos 0; dy = pos 0 }
+corner_placement o (Some b) = record { orientation = o; dx = neg_ℤ b.left; dy = neg_ℤ b.top }
 
 -- the image of a pattern, as it comes and at the corner
 unfoldable pub image : Orientation → List Cell → List Cell

@@ -9,7 +9,6 @@
 //! ```
 ghost use Rattle.std.specs.Prelude.{◌≡◌, ◌↔◌, [], ℕ, IsNone, IfSome};
 ghost use Rattle.plane_core.specs.Bounds.{IsRoundBoth, AreSidesWithin, IsLeastBox, IsWithin, box_at, box_of, grown, widened};
-ghost use Rattle.plane_core.specs.Cells.{IsPattern};
 ghost use Rattle.plane_core.specs.declared.cell.Cell.{Cell};
 
 use crate::cell::Cell;
@@ -31,7 +30,11 @@ impl Pattern {
         ensures none { IsNone result ↔ (self.now ≡ []) }
         ensures least { IfSome result (IsLeastBox self.now) }
     {
-        least_box(self.cells())
+        let mut bounds = None;
+        for cell in self.cells() {
+            bounds = Some(grown(bounds, *cell));
+        }
+        bounds
     }
 }
 
@@ -85,16 +88,4 @@ pub(crate) fn grown(bounds: Option<Bounds>, cell: Cell) -> Bounds
         None => Bounds::at(cell),
         Some(bounds) => bounds.widened(cell),
     }
-}
-
-/// The least box round the cells.
-#[tactic(auto, using(crate::proofs::BoundsLemmas::box_more))]
-fn least_box(cells: &[Cell]) -> Option<Bounds>
-    ensures { result ≡ box_of cells.now }
-{
-    let mut bounds = None;
-    for cell in cells {
-        bounds = Some(grown(bounds, *cell));
-    }
-    bounds
 }

@@ -5,14 +5,14 @@
 //!      . . . O . . .          cluster  0  0  1  1  0
 //!
 //! The places are gone through in order. A root begins the next cluster; any other place goes into the cluster of the
-//! place to which it leads, which stands earlier. So the clusters come in the order of their first cells, and the cells
-//! of each in their own.
-ghost use Rattle.std.specs.Prelude.{◌≡◌, ◌+◌, ◌<◌, ◌++◌, [], ◌∷◌, length, All, IfOk, OnOk, get_or, set};
+//! place to which it leads, which stands earlier. That place has its cluster's number by then, in place of where it
+//! led. So the clusters come in the order of their first cells, and the cells of each in their own.
+ghost use Rattle.std.specs.Prelude.{◌≡◌, ◌+◌, ◌<◌, ◌++◌, [], ◌∷◌, length, All, IfOk, OnOk};
 ghost use Rattle.plane_core.specs.Cells.{IsPattern};
 ghost use Rattle.plane_core.specs.Clusters.{AreClusters};
 ghost use Rattle.plane_core.specs.Clusters.{ClustersAreDetermined, ClustersLieApart, ClustersMoveAlong};
 ghost use Rattle.plane_core.specs.Clusters.{ClustersPartition, LinkedIsAnEquivalence};
-ghost use Rattle.plane_core.specs.Forest.{IsForest, ArePutInClusters, JoinsAll};
+ghost use Rattle.plane_core.specs.Forest.{IsForest, IsGathering, JoinsAll};
 
 use crate::cell::Cell;
 use crate::forest::{join_all, roots};
@@ -34,8 +34,9 @@ impl Pattern {
     {
         let cells = self.cells();
         let mut parents = roots(alloc, cells.len())?;
-        join_all(cells, &mut parents);
-        gathered(alloc, cells, &parents)
+        let places = parents.as_mut_slice();
+        join_all(cells, places);
+        gathered(alloc, cells, places)
     }
 }
 
@@ -64,70 +65,60 @@ pub fn clusters_move_along()
     ensures { ClustersMoveAlong }
 {}
 
-/// The trees of a forest, each as the pattern of its cells.
-fn gathered(alloc: Global, cells: &[Cell], parents: &[usize]) -> Result<Vec<Pattern>, OutOfMemory>
+/// The trees of a forest, each as the pattern of its cells. The forest is used up: each place gets the number of its
+/// cluster, in place of where it led.
+fn gathered(
+    alloc: Global,
+    cells: &[Cell],
+    parents: &mut [usize],
+) -> Result<Vec<Pattern>, OutOfMemory>
     requires pattern { IsPattern cells.now }
-    requires forest { IsForest cells.now parents.now }
-    requires joined { JoinsAll cells.now parents.now (length cells.now) }
+    requires forest { IsForest cells.now parents.old }
+    requires joined { JoinsAll cells.now parents.old (length cells.now) }
     ensures clusters { IfOk result (λ clusters. AreClusters cells.now clusters.items) }
     ensures patterns { IfOk result (λ clusters. All IsPattern clusters.items) }
 {
     let mut clusters = Vec::new(alloc);
-    let mut numbers = Vec::with_capacity(alloc, cells.len())?;
     for place in 0..cells.len() {
-        let number = gather(alloc, cells, parents, &numbers, &mut clusters, place)?;
-        numbers.push(number)?;
+        gather(alloc, cells, parents, &mut clusters, place)?;
     }
     Ok(clusters)
 }
 
-/// Puts the cell at a place into the cluster of the place to which it leads. A root begins a cluster. The result is the
-/// number of the cluster.
+/// Puts the cell at a place into the cluster of the place to which it leads, and gives the place the number of that
+/// cluster. A root begins a cluster.
 fn gather(
     alloc: Global,
     cells: &[Cell],
-    parents: &[usize],
-    numbers: &[usize],
+    parents: &mut [usize],
     clusters: &mut Vec<Pattern>,
     place: usize,
-) -> Result<usize, OutOfMemory>
+) -> Result<(), OutOfMemory>
     requires pattern { IsPattern cells.now }
-    requires forest { IsForest cells.now parents.now }
     requires place { place < length cells.now }
-    requires gathering { ArePutInClusters cells.now parents.now numbers.now clusters.old.items place }
-    ensures { IfOk result (λ number.
-        ArePutInClusters cells.now parents.now (numbers.now ++ number ∷ []) clusters.new.items (place + 1)) }
+    requires gathering { IsGathering cells.now parents.old clusters.old.items place }
+    ensures { OnOk result (IsGathering cells.now parents.new clusters.new.items (place + 1)) }
 {
-    let cell = cells[place];
-    // A root leads to itself, which has no number yet.
-    let Some(&number) = numbers.get(parents[place]) else {
-        return begin(alloc, clusters, cell);
-    };
-    extend(clusters, number, cell)?;
-    Ok(number)
+    let parent = parents[place];
+    if parent == place {
+        parents[place] = clusters.len();
+        return begin(alloc, clusters, cells[place]);
+    }
+    let number = parents[parent];
+    parents[place] = number;
+    clusters[number].push(cells[place])
 }
 
 /// For how many cells a new cluster has room. Of the clusters that a soup leaves, few have more.
 const COMMON_SIZE: usize = 8;
 
-/// Begins a cluster with this cell, after the others. The result is its number.
-fn begin(alloc: Global, clusters: &mut Vec<Pattern>, cell: Cell) -> Result<usize, OutOfMemory>
+/// Begins a cluster with this cell, after the others.
+fn begin(alloc: Global, clusters: &mut Vec<Pattern>, cell: Cell) -> Result<(), OutOfMemory>
     requires { IsPattern (cell ∷ []) }
-    ensures number { IfOk result (λ number. number ≡ length clusters.old.items) }
-    ensures cluster { OnOk result (clusters.new.items ≡ clusters.old.items ++ (cell ∷ []) ∷ []) }
+    ensures { OnOk result (clusters.new.items ≡ clusters.old.items ++ (cell ∷ []) ∷ []) }
 {
-    let number = clusters.len();
     let mut first = Vec::with_capacity(alloc, COMMON_SIZE)?;
     first.push(cell)?;
     clusters.push(Pattern::from_ordered(first))?;
-    Ok(number)
-}
-
-/// Puts a cell at the end of a cluster.
-fn extend(clusters: &mut [Pattern], number: usize, cell: Cell) -> Result<(), OutOfMemory>
-    requires number { number < length clusters.old }
-    requires pattern { IsPattern (get_or clusters.old number [] ++ cell ∷ []) }
-    ensures { OnOk result (clusters.new ≡ set clusters.old number (get_or clusters.old number [] ++ cell ∷ [])) }
-{
-    clusters[number].push(cell)
+    Ok(())
 }

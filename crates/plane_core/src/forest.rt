@@ -12,10 +12,10 @@
 //! what lies too far to the left; it never goes back, since the next cell lies further right or further down. In its
 //! own row a cell is joined with the one just before it, and that one, if near, has been joined with all that is near
 //! both: so of the rows above mostly one cell is left, or none.
-ghost use Rattle.std.specs.Prelude.{◌≡◌, ◌≢◌, ◌+◌, ◌+ℤ◌, ◌<◌, ◌<ℤ◌, ◌≤◌, ℕ, true, IfOk, List, length, nat_le, pos};
+ghost use Rattle.std.specs.Prelude.{◌≡◌, ◌≢◌, ◌+◌, ◌<◌, ◌<ℤ◌, ◌≤◌, ℕ, true, IfOk, List, length, nat_le};
 ghost use Rattle.std.specs.declared.cmp.Ordering.TheVariants.{Less};
-ghost use Rattle.plane_core.specs.Cells.{IsPattern, cell_at, cell_cmp, king_distance, on_plane};
-ghost use Rattle.plane_core.specs.Forest.{AreBehind, IsBridged, IsForest, IsPassed, Joined, JoinsAll, JoinsLinked};
+ghost use Rattle.plane_core.specs.Cells.{IsPattern, cell_cmp, king_distance, on_plane};
+ghost use Rattle.plane_core.specs.Forest.{IsBridged, IsForest, IsPassed, Joined, JoinsAll, JoinsLinked};
 ghost use Rattle.plane_core.specs.Forest.{Keeps, LeadsBack, NeedsJoin};
 ghost use Rattle.plane_core.specs.Clusters.{Linked};
 ghost use Rattle.plane_core.specs.Forest.{cell_of, parent_of};
@@ -38,9 +38,9 @@ pub(crate) fn roots(alloc: Global, count: usize) -> Result<Vec<usize>, OutOfMemo
     ensures count { IfOk result (λ parents. length parents.items ≡ count) }
     ensures roots { IfOk result (λ parents. (k : ℕ) → k < count → parent_of parents.items k ≡ k) }
 {
-    let mut parents = Vec::with_capacity(alloc, count)?;
+    let mut parents = vec![in alloc; 0; count]?;
     for place in 0..count {
-        parents.push(place)?;
+        parents[place] = place;
     }
     Ok(parents)
 }
@@ -54,56 +54,28 @@ pub(crate) fn join_all(cells: &[Cell], parents: &mut [usize])
     ensures joined { JoinsAll cells.now parents.new (length cells.now) }
 {
     let mut cursors = Cursors { above: 0, top: 0 };
-    for place in 0..cells.len() {
-        cursors = join_place(cells, parents, place, cursors);
+    // The first place has none before it.
+    for place in 1..cells.len() {
+        join_if_near(cells, parents, place - 1, place);
+        let cell = cells[place];
+        let above = join_row(
+            cells,
+            parents,
+            place,
+            cursors.above,
+            cell.moved(-2, -1),
+            cell.moved(2, -1),
+        );
+        let top = join_row(
+            cells,
+            parents,
+            place,
+            cursors.top,
+            cell.moved(-2, -2),
+            cell.moved(2, -2),
+        );
+        cursors = Cursors { above, top };
     }
-}
-
-/// Joins this place with those before it whose cells are near. The result is the cursors for the next place.
-fn join_place(cells: &[Cell], parents: &mut [usize], place: usize, cursors: Cursors) -> Cursors
-    requires pattern { IsPattern cells.now }
-    requires place { place < length cells.now }
-    requires forest { IsForest cells.now parents.old }
-    requires cursors { AreBehind cells.now cursors place }
-    ensures forest { IsForest cells.now parents.new }
-    ensures keeps { Keeps parents.old parents.new }
-    ensures joined { (k : ℕ) → k < place → NeedsJoin cells.now k place → Joined parents.new k place }
-    ensures cursors { AreBehind cells.now result place }
-{
-    let cell = cells[place];
-    join_before(cells, parents, place);
-    let above = join_row(
-        cells,
-        parents,
-        place,
-        cursors.above,
-        cell.moved(-2, -1),
-        cell.moved(2, -1),
-    );
-    let top = join_row(
-        cells,
-        parents,
-        place,
-        cursors.top,
-        cell.moved(-2, -2),
-        cell.moved(2, -2),
-    );
-    Cursors { above, top }
-}
-
-/// Joins this place with the one just before it if their cells are near.
-fn join_before(cells: &[Cell], parents: &mut [usize], place: usize)
-    requires pattern { IsPattern cells.now }
-    requires place { place < length cells.now }
-    requires forest { IsForest cells.now parents.old }
-    ensures forest { IsForest cells.now parents.new }
-    ensures keeps { Keeps parents.old parents.new }
-    ensures joined { (k : ℕ) → k + 1 ≡ place → NeedsJoin cells.now k place → Joined parents.new k place }
-{
-    if place == 0 {
-        return;
-    }
-    join_if_near(cells, parents, place - 1, place);
 }
 
 /// Joins this place with those before it whose cells are near and lie between two cells, these included. The result is
@@ -118,7 +90,7 @@ fn join_row(
     to: Cell,
 ) -> usize
     requires pattern { IsPattern cells.now }
-    requires place { place < length cells.now }
+    requires place { (0 < place) × (place < length cells.now) }
     requires forest { IsForest cells.now parents.old }
     requires cursor { IsPassed cells.now cursor from }
     requires above { from.y <ℤ (cell_of cells.now place).y }
@@ -132,7 +104,11 @@ fn join_row(
     let first = skipped(cells, cursor, from);
     let fresh = fresh_from(cells, place, from);
     let start = skipped(cells, first, fresh);
-    join_up_to(cells, parents, place, start, to);
+    let mut at = start;
+    while at < place && cells[at] <= to {
+        join_if_near(cells, parents, at, place);
+        at += 1;
+    }
     first
 }
 
@@ -151,15 +127,12 @@ fn skipped(cells: &[Cell], cursor: usize, from: Cell) -> usize
 /// just before stands in the same row and is near, it is the one past all that are near both.
 fn fresh_from(cells: &[Cell], place: usize, from: Cell) -> Cell
     requires pattern { IsPattern cells.now }
-    requires place { place < length cells.now }
+    requires place { (0 < place) × (place < length cells.now) }
     requires above { from.y <ℤ (cell_of cells.now place).y }
     ensures { (k : ℕ) → k < place → cell_cmp (cell_of cells.now k) from ≢ Less
         → cell_cmp (cell_of cells.now k) result ≡ Less
         → king_distance (cell_of cells.now k) (cell_of cells.now place) ≤ 2 → IsBridged cells.now k place }
 {
-    if place == 0 {
-        return from;
-    }
     let before = cells[place - 1];
     if before.y != cells[place].y {
         return from;
@@ -167,35 +140,9 @@ fn fresh_from(cells: &[Cell], place: usize, from: Cell) -> Cell
     if !are_near(before, cells[place]) {
         return from;
     }
-    past(before, from)
-}
-
-/// The cell three columns further right than this one, in the row of the other.
-#[tactic(auto, unfolding(crate::specs::Cells::on_plane))]
-fn past(cell: Cell, row: Cell) -> Cell
-    requires { on_plane cell ≡ true }
-    ensures { result ≡ cell_at (cell.x +ℤ pos 3) row.y }
-{
     Cell {
-        y: row.y,
-        x: along(cell.x, 3),
-    }
-}
-
-/// Joins this place with those from the first one on whose cells are near, up to the cell at which it ends.
-fn join_up_to(cells: &[Cell], parents: &mut [usize], place: usize, first: usize, to: Cell)
-    requires pattern { IsPattern cells.now }
-    requires place { place < length cells.now }
-    requires forest { IsForest cells.now parents.old }
-    ensures forest { IsForest cells.now parents.new }
-    ensures keeps { Keeps parents.old parents.new }
-    ensures joined { (k : ℕ) → first ≤ k → k < place → cell_cmp to (cell_of cells.now k) ≢ Less
-        → NeedsJoin cells.now k place → Joined parents.new k place }
-{
-    let mut at = first;
-    while at < place && cells[at] <= to {
-        join_if_near(cells, parents, at, place);
-        at += 1;
+        y: from.y,
+        x: along(before.x, 3),
     }
 }
 

@@ -30,17 +30,25 @@ use crate::small::next_in_window;
 use crate::tally;
 use memory::OutOfMemory;
 use std::alloc::Global;
+use std::fmt::{self, Display};
 use thiserror::Error;
 
 /// Why a pattern has no next generation.
 #[derive(Clone, Copy, Debug, PartialEq, Eq, Error)]
 pub enum StepError {
     /// A cell lies on the edge of the plane, so a neighbour would lie past it.
-    #[error("a cell lies on the edge of the plane")]
     Edge,
     /// Memory ran out.
-    #[error(transparent)]
     Memory(OutOfMemory),
+}
+
+impl fmt::Display for StepError {
+    fn fmt<W: fmt::Write>(&self, f: &mut fmt::Formatter<W>) -> fmt::Result {
+        match self {
+            StepError::Edge => f.write_str("a cell lies on the edge of the plane"),
+            StepError::Memory(refused) => refused.fmt(f),
+        }
+    }
 }
 
 /// The most generations on one board. Then the pattern is read back and a board is laid out anew, so that it is no
@@ -78,8 +86,7 @@ impl Pattern {
         if touches(self.cells()) {
             return Err(StepError::Edge);
         }
-        let pattern = self.next(alloc, rule)?;
-        Ok(pattern)
+        self.next(alloc, rule).map_err(StepError::Memory)
     }
 
     /// The next generation: in a window if it fits, on a board if one is worth it, and else cell by cell.
@@ -178,8 +185,7 @@ impl Pattern {
         let Some(past) = self.run_side(alloc, rule, generations, cuts - 1, cut, false)? else {
             return Ok(None);
         };
-        let whole = before.united(&past)?;
-        Ok(Some(whole))
+        before.united(&past).map(Some)
     }
 
     /// What becomes of the cells before a cut, or of those past it.

@@ -1,18 +1,23 @@
 //! A writer that remembers whether a write has failed, and the error for that.
-ghost use Rattle.std.specs.Prelude.{◌≡◌, ◌<◌, ◌≤◌, [], IfOk, OnErr, false, is_err, length, take};
-ghost use Rattle.std.specs.Io.KnownBytes.{Appends};
+ghost use Rattle.std.specs.Prelude.{◌≡◌, ◌<◌, [], false};
 ghost use Rattle.plane_core.specs.Out.{Writes};
 
+use std::fmt;
 use std::io::{self, ErrorKind, Write};
 use std::marker::Model;
 use thiserror::Error;
 
 /// A write failed or took no byte. Who holds one got it from a writer.
 #[derive(Clone, Copy, Debug, PartialEq, Eq, Error)]
-#[error("write failed")]
 pub struct WriteError {
-    /// What the writer failed with. `None` if it took no byte, or was interrupted 2^64 times.
+    /// What the writer failed with. `None` if it took no byte, or was called 2^64 times for one piece.
     kind: Option<ErrorKind>,
+}
+
+impl fmt::Display for WriteError {
+    fn fmt<W: fmt::Write>(&self, f: &mut fmt::Formatter<W>) -> fmt::Result {
+        f.write_str("write failed")
+    }
 }
 
 impl WriteError {
@@ -80,32 +85,21 @@ impl<V: Write> Out<V> {
         ensures { Writes V.contents self.old self.new result piece.now }
     {
         let mut remainder = piece;
-        while !remainder.is_empty() {
-            let taken = self.put_some(remainder)?;
-            remainder = &remainder[taken..];
-        }
-        Ok(())
-    }
-
-    /// Writes a front of the piece, and says how long it is: one byte at least, where the piece isn't empty.
-    fn put_some(&mut self, piece: &[u8]) -> Result<usize, WriteError>
-        requires { self.old.failed ≡ false }
-        ensures remembers { self.new.failed ≡ is_err result }
-        ensures some { IfOk result (λ taken. (0 < taken) × (taken ≤ length piece.now)) }
-        ensures written { IfOk result
-            (λ taken. Appends (V.contents self.old.writer) (V.contents self.new.writer) (take taken piece.now)) }
-        ensures nothing { OnErr result (Appends (V.contents self.old.writer) (V.contents self.new.writer) []) }
-    {
         let mut kind = None;
         for _ in 0..u64::MAX {
-            match self.writer.write(piece) {
+            if remainder.is_empty() {
+                return Ok(());
+            }
+            match self.writer.write(remainder) {
                 Ok(0) => break,
-                Ok(taken) => return Ok(taken),
-                Err(error) if matches!(error.kind(), ErrorKind::Interrupted) => {}
-                Err(error) => {
-                    kind = Some(error.kind());
-                    break;
-                }
+                Ok(taken) => remainder = &remainder[taken..],
+                Err(error) => match error.kind() {
+                    ErrorKind::Interrupted => {}
+                    other => {
+                        kind = Some(other);
+                        break;
+                    }
+                },
             }
         }
         self.failed = true;

@@ -9,6 +9,7 @@ ghost use Rattle.plane_core.specs.declared.pattern.FromCellsError.TheVariants.{M
 use crate::cell::Cell;
 use memory::OutOfMemory;
 use std::alloc::Global;
+use std::fmt::{self, Display};
 use std::marker::Model;
 use thiserror::Error;
 
@@ -16,11 +17,20 @@ use thiserror::Error;
 #[derive(Clone, Copy, Debug, PartialEq, Eq, Error)]
 pub enum FromCellsError {
     /// The cell at this index, counted from 0, is the first past the bound.
-    #[error("cell {index} lies past the bound of the plane")]
     OutOfPlane { index: usize },
     /// Memory ran out.
-    #[error(transparent)]
     Memory(OutOfMemory),
+}
+
+impl fmt::Display for FromCellsError {
+    fn fmt<W: fmt::Write>(&self, f: &mut fmt::Formatter<W>) -> fmt::Result {
+        match self {
+            FromCellsError::OutOfPlane { index } => {
+                write!(f, "cell {index} lies past the bound of the plane")
+            }
+            FromCellsError::Memory(refused) => refused.fmt(f),
+        }
+    }
 }
 
 impl<E: Into<OutOfMemory>> From<E> for FromCellsError {
@@ -134,7 +144,7 @@ impl Pattern {
     pub fn has(&self, x: i32, y: i32) -> bool
         ensures { result ≡ has self.now (cell_at x y) }
     {
-        is_member(self.cells.as_slice(), &Cell { y, x })
+        self.cells().binary_search(&Cell { y, x }).is_ok()
     }
 }
 
@@ -153,14 +163,6 @@ fn first_off_plane(cells: &[Cell]) -> Option<usize>
         }
     }
     None
-}
-
-/// Whether a list in order has the cell.
-fn is_member(cells: &[Cell], cell: &Cell) -> bool
-    requires { InOrder cells.now }
-    ensures { result ≡ has cells.now cell.now }
-{
-    cells.binary_search(cell).is_ok()
 }
 
 /// The cells in order, each once. Those that are read off a board are so already.

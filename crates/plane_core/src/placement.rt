@@ -5,10 +5,9 @@
 //! O O .   ->   . O O      Turned, an image is moved so that its least column and its least row are 0.
 //! . O O        O O .
 //! ```
-ghost use Rattle.std.specs.Prelude.{◌≡◌, map, ℤ, true, false};
+ghost use Rattle.std.specs.Prelude.{◌≡◌, map, true, false};
 ghost use Rattle.std.specs.Prelude.{Some, None, IfOk, IfErr, OnOk, if◌then◌else◌};
 ghost use Rattle.std.specs.List.{list_all};
-ghost use Rattle.std.specs.Option.{option_map};
 ghost use Rattle.memory.specs.Evidence.{out_of_memory};
 ghost use Rattle.plane_core.specs.Bounds.{box_of, shifted};
 ghost use Rattle.plane_core.specs.Orientations.{corner_placement, landed, turned, turned_cell};
@@ -16,24 +15,32 @@ ghost use Rattle.plane_core.specs.Cells.{on_plane};
 ghost use Rattle.plane_core.specs.Refusals.{RefusesPlace};
 ghost use Rattle.plane_core.specs.declared.placement.PlaceError.TheVariants.{Memory};
 
-use crate::bounds::{Bounds, grown};
+use crate::bounds::grown;
 use crate::cell::Cell;
 use crate::coordinate::{negated, sum_on_plane};
 use crate::orientation::Orientation;
 use crate::pattern::{Pattern, in_order};
 use memory::OutOfMemory;
 use std::alloc::Global;
+use std::fmt::{self, Display};
 use thiserror::Error;
 
 /// Why a pattern can't be put somewhere.
 #[derive(Clone, Copy, Debug, PartialEq, Eq, Error)]
 pub enum PlaceError {
     /// A cell would lie past the bound.
-    #[error("a cell would lie past the bound of the plane")]
     OutOfPlane,
     /// Memory ran out.
-    #[error(transparent)]
     Memory(OutOfMemory),
+}
+
+impl fmt::Display for PlaceError {
+    fn fmt<W: fmt::Write>(&self, f: &mut fmt::Formatter<W>) -> fmt::Result {
+        match self {
+            PlaceError::OutOfPlane => f.write_str("a cell would lie past the bound of the plane"),
+            PlaceError::Memory(refused) => refused.fmt(f),
+        }
+    }
 }
 
 impl<E: Into<OutOfMemory>> From<E> for PlaceError {
@@ -61,11 +68,12 @@ impl Pattern {
             dx,
             dy,
         };
-        if !placement.keeps_all(self.cells()) {
+        let cells = self.cells();
+        if !placement.keeps_all(cells) {
             return Err(PlaceError::OutOfPlane);
         }
-        let cells = placement.place_all(alloc, self.cells())?;
-        Ok(Pattern::from_ordered(cells))
+        let placed = placement.place_all(alloc, cells)?;
+        Ok(Pattern::from_ordered(placed))
     }
 
     /// The image of the pattern in an orientation, moved so that its least x and its least y are 0. The empty pattern
@@ -80,14 +88,13 @@ impl Pattern {
         ensures plane { OnOk result (list_all on_plane (turned orientation self.now) ≡ true) }
         ensures refused { IfErr result (RefusesPlace (turned orientation self.now)) }
     {
-        let Some(placement) = to_corner(self.cells(), orientation) else {
-            return Ok(Pattern::from_ordered(Vec::new(alloc)));
-        };
-        if !placement.keeps_all(self.cells()) {
+        let cells = self.cells();
+        let placement = to_corner(cells, orientation);
+        if !placement.keeps_all(cells) {
             return Err(PlaceError::OutOfPlane);
         }
-        let cells = placement.place_all(alloc, self.cells())?;
-        Ok(Pattern::from_ordered(in_order(cells)))
+        let placed = placement.place_all(alloc, cells)?;
+        Ok(Pattern::from_ordered(in_order(placed)))
     }
 }
 
@@ -107,19 +114,13 @@ impl Placement {
         ensures { result ≡ (if on_plane (landed self cell) then Some (landed self cell) else None) }
     {
         let Cell { x, y } = self.orientation.image_of(cell);
-        match (sum_on_plane(x, self.dx), sum_on_plane(y, self.dy)) {
-            (Some(x), Some(y)) => Some(Cell { y, x }),
-            _ => None,
-        }
-    }
-
-    /// Where a cell lands, if it is known to land on the plane.
-    fn place(self, cell: Cell) -> Cell
-        requires cell { on_plane cell ≡ true }
-        requires landed { on_plane (landed self cell) ≡ true }
-        ensures { result ≡ landed self cell }
-    {
-        self.landing(cell).unwrap()
+        let Some(x) = sum_on_plane(x, self.dx) else {
+            return None;
+        };
+        let Some(y) = sum_on_plane(y, self.dy) else {
+            return None;
+        };
+        Some(Cell { y, x })
     }
 
     /// Whether all cells land on the plane.
@@ -143,34 +144,31 @@ impl Placement {
     {
         let mut placed = Vec::with_capacity(alloc, cells.len())?;
         for cell in cells {
-            placed.push(self.place(*cell))?;
+            placed.push(self.landing(*cell).unwrap())?;
         }
         Ok(placed)
     }
 }
 
-/// The least box round the image of the cells.
-#[tactic(auto, using(crate::proofs::BoundsLemmas::image_box_more))]
-fn image_box(cells: &[Cell], orientation: Orientation) -> Option<Bounds>
+/// How cells are to lie so that their image is at the corner.
+fn to_corner(cells: &[Cell], orientation: Orientation) -> Placement
     requires { list_all on_plane cells.now ≡ true }
-    ensures { result ≡ box_of (map (turned_cell orientation) cells.now) }
+    ensures { result ≡ corner_placement orientation (box_of (map (turned_cell orientation) cells.now)) }
 {
     let mut bounds = None;
     for cell in cells {
         bounds = Some(grown(bounds, orientation.image_of(*cell)));
     }
-    bounds
-}
-
-/// How cells are to lie so that their image is at the corner. It is `None` if there is no cell.
-fn to_corner(cells: &[Cell], orientation: Orientation) -> Option<Placement>
-    requires { list_all on_plane cells.now ≡ true }
-    ensures { result ≡ option_map (corner_placement orientation) (box_of (map (turned_cell orientation) cells.now)) }
-{
-    let bounds = image_box(cells, orientation)?;
-    Some(Placement {
-        orientation,
-        dx: negated(bounds.left),
-        dy: negated(bounds.top),
-    })
+    match bounds {
+        None => Placement {
+            orientation,
+            dx: 0,
+            dy: 0,
+        },
+        Some(bounds) => Placement {
+            orientation,
+            dx: negated(bounds.left),
+            dy: negated(bounds.top),
+        },
+    }
 }

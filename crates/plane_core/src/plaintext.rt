@@ -19,9 +19,9 @@ ghost use Rattle.plane_core.specs.Cells.{IsPattern, cell_at, has};
 ghost use Rattle.plane_core.specs.declared.cell.Cell.{Cell};
 ghost use Rattle.plane_core.specs.declared.plaintext.PlaintextFault.{PlaintextFault};
 ghost use Rattle.plane_core.specs.Generations.{lies_within};
-ghost use Rattle.plane_core.specs.Plaintext.{is_live, fault_at, first_fault, live_cells, pattern, row_text, box_text};
+ghost use Rattle.plane_core.specs.Plaintext.{is_live, fault_at, first_fault, live_cells, pattern, row_text};
 ghost use Rattle.plane_core.specs.Plaintext.{plain, FitsThousandSquare};
-ghost use Rattle.plane_core.specs.PlaintextPlaces.{Place, byte_at, dot, is_comment, line_feed, places_of_row, places, side_limit};
+ghost use Rattle.plane_core.specs.PlaintextPlaces.{byte_at, dot, is_comment, line_feed, places_of_row, places, side_limit};
 
 use crate::bounds::Bounds;
 use crate::cell::Cell;
@@ -29,6 +29,7 @@ use crate::output::{Out, WriteError};
 use crate::pattern::Pattern;
 use memory::OutOfMemory;
 use std::alloc::Global;
+use std::fmt::{self, Display};
 use std::io::Write;
 use thiserror::Error;
 
@@ -54,22 +55,38 @@ const DEAD_CELLS: [u8; 64] = [DEAD; 64];
 #[derive(Clone, Copy, Debug, PartialEq, Eq, Error)]
 pub enum PlaintextFault {
     /// A byte of a row is none of `.`, `O` and `*`. Lines and columns count from 1.
-    #[error("bad byte at line {line} column {column}")]
     BadByte { line: usize, column: usize },
     /// A `.`, `O` or `*` stands past the 1,000th column or the 1,000th row.
-    #[error("pattern larger than 1000 by 1000")]
     TooLarge,
+}
+
+impl fmt::Display for PlaintextFault {
+    fn fmt<W: fmt::Write>(&self, f: &mut fmt::Formatter<W>) -> fmt::Result {
+        match self {
+            PlaintextFault::BadByte { line, column } => {
+                write!(f, "bad byte at line {line} column {column}")
+            }
+            PlaintextFault::TooLarge => f.write_str("pattern larger than 1000 by 1000"),
+        }
+    }
 }
 
 /// Why a text was not read.
 #[derive(Clone, Copy, Debug, PartialEq, Eq, Error)]
 pub enum PlaintextError {
     /// The text is not a plaintext pattern.
-    #[error(transparent)]
     Fault(PlaintextFault),
     /// Memory ran out.
-    #[error(transparent)]
     Memory(OutOfMemory),
+}
+
+impl fmt::Display for PlaintextError {
+    fn fmt<W: fmt::Write>(&self, f: &mut fmt::Formatter<W>) -> fmt::Result {
+        match self {
+            PlaintextError::Fault(fault) => fault.fmt(f),
+            PlaintextError::Memory(refused) => refused.fmt(f),
+        }
+    }
 }
 
 impl Pattern {
@@ -112,10 +129,15 @@ impl Pattern {
         requires { out.old.failed ≡ false }
         ensures { Writes V.contents out.old out.new result (plain self.now) }
     {
-        match self.bounds() {
-            None => Ok(()),
-            Some(bounds) => write_rows(out, self.cells(), bounds),
+        let Some(bounds) = self.bounds() else {
+            return Ok(());
+        };
+        let mut remainder = self.cells();
+        for y in bounds.top..bounds.bottom + 1 {
+            write_row(out, remainder, bounds, y)?;
+            remainder = below(remainder, y);
         }
+        Ok(())
     }
 }
 
@@ -252,13 +274,6 @@ fn pattern_in(alloc: Global, text: &[u8]) -> Result<Pattern, OutOfMemory>
     Ok(Pattern::from_ordered(cells))
 }
 
-fn dead_cells(count: usize) -> &'static [u8]
-    requires { count ≤ 64 }
-    ensures { result.now ≡ replicate count dot }
-{
-    &DEAD_CELLS[..count]
-}
-
 /// Writes as many dead cells as the gap is wide, and then a byte.
 fn put_after_gap<V: Write>(out: &mut Out<V>, gap: u32, byte: u8) -> Result<(), WriteError>
     requires { out.old.failed ≡ false }
@@ -267,7 +282,7 @@ fn put_after_gap<V: Write>(out: &mut Out<V>, gap: u32, byte: u8) -> Result<(), W
     let mut left = gap as usize;
     while left > 0 {
         let some = left.min(DEAD_CELLS.len());
-        out.put(dead_cells(some))?;
+        out.put(&DEAD_CELLS[..some])?;
         left -= some;
     }
     out.put(&[byte])
@@ -310,19 +325,4 @@ fn write_row<V: Write>(
         x = cell.x + 1;
     }
     put_after_gap(out, x.abs_diff(bounds.right + 1), LINE_FEED)
-}
-
-/// Writes the rows of the cells' box.
-fn write_rows<V: Write>(out: &mut Out<V>, cells: &[Cell], bounds: Bounds) -> Result<(), WriteError>
-    requires fresh { out.old.failed ≡ false }
-    requires bounds { IsBox bounds }
-    requires cells { IsAhead bounds.top bounds cells.now }
-    ensures { Writes V.contents out.old out.new result (box_text (Some bounds) cells.now) }
-{
-    let mut remainder = cells;
-    for y in bounds.top..bounds.bottom + 1 {
-        write_row(out, remainder, bounds, y)?;
-        remainder = below(remainder, y);
-    }
-    Ok(())
 }

@@ -5,6 +5,7 @@ ghost use Rattle.plane_core.specs.Rules.{Numbers, IsRule, IsFirstFault, is_birth
 ghost use Rattle.plane_core.specs.Rules.{begins, numbers_at, rule_read};
 
 use crate::output::{Out, WriteError};
+use std::fmt;
 use std::io::Write;
 use std::marker::Model;
 use thiserror::Error;
@@ -13,11 +14,18 @@ use thiserror::Error;
 #[derive(Clone, Copy, Debug, PartialEq, Eq, Error)]
 pub enum RuleFault {
     /// The byte at `place` can't stand there, or the text ends there too early. Places count from 0.
-    #[error("bad rule at {place}")]
     BadRule { place: usize },
     /// A `0` stands directly after the `b`.
-    #[error("birth on zero neighbours")]
     BirthZero,
+}
+
+impl fmt::Display for RuleFault {
+    fn fmt<W: fmt::Write>(&self, f: &mut fmt::Formatter<W>) -> fmt::Result {
+        match self {
+            RuleFault::BadRule { place } => write!(f, "bad rule at {place}"),
+            RuleFault::BirthZero => f.write_str("birth on zero neighbours"),
+        }
+    }
 }
 
 /// A Life-like rule without birth on zero neighbours, as Conway's Life, `b3s23`.
@@ -140,19 +148,23 @@ impl Rule {
         ensures rule { IsRule self.now }
     {
         let Rule { births, survivals } = self;
-        out.put(b"b")?;
-        write_digits(out, 1, births)?;
-        out.put(b"s")?;
-        write_digits(out, 0, survivals)
+        write_numbers(out, b'b', 1, births)?;
+        write_numbers(out, b's', 0, survivals)
     }
 }
 
-/// Writes the digits of the numbers from `least` on that the table answers true.
-fn write_digits<V: Write>(out: &mut Out<V>, least: u8, answers: &[bool]) -> Result<(), WriteError>
+/// Writes a letter, and the digits of the numbers from `least` on that the table answers true.
+fn write_numbers<V: Write>(
+    out: &mut Out<V>,
+    letter: u8,
+    least: u8,
+    answers: &[bool],
+) -> Result<(), WriteError>
     requires fresh { out.old.failed ≡ false }
     requires digits { least + length answers.now ≤ 10 }
-    ensures { Writes V.contents out.old out.new result (digits least answers.now) }
+    ensures { Writes V.contents out.old out.new result (letter ∷ digits least answers.now) }
 {
+    out.put(&[letter])?;
     for (i, answer) in answers.iter().enumerate() {
         if *answer {
             out.put(&[b'0' + least + i as u8])?;

@@ -35,25 +35,10 @@ returns-clause-least c =
     simp to_z-of_z (is_joined c)
 
 pub returns-clause-one : goal.returns-clause-one
-returns-clause-one c =
-    let left : FitsSigned w32 c.min.result = search rules in
-    let top : FitsSigned w32 c.min-2.result = search rules in
-    let right : FitsSigned w32 c.max.result = search rules in
-    let bottom : FitsSigned w32 c.max-2.result = search rules in
-    simp to_z-of_z (λ d h. joined_one c.args.self c.args.other _ d (is_joined c) h)
+returns-clause-one c = λ d h. joined_one c.args.self c.args.other _ d (returns-clause-least c) h
 
 pub returns-clause-other : goal.returns-clause-other
-returns-clause-other c =
-    let left : FitsSigned w32 c.min.result = search rules in
-    let top : FitsSigned w32 c.min-2.result = search rules in
-    let right : FitsSigned w32 c.max.result = search rules in
-    let bottom : FitsSigned w32 c.max-2.result = search rules in
-    simp to_z-of_z (λ d h. joined_other c.args.self c.args.other _ d (is_joined c) h)
+returns-clause-other c = λ d h. joined_other c.args.self c.args.other _ d (returns-clause-least c) h
 
 pub returns-clause-sides : goal.returns-clause-sides
-returns-clause-sides c =
-    let left : FitsSigned w32 c.min.result = search rules in
-    let top : FitsSigned w32 c.min-2.result = search rules in
-    let right : FitsSigned w32 c.max.result = search rules in
-    let bottom : FitsSigned w32 c.max-2.result = search rules in
-    simp to_z-of_z (λ n h k. joined_sides n c.args.self c.args.other _ (is_joined c) h k)
+returns-clause-sides c = λ n h k. joined_sides n c.args.self c.args.other _ (returns-clause-least c) h k

@@ -1,18 +1,26 @@
-use Rattle.std.proofs.Common.{◌*◌, ◌≤◌, ℕ, Fits, List, arith, subst, w32}
+use Rattle.std.proofs.Common.{◌≡◌, ◌++◌, ◌*◌, ◌≤◌, ℕ, Fits, Option, None, Some, List, rules, arith, subst, w32}
 use Rattle.std.specs.Prelude.{IfOk, IfSome}
-use Rattle.std.proofs.lemmas.Result.{IfOk-from_err}
+use Rattle.std.proofs.lemmas.Result.{IfOk-from_err, IfOk-weaker}
 use Rattle.plane_core.specs.declared.cell.Cell.{Cell}
+use Rattle.plane_core.specs.Cells.{set_of}
 use Rattle.plane_core.specs.Parts.{HasRun, IsCut}
 use Rattle.plane_core.proofs.PartLemmas.{run_from_parts}
 use Rattle.plane_core.proofs.pattern.Pattern.+run_in_parts.Goals as goal
+
+some_weaker : (o : Option (List Cell)) (P Q : List Cell → Type 0) → ((x : List Cell) → P x → Q x) → IfSome o P → IfSome o Q
+some_weaker None P Q f h = tt
+some_weaker (Some x) P Q f h = f x h
 
 pub run_in_parts-returns : goal.run_in_parts-returns
 run_in_parts-returns t c =
     let S = c.args.self.now in
     let n = c.args.generations in
     let is_cut : IsCut (2 * n) S c.in-Some.cut = rw c.in-Some.is at c.in_ok-cut.ensures.cut in
-    run_from_parts c.args.rule.now S c.in-Some.cut n c.in-Some-2.before c.in-Some-3.past c.in_ok-whole.whole is_cut
-    (rw c.in-Some-2.is at c.in_ok-before.ensures) (rw c.in-Some-3.is at c.in_ok-past.ensures) c.in_ok-whole.ensures
+    let one = rw c.in-Some-2.is at c.in_ok-before.ensures in
+    let other = rw c.in-Some-3.is at c.in_ok-past.ensures in
+    let both : IfOk c.map.result (λ ran. IfSome ran (λ whole. whole ≡ set_of (c.in-Some-2.before ++ c.in-Some-3.past))) = search rules in
+    IfOk-weaker c.map.result _ _ (λ ran is. some_weaker ran _ _
+    (λ whole e. run_from_parts c.args.rule.now S c.in-Some.cut n c.in-Some-2.before c.in-Some-3.past whole is_cut one other e) is) both
 
 pub run_in_parts-returns-in_default : goal.run_in_parts-returns-in_default
 run_in_parts-returns-in_default t c = c.run_on.ensures
@@ -25,9 +33,6 @@ run_in_parts-returns-in_err-before t c = IfOk-from_err _ _ c.from_residual-in_er
 
 pub run_in_parts-returns-in_err-past : goal.run_in_parts-returns-in_err-past
 run_in_parts-returns-in_err-past t c = IfOk-from_err _ _ c.from_residual-in_err-past.ensures.0
-
-pub run_in_parts-returns-in_err-whole : goal.run_in_parts-returns-in_err-whole
-run_in_parts-returns-in_err-whole t c = IfOk-from_err _ _ c.from_residual-in_err-whole.ensures.0
 
 pub run_side-returns : goal.run_side-returns
 run_side-returns t c =

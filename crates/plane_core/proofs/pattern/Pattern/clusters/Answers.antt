@@ -1,16 +1,15 @@
-use Rattle.std.proofs.Common.{◌≡◌, ◌∙◌, ℕ, List, arith, length, subst, sym}
-use Rattle.std.proofs.lemmas.List.{with_items_is}
+use Rattle.std.proofs.Common.{List, subst, sym}
 use Rattle.std.specs.Prelude.{IfOk}
 use Rattle.plane_core.specs.declared.cell.Cell.{Cell}
 use Rattle.plane_core.specs.Cells.{IsPattern}
 use Rattle.plane_core.specs.Clusters.{AreClusters}
-use Rattle.plane_core.specs.Forest.{IsForest, JoinsAll}
+use Rattle.plane_core.specs.Forest.{IsForest}
 use Rattle.plane_core.proofs.ForestLemmas.{forest-roots}
 use Rattle.plane_core.proofs.pattern.Pattern.clusters.Goals as goal
 
 pub join_all-requires-clause-forest : goal.join_all-requires-clause-forest
 join_all-requires-clause-forest c =
-    subst (IsForest c.cells-cells.result.now) (sym c.deref_mut.ensures.value)
+    subst (IsForest c.cells-cells.result.now) (sym c.as_mut_slice-places.ensures.value)
     (forest-roots c.cells-cells.result.now c.in_ok-parents.parents.items c.in_ok-parents.ensures.count c.in_ok-parents.ensures.roots)
 
 pub join_all-requires-clause-pattern : goal.join_all-requires-clause-pattern
@@ -20,16 +19,10 @@ pub gathered-requires-clause-pattern : goal.gathered-requires-clause-pattern
 gathered-requires-clause-pattern c = subst IsPattern (sym c.cells-cells.ensures.cells) c.cells-cells.ensures.pattern
 
 pub gathered-requires-clause-forest : goal.gathered-requires-clause-forest
-gathered-requires-clause-forest c =
-    let fits : length c.join_all.new.parents ≡ c.in_ok-parents.parents.len = omega (arith, c.join_all.auto.parents, c.deref_mut.ensures.len) in
-    subst (IsForest c.cells-cells.result.now) (sym (c.deref.ensures.value ∙ with_items_is c.in_ok-parents.parents c.join_all.new.parents fits))
-    c.join_all.ensures.forest
+gathered-requires-clause-forest c = c.join_all.ensures.forest
 
 pub gathered-requires-clause-joined : goal.gathered-requires-clause-joined
-gathered-requires-clause-joined c =
-    let fits : length c.join_all.new.parents ≡ c.in_ok-parents.parents.len = omega (arith, c.join_all.auto.parents, c.deref_mut.ensures.len) in
-    subst (λ (parents : List ℕ). JoinsAll c.cells-cells.result.now parents (length c.cells-cells.result.now))
-    (sym (c.deref.ensures.value ∙ with_items_is c.in_ok-parents.parents c.join_all.new.parents fits)) c.join_all.ensures.joined
+gathered-requires-clause-joined c = c.join_all.ensures.joined
 
 pub returns-clause-clusters : goal.returns-clause-clusters
 returns-clause-clusters c =

@@ -4,11 +4,11 @@ use Rattle.plane_core.specs.Out.{Writes}
 use Rattle.plane_core.specs.Plaintext.{box_text}
 use Rattle.plane_core.specs.PlaintextWalk.{IsAhead}
 use Rattle.plane_core.proofs.PlaintextWriting.{rows_remainder, SameFrom}
-use Rattle.plane_core.proofs.plaintext.write_rows.Given as goal
+use Rattle.plane_core.proofs.pattern.Pattern.write_plaintext.Given as goal
 
 -- the rows above row y have been written, and the rest has the cells of the others
 abbrev pub invariant-loop-y : goal.invariant-loop-y
 invariant-loop-y g l =
-    (l.bounds.top ≤ℤ l.y) × (l.y ≤ℤ (l.bounds.bottom +ℤ pos 1)) × IsAhead l.y l.bounds l.remainder × SameFrom l.y l.cells l.remainder
-    × ((front : List ℕ) × (box_text (Some l.bounds) l.cells ≡ front ++ rows_remainder l.cells l.bounds l.y)
+    (l.bounds.top ≤ℤ l.y) × (l.y ≤ℤ (l.bounds.bottom +ℤ pos 1)) × IsAhead l.y l.bounds l.remainder × SameFrom l.y l.self l.remainder
+    × ((front : List ℕ) × (box_text (Some l.bounds) l.self ≡ front ++ rows_remainder l.self l.bounds l.y)
     × Writes {E = WriteError} g.V.Write.contents l.fn.out l.out (Ok tt) front)
