@@ -52,11 +52,6 @@ AreCovered places boxes = (c : Cell) → IsNearOne 4 boxes c → IsCovered place
 abbrev pub IsStillOutside : Numbers → List Place → List Cell → ℕ → Type 0
 IsStillOutside rule places cells n = (c : Cell) → ¬ IsCovered places c → has (after rule cells n) c ≡ has cells c
 
--- in each window the two patterns differ only as its change says
-abbrev pub HoldChanges : List Place → List Cell → List Cell → List Change → Type 0
-HoldChanges places one other changes = (k : ℕ) (p : Place) (d : Change) → k < length places
-    → HoldsChange (slice_index_or places k p) one other (slice_index_or changes k d)
-
 -- each bit that is 1 lies between the first and the last, which are below 64
 pub record HasBits (word : ℕ) (span : Span) : Type 0 where
   pub first : (i : ℕ) → bit_at word i ≡ 1 → span.first ≤ i

@@ -13,7 +13,7 @@
 //! +-------+-------+
 //! ```
 ghost use Rattle.std.specs.Prelude.{◌≡◌, ◌+◌, ◌*◌, ◌^◌, ◌<◌, ◌≤◌, ◌⊎◌, ◌+ℤ◌, pos, All};
-ghost use Rattle.std.specs.Prelude.{IsTrue, OnOk, unsigned_abs, vec_len};
+ghost use Rattle.std.specs.Prelude.{IfOk, IsTrue, OnOk, true, unsigned_abs, vec_len};
 ghost use Rattle.plane_core.specs.Bounds.{IsWithin, enlarged};
 ghost use Rattle.plane_core.specs.Boxes.{AreCovered, IsInOne, IsNearOne, box_bound, rectangle_bound};
 ghost use Rattle.plane_core.specs.Covers.{AreSideBySide, BeginsAt, IsInRow};
@@ -37,25 +37,27 @@ struct Spans {
 }
 
 /// Lays windows over the boxes, in place of those of the list, so that each cell within 4 of a box lies in the inner
-/// part of one. The rectangles are of use for the time of the call alone.
+/// part of one. Returns whether all of them lie on the board. The rectangles are of use for the time of the call alone.
 pub(crate) fn cover(
+    at: Frame,
     boxes: &[Bounds],
     rectangles: &mut Vec<Bounds>,
     places: &mut Vec<Place>,
-) -> Result<(), OutOfMemory>
+) -> Result<bool, OutOfMemory>
     requires { All (AreSidesWithin box_bound) boxes.now }
-    ensures { OnOk result (AreCovered places.new.items boxes.now) }
+    ensures covered { OnOk result (AreCovered places.new.items boxes.now) }
+    ensures inside { IfOk result (λ inside. inside ≡ true → All (IsOnBoard at) places.new.items) }
 {
     unite(boxes, rectangles)?;
     places.clear();
     for rectangle in rectangles.as_slice() {
         lay(*rectangle, places)?;
     }
-    Ok(())
+    Ok(are_on_board(at, places.as_slice()))
 }
 
 /// Whether all windows lie on the board.
-pub(crate) fn are_on_board(at: Frame, places: &[Place]) -> bool
+fn are_on_board(at: Frame, places: &[Place]) -> bool
     ensures { IsTrue result → All (IsOnBoard at) places.now }
 {
     for place in places {
