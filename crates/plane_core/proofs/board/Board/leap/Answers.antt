@@ -2,6 +2,7 @@ use Rattle.std.proofs.Common.{◌≡◌, ◌∙◌, ℕ, List, ap, length, refl,
 use Rattle.std.specs.List.{All}
 use Rattle.std.proofs.lemmas.Bool.{false≢true}
 use Rattle.std.proofs.lemmas.List.{with_items_is}
+use Rattle.std.proofs.lemmas.List.Elements.{All-same}
 use Rattle.std.proofs.lemmas.Result.{IfOk-from_err}
 use Rattle.plane_core.specs.Answers.{rule_of}
 use Rattle.plane_core.specs.declared.bounds.Bounds.{Bounds}
@@ -9,7 +10,8 @@ use Rattle.plane_core.specs.declared.frame.Frame.{Frame}
 use Rattle.plane_core.specs.declared.place.Place.{Place}
 use Rattle.plane_core.specs.declared.spans.Span.{Span}
 use Rattle.plane_core.specs.Boards.{HasGoneOn, Running}
-use Rattle.plane_core.specs.Boxes.{AreCovered}
+use Rattle.plane_core.specs.Bounds.{AreSidesWithin}
+use Rattle.plane_core.specs.Boxes.{AreCovered, box_bound}
 use Rattle.plane_core.specs.Generations.{after}
 use Rattle.plane_core.specs.Leaps.{ArePutBack, AreRun}
 use Rattle.plane_core.specs.OnBoard.{cells_on}
@@ -128,3 +130,45 @@ returns-clause-leapt c e =
     let new = c.put_all.new.words in
     rw (with_items_is inside.words new (c.put_all.auto.words ∙ c.as_mut_slice-2.ensures.len))
     ((gone_on c).cells ∙ (λ i. after (c.self.view_is i).rule (c.self.view_is i).cells c.args.count))
+
+pub cover-requires : goal.cover-requires
+cover-requires c = All-same (AreSidesWithin box_bound) _ _ c.as_slice.ensures.value c.self.invariant.board.sides
+
+pub run_all-requires-clause-frame : goal.run_all-requires-clause-frame
+run_all-requires-clause-frame c = c.self.invariant.board.frame
+
+pub run_all-requires-clause-long : goal.run_all-requires-clause-long
+run_all-requires-clause-long c = ap length c.as_slice-2.ensures.value ∙ c.self.invariant.board.long
+
+pub run_all-requires-clause-on_board : goal.run_all-requires-clause-on_board
+run_all-requires-clause-on_board c =
+    All-same (IsOnBoard c.self.inside.at) _ _ c.as_slice-places.ensures.value (c.in_ok-inside.ensures.inside c.if-not-inside.false)
+
+pub run_all-requires-clause-some : goal.run_all-requires-clause-some
+run_all-requires-clause-some c = c.requires.some
+
+pub run_all-requires-clause-few : goal.run_all-requires-clause-few
+run_all-requires-clause-few c = c.requires.few
+
+pub widen_by-requires-clause-frame : goal.widen_by-requires-clause-frame
+widen_by-requires-clause-frame c = c.self.invariant.board.frame
+
+pub widen_by-requires-clause-on_board : goal.widen_by-requires-clause-on_board
+widen_by-requires-clause-on_board c =
+    All-same (IsOnBoard c.self.inside.at) _ _ c.as_slice-places.ensures.value (c.in_ok-inside.ensures.inside c.if-not-inside.false)
+
+pub widen_by-requires-clause-long : goal.widen_by-requires-clause-long
+widen_by-requires-clause-long c = ap length c.as_mut_slice.ensures.value ∙ c.self.invariant.spanned.lanes
+
+pub put_all-requires-clause-frame : goal.put_all-requires-clause-frame
+put_all-requires-clause-frame c = c.self.invariant.board.frame
+
+pub put_all-requires-clause-long : goal.put_all-requires-clause-long
+put_all-requires-clause-long c = ap length c.as_mut_slice-2.ensures.value ∙ c.self.invariant.board.long
+
+pub put_all-requires-clause-on_board : goal.put_all-requires-clause-on_board
+put_all-requires-clause-on_board c =
+    All-same (IsOnBoard c.self.inside.at) _ _ c.as_slice-places.ensures.value (c.in_ok-inside.ensures.inside c.if-not-inside.false)
+
+pub put_all-requires-clause-each : goal.put_all-requires-clause-each
+put_all-requires-clause-each c = ap length c.as_slice-3.ensures.value ∙ c.in_ok-run_all.ensures.long
