@@ -240,12 +240,24 @@ impl Board {
         ensures most { IfOk result (λ made. made ≤ most) }
         ensures after { IfOk result (λ made. self.new.cells ≡ after self.old.rule self.old.cells made) }
     {
-        let odd = self.advance_odd(most)?;
-        let even = self.advance_even(most - odd)?;
-        Ok(odd + even)
+        let mut made = self.advance_odd(most)?;
+        while most - made >= 2 {
+            let still = self.is_still();
+            if still {
+                return Ok(made + (most - made) / 2 * 2);
+            }
+            let count = even_count(most - made);
+            let leapt = self.leap(count)?;
+            if !leapt {
+                return Ok(made);
+            }
+            made += count;
+        }
+        Ok(made)
     }
 
-    /// Makes one or three generations, if most is odd, so that an even number of them is left.
+    /// Makes one or three generations, if most is odd, so that an even number of them is left for leaps of four
+    /// generations, and two at the end.
     fn advance_odd(&mut self, most: u32) -> Result<u32, OutOfMemory>
         ensures rule { self.new.rule ≡ self.old.rule }
         ensures most { IfOk result (λ made. made ≤ most) }
@@ -257,28 +269,6 @@ impl Board {
         }
         let leapt = self.leap(count)?;
         if leapt { Ok(count) } else { Ok(0) }
-    }
-
-    /// Goes on by leaps of four generations, and two at the end.
-    fn advance_even(&mut self, most: u32) -> Result<u32, OutOfMemory>
-        ensures rule { self.new.rule ≡ self.old.rule }
-        ensures most { IfOk result (λ made. made ≤ most) }
-        ensures after { IfOk result (λ made. self.new.cells ≡ after self.old.rule self.old.cells made) }
-    {
-        let mut made = 0;
-        while most - made >= 2 {
-            let still = self.is_still();
-            if still {
-                return Ok(most / 2 * 2);
-            }
-            let count = even_count(most - made);
-            let leapt = self.leap(count)?;
-            if !leapt {
-                return Ok(made);
-            }
-            made += count;
-        }
-        Ok(made)
     }
 
     /// Whether it is seen that no even number of generations changes anything. `false` says nothing.
