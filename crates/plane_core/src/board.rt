@@ -248,10 +248,10 @@ impl Board {
             }
             let count = even_count(most - made);
             let leapt = self.leap(count)?;
-            if !leapt {
+            if leapt == 0 {
                 return Ok(made);
             }
-            made += count;
+            made += leapt;
         }
         Ok(made)
     }
@@ -263,12 +263,10 @@ impl Board {
         ensures most { IfOk result (λ made. made ≤ most) }
         ensures after { IfOk result (λ made. self.new.cells ≡ after self.old.rule self.old.cells made) }
     {
-        let count = most % 4;
-        if count % 2 == 0 {
+        if most % 2 == 0 {
             return Ok(0);
         }
-        let leapt = self.leap(count)?;
-        if leapt { Ok(count) } else { Ok(0) }
+        self.leap(most % 4)
     }
 
     /// Whether it is seen that no even number of generations changes anything. `false` says nothing.
@@ -279,17 +277,16 @@ impl Board {
     }
 
     /// Makes one leap of so many generations, unless it would come too near to the border of the board, or it is an odd
-    /// number, and the boxes may not hold all live cells. Returns whether it was made.
-    fn leap(&mut self, count: u32) -> Result<bool, OutOfMemory>
+    /// number, and the boxes may not hold all live cells. Returns how many were made: all, or none.
+    fn leap(&mut self, count: u32) -> Result<u32, OutOfMemory>
         requires some { 1 ≤ count }
         requires few { count ≤ 4 }
         ensures rule { self.new.rule ≡ self.old.rule }
-        ensures stopped { IfOk result (λ leapt. leapt ≡ false → self.new.cells ≡ self.old.cells) }
-        ensures leapt { IfOk result
-            (λ leapt. leapt ≡ true → self.new.cells ≡ after self.old.rule self.old.cells count) }
+        ensures most { IfOk result (λ made. made ≤ count) }
+        ensures after { IfOk result (λ made. self.new.cells ≡ after self.old.rule self.old.cells made) }
     {
         if !are_enough(self.holds_all, count) {
-            return Ok(false);
+            return Ok(0);
         }
         let lists = &mut self.lists;
         let inside = cover(
@@ -299,7 +296,7 @@ impl Board {
             &mut lists.places,
         )?;
         if !inside {
-            return Ok(false);
+            return Ok(0);
         }
         let places = lists.places.as_slice();
         run_all(
@@ -321,7 +318,7 @@ impl Board {
         );
         swap(&mut self.boxes, &mut lists.boxes);
         self.holds_all = count % 2 == 1;
-        Ok(true)
+        Ok(count)
     }
 
     /// The cells, in order, with room for so many from the start.

@@ -1,7 +1,8 @@
-use Rattle.std.proofs.Common.{◌≡◌, ◌∙◌, ◌+◌, ◌-◌, ◌*◌, ◌/◌, ◌%◌, ◌<◌, ◌≤◌, ℕ, arith, sym}
+use Rattle.std.proofs.Common.{◌≡◌, ◌≢◌, ◌∙◌, ◌+◌, ◌-◌, ◌*◌, ◌/◌, ◌%◌, ◌<◌, ◌≤◌, ℕ, arith, sym}
 use Rattle.std.proofs.lemmas.Result.{IfOk-from_err}
 use Rattle.plane_core.specs.Generations.{after}
 use Rattle.plane_core.proofs.AdvanceLemmas.{fits_below}
+use Rattle.plane_core.proofs.GenerationLemmas.{after-none}
 use Rattle.plane_core.proofs.RunLemmas.{after-plus}
 use Rattle.plane_core.proofs.board.Board.advance.Goals as goal
 
@@ -15,8 +16,8 @@ halves n = omega arith
 with_left : (most made : ℕ) → made ≤ most → made + (most - made) / 2 * 2 ≤ most
 with_left most made low = omega arith
 
-fewer_left : (most made count : ℕ) → 1 ≤ count → count ≤ most - made → most - (made + count) < most - made
-fewer_left most made count some few = omega arith
+fewer_left : (most made count leapt : ℕ) → leapt ≢ 0 → count ≤ most - made → leapt ≤ count → most - (made + leapt) < most - made
+fewer_left most made count leapt some few all = omega arith
 
 less : (most made : ℕ) → most - made ≤ most
 less most made = omega arith
@@ -44,8 +45,8 @@ returns-then-still-clause-after c =
     ∙ (λ i. after (before.rule i) (before.after i) left) ∙ after-plus rule cells made left
 
 -- a leap more
-more_made : (most made count : ℕ) → made ≤ most → count ≤ most - made → made + count ≤ most
-more_made most made count low few = omega arith
+more_made : (most made count leapt : ℕ) → made ≤ most → count ≤ most - made → leapt ≤ count → made + leapt ≤ most
+more_made most made count leapt low few all = omega arith
 
 pub loop-made-preserved : goal.loop-made-preserved
 loop-made-preserved c =
@@ -53,11 +54,11 @@ loop-made-preserved c =
     let rule = c.args.self.now.rule in
     let cells = c.args.self.now.cells in
     let made = c.loop-made.made in
-    let count = c.even_count-count.result in
+    let leapt = c.in_ok-leapt.leapt in
     record {
       rule = c.leap.ensures.rule ∙ before.rule;
-      most = more_made c.args.most made count before.most c.even_count-count.ensures.most;
-      after = c.in_ok-leapt.ensures.leapt c.if-not-leapt.false ∙ (λ i. after (before.rule i) (before.after i) count) ∙ after-plus rule cells made count;
+      most = more_made c.args.most made _ leapt before.most c.even_count-count.ensures.most c.in_ok-leapt.ensures.most;
+      after = c.in_ok-leapt.ensures.after ∙ (λ i. after (before.rule i) (before.after i) leapt) ∙ after-plus rule cells made leapt;
     }
 
 pub overflow_sub-most : goal.overflow_sub-most
@@ -96,23 +97,26 @@ returns-in_err-leapt-clause-most c = IfOk-from_err _ _ c.from_residual-in_err-le
 pub returns-in_err-leapt-clause-after : goal.returns-in_err-leapt-clause-after
 returns-in_err-leapt-clause-after c = IfOk-from_err _ _ c.from_residual-in_err-leapt.ensures.0
 
-pub returns-then-not-leapt-clause-rule : goal.returns-then-not-leapt-clause-rule
-returns-then-not-leapt-clause-rule c = c.leap.ensures.rule ∙ c.loop-made.invariant.rule
+pub returns-then-leapt-eq0-clause-rule : goal.returns-then-leapt-eq0-clause-rule
+returns-then-leapt-eq0-clause-rule c = c.leap.ensures.rule ∙ c.loop-made.invariant.rule
 
-pub returns-then-not-leapt-clause-most : goal.returns-then-not-leapt-clause-most
-returns-then-not-leapt-clause-most c = c.loop-made.invariant.most
+pub returns-then-leapt-eq0-clause-most : goal.returns-then-leapt-eq0-clause-most
+returns-then-leapt-eq0-clause-most c = c.loop-made.invariant.most
 
-pub returns-then-not-leapt-clause-after : goal.returns-then-not-leapt-clause-after
-returns-then-not-leapt-clause-after c = c.in_ok-leapt.ensures.stopped c.if-not-leapt.true ∙ c.loop-made.invariant.after
+pub returns-then-leapt-eq0-clause-after : goal.returns-then-leapt-eq0-clause-after
+returns-then-leapt-eq0-clause-after c =
+    let before = c.loop-made.invariant in
+    c.in_ok-leapt.ensures.after ∙ (λ i. after (before.rule i) (before.after i) (c.if-leapt-eq0.true i))
+    ∙ after-none c.args.self.now.rule (after c.args.self.now.rule c.args.self.now.cells c.loop-made.made)
 
 pub overflow_add-made : goal.overflow_add-made
 overflow_add-made c =
-    fits_below _ c.args.most (more_made c.args.most c.loop-made.made c.even_count-count.result c.loop-made.invariant.most
-    c.even_count-count.ensures.most) c.ranges.most
+    fits_below _ c.args.most (more_made c.args.most c.loop-made.made _ c.in_ok-leapt.leapt c.loop-made.invariant.most
+    c.even_count-count.ensures.most c.in_ok-leapt.ensures.most) c.ranges.most
 
 pub loop-made-smaller : goal.loop-made-smaller
 loop-made-smaller c =
-    fewer_left c.args.most c.loop-made.made c.even_count-count.result c.even_count-count.ensures.some c.even_count-count.ensures.most
+    fewer_left c.args.most c.loop-made.made _ c.in_ok-leapt.leapt c.if-leapt-eq0.false c.even_count-count.ensures.most c.in_ok-leapt.ensures.most
 
 pub returns-clause-rule : goal.returns-clause-rule
 returns-clause-rule c = c.loop-made.invariant.rule

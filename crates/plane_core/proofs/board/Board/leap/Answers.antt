@@ -1,6 +1,5 @@
-use Rattle.std.proofs.Common.{◌≡◌, ◌∙◌, ℕ, List, ap, length, refl, subst, sym}
+use Rattle.std.proofs.Common.{◌≡◌, ◌≤◌, ◌∙◌, ℕ, List, ap, arith, length, refl, subst, sym}
 use Rattle.std.specs.List.{All}
-use Rattle.std.proofs.lemmas.Bool.{false≢true}
 use Rattle.std.proofs.lemmas.List.{with_items_is}
 use Rattle.std.proofs.lemmas.List.Elements.{All-same}
 use Rattle.std.proofs.lemmas.Result.{IfOk-from_err}
@@ -18,9 +17,14 @@ use Rattle.plane_core.specs.OnBoard.{cells_on}
 use Rattle.plane_core.specs.Places.{IsOnBoard}
 use Rattle.plane_core.specs.Spans.{AreWidened}
 use Rattle.plane_core.proofs.AdvanceLemmas.{has_gone_on, is_ready, leapt_board}
+use Rattle.plane_core.proofs.GenerationLemmas.{after-none}
 use Rattle.plane_core.proofs.LeapLemmas.{leapt}
 use Rattle.plane_core.proofs.OnBoardLemmas.{cells_in_order, shows_cells}
+use Rattle.plane_core.proofs.OrderLemmas.{itself}
 use Rattle.plane_core.proofs.board.Board.leap.Goals as goal
+
+nothing : (n : ℕ) → 0 ≤ n
+nothing n = omega arith
 
 -- the same lists by other names
 covered_by : (ps qs : List Place) (bs cs : List Bounds) → qs ≡ ps → bs ≡ cs → AreCovered ps bs → AreCovered qs cs
@@ -36,11 +40,11 @@ put_back at places hs held ws old new rows words put =
 pub returns-then-not-are_enough-clause-rule : goal.returns-then-not-are_enough-clause-rule
 returns-then-not-are_enough-clause-rule c = refl
 
-pub returns-then-not-are_enough-clause-stopped : goal.returns-then-not-are_enough-clause-stopped
-returns-then-not-are_enough-clause-stopped c e = refl
+pub returns-then-not-are_enough-clause-most : goal.returns-then-not-are_enough-clause-most
+returns-then-not-are_enough-clause-most c = nothing c.args.count
 
-pub returns-then-not-are_enough-clause-leapt : goal.returns-then-not-are_enough-clause-leapt
-returns-then-not-are_enough-clause-leapt c e = absurd (false≢true e)
+pub returns-then-not-are_enough-clause-after : goal.returns-then-not-are_enough-clause-after
+returns-then-not-are_enough-clause-after c = sym (after-none c.args.self.now.rule c.args.self.now.cells)
 
 pub invariant_of-self : goal.invariant_of-self
 invariant_of-self c = c.self.invariant
@@ -54,35 +58,36 @@ invariant_of-self-in_err-run_all c = c.self.invariant
 pub returns-in_err-inside-clause-rule : goal.returns-in_err-inside-clause-rule
 returns-in_err-inside-clause-rule c = ap (λ (b : Running). b.rule) c.self.view_is
 
-pub returns-in_err-inside-clause-stopped : goal.returns-in_err-inside-clause-stopped
-returns-in_err-inside-clause-stopped c = IfOk-from_err _ _ c.from_residual.ensures.0
+pub returns-in_err-inside-clause-most : goal.returns-in_err-inside-clause-most
+returns-in_err-inside-clause-most c = IfOk-from_err _ _ c.from_residual.ensures.0
 
-pub returns-in_err-inside-clause-leapt : goal.returns-in_err-inside-clause-leapt
-returns-in_err-inside-clause-leapt c = IfOk-from_err _ _ c.from_residual.ensures.0
+pub returns-in_err-inside-clause-after : goal.returns-in_err-inside-clause-after
+returns-in_err-inside-clause-after c = IfOk-from_err _ _ c.from_residual.ensures.0
 
 pub returns-then-not-inside-clause-rule : goal.returns-then-not-inside-clause-rule
 returns-then-not-inside-clause-rule c = ap (λ (b : Running). b.rule) c.self.view_is
 
-pub returns-then-not-inside-clause-stopped : goal.returns-then-not-inside-clause-stopped
-returns-then-not-inside-clause-stopped c e = ap (λ (b : Running). b.cells) c.self.view_is
+pub returns-then-not-inside-clause-most : goal.returns-then-not-inside-clause-most
+returns-then-not-inside-clause-most c = nothing c.args.count
 
-pub returns-then-not-inside-clause-leapt : goal.returns-then-not-inside-clause-leapt
-returns-then-not-inside-clause-leapt c e = absurd (false≢true e)
+pub returns-then-not-inside-clause-after : goal.returns-then-not-inside-clause-after
+returns-then-not-inside-clause-after c =
+    ap (λ (b : Running). b.cells) c.self.view_is ∙ sym (after-none c.args.self.now.rule c.args.self.now.cells)
 
 pub returns-in_err-run_all-clause-rule : goal.returns-in_err-run_all-clause-rule
 returns-in_err-run_all-clause-rule c = ap (λ (b : Running). b.rule) c.self.view_is
 
-pub returns-in_err-run_all-clause-stopped : goal.returns-in_err-run_all-clause-stopped
-returns-in_err-run_all-clause-stopped c = IfOk-from_err _ _ c.from_residual-in_err-run_all.ensures.0
+pub returns-in_err-run_all-clause-most : goal.returns-in_err-run_all-clause-most
+returns-in_err-run_all-clause-most c = IfOk-from_err _ _ c.from_residual-in_err-run_all.ensures.0
 
-pub returns-in_err-run_all-clause-leapt : goal.returns-in_err-run_all-clause-leapt
-returns-in_err-run_all-clause-leapt c = IfOk-from_err _ _ c.from_residual-in_err-run_all.ensures.0
+pub returns-in_err-run_all-clause-after : goal.returns-in_err-run_all-clause-after
+returns-in_err-run_all-clause-after c = IfOk-from_err _ _ c.from_residual-in_err-run_all.ensures.0
 
 pub returns-clause-rule : goal.returns-clause-rule
 returns-clause-rule c = ap (λ (b : Running). b.rule) c.self.view_is
 
-pub returns-clause-stopped : goal.returns-clause-stopped
-returns-clause-stopped c e = absurd (false≢true (sym e))
+pub returns-clause-most : goal.returns-clause-most
+returns-clause-most c = itself c.args.count
 
 gone_on : (c : goal.After-self-3-1) → HasGoneOn (rule_of c.self.inside.answers) c.self.inside.at c.args.count c.self.inside.words.items c.put_all.new.words
     c.run_all.new.boxes.items c.widen_by.new.spans
@@ -124,8 +129,8 @@ invariant_of-self-2 c =
     inside.spans.items spans c.self.invariant (kept ∙ ap length c.as_mut_slice-2.ensures.value) (held ∙ ap length c.as_mut_slice.ensures.value)
     (gone_on c))
 
-pub returns-clause-leapt : goal.returns-clause-leapt
-returns-clause-leapt c e =
+pub returns-clause-after : goal.returns-clause-after
+returns-clause-after c =
     let inside = c.self.inside in
     let new = c.put_all.new.words in
     rw (with_items_is inside.words new (c.put_all.auto.words ∙ c.as_mut_slice-2.ensures.len))
