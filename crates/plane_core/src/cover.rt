@@ -134,27 +134,15 @@ fn absorbed_at(rectangles: &mut Vec<Bounds>, i: usize, rectangle: Bounds) -> Bou
     other.joined(rectangle)
 }
 
-/// Whether the two take no fewer windows than the least rectangle that has both in it.
+/// Whether the two take no fewer windows than the least rectangle that has both in it. Mostly the two are far apart, and
+/// this is told in no time: where a column or a row of windows fits between them, nothing is saved.
 #[inline(always)]
 fn saves_windows(one: Bounds, other: Bounds) -> bool {
-    may_share_windows(one, other)
+    other.left.saturating_sub(one.right) <= 56
+        && one.left.saturating_sub(other.right) <= 56
+        && other.top.saturating_sub(one.bottom) <= 32
+        && one.top.saturating_sub(other.bottom) <= 32
         && windows_for(one.joined(other)) <= windows_for(one).saturating_add(windows_for(other))
-}
-
-/// Whether no column or row of windows fits between the two. Where one does, nothing is saved. Mostly the two are far
-/// apart, and this is told in no time.
-#[inline(always)]
-fn may_share_windows(one: Bounds, other: Bounds) -> bool {
-    gap(one.right, other.left) <= 56
-        && gap(other.right, one.left) <= 56
-        && gap(one.bottom, other.top) <= 32
-        && gap(other.bottom, one.top) <= 32
-}
-
-/// How far the second number is past the first one.
-#[inline(always)]
-fn gap(one: i32, other: i32) -> i64 {
-    i64::from(other) - i64::from(one)
 }
 
 /// How many windows it takes to cover the rectangle.
