@@ -110,7 +110,6 @@ fn put_word(words: &mut [u64], i: usize, mask: u64, value: u64)
     ensures at { (b : ℕ) → bit_at (slice_index words.new i) b
         ≡ (if bit_at mask b == 1 then bit_at value b else bit_at (slice_index words.old i) b) }
     ensures others { (m : ℕ) → m ≢ i → slice_index words.new m ≡ slice_index words.old m }
-    ensures long { length words.new ≡ length words.old }
 {
     let old = words[i];
     words[i] = old ^ ((old ^ value) & mask);
@@ -122,8 +121,7 @@ fn write_row(words: &mut [u64], at: Frame, x: usize, y: usize, word: u64)
     requires long { FillsFrame at words.old }
     requires lanes { x / 64 + 1 < at.lanes }
     requires rows { y < at.rows }
-    ensures put { IsRowPut at x y word words.old words.new }
-    ensures long { length words.new ≡ length words.old }
+    ensures { IsRowPut at x y word words.old words.new }
 {
     let i = x / 64 * at.rows + y;
     let shift = x % 64;
@@ -142,8 +140,7 @@ pub(crate) fn write(words: &mut [u64], at: Frame, x: usize, y: usize, rows: &[u6
     requires long { FillsFrame at words.old }
     requires lanes { x / 64 + 1 < at.lanes }
     requires rows { y + 40 ≤ at.rows }
-    ensures put { IsPutBack at x y 36 rows.now words.old words.new }
-    ensures long { length words.new ≡ length words.old }
+    ensures { IsPutBack at x y 36 rows.now words.old words.new }
 {
     for r in 4..36 {
         write_row(words, at, x, y + r, rows[r]);
