@@ -184,15 +184,6 @@ impl Board {
         ensures shown { IfOk result (λ shown. shown ≡ true → self.new.cells ≡ pattern.now) }
         ensures none { IfOk result (λ shown. shown ≡ false → self.new.cells ≡ []) }
     {
-        self.clear(rule);
-        self.place(pattern)
-    }
-
-    /// Empties the board.
-    fn clear(&mut self, rule: &Rule)
-        ensures rule { self.new.rule ≡ rule.now }
-        ensures cells { self.new.cells ≡ [] }
-    {
         empty(
             self.at,
             self.words.as_mut_slice(),
@@ -201,6 +192,7 @@ impl Board {
         self.boxes.clear();
         self.holds_all = true;
         self.answers = Answers::new(rule);
+        self.place(pattern)
     }
 
     /// Puts a pattern in the middle of an empty board, if it has room there.
