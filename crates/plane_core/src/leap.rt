@@ -21,8 +21,8 @@ use crate::change::Change;
 use crate::difference::difference_of;
 use crate::frame::Frame;
 use crate::place::Place;
-use crate::placed::{column_of, read, row_of, write};
-use crate::rows::unpacked;
+use crate::placed::{column_of, read_rows, row_of, write};
+use crate::rows::{packed, unpacked};
 use crate::window::generations;
 use memory::OutOfMemory;
 use std::simd::u64x4;
@@ -62,7 +62,8 @@ fn run_at(words: &[u64], at: Frame, place: Place, rule: &Answers, count: usize) 
     requires few { count ≤ 4 }
     ensures { IsRunAt at words.now (rule_of rule.now) count place result.rows result.change }
 {
-    let mut window = read(words, at, column_of(at, place), row_of(at, place));
+    let rows = read_rows::<40>(words, at, column_of(at, place), row_of(at, place));
+    let mut window = packed(&rows);
     let change = run(&mut window, rule, count);
     Ran {
         rows: unpacked(&window),

@@ -11,14 +11,11 @@ ghost use Rattle.std.specs.Prelude.{◌≡◌, ◌≢◌, ◌==◌, ◌+◌, ◌
 ghost use Rattle.std.specs.Prelude.{if◌then◌else◌, slice_index};
 ghost use Rattle.std.specs.Int.{bit_at};
 ghost use Rattle.plane_core.specs.Frames.{FillsFrame, IsFrame};
-ghost use Rattle.plane_core.specs.Placed.{AreRowsRead, IsPutBack, IsReadAt, IsRowPut};
+ghost use Rattle.plane_core.specs.Placed.{AreRowsRead, IsPutBack, IsRowPut};
 ghost use Rattle.plane_core.specs.Places.{IsOnBoard};
-ghost use Rattle.plane_core.specs.Windows.{row_at};
 
 use crate::frame::Frame;
 use crate::place::Place;
-use crate::rows::packed;
-use std::simd::u64x4;
 
 /// The inner columns of a window, 4 to 59.
 pub(crate) const INNER: u64 = 0x0fff_ffff_ffff_fff0;
@@ -71,17 +68,6 @@ pub(crate) fn read_rows<const R: usize>(words: &[u64], at: Frame, x: usize, y: u
         rows[r] = joined(words[first + r], words[second + r], x % 64);
     }
     rows
-}
-
-/// Reads the window that begins in column x and row y of the board.
-#[inline(always)]
-pub(crate) fn read(words: &[u64], at: Frame, x: usize, y: usize) -> [u64x4; 10]
-    requires long { FillsFrame at words.now }
-    requires lanes { x / 64 + 1 < at.lanes }
-    requires rows { y + 40 ≤ at.rows }
-    ensures { IsReadAt at words.now x y 10 result }
-{
-    packed(&read_rows::<40>(words, at, x, y))
 }
 
 /// The word's columns that lie in the first lane, where it begins in this column of it.

@@ -70,14 +70,9 @@ impl Board {
                 continue;
             };
             let mut window = packed(&view.rows);
-            generations(&mut window, &self.answers, look.ahead as usize);
-            if refuses(
-                &window,
-                &self.answers,
-                look.ahead as usize,
-                look.horizon,
-                look.period,
-            ) {
+            let ahead = look.ahead as usize;
+            generations(&mut window, &self.answers, ahead);
+            if refuses(&window, &self.answers, ahead, look.horizon, look.period) {
                 return true;
             }
         }

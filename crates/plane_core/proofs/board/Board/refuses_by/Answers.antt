@@ -9,6 +9,7 @@ use Rattle.plane_core.specs.Floods.{ShowsRows}
 use Rattle.plane_core.proofs.LeapLemmas.{window_shown}
 use Rattle.plane_core.proofs.OnBoardLemmas.{cells_in_order}
 use Rattle.plane_core.proofs.RunLemmas.{in_order-after}
+use Rattle.plane_core.proofs.OrderLemmas.{some_of}
 use Rattle.plane_core.proofs.board.Board.refuses_by.Goals as goal
 
 pub returns-then-tries-eq0 : goal.returns-then-tries-eq0
@@ -32,3 +33,6 @@ returns-then-refuses c = λ _.
 
 pub returns : goal.returns
 returns c = λ e. absurd (false≢true e)
+
+pub overflow_sub-tries : goal.overflow_sub-tries
+overflow_sub-tries c = some_of _ c.if-tries-eq0.false

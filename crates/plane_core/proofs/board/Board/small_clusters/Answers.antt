@@ -2,6 +2,7 @@ use Rattle.std.proofs.Common.{arith, ap, subst}
 use Rattle.plane_core.specs.Boards.{Running}
 use Rattle.plane_core.specs.Cells.{InOrder}
 use Rattle.plane_core.proofs.OnBoardLemmas.{cells_in_order}
+use Rattle.plane_core.proofs.OrderLemmas.{some_of}
 use Rattle.plane_core.proofs.board.Board.small_clusters.Goals as goal
 
 pub bounds-boxes-bounds-index : goal.bounds-boxes-bounds-index
@@ -20,3 +21,6 @@ loop-bounds-preserved c =
 
 pub returns : goal.returns
 returns c = c.loop-bounds.invariant
+
+pub overflow_sub-tries : goal.overflow_sub-tries
+overflow_sub-tries c = some_of _ c.if-tries-eq0.false
