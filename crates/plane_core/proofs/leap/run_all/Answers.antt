@@ -1,6 +1,7 @@
-use Rattle.std.proofs.Common.{◌≡◌, ◌∙◌, pos, arith, inl, inr, length, subst, sym, List}
+use borrow.Author.Count.{falls}
+use Rattle.std.proofs.Common.{◌≡◌, ◌<◌, ◌∙◌, ℕ, ap, pos, arith, inl, inr, length, subst, sym, List}
 use Rattle.std.specs.List.{All}
-use Rattle.std.proofs.lemmas.List.Elements.{All-push}
+use Rattle.std.proofs.lemmas.List.Elements.{All-nil, All-push}
 use Rattle.std.proofs.lemmas.Result.{IfOk-from_err}
 use Rattle.plane_core.specs.Answers.{rule_of}
 use Rattle.plane_core.specs.declared.bounds.Bounds.{Bounds}
@@ -70,3 +71,20 @@ returns c =
       differences = λ cells o shows. hold_all places _ _ c.loop-place.boxes.items (λ k p d low. inv.differences cells o shows k p d (omega arith));
       sides = inv.sides;
     }
+
+none_done : (k : ℕ) → k < 0 → ⊥
+none_done k low = omega (arith, low)
+
+pub loop-place-init : goal.loop-place-init
+loop-place-init c = record {
+  long = ap length c.clear.ensures.items;
+  run = λ k p cells low. absurd (none_done k low);
+  differences = λ cells o shows k p d low. absurd (none_done k low);
+  sides = subst (λ (boxes : List Bounds). All (AreSidesWithin box_bound) boxes) (sym c.clear-2.ensures.items) (All-nil (AreSidesWithin box_bound));
+}
+
+pub loop-place-smaller : goal.loop-place-smaller
+loop-place-smaller c = falls _ _ c.loop-place-test.true
+
+pub loop-place-smaller-in_default : goal.loop-place-smaller-in_default
+loop-place-smaller-in_default c = falls _ _ c.loop-place-test.true

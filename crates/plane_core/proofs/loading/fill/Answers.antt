@@ -2,7 +2,9 @@ use Rattle.std.proofs.Common.{◌<◌, ◌∙◌, subst, sym}
 use Rattle.std.proofs.lemmas.List.{take_all}
 use Rattle.plane_core.specs.Frames.{Shows}
 use Rattle.plane_core.proofs.FillLemmas.{has-at, put_shown, shown_taken}
+use borrow.Author.Count.{falls}
 use Rattle.plane_core.proofs.FrameLemmas.{spot_inside}
+use Rattle.plane_core.proofs.PlacedLemmas.{column_low}
 use Rattle.plane_core.proofs.loading.fill.Goals as goal
 
 pub across-across-requires-clause-frame : goal.across-across-requires-clause-frame
@@ -44,3 +46,9 @@ loop-cell-preserved c =
 pub returns : goal.returns
 returns c =
     subst (Shows c.args.at c.loop-cell.words) (take_all c.loop-cell.cell-index c.args.cells.now c.loop-cell-test.false) c.loop-cell.invariant
+
+pub overflow_shl-words : goal.overflow_shl-words
+overflow_shl-words c = column_low c.across-across.result
+
+pub loop-cell-smaller : goal.loop-cell-smaller
+loop-cell-smaller c = falls _ _ c.loop-cell-test.true

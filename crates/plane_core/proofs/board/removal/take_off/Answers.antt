@@ -6,7 +6,9 @@ use Rattle.plane_core.specs.Frames.{Shows}
 use Rattle.plane_core.specs.OnBoard.{cells_on}
 use Rattle.plane_core.specs.Without.{without}
 use Rattle.plane_core.specs.Cells.{cell_at}
+use borrow.Author.Count.{falls}
 use Rattle.plane_core.proofs.FrameLemmas.{spot_inside}
+use Rattle.plane_core.proofs.PlacedLemmas.{column_low}
 use Rattle.plane_core.proofs.RemovalLemmas.{fewer_taken, only_without, shown_all, shown_off, taken_off}
 use Rattle.plane_core.proofs.board.removal.take_off.Goals as goal
 
@@ -62,3 +64,12 @@ returns c =
     only_without c.args.at c.args.words.now c.loop-cell.words c.args.cells.now
     (subst (λ (gone : List Cell). Shows c.args.at c.loop-cell.words (without (cells_on c.args.at c.args.words.now) gone))
     (take_all c.loop-cell.cell-index c.args.cells.now c.loop-cell-test.false) c.loop-cell.invariant)
+
+pub overflow_shl-words : goal.overflow_shl-words
+overflow_shl-words c = column_low c.across-across.result
+
+pub loop-cell-smaller : goal.loop-cell-smaller
+loop-cell-smaller c = falls _ _ c.loop-cell-test.true
+
+pub loop-cell-smaller-then-not-has : goal.loop-cell-smaller-then-not-has
+loop-cell-smaller-then-not-has c = falls _ _ c.loop-cell-test.true
