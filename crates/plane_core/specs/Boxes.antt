@@ -1,15 +1,14 @@
 -- Boxes outside of which nothing changes from one generation to the next but one, and windows that cover them.
-use Rattle.std.specs.Prelude.{◌≡◌, ◌≢◌, ◌<◌, ◌≤◌, ℕ, true, List, Option, Any, IsSomeAnd, length, slice_index_or, unsigned_abs}
+use Rattle.std.specs.Prelude.{◌≡◌, ◌≢◌, ◌<◌, ◌≤◌, ℕ, true, List, Option, Any, IsSomeAnd, unsigned_abs}
 use Rattle.std.specs.Int.{bit_at}
 use Rattle.plane_core.specs.declared.bounds.Bounds.{Bounds}
 use Rattle.plane_core.specs.declared.cell.Cell.{Cell}
-use Rattle.plane_core.specs.declared.change.Change.{Change}
 use Rattle.plane_core.specs.declared.change.Span.{Span}
 use Rattle.plane_core.specs.declared.place.Place.{Place}
 use Rattle.plane_core.specs.Bounds.{IsWithin, enlarged}
 use Rattle.plane_core.specs.Cells.{has}
 use Rattle.plane_core.specs.Generations.{after}
-use Rattle.plane_core.specs.Places.{HoldsChange, IsCovered, IsInnerCell}
+use Rattle.plane_core.specs.Places.{IsCovered, IsInnerCell}
 use Rattle.plane_core.specs.Rules.{Numbers}
 
 -- how far from the origin the sides of a box may be, and of a rectangle of united boxes: no board reaches further

@@ -67,13 +67,7 @@ impl Board {
                 continue;
             };
             let mut changing = changing_cells(&packed(&view.rows), &self.answers);
-            add_grown(
-                alloc,
-                view.at,
-                &view.rows,
-                &mut changing,
-                &mut clusters,
-            )?;
+            add_grown(alloc, view.at, &view.rows, &mut changing, &mut clusters)?;
         }
         Ok(clusters)
     }

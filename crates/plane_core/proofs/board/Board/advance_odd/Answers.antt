@@ -1,4 +1,4 @@
-use Rattle.std.proofs.Common.{◌%◌, ◌≡◌, ◌≢◌, ◌≤◌, ℕ, arith, sym}
+use Rattle.std.proofs.Common.{◌%◌, ◌≢◌, ◌≤◌, ℕ, arith, sym}
 use Rattle.std.proofs.lemmas.Result.{IfOk-weaker}
 use Rattle.plane_core.proofs.GenerationLemmas.{after-none}
 use Rattle.plane_core.proofs.board.Board.advance_odd.Goals as goal

@@ -98,9 +98,9 @@ gone_on c =
     let places = c.as_slice-places.result.now in
     let held = c.run_all.new.held.items in
     let on = subst (λ (ps : List Place). All (IsOnBoard inside.at) ps) (sym c.as_slice-places.ensures.value)
-        (c.in_ok-inside.ensures.inside c.if-not-inside.false) in
+    (c.in_ok-inside.ensures.inside c.if-not-inside.false) in
     let ran = subst (λ (ws : List ℕ). AreRun inside.at ws rule c.args.count places held c.run_all.new.boxes.items) c.as_slice-2.ensures.value
-        c.in_ok-run_all.ensures in
+    c.in_ok-run_all.ensures in
     has_gone_on rule inside.at c.args.count old c.put_all.new.words inside.boxes.items c.run_all.new.boxes.items inside.spans.items
     c.widen_by.new.spans places
     (is_ready rule inside.at c.args.count old inside.boxes.items inside.holds_all inside.spans.items c.self.invariant

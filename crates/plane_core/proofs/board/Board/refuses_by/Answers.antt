@@ -24,9 +24,9 @@ returns-then-refuses c = λ _.
     let S = cells_on at words in
     let view = c.in-Some.view in
     let shown = c.generations.ensures S view.at.left view.at.top 0 (cells_in_order at words)
-        (window_shown view.at.left view.at.top view.rows c.packed-window.result S
-        (subst (λ (b : Running). ShowsRows view.at.left view.at.top view.rows b.cells) (sym c.self.view_is) c.in-Some.ensures.shown)
-        c.packed-window.ensures) in
+    (window_shown view.at.left view.at.top view.rows c.packed-window.result S
+    (subst (λ (b : Running). ShowsRows view.at.left view.at.top view.rows b.cells) (sym c.self.view_is) c.in-Some.ensures.shown)
+    c.packed-window.ensures) in
     subst (λ (b : Running). HasRestlessCluster b.rule (after b.rule b.cells look.ahead) look.horizon look.period) c.self.view_is
     (c.refuses.ensures c.if-refuses.true (after rule S look.ahead) view.at.left view.at.top (in_order-after rule S look.ahead (cells_in_order at words))
     (λ r i a b d f. shown r i (omega arith) (omega arith) (omega arith) (omega arith)))

@@ -1,4 +1,4 @@
-use Rattle.std.proofs.Common.{arith, ap, subst}
+use Rattle.std.proofs.Common.{arith, subst}
 use Rattle.plane_core.specs.Boards.{Running}
 use Rattle.plane_core.specs.Cells.{InOrder}
 use Rattle.plane_core.proofs.OnBoardLemmas.{cells_in_order}
