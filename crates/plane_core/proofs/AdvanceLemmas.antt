@@ -1,6 +1,6 @@
 -- A leap of a board: what it shows afterwards, and its boxes.
 use Rattle.std.proofs.Common.{◌≡◌, ◌≢◌, ◌==◌, ◌*◌, ◌/◌, ◌%◌, ◌≤◌, ℕ, ℤ, zero, suc, ◌≤ℤ◌, ◌<ℤ◌, Bool, true, List, [], ◌∷◌}
-use Rattle.std.proofs.Common.{Fits, w32, arith, refl, ap, ◌∙◌, sym, subst, inl, inr, ◌⊎◌, length, slice_index}
+use Rattle.std.proofs.Common.{Fits, w32, arith, refl, ap, ◌∙◌, sym, subst, inl, inr, ◌⊎◌, length}
 use Rattle.std.specs.List.{All}
 use Rattle.std.proofs.lemmas.Bool.{eqb-true}
 use Rattle.std.proofs.lemmas.Int.{ints, by_lt_z}
@@ -21,7 +21,6 @@ use Rattle.plane_core.specs.Places.{IsCovered, IsInnerCell, IsOnBoard, compared_
 use Rattle.plane_core.specs.Bounds.{AreSidesWithin}
 use Rattle.plane_core.specs.Rules.{Numbers}
 use Rattle.plane_core.specs.Spans.{AreWidened, HoldCovered, LieInSpans}
-use Rattle.plane_core.proofs.BoardLemmas.{blank_board}
 use Rattle.plane_core.proofs.CaseLemmas.{same_or_not}
 use Rattle.plane_core.proofs.GenerationLemmas.{after-none}
 use Rattle.plane_core.proofs.BoxRoundLemmas.{fewer_sides}
@@ -29,7 +28,7 @@ use Rattle.plane_core.proofs.OnBoardLemmas.{cells_in_order, cells_lie_on, only_c
 use Rattle.plane_core.proofs.QuietLemmas.{boxed-next, quiet-next, quiet-start, still_outside-held, still_outside-quiet}
 use Rattle.plane_core.proofs.RunLemmas.{after-plus, in_order-after}
 use Rattle.plane_core.proofs.SetLemmas.{same_lists}
-use Rattle.plane_core.proofs.SpanLemmas.{no_cells, spans_after, zero_spans}
+use Rattle.plane_core.proofs.SpanLemmas.{spans_after}
 
 -- ---- the cells stay on the board
 
@@ -152,16 +151,6 @@ laid_board at rule words boxes frame long sides all = record {
   sides = sides;
   quiet = quiet-start rule (cells_on at words) boxes all;
   all = λ e. all;
-}
-
--- a board that was emptied
-pub empty_board : (rule : Numbers) (at : Frame) (old words : List ℕ) (boxes none : List Bounds) (holds_all : Bool)
-    (before spans : List Span) → none ≡ [] → IsSpannedBoard at rule old boxes holds_all before → length words ≡ length old
-    → length spans ≡ length before → ((i : ℕ) → slice_index words i ≡ 0) → IsSpannedBoard at rule words none true spans
-empty_board rule at old words boxes none holds_all before spans nothing was long wide zeros = record {
-  board = blank_board at rule words none true was.board.frame (long ∙ was.board.long) nothing (no_cells at words zeros);
-  spanned = zero_spans at words spans zeros (wide ∙ was.spanned.lanes);
-  plane = was.plane;
 }
 
 -- the boxes of a board are right for a leap

@@ -14,13 +14,16 @@ use Rattle.std.proofs.lemmas.Nat.Bits.{bit_at_and, bit_at_cat_high}
 use Rattle.std.proofs.lemmas.Nat.Bits.{bit_at_not, bit_at_or}
 use Rattle.plane_core.specs.declared.cell.Cell.{Cell}
 use Rattle.plane_core.specs.declared.direction.Direction.{Direction}
+use Rattle.plane_core.specs.declared.orientation.Orientation.{Orientation}
 use Rattle.plane_core.specs.declared.frame.Frame.{Frame}
 use Rattle.plane_core.specs.declared.spans.Span.{Span}
 use Rattle.plane_core.specs.Bounds.{AreSidesWithin}
 use Rattle.plane_core.specs.Cells.{cell_at, has, is_within, on_plane, plane_bound, same_cell}
-use Rattle.plane_core.specs.Directions.{GoesDeeper, HasDepth, IsDeepest, IsGreater, IsReached, IsSeen, NoDeeper, counted, depth_in, inner_row, outer_column}
+use Rattle.plane_core.specs.Directions.{GoesDeeper, HasDepth, IsGreater, IsReached, IsSeen, NoDeeper, counted, depth_in, inner_row, outer_column}
 use Rattle.plane_core.specs.Frames.{board_cell, bounds_of, word_of}
+use Rattle.plane_core.specs.Frontiers.{LiesUpTo, depth}
 use Rattle.plane_core.specs.OnBoard.{cells_on}
+use Rattle.plane_core.specs.Orientations.{turned_cell}
 use Rattle.plane_core.specs.Spans.{HasRow, LieInSpans, span_of}
 use Rattle.plane_core.specs.Without.{without}
 use Rattle.plane_core.proofs.BoundsLemmas.{max_cases}
@@ -310,6 +313,18 @@ abbrev pub AreDeadRows : Frame → Direction → List ℕ → ℕ → Span → �
 AreDeadRows at way words lane rows from to =
     (step : ℕ) → from ≤ step → step < to → slice_index words (word_of at lane (inner_row way.down rows step)) ≡ 0
 
+pub dead_more : (at : Frame) (way : Direction) (words : List ℕ) (lane : ℕ) (rows : Span) (from step index row : ℕ)
+    → AreDeadRows at way words lane rows from step → row ≡ inner_row way.down rows step → index ≡ word_of at lane row → slice_index words index ≡ 0
+    → AreDeadRows at way words lane rows from (step + 1)
+dead_more at way words lane rows from step index row before here is none k low less = split (same_or_not k step)
+  where
+    word : ℕ → ℕ
+    word r = slice_index words (word_of at lane r)
+
+    split : (k ≡ step) ⊎ (k ≢ step) → word (inner_row way.down rows k) ≡ 0
+    split (inl same) = ap (λ (n : ℕ). word (inner_row way.down rows n)) same ∙ ap word (sym here) ∙ ap (slice_index words) (sym is) ∙ none
+    split (inr apart) = before k low (omega (arith, less, apart))
+
 pub rows_seen : (at : Frame) (way : Direction) (words : List ℕ) (gone : List Cell) (lane : ℕ) (rows : Span) (step next : ℕ) (found later : Option ℤ)
     → lane < at.lanes → rows.end ≤ at.rows → next < rows.end - rows.from
     → AreSeen at way (without (cells_on at words) gone) lane rows step found → AreDeadRows at way words lane rows step next
@@ -381,18 +396,22 @@ lanes_seen at way words spans gone lane rows found later hs live held before dee
     go (inr apart) = seen_later at way S s row found later deeper (before s row (omega (arith, near, apart)) hr)
 
 pub all_seen : (at : Frame) (way : Direction) (words : List ℕ) (gone : List Cell) (found : Option ℤ)
-    → AreLanesSeen at way (without (cells_on at words) gone) at.lanes found → IfSome found (HasDepth way (without (cells_on at words) gone))
-    → IsDeepest way (without (cells_on at words) gone) found
-all_seen at way words gone found seen some = record { most = most; some = some }
-  where
-    most : (c : Cell) → has (without (cells_on at words) gone) c ≡ true → IsReached found (depth_in way c)
-    most c e =
-        let bit = bit_of_cell at words c (without-has (cells_on at words) gone c e) in
-        let k = bit.0 in
-        let spot = placed at k bit.1 in
-        subst (λ (d : Cell). IsReached found (depth_in way d)) (sym bit.3)
-        (seen (k / 64 / at.rows) (k / 64 % at.rows) spot.lane spot.row (k % 64) (omega arith)
-        (ap (λ (d : Cell). has (without (cells_on at words) gone) d) (sym bit.3) ∙ e))
+    → AreLanesSeen at way (without (cells_on at words) gone) at.lanes found → (c : Cell) → has (without (cells_on at words) gone) c ≡ true
+    → IsReached found (depth_in way c)
+all_seen at way words gone found seen c e =
+    let bit = bit_of_cell at words c (without-has (cells_on at words) gone c e) in
+    let k = bit.0 in
+    let spot = placed at k bit.1 in
+    subst (λ (d : Cell). IsReached found (depth_in way d)) (sym bit.3)
+    (seen (k / 64 / at.rows) (k / 64 % at.rows) spot.lane spot.row (k % 64) (omega arith)
+    (ap (λ (d : Cell). has (without (cells_on at words) gone) d) (sym bit.3) ∙ e))
+
+-- so this is how far the pattern reaches
+pub reaches : (way : Orientation) (direction : Direction) (cells : List Cell) (found : Option ℤ)
+    → ((c : Cell) → depth_in direction c ≡ depth (turned_cell way c)) → ((c : Cell) → has cells c ≡ true → IsReached found (depth_in direction c))
+    → IfSome found (λ m. LiesUpTo way m cells)
+reaches way direction cells None is seen = tt
+reaches way direction cells (Some m) is seen = λ c e. subst (λ (z : ℤ). z ≤ℤ m) (is c) (seen c e)
 
 -- a cell that doesn't stand in a column of the row has no bit there
 pub no_bit : (first cell : Cell) (i : ℕ) → (first.y ≡ cell.y → first.x +ℤ pos i ≡ cell.x → ⊥)

@@ -1,24 +1,31 @@
 -- What a leap makes of a board.
 use Rattle.std.proofs.Common.{◌≡◌, ◌==◌, ◌+◌, ◌-◌, ◌*◌, ◌/◌, ◌%◌, ◌<◌, ◌≤◌, ℕ, ℤ, pos, ◌+ℤ◌, cond, List, [], ◌∷◌, ◌++◌, length}
 use Rattle.std.proofs.Common.{arith, refl, ap, ◌∙◌, sym, subst, inl, inr, ◌⊎◌, replicate, get_or, slice_index, slice_index_or}
+use Rattle.std.proofs.Common.{IsSomeAnd, Option}
 use Rattle.std.specs.Int.{bit_at}
+use Rattle.std.specs.List.{All}
 use Rattle.std.proofs.lemmas.Bool.{cases_lt}
 use Rattle.std.proofs.lemmas.Int.{ints}
-use Rattle.std.proofs.lemmas.List.{get_or_append_left, get_or_push, length_push, get_or-replicate}
+use Rattle.std.proofs.lemmas.List.{get_or_append_left, get_or_default, get_or_push, length_push, get_or-replicate}
 use Rattle.std.proofs.lemmas.Nat.Bits.{bit_at-zero}
+use Rattle.plane_core.specs.declared.bounds.Bounds.{Bounds}
 use Rattle.plane_core.specs.declared.cell.Cell.{Cell}
 use Rattle.plane_core.specs.declared.change.Change.{Change}
 use Rattle.plane_core.specs.declared.frame.Frame.{Frame}
 use Rattle.plane_core.specs.declared.place.Place.{Place}
-use Rattle.plane_core.specs.Cells.{has}
+use Rattle.plane_core.specs.Bounds.{AreSidesWithin, IsWithin}
+use Rattle.plane_core.specs.Boxes.{HoldsDifference, IsInOne, box_bound}
+use Rattle.plane_core.specs.Cells.{InOrder, has}
 use Rattle.plane_core.specs.Differences.{DiffersOnlyIn}
+use Rattle.plane_core.specs.Floods.{ShowsRows}
 use Rattle.plane_core.specs.Frames.{Shows, board_cell, word_of}
 use Rattle.plane_core.specs.Generations.{after}
-use Rattle.plane_core.specs.Leaps.{ArePutBack, AreRun, HasLeapt, IsRun, IsRunAt}
-use Rattle.plane_core.specs.Placed.{IsInner, IsPutBack, IsReadAt, bit_on, cell_on}
+use Rattle.plane_core.specs.Leaps.{ArePutBack, AreRun, HasLeapt, IsRun, IsRunAt, ShowsInner}
+use Rattle.plane_core.specs.Placed.{AreRowsRead, IsInner, IsPutBack, IsReadAt, bit_on, cell_on}
 use Rattle.plane_core.specs.Places.{HoldsChange, IsInnerCell, compared_with}
 use Rattle.plane_core.specs.Rules.{Numbers}
 use Rattle.plane_core.specs.Windows.{IsShownInside, row_at}
+use Rattle.plane_core.proofs.BoxLemmas.{HoldFirst, hold_more}
 use Rattle.plane_core.proofs.RunLemmas.{after-plus, in_order-after}
 use Rattle.plane_core.proofs.WindowLemmas.{HasMade, same_cell_at}
 
@@ -110,6 +117,19 @@ shown_read at p words x y n window cells lanes rows left top shows read r i a lo
     ∙ shows_bit at words cells (x + i) (y + r) shows (omega arith) (omega arith)
     ∙ ap (λ (m : ℕ). m == 1) (sym (read r i (omega arith) (omega arith)))
 
+-- so do rows that were read
+pub rows_shown : (at : Frame) (left top : ℤ) (words : List ℕ) (x y : ℕ) (rows : List ℕ) (cells : List Cell) → x / 64 + 1 < at.lanes → y + 64 ≤ at.rows
+    → left ≡ at.left +ℤ pos x → top ≡ at.top +ℤ pos y → Shows at words cells → AreRowsRead at words x y 64 rows → ShowsRows left top rows cells
+rows_shown at left top words x y rows cells lanes fit west north shows read r i hr hi =
+    ap (has cells) (same_cell_at _ _ (at.left +ℤ pos (x + i)) (at.top +ℤ pos (y + r)) (omega (arith, ints)) (omega (arith, ints)))
+    ∙ shows_bit at words cells (x + i) (y + r) shows (omega arith) (omega arith) ∙ ap (λ (m : ℕ). m == 1) (sym (read r i hr hi))
+
+-- and the window of these rows
+pub window_shown : (left top : ℤ) (rows : List ℕ) (window : List (List ℕ)) (cells : List Cell) → ShowsRows left top rows cells
+    → ((r : ℕ) → r < 64 → row_at 16 window r ≡ slice_index rows r) → IsShownInside 16 left top 0 window cells
+window_shown left top rows window cells shows packed r i a low d inside =
+    shows r i (omega (arith, low)) (omega (arith, inside)) ∙ ap (λ (w : ℕ). bit_at w i == 1) (sym (packed r (omega (arith, low))))
+
 -- so the rows of a window that was run are those of some generations later
 pub run_place : (at : Frame) (p : Place) (words : List ℕ) (rule : Numbers) (count : ℕ) (window later : List (List ℕ)) (rows : List ℕ) (change : Change)
     → ((cells : List Cell) → Shows at words cells → IsShownInside 10 p.left p.top 0 window cells) → IsRun rule count window later change
@@ -122,51 +142,43 @@ run_place at p words rule count window later rows change shown run unpacked cell
 
 -- the first places were run
 pub record AreRunFirst (at : Frame) (words : List ℕ) (rule : Numbers) (count : ℕ) (places : List Place) (held : List (List ℕ))
-    (changes : List Change) (done : ℕ) : Type 0 where
-  pub held_long : length held ≡ done
-  pub changes_long : length changes ≡ done
-  pub run : (k : ℕ) (p : Place) (c : Change) → k < done
-      → IsRunAt at words rule count (slice_index_or places k p) (slice_index_or held k []) (slice_index_or changes k c)
+    (boxes : List Bounds) (done : ℕ) : Type 0 where
+  pub long : length held ≡ done
+  pub run : (k : ℕ) (p : Place) (cells : List Cell) → k < done → InOrder cells → Shows at words cells
+      → ShowsInner (slice_index_or places k p) (slice_index_or held k []) (after rule cells count)
+  pub differences : (cells : List Cell) → InOrder cells → Shows at words cells
+      → HoldFirst done places (after rule cells count) (compared_with rule cells count) boxes
+  pub sides : All (AreSidesWithin box_bound) boxes
 
-run_one_more : (at : Frame) (words : List ℕ) (rule : Numbers) (count : ℕ) (places : List Place) (held : List (List ℕ)) (changes : List Change) (done : ℕ)
-    (rows : List ℕ) (change : Change) → AreRunFirst at words rule count places held changes done
-    → ((p : Place) → IsRunAt at words rule count (slice_index_or places done p) rows change)
-    → AreRunFirst at words rule count places (held ++ rows ∷ []) (changes ++ change ∷ []) (done + 1)
-run_one_more at words rule count places held changes done rows change before here = record {
-  held_long = length_push held rows ∙ ap (λ (n : ℕ). n + 1) before.held_long;
-  changes_long = length_push changes change ∙ ap (λ (n : ℕ). n + 1) before.changes_long;
-  run = each;
+pub run_more : (at : Frame) (words : List ℕ) (rule : Numbers) (count : ℕ) (places : List Place) (held held2 : List (List ℕ)) (boxes boxes2 : List Bounds)
+    (done : ℕ) (q : Place) (rows : List ℕ) (change : Change) (found : Option Bounds) → AreRunFirst at words rule count places held boxes done
+    → done < length places → IsRunAt at words rule count (get_or places done q) rows change
+    → ((one other : List Cell) → HoldsChange (get_or places done q) one other change → HoldsDifference (get_or places done q) one other found)
+    → held2 ≡ held ++ rows ∷ [] → ((c : Cell) → IsInOne boxes c → IsInOne boxes2 c)
+    → ((c : Cell) → IsSomeAnd found (λ b. IsWithin b c) → IsInOne boxes2 c) → All (AreSidesWithin box_bound) boxes2
+    → AreRunFirst at words rule count places held2 boxes2 (done + 1)
+run_more at words rule count places held held2 boxes boxes2 done q rows change found before less here difference is kept added sides = record {
+  long = ap length is ∙ length_push held rows ∙ ap (λ (n : ℕ). n + 1) before.long;
+  run = λ k p cells low o shows.
+      subst (λ (hs : List (List ℕ)). ShowsInner (slice_index_or places k p) (slice_index_or hs k []) (after rule cells count)) (sym is)
+      (each k p cells o shows low (cases_lt k done));
+  differences = λ cells o shows.
+      hold_more done places (after rule cells count) (compared_with rule cells count) boxes boxes2 found q less
+      (difference _ _ (here cells o shows).1) kept added (before.differences cells o shows);
+  sides = sides;
 }
   where
-    each : (k : ℕ) (p : Place) (c : Change) → k < done + 1
-        → IsRunAt at words rule count (slice_index_or places k p) (slice_index_or (held ++ rows ∷ []) k []) (slice_index_or (changes ++ change ∷ []) k c)
-    each k p c low = split (cases_lt k done)
-      where
-        split : (k < done) ⊎ (done ≤ k)
-            → IsRunAt at words rule count (slice_index_or places k p) (slice_index_or (held ++ rows ∷ []) k []) (slice_index_or (changes ++ change ∷ []) k c)
-        split (inl less) =
-            let rows_kept : slice_index_or held k [] ≡ slice_index_or (held ++ rows ∷ []) k [] =
-            sym (get_or_append_left held (rows ∷ []) [] k (omega (arith, before.held_long))) in
-            let change_kept : slice_index_or changes k c ≡ slice_index_or (changes ++ change ∷ []) k c =
-            sym (get_or_append_left changes (change ∷ []) c k (omega (arith, before.changes_long))) in
-            subst (λ (a : List ℕ). IsRunAt at words rule count (slice_index_or places k p) a (slice_index_or (changes ++ change ∷ []) k c)) rows_kept
-            (subst (λ (b : Change). IsRunAt at words rule count (slice_index_or places k p) (slice_index_or held k []) b) change_kept (before.run k p c less))
-        split (inr last) =
-            let is : done ≡ k = omega arith in
-            let new_rows : rows ≡ slice_index_or (held ++ rows ∷ []) k [] = sym (get_or_push held rows [] k (before.held_long ∙ is)) in
-            let new_change : change ≡ slice_index_or (changes ++ change ∷ []) k c = sym (get_or_push changes change c k (before.changes_long ∙ is)) in
-            subst (λ (a : List ℕ). IsRunAt at words rule count (slice_index_or places k p) a (slice_index_or (changes ++ change ∷ []) k c)) new_rows
-            (subst (λ (b : Change). IsRunAt at words rule count (slice_index_or places k p) rows b) new_change
-            (subst (λ (q : ℕ). IsRunAt at words rule count (slice_index_or places q p) rows change) is (here p)))
-
-pub run_more : (at : Frame) (words : List ℕ) (rule : Numbers) (count : ℕ) (places : List Place) (held held2 : List (List ℕ)) (changes changes2 : List Change)
-    (done : ℕ) (rows : List ℕ) (change : Change) → AreRunFirst at words rule count places held changes done
-    → ((p : Place) → IsRunAt at words rule count (slice_index_or places done p) rows change) → held2 ≡ held ++ rows ∷ [] → changes2 ≡ changes ++ change ∷ []
-    → AreRunFirst at words rule count places held2 changes2 (done + 1)
-run_more at words rule count places held held2 changes changes2 done rows change before here p q =
-    subst (λ (hs : List (List ℕ)). AreRunFirst at words rule count places hs changes2 (done + 1)) (sym p)
-    (subst (λ (ds : List Change). AreRunFirst at words rule count places (held ++ rows ∷ []) ds (done + 1)) (sym q)
-    (run_one_more at words rule count places held changes done rows change before here))
+    each : (k : ℕ) (p : Place) (cells : List Cell) → InOrder cells → Shows at words cells → k < done + 1 → (k < done) ⊎ (done ≤ k)
+        → ShowsInner (slice_index_or places k p) (slice_index_or (held ++ rows ∷ []) k []) (after rule cells count)
+    each k p cells o shows low (inl earlier) =
+        subst (λ (a : List ℕ). ShowsInner (slice_index_or places k p) a (after rule cells count))
+        (sym (get_or_append_left held (rows ∷ []) [] k (omega (arith, earlier, before.long)))) (before.run k p cells earlier o shows)
+    each k p cells o shows low (inr last) =
+        let same : done ≡ k = omega arith in
+        let place : get_or places done q ≡ slice_index_or places k p = get_or_default places done q p less ∙ ap (λ (n : ℕ). get_or places n p) same in
+        subst (λ (a : List ℕ). ShowsInner (slice_index_or places k p) a (after rule cells count))
+        (sym (get_or_push held rows [] k (before.long ∙ same)))
+        (subst (λ (r : Place). ShowsInner r rows (after rule cells count)) place (here cells o shows).0)
 
 -- ---- putting back
 
@@ -222,10 +234,10 @@ back_more at places held old mid new k x y left top before put cells shown u v h
 
 -- ---- the whole leap
 
-pub leapt : (at : Frame) (rule : Numbers) (count : ℕ) (places : List Place) (held : List (List ℕ)) (changes : List Change) (old new : List ℕ)
-    → AreRun at old rule count places held changes → ArePutBack at places held (length places) old new → HasLeapt at rule count places old new
-leapt at rule count places held changes old new ran put cells o shows off s r i hs hr hi =
-    split (put (after rule cells count) (λ k p low. (ran.run k p (record { columns = 0; rows = 0 }) low cells o shows).0) (64 * s + i) r (omega arith) hr)
+pub leapt : (at : Frame) (rule : Numbers) (count : ℕ) (places : List Place) (held : List (List ℕ)) (boxes : List Bounds) (old new : List ℕ)
+    → AreRun at old rule count places held boxes → ArePutBack at places held (length places) old new → HasLeapt at rule count places old new
+leapt at rule count places held boxes old new ran put cells o shows off s r i hs hr hi =
+    split (put (after rule cells count) (λ k p low. ran.run k p cells low o shows) (64 * s + i) r (omega arith) hr)
   where
     c : Cell
     c = board_cell at s r i

@@ -1,5 +1,5 @@
 -- Plain facts on numbers in order, which say in a word what else would be looked for among all that is known.
-use Rattle.std.proofs.Common.{◌≡◌, ◌≢◌, ◌+◌, ◌-◌, ◌*◌, ◌<◌, ◌≤◌, ℕ, arith}
+use Rattle.std.proofs.Common.{◌≡◌, ◌≢◌, ◌+◌, ◌-◌, ◌*◌, ◌<◌, ◌≤◌, Fits, ℕ, arith, w64}
 
 pub below_too : (a b m : ℕ) → a < b → b ≤ m → a < m
 below_too a b m low most = omega (arith, low, most)
@@ -31,6 +31,12 @@ this_low k n low = omega (arith, low)
 
 pub next_later : (k : ℕ) → k ≤ k + 1
 next_later k = omega arith
+
+pub past_too : (k m : ℕ) → k ≤ m → k ≤ m + 1
+past_too k m past = omega (arith, past)
+
+pub fits_next : (n m : ℕ) → n < m → Fits w64 m → Fits w64 (n + 1)
+fits_next n m low fits = let h = fits.fits in record { fits = omega (arith, low, h) }
 
 pub from_next : (k m : ℕ) → k + 1 ≤ m → k ≤ m
 from_next k m later = omega (arith, later)

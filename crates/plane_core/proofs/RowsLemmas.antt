@@ -1,9 +1,31 @@
 -- The rows of a window, one after another and in vectors.
-use Rattle.std.proofs.Common.{zero, suc, length, length-set, ◌≡◌, ◌≢◌, ◌+◌, ◌*◌, ◌/◌, ◌%◌, ◌<◌, ◌⊎◌, ℕ, List, [], arith, ap, ◌∙◌, sym, inl, inr, get_or, set, slice_index}
+use Rattle.std.proofs.Common.{Fits, w64, zero, suc, length, length-set, ◌∷◌, ◌≡◌, ◌≢◌, ◌+◌, ◌*◌, ◌/◌, ◌%◌, ◌<◌, ◌⊎◌, ℕ, List, [], arith, ap, ◌∙◌, sym, inl, inr, get_or, set, slice_index}
 use Rattle.std.proofs.lemmas.List.{get_or-set_other, get_or-set_same}
 use Rattle.std.proofs.lemmas.Nat.{div-add-mod', div_below, mod-mul-add, mod_below}
 use Rattle.plane_core.specs.Windows.{lane_at, row_at}
 use Rattle.plane_core.proofs.CaseLemmas.{same_or_not}
+
+-- the rows of vector k, and that their numbers fit their type
+pub first_row : (k n rows : ℕ) → k < n → rows ≡ 4 * n → k < rows
+first_row k n rows low four = omega (arith, low, four)
+
+pub second_row : (k n rows : ℕ) → k < n → rows ≡ 4 * n → n + k < rows
+second_row k n rows low four = omega (arith, low, four)
+
+pub third_row : (k n rows : ℕ) → k < n → rows ≡ 4 * n → 2 * n + k < rows
+third_row k n rows low four = omega (arith, low, four)
+
+pub fourth_row : (k n rows : ℕ) → k < n → rows ≡ 4 * n → 3 * n + k < rows
+fourth_row k n rows low four = omega (arith, low, four)
+
+pub fits_below : (n rows : ℕ) → n < rows → Fits w64 rows → Fits w64 n
+fits_below n rows low fits = let h = fits.fits in record { fits = omega (arith, low, h) }
+
+pub fits_twice : (n rows : ℕ) → rows ≡ 4 * n → Fits w64 rows → Fits w64 (2 * n)
+fits_twice n rows four fits = let h = fits.fits in record { fits = omega (arith, four, h) }
+
+pub fits_thrice : (n rows : ℕ) → rows ≡ 4 * n → Fits w64 rows → Fits w64 (3 * n)
+fits_thrice n rows four fits = let h = fits.fits in record { fits = omega (arith, four, h) }
 
 -- row r is lane r / n of vector r % n
 by_lanes : (n : ℕ) (x : List (List ℕ)) (rows : List ℕ) → 0 < n
@@ -20,6 +42,27 @@ ArePacked n rows x k = (m j : ℕ) → m < k → j < 4 → lane_at x m j ≡ sli
 pub all_packed : (n : ℕ) (rows : List ℕ) (x : List (List ℕ)) (k : ℕ) → 0 < n → ArePacked n rows x k → k ≡ n → (r : ℕ) → r < 4 * n
     → row_at n x r ≡ slice_index rows r
 all_packed n rows x k some packed is r low = by_lanes n x rows some (λ m j less lane. packed m j (omega arith) lane) r low
+
+-- a vector more
+pub packed_more : (n k : ℕ) (rows : List ℕ) (x : List (List ℕ)) → k < length x → ArePacked n rows x k
+    → ArePacked n rows (set x k (get_or rows k 0 ∷ get_or rows (n + k) 0 ∷ get_or rows (2 * n + k) 0 ∷ get_or rows (3 * n + k) 0 ∷ [])) (k + 1)
+packed_more n k rows x low before m j less lane = split (same_or_not m k)
+  where
+    v : List ℕ
+    v = get_or rows k 0 ∷ get_or rows (n + k) 0 ∷ get_or rows (2 * n + k) 0 ∷ get_or rows (3 * n + k) 0 ∷ []
+
+    each : (i : ℕ) → i < 4 → slice_index v i ≡ slice_index rows (i * n + k)
+    each zero small = ap (slice_index rows) (omega arith)
+    each (suc zero) small = ap (slice_index rows) (omega arith)
+    each (suc (suc zero)) small = ap (slice_index rows) (omega arith)
+    each (suc (suc (suc zero))) small = ap (slice_index rows) (omega arith)
+    each (suc (suc (suc (suc i)))) small = absurd (omega (arith, small))
+
+    split : (m ≡ k) ⊎ (m ≢ k) → lane_at (set x k v) m j ≡ slice_index rows (j * n + m)
+    split (inl same) =
+        ap (λ (q : ℕ). lane_at (set x k v) q j) same ∙ ap (λ (w : List ℕ). slice_index w j) (get_or-set_same x k v [] low) ∙ each j lane
+        ∙ ap (λ (q : ℕ). slice_index rows (j * n + q)) (sym same)
+    split (inr apart) = ap (λ (w : List ℕ). slice_index w j) (get_or-set_other x k m v [] apart) ∙ before m j (omega (arith, less, apart)) lane
 
 -- ---- unpacking
 

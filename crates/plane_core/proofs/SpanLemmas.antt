@@ -21,10 +21,9 @@ use Rattle.plane_core.specs.Places.{IsInnerCell}
 use Rattle.plane_core.specs.Rules.{Numbers}
 use Rattle.plane_core.specs.Spans.{AreSpans, AreWidened, HoldCovered, HoldInner, HoldsSpans, HasRow, IsInHull, IsInSpan, LieInSpans, span_of}
 use Rattle.plane_core.proofs.CaseLemmas.{less_or_not, same_or_not}
-use Rattle.plane_core.proofs.FillLemmas.{shown-empty}
 use Rattle.plane_core.proofs.FrameLemmas.{one_spot, spot_of}
-use Rattle.plane_core.proofs.OnBoardLemmas.{only_cells, shows_cells}
-use Rattle.plane_core.proofs.SetLemmas.{has-append, has-cases, in_order-nil}
+use Rattle.plane_core.proofs.OnBoardLemmas.{shows_cells}
+use Rattle.plane_core.proofs.SetLemmas.{has-append, has-cases}
 
 -- ---- numbers in a span
 
@@ -180,21 +179,13 @@ lane_emptied at old mid new spans lane low live first before second here s r i n
 pub shown_dead : (at : Frame) (words : List ℕ) → AreLanesDead at words at.lanes → Shows at words []
 shown_dead at words dead s r i hs hr hi = ap (λ (n : ℕ). n == 1) (sym (dead s r i hs hr hi))
 
--- a board of which all words are 0 has no live cell
-pub no_cells : (at : Frame) (words : List ℕ) → ((i : ℕ) → slice_index words i ≡ 0) → cells_on at words ≡ []
-no_cells at words zeros = only_cells at words [] in_order-nil (λ c e. absurd (false≢true e)) (shown-empty at words zeros)
-
--- so it may have any spans
+-- a board without a live cell may have any spans
 pub empty_spans : (at : Frame) (words : List ℕ) (spans : List Span) → cells_on at words ≡ [] → length spans ≡ at.lanes
     → AreSpans at (cells_on at words) spans
 empty_spans at words spans none long = record {
   lanes = long;
   live = λ s r i hs hr hi e. absurd (false≢true (sym (ap (λ (S : List Cell). has S (board_cell at s r i)) none) ∙ e));
 }
-
-pub zero_spans : (at : Frame) (words : List ℕ) (spans : List Span) → ((i : ℕ) → slice_index words i ≡ 0) → length spans ≡ at.lanes
-    → AreSpans at (cells_on at words) spans
-zero_spans at words spans zeros long = empty_spans at words spans (no_cells at words zeros) long
 
 -- one row of a lane more is emptied
 pub row_emptied : (at : Frame) (words : List ℕ) (lane row from i : ℕ) → i ≡ word_of at lane row → i < length words

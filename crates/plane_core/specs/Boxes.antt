@@ -1,15 +1,14 @@
 -- Boxes outside of which nothing changes from one generation to the next but one, and windows that cover them.
-use Rattle.std.specs.Prelude.{◌≡◌, ◌≢◌, ◌<◌, ◌≤◌, ℕ, true, List, Option, Any, IsSomeAnd, length, slice_index_or, unsigned_abs}
+use Rattle.std.specs.Prelude.{◌≡◌, ◌≢◌, ◌<◌, ◌≤◌, ℕ, true, List, Option, Any, IsSomeAnd, unsigned_abs}
 use Rattle.std.specs.Int.{bit_at}
 use Rattle.plane_core.specs.declared.bounds.Bounds.{Bounds}
 use Rattle.plane_core.specs.declared.cell.Cell.{Cell}
-use Rattle.plane_core.specs.declared.change.Change.{Change}
 use Rattle.plane_core.specs.declared.change.Span.{Span}
 use Rattle.plane_core.specs.declared.place.Place.{Place}
 use Rattle.plane_core.specs.Bounds.{IsWithin, enlarged}
 use Rattle.plane_core.specs.Cells.{has}
 use Rattle.plane_core.specs.Generations.{after}
-use Rattle.plane_core.specs.Places.{HoldsChange, IsCovered, IsInnerCell}
+use Rattle.plane_core.specs.Places.{IsCovered, IsInnerCell}
 use Rattle.plane_core.specs.Rules.{Numbers}
 
 -- how far from the origin the sides of a box may be, and of a rectangle of united boxes: no board reaches further
@@ -51,11 +50,6 @@ AreCovered places boxes = (c : Cell) → IsNearOne 4 boxes c → IsCovered place
 -- each cell that lies in no inner part is n generations on what it is
 abbrev pub IsStillOutside : Numbers → List Place → List Cell → ℕ → Type 0
 IsStillOutside rule places cells n = (c : Cell) → ¬ IsCovered places c → has (after rule cells n) c ≡ has cells c
-
--- in each window the two patterns differ only as its change says
-abbrev pub HoldChanges : List Place → List Cell → List Cell → List Change → Type 0
-HoldChanges places one other changes = (k : ℕ) (p : Place) (d : Change) → k < length places
-    → HoldsChange (slice_index_or places k p) one other (slice_index_or changes k d)
 
 -- each bit that is 1 lies between the first and the last, which are below 64
 pub record HasBits (word : ℕ) (span : Span) : Type 0 where

@@ -32,11 +32,6 @@ pub record HasDepth (way : Direction) (cells : List Cell) (z : ℤ) : Type 0 whe
   pub alive : has cells cell ≡ true
   pub depth : depth_in way cell ≡ z
 
--- what was found is the depth of the deepest cell of the pattern, if it has a cell
-pub record IsDeepest (way : Direction) (cells : List Cell) (found : Option ℤ) : Type 0 where
-  pub most : (c : Cell) → has cells c ≡ true → IsReached found (depth_in way c)
-  pub some : IfSome found (HasDepth way cells)
-
 -- later at least as much was found as before, and still the depth of a cell of the pattern
 pub record GoesDeeper (way : Direction) (cells : List Cell) (found later : Option ℤ) : Type 0 where
   pub kept : (z : ℤ) → IsReached found z → IsReached later z

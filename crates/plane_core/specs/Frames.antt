@@ -28,14 +28,6 @@ pub record IsFrame (at : Frame) : Type 0 where
   pub rows : at.rows ≤ 2 ^ 22
   pub bands : at.rows ≡ 8 * (at.rows / 8)
 
--- a board has a word for each row of each lane
-abbrev pub FillsFrame : Frame → List ℕ → Type 0
-FillsFrame at words = length words ≡ at.lanes * at.rows
-
--- There are not many more words than cells: at most 256 a cell, and two megabytes of them and some more.
-abbrev pub HasFewWords : Frame → List Cell → Type 0
-HasFewWords at cells = at.lanes * at.rows ≤ 256 * length cells + 271000
-
 -- the board's rectangle
 abbrev pub bounds_of : Frame → Bounds
 bounds_of at = record {
@@ -44,6 +36,21 @@ bounds_of at = record {
   right = at.left +ℤ (pos (64 * at.lanes) -ℤ pos 1);
   bottom = at.top +ℤ (pos at.rows -ℤ pos 1);
 }
+
+-- a frame of one lane and 64 rows, on the plane
+pub record IsViewFrame (at : Frame) : Type 0 where
+  pub frame : IsFrame at
+  pub plane : AreSidesWithin plane_bound (bounds_of at)
+  pub lanes : at.lanes ≡ 1
+  pub rows : at.rows ≡ 64
+
+-- a board has a word for each row of each lane
+abbrev pub FillsFrame : Frame → List ℕ → Type 0
+FillsFrame at words = length words ≡ at.lanes * at.rows
+
+-- There are not many more words than cells: at most 256 a cell, and two megabytes of them and some more.
+abbrev pub HasFewWords : Frame → List Cell → Type 0
+HasFewWords at cells = at.lanes * at.rows ≤ 256 * length cells + 271000
 
 -- all cells lie in it
 abbrev pub LieOn : Frame → List Cell → Type 0

@@ -1,10 +1,13 @@
 -- Leaps: some generations of a board, made in windows that are read first and put back afterwards.
-use Rattle.std.specs.Prelude.{◌≡◌, ◌==◌, ◌*◌, ◌<◌, ◌≤◌, ◌⊎◌, ℕ, ◌+ℤ◌, pos, List, length, slice_index, slice_index_or, []}
+use Rattle.std.specs.Prelude.{◌≡◌, ◌==◌, ◌*◌, ◌<◌, ◌≤◌, ◌⊎◌, ℕ, ◌+ℤ◌, pos, All, List, length, slice_index, slice_index_or, []}
 use Rattle.std.specs.Int.{bit_at}
+use Rattle.plane_core.specs.declared.bounds.Bounds.{Bounds}
 use Rattle.plane_core.specs.declared.cell.Cell.{Cell}
 use Rattle.plane_core.specs.declared.change.Change.{Change}
 use Rattle.plane_core.specs.declared.frame.Frame.{Frame}
 use Rattle.plane_core.specs.declared.place.Place.{Place}
+use Rattle.plane_core.specs.Bounds.{AreSidesWithin}
+use Rattle.plane_core.specs.Boxes.{HoldDifferences, box_bound}
 use Rattle.plane_core.specs.Cells.{InOrder, cell_at, has}
 use Rattle.plane_core.specs.Frames.{Shows}
 use Rattle.plane_core.specs.Generations.{after}
@@ -28,13 +31,15 @@ abbrev pub IsRunAt : Frame → List ℕ → Numbers → ℕ → Place → List �
 IsRunAt at words rule count p rows change = (cells : List Cell) → InOrder cells → Shows at words cells
     → ShowsInner p rows (after rule cells count) × HoldsChange p (after rule cells count) (compared_with rule cells count) change
 
--- each place was run
+-- Each place was run. The boxes have each cell in them in which something differs.
 pub record AreRun (at : Frame) (words : List ℕ) (rule : Numbers) (count : ℕ) (places : List Place) (held : List (List ℕ))
-    (changes : List Change) : Type 0 where
-  pub held_long : length held ≡ length places
-  pub changes_long : length changes ≡ length places
-  pub run : (k : ℕ) (p : Place) (c : Change) → k < length places
-      → IsRunAt at words rule count (slice_index_or places k p) (slice_index_or held k []) (slice_index_or changes k c)
+    (boxes : List Bounds) : Type 0 where
+  pub long : length held ≡ length places
+  pub run : (k : ℕ) (p : Place) (cells : List Cell) → k < length places → InOrder cells → Shows at words cells
+      → ShowsInner (slice_index_or places k p) (slice_index_or held k []) (after rule cells count)
+  pub differences : (cells : List Cell) → InOrder cells → Shows at words cells
+      → HoldDifferences places (after rule cells count) (compared_with rule cells count) boxes
+  pub sides : All (AreSidesWithin box_bound) boxes
 
 -- The inner parts of the first places were put back: each cell of the board is one that they show, or lies in none of them and
 -- is what it was.
@@ -49,8 +54,3 @@ ArePutBack at places held count old new = (cells : List Cell)
 abbrev pub HasLeapt : Frame → Numbers → ℕ → List Place → List ℕ → List ℕ → Type 0
 HasLeapt at rule count places old new = (cells : List Cell) → InOrder cells → Shows at old cells
     → ((c : Cell) → ¬ IsCovered places c → has (after rule cells count) c ≡ has cells c) → Shows at new (after rule cells count)
-
--- each place has its change
-abbrev pub TellsChanges : Frame → Numbers → ℕ → List Place → List ℕ → List Change → Type 0
-TellsChanges at rule count places words changes = (cells : List Cell) → InOrder cells → Shows at words cells → (k : ℕ) (p : Place) (c : Change)
-    → k < length places → HoldsChange (slice_index_or places k p) (after rule cells count) (compared_with rule cells count) (slice_index_or changes k c)

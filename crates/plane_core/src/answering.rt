@@ -1,7 +1,6 @@
 //! The answers of a rule, whichever it is. Life has answers of its own, and so a loop of its own over a window.
-ghost use Rattle.std.specs.Prelude.{◌≡◌, IsTrue};
+ghost use Rattle.std.specs.Prelude.{◌≡◌};
 ghost use Rattle.plane_core.specs.Answers.{rule_of};
-ghost use Rattle.plane_core.specs.Words.{life};
 
 use crate::answers::AnyRule;
 use crate::rule::Rule;
@@ -20,16 +19,9 @@ impl Answers {
     pub(crate) fn new(rule: &Rule) -> Answers
         ensures { rule_of result ≡ rule.now }
     {
-        if is_life(rule) {
+        if *rule == Rule::life() {
             return Answers::Life;
         }
         Answers::Any(AnyRule::new(rule))
     }
-}
-
-/// Whether the rule is Life.
-fn is_life(rule: &Rule) -> bool
-    ensures { IsTrue result → rule.now ≡ life }
-{
-    *rule == Rule::life()
 }

@@ -15,15 +15,12 @@
 //!
 //! What holds after an odd number of generations isn't known by that: a blinker outside of all boxes is the same after
 //! two generations and not after one. So an odd leap is made first, while the boxes hold all live cells.
-ghost use Rattle.std.specs.Prelude.{◌≡◌, ◌%◌, ◌*◌, ◌<◌, ◌≤◌, ℕ, [], slice_index};
+ghost use Rattle.std.specs.Prelude.{◌≡◌, ◌%◌, ◌≤◌, ℕ, []};
 ghost use Rattle.std.specs.Prelude.{IfOk, IsTrue, true, false};
-ghost use Rattle.plane_core.specs.Answers.{rule_of};
 ghost use Rattle.plane_core.specs.Frames.{HasFewWords, IsFrame, LieOn, bounds_of};
 ghost use Rattle.plane_core.specs.Cells.{IsPattern, plane_bound};
 ghost use Rattle.plane_core.specs.Generations.{after};
 ghost use Rattle.plane_core.specs.Bounds.{AreSidesWithin};
-ghost use Rattle.plane_core.specs.Boards.{HasGoneOn, IsReady};
-ghost use Rattle.plane_core.specs.OnBoard.{cells_on};
 
 mod candidates;
 mod early_no;
@@ -33,12 +30,10 @@ mod view;
 
 use crate::answering::Answers;
 use crate::bounds::Bounds;
-use crate::boxes::next_boxes;
 use crate::cell::Cell;
-use crate::change::Change;
-use crate::cover::{are_on_board, cover};
+use crate::cover::cover;
 use crate::frame::Frame;
-use crate::leap::leap;
+use crate::leap::{put_all, run_all};
 use crate::listing::list;
 use crate::loading::fill;
 use crate::pattern::Pattern;
@@ -49,6 +44,7 @@ use crate::spans::{Span, empty, widen_by, widen_by_cells};
 use memory::OutOfMemory;
 use std::alloc::Global;
 use std::marker::Model;
+use std::mem::swap;
 
 /// For how many cells there is room from the start where a pattern is read: it takes a kilobyte.
 const ROOM: usize = 128;
@@ -68,10 +64,10 @@ pub struct Board {
 
 /// The lists of a leap. They are kept from one to the next, since new ones each time would cost a tenth of all.
 struct Lists {
-    rectangles: Vec<Bounds>,
+    /// Rectangles, and then the boxes for the next leap.
+    boxes: Vec<Bounds>,
     places: Vec<Place>,
     held: Vec<[u64; 40]>,
-    changes: Vec<Change>,
 }
 
 impl Model for Board {
@@ -188,15 +184,6 @@ impl Board {
         ensures shown { IfOk result (λ shown. shown ≡ true → self.new.cells ≡ pattern.now) }
         ensures none { IfOk result (λ shown. shown ≡ false → self.new.cells ≡ []) }
     {
-        self.clear(rule);
-        self.place(pattern)
-    }
-
-    /// Empties the board.
-    fn clear(&mut self, rule: &Rule)
-        ensures rule { self.new.rule ≡ rule.now }
-        ensures cells { self.new.cells ≡ [] }
-    {
         empty(
             self.at,
             self.words.as_mut_slice(),
@@ -205,6 +192,7 @@ impl Board {
         self.boxes.clear();
         self.holds_all = true;
         self.answers = Answers::new(rule);
+        self.place(pattern)
     }
 
     /// Puts a pattern in the middle of an empty board, if it has room there.
@@ -244,45 +232,33 @@ impl Board {
         ensures most { IfOk result (λ made. made ≤ most) }
         ensures after { IfOk result (λ made. self.new.cells ≡ after self.old.rule self.old.cells made) }
     {
-        let odd = self.advance_odd(most)?;
-        let even = self.advance_even(most - odd)?;
-        Ok(odd + even)
+        let mut made = self.advance_odd(most)?;
+        while most - made >= 2 {
+            let still = self.is_still();
+            if still {
+                return Ok(made + (most - made) / 2 * 2);
+            }
+            let count = even_count(most - made);
+            let leapt = self.leap(count)?;
+            if leapt == 0 {
+                return Ok(made);
+            }
+            made += leapt;
+        }
+        Ok(made)
     }
 
-    /// Makes one or three generations, if most is odd, so that an even number of them is left.
+    /// Makes one or three generations, if most is odd, so that an even number of them is left for leaps of four
+    /// generations, and two at the end.
     fn advance_odd(&mut self, most: u32) -> Result<u32, OutOfMemory>
         ensures rule { self.new.rule ≡ self.old.rule }
         ensures most { IfOk result (λ made. made ≤ most) }
         ensures after { IfOk result (λ made. self.new.cells ≡ after self.old.rule self.old.cells made) }
     {
-        let count = most % 4;
-        if count % 2 == 0 {
+        if most % 2 == 0 {
             return Ok(0);
         }
-        let leapt = self.leap(count)?;
-        if leapt { Ok(count) } else { Ok(0) }
-    }
-
-    /// Goes on by leaps of four generations, and two at the end.
-    fn advance_even(&mut self, most: u32) -> Result<u32, OutOfMemory>
-        ensures rule { self.new.rule ≡ self.old.rule }
-        ensures most { IfOk result (λ made. made ≤ most) }
-        ensures after { IfOk result (λ made. self.new.cells ≡ after self.old.rule self.old.cells made) }
-    {
-        let mut made = 0;
-        while most - made >= 2 {
-            let still = self.is_still();
-            if still {
-                return Ok(most / 2 * 2);
-            }
-            let count = even_count(most - made);
-            let leapt = self.leap(count)?;
-            if !leapt {
-                return Ok(made);
-            }
-            made += count;
-        }
-        Ok(made)
+        self.leap(most % 4)
     }
 
     /// Whether it is seen that no even number of generations changes anything. `false` says nothing.
@@ -293,40 +269,48 @@ impl Board {
     }
 
     /// Makes one leap of so many generations, unless it would come too near to the border of the board, or it is an odd
-    /// number, and the boxes may not hold all live cells. Returns whether it was made.
-    fn leap(&mut self, count: u32) -> Result<bool, OutOfMemory>
+    /// number, and the boxes may not hold all live cells. Returns how many were made: all, or none.
+    fn leap(&mut self, count: u32) -> Result<u32, OutOfMemory>
         requires some { 1 ≤ count }
         requires few { count ≤ 4 }
         ensures rule { self.new.rule ≡ self.old.rule }
-        ensures stopped { IfOk result (λ leapt. leapt ≡ false → self.new.cells ≡ self.old.cells) }
-        ensures leapt { IfOk result
-            (λ leapt. leapt ≡ true → self.new.cells ≡ after self.old.rule self.old.cells count) }
+        ensures most { IfOk result (λ made. made ≤ count) }
+        ensures after { IfOk result (λ made. self.new.cells ≡ after self.old.rule self.old.cells made) }
     {
         if !are_enough(self.holds_all, count) {
-            return Ok(false);
+            return Ok(0);
         }
-        let leapt = leap_on(
-            &self.answers,
+        let lists = &mut self.lists;
+        let inside = cover(
             self.at,
-            self.words.as_mut_slice(),
-            self.spans.as_mut_slice(),
-            &mut self.boxes,
-            &mut self.lists,
-            count,
-        );
-        match leapt {
-            Ok(true) => {
-                self.holds_all = count % 2 == 1;
-                Ok(true)
-            }
-            Ok(false) => Ok(false),
-            Err(error) => {
-                zero(self.words.as_mut_slice());
-                self.boxes.clear();
-                self.holds_all = true;
-                Err(error)
-            }
+            self.boxes.as_slice(),
+            &mut lists.boxes,
+            &mut lists.places,
+        )?;
+        if !inside {
+            return Ok(0);
         }
+        let places = lists.places.as_slice();
+        run_all(
+            self.words.as_slice(),
+            self.at,
+            places,
+            &self.answers,
+            count as usize,
+            &mut lists.held,
+            &mut lists.boxes,
+        )?;
+        // Nothing fails from here on.
+        widen_by(self.at, self.spans.as_mut_slice(), places);
+        put_all(
+            self.words.as_mut_slice(),
+            self.at,
+            places,
+            lists.held.as_slice(),
+        );
+        swap(&mut self.boxes, &mut lists.boxes);
+        self.holds_all = count % 2 == 1;
+        Ok(count)
     }
 
     /// The cells, in order, with room for so many from the start.
@@ -359,15 +343,13 @@ impl Board {
 impl Drop for Lists {
     fn drop(self) {
         let Lists {
-            rectangles,
+            boxes,
             places,
             held,
-            changes,
         } = self;
-        drop(rectangles);
+        drop(boxes);
         drop(places);
         drop(held);
-        drop(changes);
     }
 }
 
@@ -375,10 +357,9 @@ impl Lists {
     /// Empty lists.
     fn new(alloc: Global) -> Lists {
         Lists {
-            rectangles: Vec::new(alloc),
+            boxes: Vec::new(alloc),
             places: Vec::new(alloc),
             held: Vec::new(alloc),
-            changes: Vec::new(alloc),
         }
     }
 }
@@ -399,54 +380,4 @@ fn even_count(left: u32) -> u32
     ensures most { result ≤ left }
 {
     if left < 4 { 2 } else { 4 }
-}
-
-/// Makes a leap of so many generations, unless a window would come too near to the border of the board. Returns whether
-/// it was made.
-fn leap_on(
-    rule: &Answers,
-    at: Frame,
-    words: &mut [u64],
-    spans: &mut [Span],
-    boxes: &mut Vec<Bounds>,
-    lists: &mut Lists,
-    count: u32,
-) -> Result<bool, OutOfMemory>
-    requires ready { IsReady (rule_of rule.now) at count words.old boxes.old.items spans.old }
-    requires some { 1 ≤ count }
-    requires few { count ≤ 4 }
-    ensures stopped { IfOk result
-        (λ leapt. leapt ≡ false
-        → (words.new ≡ words.old) × (boxes.new.items ≡ boxes.old.items) × (spans.new ≡ spans.old)) }
-    ensures leapt { IfOk result
-        (λ leapt. leapt ≡ true
-        → HasGoneOn (rule_of rule.now) at count words.old words.new boxes.new.items spans.new) }
-{
-    cover(boxes.as_slice(), &mut lists.rectangles, &mut lists.places)?;
-    let places = lists.places.as_slice();
-    let inside = are_on_board(at, places);
-    if !inside {
-        return Ok(false);
-    }
-    widen_by(at, spans, places);
-    leap(
-        words,
-        at,
-        places,
-        rule,
-        count as usize,
-        &mut lists.held,
-        &mut lists.changes,
-    )?;
-    next_boxes(places, lists.changes.as_slice(), boxes)?;
-    Ok(true)
-}
-
-/// Makes all words 0.
-fn zero(words: &mut [u64])
-    ensures { (i : ℕ) → slice_index words.new i ≡ 0 }
-{
-    for word in words.iter_mut() {
-        *word = 0;
-    }
 }

@@ -10,45 +10,19 @@
 //! |..X. |
 //! +-----+
 //! ```
-ghost use Rattle.std.specs.Prelude.{◌≡◌, ◌<◌, ℕ, true, All, IfSome, List, OnOk, length};
+ghost use Rattle.std.specs.Prelude.{◌≡◌, ◌<◌, ℕ, true, All, IfSome, OnOk, length};
 ghost use Rattle.plane_core.specs.Bounds.{IsWithin};
-ghost use Rattle.plane_core.specs.Boxes.{AreWider, HoldAll, HoldChanges, HoldDifferences, IsInOne, IsInReach};
-ghost use Rattle.plane_core.specs.Boxes.{box_bound};
+ghost use Rattle.plane_core.specs.Boxes.{AreWider, HoldAll, IsInOne};
 ghost use Rattle.plane_core.specs.Generations.{lies_within};
 ghost use Rattle.plane_core.specs.Bounds.{AreSidesWithin};
 ghost use Rattle.plane_core.specs.declared.cell.Cell.{Cell};
 
 use crate::bounds::Bounds;
 use crate::cell::Cell;
-use crate::change::Change;
-use crate::place::Place;
 use memory::OutOfMemory;
 
 /// With how many of the last boxes a cell is compared.
 const LAST_BOXES: usize = 16;
-
-/// The boxes of the changes, one for each window in which something changes, in place of those of the list.
-pub(crate) fn next_boxes(
-    places: &[Place],
-    changes: &[Change],
-    boxes: &mut Vec<Bounds>,
-) -> Result<(), OutOfMemory>
-    requires one_each { length places.now ≡ length changes.now }
-    requires reach { All IsInReach places.now }
-    ensures differences { OnOk result
-        ((one other : List Cell) → HoldChanges places.now one other changes.now
-        → HoldDifferences places.now one other boxes.new.items) }
-    ensures sides { OnOk result (All (AreSidesWithin box_bound) boxes.new.items) }
-{
-    boxes.clear();
-    for i in 0..places.len() {
-        let Some(bounds) = changes[i].bounds(places[i]) else {
-            continue;
-        };
-        boxes.push(bounds)?;
-    }
-    Ok(())
-}
 
 /// Widens the boxes of the list, and adds others to it, so that they have these cells in them as well. If memory runs
 /// out, they have at least what they had.

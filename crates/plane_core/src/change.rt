@@ -47,8 +47,12 @@ impl Change {
             → HoldsDifference place one other result }
         ensures sides { IfSome result (AreSidesWithin box_bound) }
     {
-        let across = span_of(self.columns & INNER_COLUMNS)?;
-        let down = span_of(self.rows & INNER_ROWS)?;
+        let Some(across) = span_of(self.columns & INNER_COLUMNS) else {
+            return None;
+        };
+        let Some(down) = span_of(self.rows & INNER_ROWS) else {
+            return None;
+        };
         Some(Bounds {
             left: place.column(across.first),
             top: place.row(down.first),

@@ -13,7 +13,7 @@
 //! +-------+-------+
 //! ```
 ghost use Rattle.std.specs.Prelude.{◌≡◌, ◌+◌, ◌*◌, ◌^◌, ◌<◌, ◌≤◌, ◌⊎◌, ◌+ℤ◌, pos, All};
-ghost use Rattle.std.specs.Prelude.{IsTrue, OnOk, unsigned_abs, vec_len};
+ghost use Rattle.std.specs.Prelude.{IfOk, IsTrue, OnOk, true, unsigned_abs, vec_len};
 ghost use Rattle.plane_core.specs.Bounds.{IsWithin, enlarged};
 ghost use Rattle.plane_core.specs.Boxes.{AreCovered, IsInOne, IsNearOne, box_bound, rectangle_bound};
 ghost use Rattle.plane_core.specs.Covers.{AreSideBySide, BeginsAt, IsInRow};
@@ -37,25 +37,27 @@ struct Spans {
 }
 
 /// Lays windows over the boxes, in place of those of the list, so that each cell within 4 of a box lies in the inner
-/// part of one. The rectangles are of use for the time of the call alone.
+/// part of one. Returns whether all of them lie on the board. The rectangles are of use for the time of the call alone.
 pub(crate) fn cover(
+    at: Frame,
     boxes: &[Bounds],
     rectangles: &mut Vec<Bounds>,
     places: &mut Vec<Place>,
-) -> Result<(), OutOfMemory>
+) -> Result<bool, OutOfMemory>
     requires { All (AreSidesWithin box_bound) boxes.now }
-    ensures { OnOk result (AreCovered places.new.items boxes.now) }
+    ensures covered { OnOk result (AreCovered places.new.items boxes.now) }
+    ensures inside { IfOk result (λ inside. inside ≡ true → All (IsOnBoard at) places.new.items) }
 {
     unite(boxes, rectangles)?;
     places.clear();
     for rectangle in rectangles.as_slice() {
         lay(*rectangle, places)?;
     }
-    Ok(())
+    Ok(are_on_board(at, places.as_slice()))
 }
 
 /// Whether all windows lie on the board.
-pub(crate) fn are_on_board(at: Frame, places: &[Place]) -> bool
+fn are_on_board(at: Frame, places: &[Place]) -> bool
     ensures { IsTrue result → All (IsOnBoard at) places.now }
 {
     for place in places {
@@ -132,27 +134,15 @@ fn absorbed_at(rectangles: &mut Vec<Bounds>, i: usize, rectangle: Bounds) -> Bou
     other.joined(rectangle)
 }
 
-/// Whether the two take no fewer windows than the least rectangle that has both in it.
+/// Whether the two take no fewer windows than the least rectangle that has both in it. Mostly the two are far apart, and
+/// this is told in no time: where a column or a row of windows fits between them, nothing is saved.
 #[inline(always)]
 fn saves_windows(one: Bounds, other: Bounds) -> bool {
-    may_share_windows(one, other)
+    other.left.saturating_sub(one.right) <= 56
+        && one.left.saturating_sub(other.right) <= 56
+        && other.top.saturating_sub(one.bottom) <= 32
+        && one.top.saturating_sub(other.bottom) <= 32
         && windows_for(one.joined(other)) <= windows_for(one).saturating_add(windows_for(other))
-}
-
-/// Whether no column or row of windows fits between the two. Where one does, nothing is saved. Mostly the two are far
-/// apart, and this is told in no time.
-#[inline(always)]
-fn may_share_windows(one: Bounds, other: Bounds) -> bool {
-    gap(one.right, other.left) <= 56
-        && gap(other.right, one.left) <= 56
-        && gap(one.bottom, other.top) <= 32
-        && gap(other.bottom, one.top) <= 32
-}
-
-/// How far the second number is past the first one.
-#[inline(always)]
-fn gap(one: i32, other: i32) -> i64 {
-    i64::from(other) - i64::from(one)
 }
 
 /// How many windows it takes to cover the rectangle.

@@ -24,8 +24,12 @@ const MOST: usize = 32;
 pub(crate) fn excerpt_round(alone: &[u64x4; 16]) -> Option<usize>
     ensures { IfSome result (λ from. LiesInExcerpt from alone.now) }
 {
-    let first = first_row(alone)?;
-    let last = last_row(alone)?;
+    let Some(first) = first_row(alone) else {
+        return None;
+    };
+    let Some(last) = last_row(alone) else {
+        return None;
+    };
     if last.saturating_sub(first) >= MOST {
         return None;
     }

@@ -64,7 +64,9 @@ impl Frame {
         ensures inside { OnSome result (lies_within (plane_bound - generations) pattern.now ≡ true) }
         ensures words { IfSome result (λ at. HasFewWords at pattern.now) }
     {
-        let bounds = pattern.bounds()?;
+        let Some(bounds) = pattern.bounds() else {
+            return None;
+        };
         let margin = generations + MARGIN;
         if farthest(bounds) > BOUND - margin - 64 {
             return None;
@@ -84,7 +86,9 @@ impl Frame {
         ensures inside { OnSome result (lies_within (plane_bound - 1) pattern.now ≡ true) }
         ensures words { IfSome result (λ at. HasFewWords at pattern.now) }
     {
-        let at = Frame::round(pattern, 1)?;
+        let Some(at) = Frame::round(pattern, 1) else {
+            return None;
+        };
         if at.count() / 32 > pattern.population() {
             return None;
         }

@@ -9,19 +9,20 @@
 //! ```
 //!
 //! So windows may overlap: what two of them put back is the same.
-ghost use Rattle.std.specs.Prelude.{◌≡◌, ◌<◌, ◌≤◌, All, OnOk, [], length};
+ghost use Rattle.std.specs.Prelude.{◌≡◌, ◌<◌, ◌≤◌, All, OnOk, length};
 ghost use Rattle.plane_core.specs.Answers.{rule_of};
 ghost use Rattle.plane_core.specs.Frames.{FillsFrame, IsFrame};
-ghost use Rattle.plane_core.specs.Leaps.{ArePutBack, AreRun, HasLeapt, IsRun, IsRunAt, TellsChanges};
+ghost use Rattle.plane_core.specs.Leaps.{ArePutBack, AreRun, IsRun, IsRunAt};
 ghost use Rattle.plane_core.specs.Places.{IsOnBoard};
 
 use crate::answering::Answers;
+use crate::bounds::Bounds;
 use crate::change::Change;
 use crate::difference::difference_of;
 use crate::frame::Frame;
 use crate::place::Place;
-use crate::placed::{column_of, read, row_of, write};
-use crate::rows::unpacked;
+use crate::placed::{column_of, read_rows, row_of, write};
+use crate::rows::{packed, unpacked};
 use crate::window::generations;
 use memory::OutOfMemory;
 use std::simd::u64x4;
@@ -61,7 +62,8 @@ fn run_at(words: &[u64], at: Frame, place: Place, rule: &Answers, count: usize) 
     requires few { count ≤ 4 }
     ensures { IsRunAt at words.now (rule_of rule.now) count place result.rows result.change }
 {
-    let mut window = read(words, at, column_of(at, place), row_of(at, place));
+    let rows = read_rows::<40>(words, at, column_of(at, place), row_of(at, place));
+    let mut window = packed(&rows);
     let change = run(&mut window, rule, count);
     Ran {
         rows: unpacked(&window),
@@ -70,35 +72,41 @@ fn run_at(words: &[u64], at: Frame, place: Place, rule: &Answers, count: usize) 
 }
 
 /// Runs the windows of all places.
-fn run_all(
+///
+/// Both lists are cleared and filled anew: `held` with the rows of the windows, and `boxes` with a box for each window in
+/// which something has changed. So all room is made before the first word is written.
+pub(crate) fn run_all(
     words: &[u64],
     at: Frame,
     places: &[Place],
     rule: &Answers,
     count: usize,
     held: &mut Vec<[u64; 40]>,
-    changes: &mut Vec<Change>,
+    boxes: &mut Vec<Bounds>,
 ) -> Result<(), OutOfMemory>
     requires frame { IsFrame at }
     requires long { FillsFrame at words.now }
     requires on_board { All (IsOnBoard at) places.now }
     requires some { 1 ≤ count }
     requires few { count ≤ 4 }
-    requires held { held.old.items ≡ [] }
-    requires changes { changes.old.items ≡ [] }
     ensures { OnOk result
-        (AreRun at words.now (rule_of rule.now) count places.now held.new.items changes.new.items) }
+        (AreRun at words.now (rule_of rule.now) count places.now held.new.items boxes.new.items) }
 {
+    held.clear();
+    boxes.clear();
     for place in places {
         let ran = run_at(words, at, *place, rule, count);
         held.push(ran.rows)?;
-        changes.push(ran.change)?;
+        let Some(bounds) = ran.change.bounds(*place) else {
+            continue;
+        };
+        boxes.push(bounds)?;
     }
     Ok(())
 }
 
 /// Puts all inner parts back.
-fn put_all(words: &mut [u64], at: Frame, places: &[Place], held: &[[u64; 40]])
+pub(crate) fn put_all(words: &mut [u64], at: Frame, places: &[Place], held: &[[u64; 40]])
     requires frame { IsFrame at }
     requires long { FillsFrame at words.old }
     requires on_board { All (IsOnBoard at) places.now }
@@ -110,34 +118,4 @@ fn put_all(words: &mut [u64], at: Frame, places: &[Place], held: &[[u64; 40]])
         let y = row_of(at, places[k]);
         write(words, at, x, y, &held[k]);
     }
-}
-
-/// Makes one to four generations of a board at once.
-///
-/// Both lists are cleared and filled anew: `held` with the rows of the windows, and `changes` with what has changed in
-/// each of them. All room is made before the first word is written.
-pub(crate) fn leap(
-    words: &mut [u64],
-    at: Frame,
-    places: &[Place],
-    rule: &Answers,
-    count: usize,
-    held: &mut Vec<[u64; 40]>,
-    changes: &mut Vec<Change>,
-) -> Result<(), OutOfMemory>
-    requires frame { IsFrame at }
-    requires long { FillsFrame at words.old }
-    requires on_board { All (IsOnBoard at) places.now }
-    requires some { 1 ≤ count }
-    requires few { count ≤ 4 }
-    ensures shown { OnOk result (HasLeapt at (rule_of rule.now) count places.now words.old words.new) }
-    ensures each { OnOk result (length changes.new.items ≡ length places.now) }
-    ensures changes { OnOk result
-        (TellsChanges at (rule_of rule.now) count places.now words.old changes.new.items) }
-{
-    held.clear();
-    changes.clear();
-    run_all(words, at, places, rule, count, held, changes)?;
-    put_all(words, at, places, held.as_slice());
-    Ok(())
 }

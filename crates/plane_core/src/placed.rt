@@ -11,14 +11,11 @@ ghost use Rattle.std.specs.Prelude.{◌≡◌, ◌≢◌, ◌==◌, ◌+◌, ◌
 ghost use Rattle.std.specs.Prelude.{if◌then◌else◌, slice_index};
 ghost use Rattle.std.specs.Int.{bit_at};
 ghost use Rattle.plane_core.specs.Frames.{FillsFrame, IsFrame};
-ghost use Rattle.plane_core.specs.Placed.{AreRowsRead, IsPutBack, IsReadAt, IsRowPut};
+ghost use Rattle.plane_core.specs.Placed.{AreRowsRead, IsPutBack, IsRowPut};
 ghost use Rattle.plane_core.specs.Places.{IsOnBoard};
-ghost use Rattle.plane_core.specs.Windows.{row_at};
 
 use crate::frame::Frame;
 use crate::place::Place;
-use crate::rows::packed;
-use std::simd::u64x4;
 
 /// The inner columns of a window, 4 to 59.
 pub(crate) const INNER: u64 = 0x0fff_ffff_ffff_fff0;
@@ -73,17 +70,6 @@ pub(crate) fn read_rows<const R: usize>(words: &[u64], at: Frame, x: usize, y: u
     rows
 }
 
-/// Reads the window that begins in column x and row y of the board.
-#[inline(always)]
-pub(crate) fn read(words: &[u64], at: Frame, x: usize, y: usize) -> [u64x4; 10]
-    requires long { FillsFrame at words.now }
-    requires lanes { x / 64 + 1 < at.lanes }
-    requires rows { y + 40 ≤ at.rows }
-    ensures { IsReadAt at words.now x y 10 result }
-{
-    packed(&read_rows::<40>(words, at, x, y))
-}
-
 /// The word's columns that lie in the first lane, where it begins in this column of it.
 #[inline(always)]
 fn in_first(word: u64, shift: usize) -> u64
@@ -110,7 +96,6 @@ fn put_word(words: &mut [u64], i: usize, mask: u64, value: u64)
     ensures at { (b : ℕ) → bit_at (slice_index words.new i) b
         ≡ (if bit_at mask b == 1 then bit_at value b else bit_at (slice_index words.old i) b) }
     ensures others { (m : ℕ) → m ≢ i → slice_index words.new m ≡ slice_index words.old m }
-    ensures long { length words.new ≡ length words.old }
 {
     let old = words[i];
     words[i] = old ^ ((old ^ value) & mask);
@@ -122,8 +107,7 @@ fn write_row(words: &mut [u64], at: Frame, x: usize, y: usize, word: u64)
     requires long { FillsFrame at words.old }
     requires lanes { x / 64 + 1 < at.lanes }
     requires rows { y < at.rows }
-    ensures put { IsRowPut at x y word words.old words.new }
-    ensures long { length words.new ≡ length words.old }
+    ensures { IsRowPut at x y word words.old words.new }
 {
     let i = x / 64 * at.rows + y;
     let shift = x % 64;
@@ -142,8 +126,7 @@ pub(crate) fn write(words: &mut [u64], at: Frame, x: usize, y: usize, rows: &[u6
     requires long { FillsFrame at words.old }
     requires lanes { x / 64 + 1 < at.lanes }
     requires rows { y + 40 ≤ at.rows }
-    ensures put { IsPutBack at x y 36 rows.now words.old words.new }
-    ensures long { length words.new ≡ length words.old }
+    ensures { IsPutBack at x y 36 rows.now words.old words.new }
 {
     for r in 4..36 {
         write_row(words, at, x, y + r, rows[r]);

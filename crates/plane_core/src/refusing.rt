@@ -10,7 +10,7 @@
 //! Only the 'no' to a rest is sure, and most patterns that aren't at rest are told so by a single cluster.
 ghost use Rattle.std.specs.Prelude.{◌≤◌, ℕ, IsTrue};
 ghost use Rattle.plane_core.specs.Answers.{rule_of};
-ghost use Rattle.plane_core.specs.Refusing.{HoldsCluster, LiesInExcerpt, RefusesAll};
+ghost use Rattle.plane_core.specs.Refusing.{HoldsCluster, RefusesAll};
 
 use crate::answering::Answers;
 use crate::changing::{Spot, changing_cells, first_cell};
@@ -40,38 +40,17 @@ pub(crate) fn refuses(
     if !keep_cluster(&mut alone, spot) {
         return false;
     }
-    match excerpt_round(&alone) {
-        Some(from) => {
-            refuses_in_excerpt(window, &alone, from, rule, depth, horizon, period)
-                || never_back(&alone, rule, period)
-        }
-        None => {
-            shows_stray(window, &alone, rule, depth, horizon) || never_back(&alone, rule, period)
-        }
-    }
-}
-
-/// Whether the same is seen in the 40 rows from this one on, in which the cluster lies.
-fn refuses_in_excerpt(
-    window: &[u64x4; 16],
-    alone: &[u64x4; 16],
-    from: usize,
-    rule: &Answers,
-    depth: usize,
-    horizon: u32,
-    period: u32,
-) -> bool
-    requires depth { depth ≤ 2 }
-    requires lies { LiesInExcerpt from alone.now }
-    requires holds { HoldsCluster 16 window.now alone.now depth }
-    ensures { IsTrue result → RefusesAll (rule_of rule.now) 16 window.now depth horizon period }
-{
+    let Some(from) = excerpt_round(&alone) else {
+        return shows_stray(window, &alone, rule, depth, horizon)
+            || never_back(&alone, rule, period);
+    };
+    // The cluster lies in these 40 rows, where the same is seen in less time.
     let whole = excerpt(window, from);
-    let alone = excerpt(alone, from);
-    if shows_stray(&whole, &alone, rule, depth, horizon) {
+    let part = excerpt(&alone, from);
+    if shows_stray(&whole, &part, rule, depth, horizon) {
         return true;
     }
-    never_back(&alone, rule, period)
+    never_back(&part, rule, period) || never_back(&alone, rule, period)
 }
 
 /// Leaves nothing in the window but the cluster in this place. Returns whether it is seen to lie well inside.

@@ -42,8 +42,7 @@ pub(crate) fn boxes_round(cells: &[Cell], boxes: &mut Vec<Bounds>) -> Result<(),
     for cell in cells {
         run = next_run(run, *cell, boxes)?;
     }
-    put_in_box(run, boxes)?;
-    Ok(())
+    put_in_box(run, boxes)
 }
 
 /// The run with the cell, if this stands at its end. Else the run is put in a box, and the cell begins the next one.

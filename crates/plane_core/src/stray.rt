@@ -59,7 +59,10 @@ fn has_neighbours<const N: usize>(whole: &[u64x4; N], alone: &[u64x4; N]) -> boo
     requires some { 10 ≤ N }
     requires few { N ≤ 16 }
 {
-    let (Some(first), Some(last)) = (first_row(alone), last_row(alone)) else {
+    let Some(first) = first_row(alone) else {
+        return false;
+    };
+    let Some(last) = last_row(alone) else {
         return false;
     };
     let columns = widened(columns_of(alone));

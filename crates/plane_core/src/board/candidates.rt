@@ -12,22 +12,20 @@
 //! ```
 //!
 //! A lone ship has a small box, so only these are looked at, and of these only those that lie ahead of all others.
-ghost use Rattle.std.specs.Prelude.{◌≡◌, All, IfOk, List, OnOk};
-ghost use Rattle.plane_core.specs.Bounds.{AreSidesWithin};
-ghost use Rattle.plane_core.specs.Cells.{InOrder, plane_bound};
+ghost use Rattle.std.specs.Prelude.{All, IfOk, List, OnOk};
+ghost use Rattle.plane_core.specs.Cells.{InOrder};
 ghost use Rattle.plane_core.specs.Clusters.{IsCluster};
 ghost use Rattle.plane_core.specs.Floods.{ShowsInRows};
-ghost use Rattle.plane_core.specs.Frames.{IsFrame, bounds_of};
+ghost use Rattle.plane_core.specs.Frames.{IsViewFrame};
 ghost use Rattle.plane_core.specs.declared.cell.Cell.{Cell};
 
 use crate::board::Board;
-use crate::board::view::View;
 use crate::bounds::Bounds;
 use crate::changing::{changing_cells, first_cell};
 use crate::flood::flood;
 use crate::frame::Frame;
 use crate::pattern::Pattern;
-use crate::rows::unpacked;
+use crate::rows::packed;
 use crate::small::pattern_of;
 use memory::OutOfMemory;
 use std::alloc::Global;
@@ -54,7 +52,6 @@ impl Board {
     pub fn small_clusters(&self, alloc: Global) -> Result<Vec<Pattern>, OutOfMemory>
         ensures { IfOk result (λ clusters. All (IsCluster self.now.cells) clusters.items) }
     {
-        let words = self.words.as_slice();
         let boxes = self.boxes.as_slice();
         let mut clusters = Vec::new(alloc);
         let mut tries = BOXES;
@@ -66,18 +63,11 @@ impl Board {
                 continue;
             }
             tries -= 1;
-            let Some(view) = View::round(self.at, *bounds) else {
+            let Some(view) = self.view(*bounds) else {
                 continue;
             };
-            let window = view.window(words, self.at);
-            let mut changing = changing_cells(&window, &self.answers);
-            add_grown(
-                alloc,
-                view.frame(self.at),
-                &unpacked(&window),
-                &mut changing,
-                &mut clusters,
-            )?;
+            let mut changing = changing_cells(&packed(&view.rows), &self.answers);
+            add_grown(alloc, view.at, &view.rows, &mut changing, &mut clusters)?;
         }
         Ok(clusters)
     }
@@ -149,10 +139,7 @@ fn add_grown(
     changing: &mut [u64; 64],
     clusters: &mut Vec<Pattern>,
 ) -> Result<(), OutOfMemory>
-    requires frame { IsFrame at }
-    requires plane { AreSidesWithin plane_bound (bounds_of at) }
-    requires lanes { at.lanes ≡ 1 }
-    requires rows { at.rows ≡ 64 }
+    requires { IsViewFrame at }
     ensures { OnOk result ((cells : List Cell) → InOrder cells → ShowsInRows at.left at.top rows.now cells
         → All (IsCluster cells) clusters.old.items → All (IsCluster cells) clusters.new.items) }
 {

@@ -10,18 +10,13 @@
 //!
 //! Four boxes at most are tried, since a board on which nothing is found so has mostly fallen into objects at rest.
 ghost use Rattle.std.specs.Prelude.{◌≤◌, IsTrue};
-ghost use Rattle.plane_core.specs.Answers.{rule_of};
-ghost use Rattle.plane_core.specs.Frames.{FillsFrame};
 ghost use Rattle.plane_core.specs.Generations.{after};
-ghost use Rattle.plane_core.specs.OnBoard.{cells_on};
 ghost use Rattle.plane_core.specs.Refusing.{HasRestlessCluster};
 
-use crate::answering::Answers;
 use crate::board::Board;
-use crate::board::view::{View, is_large};
-use crate::bounds::Bounds;
-use crate::frame::Frame;
+use crate::board::view::is_large;
 use crate::refusing::refuses;
+use crate::rows::packed;
 use crate::window::generations;
 
 /// How many boxes are tried at most.
@@ -49,62 +44,38 @@ impl Board {
             horizon,
             period,
         };
-        let words = self.words.as_slice();
-        let boxes = self.boxes.as_slice();
         let mut tries = TRIES;
-        if refuses_by(words, self.at, boxes, &self.answers, look, true, &mut tries) {
+        if self.refuses_by(look, true, &mut tries) {
             return true;
         }
-        refuses_by(
-            words,
-            self.at,
-            boxes,
-            &self.answers,
-            look,
-            false,
-            &mut tries,
-        )
+        self.refuses_by(look, false, &mut tries)
     }
-}
 
-/// Tries the boxes that are large, or those that aren't, for as long as there are tries left. Of each box the view is
-/// looked at, if it lies on the board.
-fn refuses_by(
-    words: &[u64],
-    at: Frame,
-    boxes: &[Bounds],
-    rule: &Answers,
-    look: Look,
-    large: bool,
-    tries: &mut u32,
-) -> bool
-    requires long { FillsFrame at words.now }
-    requires ahead { look.ahead ≤ 1 }
-    ensures { IsTrue result → HasRestlessCluster (rule_of rule.now)
-        (after (rule_of rule.now) (cells_on at words.now) look.ahead) look.horizon look.period }
-{
-    for bounds in boxes {
-        if *tries == 0 {
-            return false;
+    /// Tries the boxes that are large, or those that aren't, for as long as there are tries left. Of each box the view
+    /// is looked at, if it lies on the board.
+    fn refuses_by(&self, look: Look, large: bool, tries: &mut u32) -> bool
+        requires { look.ahead ≤ 1 }
+        ensures { IsTrue result → HasRestlessCluster self.now.rule
+            (after self.now.rule self.now.cells look.ahead) look.horizon look.period }
+    {
+        for bounds in self.boxes.as_slice() {
+            if *tries == 0 {
+                return false;
+            }
+            if is_large(*bounds) != large {
+                continue;
+            }
+            *tries -= 1;
+            let Some(view) = self.view(*bounds) else {
+                continue;
+            };
+            let mut window = packed(&view.rows);
+            let ahead = look.ahead as usize;
+            generations(&mut window, &self.answers, ahead);
+            if refuses(&window, &self.answers, ahead, look.horizon, look.period) {
+                return true;
+            }
         }
-        if is_large(*bounds) != large {
-            continue;
-        }
-        *tries -= 1;
-        let Some(view) = View::round(at, *bounds) else {
-            continue;
-        };
-        let mut window = view.window(words, at);
-        generations(&mut window, rule, look.ahead as usize);
-        if refuses(
-            &window,
-            rule,
-            look.ahead as usize,
-            look.horizon,
-            look.period,
-        ) {
-            return true;
-        }
+        false
     }
-    false
 }

@@ -10,16 +10,15 @@
 //! . . . . . . . .     better if it reaches further to the right, by more than the rows that lie between.
 //! . . . d . . . .
 //! ```
-ghost use Rattle.std.specs.Prelude.{◌≡◌, ◌≢◌, ◌==◌, ◌-◌, ◌<◌, ◌≤◌, ◌+ℤ◌, ℕ, IfSome, length, pos};
+ghost use Rattle.std.specs.Prelude.{◌≡◌, ◌==◌, ◌-◌, ◌<◌, ◌≤◌, ◌+ℤ◌, ℕ, IfSome, pos};
 ghost use Rattle.std.specs.Prelude.{slice_index};
 ghost use Rattle.std.specs.Int.{bit_at};
 ghost use Rattle.plane_core.specs.Bounds.{AreSidesWithin};
 ghost use Rattle.plane_core.specs.Cells.{cell_at, has, plane_bound, same_cell};
-ghost use Rattle.plane_core.specs.Directions.{GoesDeeper, IsDeepest, IsGreater, IsSeen, NoDeeper, depth_in, inner_row};
+ghost use Rattle.plane_core.specs.Directions.{GoesDeeper, IsGreater, IsSeen, NoDeeper, depth_in, inner_row};
 ghost use Rattle.plane_core.specs.Frames.{FillsFrame, IsFrame, board_cell, bounds_of, word_of};
 ghost use Rattle.plane_core.specs.Frontiers.{LiesUpTo};
 ghost use Rattle.plane_core.specs.OnBoard.{cells_on};
-ghost use Rattle.plane_core.specs.Spans.{LieInSpans};
 ghost use Rattle.plane_core.specs.Without.{without};
 
 use crate::board::Board;
@@ -37,30 +36,21 @@ impl Board {
     pub fn frontier_without(&self, way: Orientation, cells: &Pattern) -> Option<i32>
         ensures { IfSome result (λ m. LiesUpTo way m (without self.now.cells cells.now)) }
     {
+        let at = self.at;
         let words = self.words.as_slice();
         let spans = self.spans.as_slice();
-        deepest(self.at, words, spans, way.direction(), cells.cells())
-    }
-}
-
-/// The depth of the deepest cell of a board, of those that aren't gone. `None` if there is none.
-fn deepest(at: Frame, words: &[u64], spans: &[Span], way: Direction, gone: &[Cell]) -> Option<i32>
-    requires frame { IsFrame at }
-    requires plane { AreSidesWithin plane_bound (bounds_of at) }
-    requires long { FillsFrame at words.now }
-    requires lanes { length spans.now ≡ at.lanes }
-    requires live { LieInSpans at spans.now (cells_on at words.now) }
-    ensures { IsDeepest way (without (cells_on at words.now) gone.now) result }
-{
-    let mut found = None;
-    for lane in 0..at.lanes {
-        let rows = spans[lane].below(at.rows);
-        if rows.from == rows.end {
-            continue;
+        let direction = way.direction();
+        let gone = cells.cells();
+        let mut found = None;
+        for lane in 0..at.lanes {
+            let rows = spans[lane].below(at.rows);
+            if rows.from == rows.end {
+                continue;
+            }
+            found = deepest_in_lane(at, words, lane, rows, direction, gone, found);
         }
-        found = deepest_in_lane(at, words, lane, rows, way, gone, found);
+        found
     }
-    found
 }
 
 /// The depth of the deepest cell that was found so far or stands in these rows of a lane.
@@ -140,7 +130,6 @@ fn next_live(
     requires rows { rows.end ≤ at.rows }
     requires end { end ≤ rows.end - rows.from }
     ensures later { from ≤ result }
-    ensures live { result < end → slice_index words.now (word_of at lane (inner_row way.down rows result)) ≢ 0 }
     ensures dead { (step : ℕ) → from ≤ step → step < result
         → slice_index words.now (word_of at lane (inner_row way.down rows step)) ≡ 0 }
 {

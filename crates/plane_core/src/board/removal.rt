@@ -9,11 +9,10 @@
 //! |.O.. |     OOO            |.O.. |   |   |     changes in it.
 //! +-----+                    +-----+   +---+
 //! ```
-ghost use Rattle.std.specs.Prelude.{◌≡◌, ◌*◌, ◌++◌, ◌∷◌, [], List, OnErr, OnOk};
-ghost use Rattle.plane_core.specs.Frames.{FillsFrame, IsFrame, Shows};
+ghost use Rattle.std.specs.Prelude.{◌≡◌, ◌*◌, OnErr, OnOk};
+ghost use Rattle.plane_core.specs.Frames.{FillsFrame, IsFrame};
 ghost use Rattle.plane_core.specs.OnBoard.{cells_on};
 ghost use Rattle.plane_core.specs.Without.{without};
-ghost use Rattle.plane_core.specs.declared.cell.Cell.{Cell};
 
 use crate::board::Board;
 use crate::boxes::put_in_boxes;
@@ -40,28 +39,18 @@ impl Board {
     }
 }
 
-/// Takes cells off a board.
+/// Takes cells off a board, those that lie on it.
 fn take_off(at: Frame, words: &mut [u64], cells: &[Cell])
     requires frame { IsFrame at }
     requires long { FillsFrame at words.old }
     ensures { cells_on at words.new ≡ without (cells_on at words.old) cells.now }
 {
     for cell in cells {
-        take_off_one(at, words, *cell);
+        if !at.has(*cell) {
+            continue;
+        }
+        let across = at.across(*cell);
+        let i = at.index(across / 64, at.down(*cell));
+        words[i] &= !(1 << (across % 64));
     }
-}
-
-/// Takes one more cell off a board, if it lies on it.
-fn take_off_one(at: Frame, words: &mut [u64], cell: Cell)
-    requires frame { IsFrame at }
-    requires long { FillsFrame at words.old }
-    ensures { (cells others : List Cell) → Shows at words.old (without cells others)
-        → Shows at words.new (without cells (others ++ cell ∷ [])) }
-{
-    if !at.has(cell) {
-        return;
-    }
-    let across = at.across(cell);
-    let i = at.index(across / 64, at.down(cell));
-    words[i] &= !(1 << (across % 64));
 }

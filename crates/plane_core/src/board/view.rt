@@ -1,4 +1,4 @@
-//! A window of 64 rows that is read from a board round the middle of a box:
+//! Sixty-four rows that are read from a board round the middle of a box:
 //!
 //! ```text
 //! board
@@ -11,75 +11,54 @@
 //! |        +----------+                 |
 //! +-------------------------------------+
 //! ```
-ghost use Rattle.std.specs.Prelude.{◌≡◌, ◌+◌, ◌/◌, ◌<◌, ◌≤◌, ◌^◌, ◌+ℤ◌, IfSome, pos};
-ghost use Rattle.plane_core.specs.Bounds.{AreSidesWithin};
-ghost use Rattle.plane_core.specs.Cells.{plane_bound};
-ghost use Rattle.plane_core.specs.Frames.{FillsFrame, IsFrame, bounds_of};
-ghost use Rattle.plane_core.specs.OnBoard.{cells_on};
-ghost use Rattle.plane_core.specs.Windows.{IsShownInside};
+ghost use Rattle.std.specs.Prelude.{◌<◌, ◌^◌, IfSome};
+ghost use Rattle.plane_core.specs.Floods.{ShowsRows};
+ghost use Rattle.plane_core.specs.Frames.{IsViewFrame};
 
+use crate::board::Board;
 use crate::bounds::Bounds;
 use crate::frame::Frame;
 use crate::placed::read_rows;
-use crate::rows::packed;
-use std::simd::u64x4;
 
 /// How many columns and rows the box of what changes in a small oscillator has at most.
 const SMALL: u32 = 6;
 
-/// Where a view begins: a column and a row of the board.
+/// What is seen, and where it lies: a board of its own, of one lane.
 #[derive(Clone, Copy)]
 pub(super) struct View {
-    x: usize,
-    y: usize,
+    pub(super) at: Frame,
+    pub(super) rows: [u64; 64],
 }
 
-impl View {
+impl Board {
     /// The view in whose middle the middle of the box lies, if it lies on the board, with a lane to its right.
-    pub(super) fn round(at: Frame, bounds: Bounds) -> Option<View>
-        ensures lanes { IfSome result (λ view. view.x / 64 + 1 < at.lanes) }
-        ensures rows { IfSome result (λ view. view.y + 64 ≤ at.rows) }
+    pub(super) fn view(&self, bounds: Bounds) -> Option<View>
+        ensures frame { IfSome result (λ view. IsViewFrame view.at) }
+        ensures shown { IfSome result
+            (λ view. ShowsRows view.at.left view.at.top view.rows self.now.cells) }
     {
-        let x = first_of(bounds.left, bounds.right, at.left)?;
-        let y = first_of(bounds.top, bounds.bottom, at.top)?;
+        let at = self.at;
+        let Some(x) = first_of(bounds.left, bounds.right, at.left) else {
+            return None;
+        };
+        let Some(y) = first_of(bounds.top, bounds.bottom, at.top) else {
+            return None;
+        };
         if x / 64 + 1 >= at.lanes {
             return None;
         }
         if y + 64 > at.rows {
             return None;
         }
-        Some(View { x, y })
-    }
-
-    /// What is seen: a window that shows the board's cells.
-    pub(super) fn window(self, words: &[u64], at: Frame) -> [u64x4; 16]
-        requires long { FillsFrame at words.now }
-        requires lanes { self.x / 64 + 1 < at.lanes }
-        requires rows { self.y + 64 ≤ at.rows }
-        ensures { IsShownInside 16 (at.left +ℤ pos self.x) (at.top +ℤ pos self.y) 0 result (cells_on at words.now) }
-    {
-        packed(&read_rows::<64>(words, at, self.x, self.y))
-    }
-
-    /// The view as a board of its own, of one lane.
-    pub(super) fn frame(self, at: Frame) -> Frame
-        requires frame { IsFrame at }
-        requires plane { AreSidesWithin plane_bound (bounds_of at) }
-        requires lanes { self.x / 64 + 1 < at.lanes }
-        requires rows { self.y + 64 ≤ at.rows }
-        ensures frame { IsFrame result }
-        ensures plane { AreSidesWithin plane_bound (bounds_of result) }
-        ensures left { result.left ≡ at.left +ℤ pos self.x }
-        ensures top { result.top ≡ at.top +ℤ pos self.y }
-        ensures lanes { result.lanes ≡ 1 }
-        ensures rows { result.rows ≡ 64 }
-    {
-        Frame {
-            left: at.left + self.x as i32,
-            top: at.top + self.y as i32,
-            lanes: 1,
-            rows: 64,
-        }
+        Some(View {
+            at: Frame {
+                left: at.left + x as i32,
+                top: at.top + y as i32,
+                lanes: 1,
+                rows: 64,
+            },
+            rows: read_rows(self.words.as_slice(), at, x, y),
+        })
     }
 }
 

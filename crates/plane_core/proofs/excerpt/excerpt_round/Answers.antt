@@ -4,8 +4,8 @@ use Rattle.plane_core.proofs.excerpt.excerpt_round.Goals as goal
 
 pub returns : goal.returns
 returns c =
-    let first = c.in_ok-first.first in
-    let last = c.in_ok-last.last in
-    lies_in c.args.alone.now first last c.min.result c.in_ok-first.ensures.none c.in_ok-last.ensures.none c.in_ok-last.ensures.low
+    let first = c.in-Some.first in
+    let last = c.in-Some-last_row.last in
+    lies_in c.args.alone.now first last c.min.result c.in-Some.ensures.none c.in-Some-last_row.ensures.none c.in-Some-last_row.ensures.low
     (subst (λ (n : ℕ). n < 32) c.saturating_sub.ensures c.if-saturating_sub-ge-MOST.false)
     (c.min.ensures ∙ ap (λ (n : ℕ). min (n / 2) 24) c.saturating_sub-2.ensures)

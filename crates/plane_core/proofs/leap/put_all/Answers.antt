@@ -49,7 +49,7 @@ loop-k-preserved c =
     back_more c.args.at places c.args.held.now c.args.words.now c.loop-k.words c.write.new.words k c.column_of-x.result c.row_of-y.result
     (λ p. ap (λ (q : Place). q.left) (get_or_default places k p (record { left = pos 0; top = pos 0 }) c.loop-k-test.true) ∙ c.column_of-x.ensures.is)
     (λ p. ap (λ (q : Place). q.top) (get_or_default places k p (record { left = pos 0; top = pos 0 }) c.loop-k-test.true) ∙ c.row_of-y.ensures.is)
-    c.loop-k.invariant c.write.ensures.put
+    c.loop-k.invariant c.write.ensures
 
 same : (a b : ℕ) → a ≤ b → b ≤ a → a ≡ b
 same a b low high = omega arith

@@ -1,9 +1,13 @@
-use Rattle.std.proofs.Common.{◌≡◌, ◌∙◌, pos, arith, length, subst}
-use Rattle.std.proofs.lemmas.List.{get_or_default}
+use borrow.Author.Count.{falls}
+use Rattle.std.proofs.Common.{◌≡◌, ◌<◌, ◌∙◌, ℕ, ap, pos, arith, inl, inr, length, subst, sym, List}
+use Rattle.std.specs.List.{All}
+use Rattle.std.proofs.lemmas.List.Elements.{All-nil, All-push}
 use Rattle.std.proofs.lemmas.Result.{IfOk-from_err}
 use Rattle.plane_core.specs.Answers.{rule_of}
-use Rattle.plane_core.specs.declared.place.Place.{Place}
-use Rattle.plane_core.specs.Leaps.{IsRunAt}
+use Rattle.plane_core.specs.declared.bounds.Bounds.{Bounds}
+use Rattle.plane_core.specs.Bounds.{AreSidesWithin, IsWithin}
+use Rattle.plane_core.specs.Boxes.{box_bound}
+use Rattle.plane_core.proofs.BoxLemmas.{all_in_reach, any_pushed, hold_all}
 use Rattle.plane_core.proofs.LeapLemmas.{run_more}
 use Rattle.plane_core.proofs.leap.run_all.Goals as goal
 
@@ -23,6 +27,11 @@ run_at-ran-requires-clause-some c = c.requires.some
 pub run_at-ran-requires-clause-few : goal.run_at-ran-requires-clause-few
 run_at-ran-requires-clause-few c = c.requires.few
 
+pub bounds-requires : goal.bounds-requires
+bounds-requires c =
+    all_in_reach c.args.at c.args.places.now c.requires.frame c.requires.on_board c.loop-place.place-index
+    (record { left = pos 0; top = pos 0 }) c.loop-place-test.true
+
 pub returns-in_err-push : goal.returns-in_err-push
 returns-in_err-push c = IfOk-from_err _ _ c.from_residual.ensures.0
 
@@ -31,24 +40,51 @@ returns-in_err-push-2 c = IfOk-from_err _ _ c.from_residual-in_err-push-2.ensure
 
 pub loop-place-preserved : goal.loop-place-preserved
 loop-place-preserved c =
-    let at = c.args.at in
-    let words = c.args.words.now in
-    let rule = rule_of c.args.rule.now in
-    let count = c.args.count in
-    let places = c.args.places.now in
-    let done = c.loop-place.place-index in
+    let before = c.loop-place.boxes.items in
+    let later = c.push-in-loop-place.new.self.items in
     let ran = c.run_at-ran.result in
-    run_more at words rule count places c.loop-place.held.items c.push.new.self.items c.loop-place.changes.items c.push-in-loop-place.new.self.items done
-    ran.rows ran.change c.loop-place.invariant
-    (λ p. subst (λ (q : Place). IsRunAt at words rule count q ran.rows ran.change)
-    (get_or_default places done (record { left = pos 0; top = pos 0 }) p c.loop-place-test.true) c.run_at-ran.ensures)
-    c.in_ok-push.ensures.items c.in_ok-push-2.ensures.items
+    run_more c.args.at c.args.words.now (rule_of c.args.rule.now) c.args.count c.args.places.now c.loop-place.held.items c.push.new.self.items
+    before later c.loop-place.place-index (record { left = pos 0; top = pos 0 }) ran.rows ran.change c.bounds.result
+    c.loop-place.invariant c.loop-place-test.true c.run_at-ran.ensures c.bounds.ensures.difference c.in_ok-push.ensures.items
+    (λ d some. any_pushed (λ (b : Bounds). IsWithin b d) before later c.in-Some.bounds c.in_ok-push-2.ensures.items (inl some))
+    (λ d here. any_pushed (λ (b : Bounds). IsWithin b d) before later c.in-Some.bounds c.in_ok-push-2.ensures.items (inr (rw c.in-Some.is at here)))
+    (subst (λ (boxes : List Bounds). All (AreSidesWithin box_bound) boxes) (sym c.in_ok-push-2.ensures.items)
+    (All-push (AreSidesWithin box_bound) before c.in-Some.bounds c.loop-place.invariant.sides c.in-Some.ensures.sides))
+
+pub loop-place-preserved-in_default : goal.loop-place-preserved-in_default
+loop-place-preserved-in_default c =
+    let before = c.loop-place.boxes.items in
+    let ran = c.run_at-ran.result in
+    run_more c.args.at c.args.words.now (rule_of c.args.rule.now) c.args.count c.args.places.now c.loop-place.held.items c.push.new.self.items
+    before before c.loop-place.place-index (record { left = pos 0; top = pos 0 }) ran.rows ran.change c.bounds.result
+    c.loop-place.invariant c.loop-place-test.true c.run_at-ran.ensures c.bounds.ensures.difference c.in_ok-push.ensures.items
+    (λ d some. some) (λ d here. absurd (rw c.in_default.is at here)) c.loop-place.invariant.sides
 
 pub returns : goal.returns
 returns c =
-    let all : c.loop-place.place-index ≡ length c.args.places.now = omega arith in
+    let places = c.args.places.now in
+    let inv = c.loop-place.invariant in
+    let all : c.loop-place.place-index ≡ length places = omega arith in
     record {
-      held_long = c.loop-place.invariant.held_long ∙ all;
-      changes_long = c.loop-place.invariant.changes_long ∙ all;
-      run = λ k p d low. c.loop-place.invariant.run k p d (omega arith);
+      long = inv.long ∙ all;
+      run = λ k p cells low. inv.run k p cells (omega arith);
+      differences = λ cells o shows. hold_all places _ _ c.loop-place.boxes.items (λ k p d low. inv.differences cells o shows k p d (omega arith));
+      sides = inv.sides;
     }
+
+none_done : (k : ℕ) → k < 0 → ⊥
+none_done k low = omega (arith, low)
+
+pub loop-place-init : goal.loop-place-init
+loop-place-init c = record {
+  long = ap length c.clear.ensures.items;
+  run = λ k p cells low. absurd (none_done k low);
+  differences = λ cells o shows k p d low. absurd (none_done k low);
+  sides = subst (λ (boxes : List Bounds). All (AreSidesWithin box_bound) boxes) (sym c.clear-2.ensures.items) (All-nil (AreSidesWithin box_bound));
+}
+
+pub loop-place-smaller : goal.loop-place-smaller
+loop-place-smaller c = falls _ _ c.loop-place-test.true
+
+pub loop-place-smaller-in_default : goal.loop-place-smaller-in_default
+loop-place-smaller-in_default c = falls _ _ c.loop-place-test.true

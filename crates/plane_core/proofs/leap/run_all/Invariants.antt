@@ -4,4 +4,4 @@ use Rattle.plane_core.proofs.leap.run_all.Given as goal
 
 abbrev pub invariant-loop-place : goal.invariant-loop-place
 invariant-loop-place l =
-    AreRunFirst l.at l.words (rule_of l.rule) l.count l.places l.held.items l.changes.items l.place-index
+    AreRunFirst l.at l.words (rule_of l.rule) l.count l.places l.held.items l.boxes.items l.place-index

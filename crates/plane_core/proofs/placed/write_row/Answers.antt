@@ -1,10 +1,10 @@
 use Rattle.plane_core.proofs.PlacedLemmas.{row_put}
-use Rattle.std.proofs.Common.{ℕ, ◌+◌, ◌*◌, ◌/◌, ◌<◌, ◌∙◌, subst, sym}
+use Rattle.std.proofs.Common.{ℕ, ◌+◌, ◌*◌, ◌/◌, ◌<◌, subst, sym}
 use Rattle.plane_core.proofs.PlacedLemmas.{column_low, fits_row, words_in}
 use Rattle.plane_core.proofs.placed.write_row.Goals as goal
 
-pub returns-clause-put : goal.returns-clause-put
-returns-clause-put c =
+pub returns : goal.returns
+returns c =
     row_put c.args.at c.args.words.now c.put_word.new.words c.put_word-2.new.words c.args.x c.args.y c.args.word c.in_first.result c.in_first-2.result
     c.in_second.result c.in_second-2.result c.requires.rows c.in_first.ensures.low c.in_first.ensures.high c.in_first-2.ensures.high
     c.in_second.ensures c.in_second-2.ensures c.put_word.ensures.at c.put_word.ensures.others c.put_word-2.ensures.at c.put_word-2.ensures.others
@@ -26,11 +26,8 @@ in_second-requires-2 c = column_low c.args.x
 
 pub put_word-requires-2 : goal.put_word-requires-2
 put_word-requires-2 c =
-    subst (λ (n : ℕ). c.args.x / 64 * c.args.at.rows + c.args.y + c.args.at.rows < n) (sym c.put_word.ensures.long)
+    subst (λ (n : ℕ). c.args.x / 64 * c.args.at.rows + c.args.y + c.args.at.rows < n) (sym c.put_word.auto.words)
     (words_in c.args.at c.args.words.now c.args.x c.args.y c.requires.long c.requires.lanes c.requires.rows).1
-
-pub returns-clause-long : goal.returns-clause-long
-returns-clause-long c = c.put_word-2.ensures.long ∙ c.put_word.ensures.long
 
 pub overflow_mul-i : goal.overflow_mul-i
 overflow_mul-i c = (fits_row c.args.at c.args.words.now c.args.x c.args.y c.well_formed.0.1 c.requires.long c.requires.lanes c.requires.rows).0

@@ -1,14 +1,6 @@
 use Rattle.plane_core.specs.Answers.{rule_of}
-use Rattle.plane_core.proofs.RefusingLemmas.{refused_by_change, refused_by_stray}
+use Rattle.plane_core.proofs.RefusingLemmas.{refused_by_change, refused_by_stray, refused_in_excerpt_by_change, refused_in_excerpt_by_stray}
 use Rattle.plane_core.proofs.refusing.refuses.Goals as goal
-
-pub refuses_in_excerpt-requires-clause-holds : goal.refuses_in_excerpt-requires-clause-holds
-refuses_in_excerpt-requires-clause-holds c = c.keep_cluster.ensures c.if-not-keep_cluster.false c.args.depth c.requires
-
-pub returns-else-refuses_in_excerpt : goal.returns-else-refuses_in_excerpt
-returns-else-refuses_in_excerpt c = λ seen.
-    refused_by_change (rule_of c.args.rule.now) c.args.window.now c.keep_cluster.new.window c.args.depth c.args.horizon c.args.period
-    (c.keep_cluster.ensures c.if-not-keep_cluster.false c.args.depth c.requires) (c.never_back.ensures seen)
 
 pub returns-then-shows_stray : goal.returns-then-shows_stray
 returns-then-shows_stray c = λ _.
@@ -18,4 +10,23 @@ returns-then-shows_stray c = λ _.
 pub returns-else-shows_stray : goal.returns-else-shows_stray
 returns-else-shows_stray c = λ seen.
     refused_by_change (rule_of c.args.rule.now) c.args.window.now c.keep_cluster.new.window c.args.depth c.args.horizon c.args.period
-    (c.keep_cluster.ensures c.if-not-keep_cluster.false c.args.depth c.requires) (c.never_back-else-shows_stray.ensures seen)
+    (c.keep_cluster.ensures c.if-not-keep_cluster.false c.args.depth c.requires) (c.never_back.ensures seen)
+
+pub returns-then-shows_stray-2 : goal.returns-then-shows_stray-2
+returns-then-shows_stray-2 c = λ _.
+    refused_in_excerpt_by_stray (rule_of c.args.rule.now) c.args.window.now c.keep_cluster.new.window c.excerpt-whole.result c.excerpt-part.result
+    c.in-Some-excerpt_round.from c.args.depth c.args.horizon c.args.period
+    (c.keep_cluster.ensures c.if-not-keep_cluster.false c.args.depth c.requires) c.in-Some-excerpt_round.ensures
+    c.excerpt-whole.ensures c.excerpt-part.ensures (c.shows_stray-2.ensures c.if-shows_stray-2.true)
+
+pub returns-then-never_back : goal.returns-then-never_back
+returns-then-never_back c = λ _.
+    refused_in_excerpt_by_change (rule_of c.args.rule.now) c.args.window.now c.keep_cluster.new.window c.excerpt-part.result
+    c.in-Some-excerpt_round.from c.args.depth c.args.horizon c.args.period
+    (c.keep_cluster.ensures c.if-not-keep_cluster.false c.args.depth c.requires) c.in-Some-excerpt_round.ensures
+    c.excerpt-part.ensures (c.never_back-2.ensures c.if-never_back.true)
+
+pub returns-else-never_back : goal.returns-else-never_back
+returns-else-never_back c = λ seen.
+    refused_by_change (rule_of c.args.rule.now) c.args.window.now c.keep_cluster.new.window c.args.depth c.args.horizon c.args.period
+    (c.keep_cluster.ensures c.if-not-keep_cluster.false c.args.depth c.requires) (c.never_back-else-never_back.ensures seen)

@@ -2,7 +2,7 @@ use Rattle.std.proofs.Common.{◌≡◌, ◌<◌, ◌≤◌, ℕ, List, [], ◌�
 use Rattle.std.specs.List.{All}
 use Rattle.std.proofs.lemmas.Bool.{false≢true}
 use Rattle.std.proofs.lemmas.List.Elements.{All-nil, All-more, All-same, All-weaker, recursion_from_All}
-use Rattle.std.proofs.lemmas.Result.{IfOk-from_err}
+use Rattle.std.proofs.lemmas.Result.{IfOk-from_err, IfOk-weaker}
 use Rattle.plane_core.specs.declared.bounds.Bounds.{Bounds}
 use Rattle.plane_core.specs.declared.cell.Cell.{Cell}
 use Rattle.plane_core.specs.Bounds.{AreSidesWithin, IsWithin, box_at}
@@ -32,35 +32,29 @@ loop-cell-preserved c = record {
 }
 
 pub returns-clause-held : goal.returns-clause-held
-returns-clause-held c = λ d h.
+returns-clause-held c = IfOk-weaker c.put_in_box.result _ _ (λ done put d h.
     has-all (λ (d : Cell). IsInOne c.put_in_box.new.boxes.items d) c.args.cells.now d
     (recursion_from_All (λ (d : Cell). IsInOne c.put_in_box.new.boxes.items d) c.args.cells.now
     (All-weaker (λ (d : Cell). IsWithin c.loop-cell.run d ⊎ IsInOne c.loop-cell.boxes.items d)
     (λ (d : Cell). IsInOne c.put_in_box.new.boxes.items d)
     (λ d h. elim h [
-      | inl in_run ↦ c.in_ok-put_in_box.ensures.held d in_run
+      | inl in_run ↦ put d in_run
       | inr in_box ↦ wider_has c.loop-cell.boxes.items c.put_in_box.new.boxes.items c.put_in_box.ensures.wider d in_box
     ]) c.args.cells.now
     (All-same (λ (d : Cell). IsWithin c.loop-cell.run d ⊎ IsInOne c.loop-cell.boxes.items d) c.args.cells.now
     (take c.loop-cell.cell-index c.args.cells.now)
     (sym (take_whole c.args.cells.now c.loop-cell.cell-index c.loop-cell.auto.cell-index-end c.loop-cell-test.false))
-    c.loop-cell.invariant.held))) h
+    c.loop-cell.invariant.held))) h) c.put_in_box.ensures.held
 
 pub returns-clause-sides : goal.returns-clause-sides
-returns-clause-sides c = λ n near.
-    c.in_ok-put_in_box.ensures.sides n (c.loop-cell.invariant.run_sides n near) (c.loop-cell.invariant.sides n near)
+returns-clause-sides c = IfOk-weaker c.put_in_box.result _ _ (λ done put n near.
+    c.put_in_box.ensures.sides n (c.loop-cell.invariant.run_sides n near) (c.loop-cell.invariant.sides n near)) c.put_in_box.ensures.held
 
 pub returns-in_err-run-clause-held : goal.returns-in_err-run-clause-held
 returns-in_err-run-clause-held c = IfOk-from_err _ _ c.from_residual.ensures.0
 
 pub returns-in_err-run-clause-sides : goal.returns-in_err-run-clause-sides
 returns-in_err-run-clause-sides c = IfOk-from_err _ _ c.from_residual.ensures.0
-
-pub returns-in_err-put_in_box-clause-held : goal.returns-in_err-put_in_box-clause-held
-returns-in_err-put_in_box-clause-held c = IfOk-from_err _ _ c.from_residual-in_err-put_in_box.ensures.0
-
-pub returns-in_err-put_in_box-clause-sides : goal.returns-in_err-put_in_box-clause-sides
-returns-in_err-put_in_box-clause-sides c = IfOk-from_err _ _ c.from_residual-in_err-put_in_box.ensures.0
 
 no_boxes_sides : (n : ℕ) (boxes : List Bounds) → boxes ≡ [] → All (AreSidesWithin n) boxes
 no_boxes_sides n boxes none = subst (λ (bs : List Bounds). All (AreSidesWithin n) bs) (sym none) (All-nil (AreSidesWithin n))

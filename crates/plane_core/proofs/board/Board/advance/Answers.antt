@@ -1,47 +1,128 @@
-use Rattle.std.proofs.Common.{◌+◌, ◌-◌, ◌≤◌, ◌∙◌, ℕ, arith}
+use Rattle.std.proofs.Common.{◌≡◌, ◌≢◌, ◌∙◌, ◌+◌, ◌-◌, ◌*◌, ◌/◌, ◌%◌, ◌<◌, ◌≤◌, ℕ, arith, sym}
 use Rattle.std.proofs.lemmas.Result.{IfOk-from_err}
 use Rattle.plane_core.specs.Generations.{after}
 use Rattle.plane_core.proofs.AdvanceLemmas.{fits_below}
+use Rattle.plane_core.proofs.GenerationLemmas.{after-none}
 use Rattle.plane_core.proofs.RunLemmas.{after-plus}
 use Rattle.plane_core.proofs.board.Board.advance.Goals as goal
 
-both : (most odd even : ℕ) → odd ≤ most → even ≤ most - odd → odd + even ≤ most
-both most odd even low few = omega arith
+-- the greatest even number of generations that are left
+left_even : (most made : ℕ) → ((most - made) / 2 * 2) % 2 ≡ 0
+left_even most made = omega arith
 
-pub returns-clause-after : goal.returns-clause-after
-returns-clause-after c =
+halves : (n : ℕ) → n / 2 * 2 ≤ n
+halves n = omega arith
+
+with_left : (most made : ℕ) → made ≤ most → made + (most - made) / 2 * 2 ≤ most
+with_left most made low = omega arith
+
+fewer_left : (most made count leapt : ℕ) → leapt ≢ 0 → count ≤ most - made → leapt ≤ count → most - (made + leapt) < most - made
+fewer_left most made count leapt some few all = omega arith
+
+less : (most made : ℕ) → most - made ≤ most
+less most made = omega arith
+
+pub loop-made-init : goal.loop-made-init
+loop-made-init c = record { rule = c.advance_odd.ensures.rule; most = c.in_ok-made.ensures.most; after = c.in_ok-made.ensures.after }
+
+pub returns-in_err-made-clause-rule : goal.returns-in_err-made-clause-rule
+returns-in_err-made-clause-rule c = c.advance_odd.ensures.rule
+
+pub returns-in_err-made-clause-most : goal.returns-in_err-made-clause-most
+returns-in_err-made-clause-most c = IfOk-from_err _ _ c.from_residual.ensures.0
+
+pub returns-in_err-made-clause-after : goal.returns-in_err-made-clause-after
+returns-in_err-made-clause-after c = IfOk-from_err _ _ c.from_residual.ensures.0
+
+pub returns-then-still-clause-after : goal.returns-then-still-clause-after
+returns-then-still-clause-after c =
+    let before = c.loop-made.invariant in
     let rule = c.args.self.now.rule in
-    c.in_ok-even.ensures.after
-    ∙ (λ i. after (c.advance_odd.ensures.rule i) (c.in_ok-odd.ensures.after i) c.in_ok-even.even)
-    ∙ after-plus rule c.args.self.now.cells c.in_ok-odd.odd c.in_ok-even.even
+    let cells = c.args.self.now.cells in
+    let made = c.loop-made.made in
+    let left = (c.args.most - made) / 2 * 2 in
+    sym (c.is_still-still.ensures c.if-still.true left (left_even c.args.most made))
+    ∙ (λ i. after (before.rule i) (before.after i) left) ∙ after-plus rule cells made left
 
-pub returns-in_err-odd-clause-rule : goal.returns-in_err-odd-clause-rule
-returns-in_err-odd-clause-rule c = c.advance_odd.ensures.rule
+-- a leap more
+more_made : (most made count leapt : ℕ) → made ≤ most → count ≤ most - made → leapt ≤ count → made + leapt ≤ most
+more_made most made count leapt low few all = omega arith
 
-pub returns-in_err-odd-clause-most : goal.returns-in_err-odd-clause-most
-returns-in_err-odd-clause-most c = IfOk-from_err _ _ c.from_residual.ensures.0
-
-pub returns-in_err-odd-clause-after : goal.returns-in_err-odd-clause-after
-returns-in_err-odd-clause-after c = IfOk-from_err _ _ c.from_residual.ensures.0
+pub loop-made-preserved : goal.loop-made-preserved
+loop-made-preserved c =
+    let before = c.loop-made.invariant in
+    let rule = c.args.self.now.rule in
+    let cells = c.args.self.now.cells in
+    let made = c.loop-made.made in
+    let leapt = c.in_ok-leapt.leapt in
+    record {
+      rule = c.leap.ensures.rule ∙ before.rule;
+      most = more_made c.args.most made _ leapt before.most c.even_count-count.ensures.most c.in_ok-leapt.ensures.most;
+      after = c.in_ok-leapt.ensures.after ∙ (λ i. after (before.rule i) (before.after i) leapt) ∙ after-plus rule cells made leapt;
+    }
 
 pub overflow_sub-most : goal.overflow_sub-most
-overflow_sub-most c = c.in_ok-odd.ensures.most
+overflow_sub-most c = c.loop-made.invariant.most
 
-pub returns-in_err-even-clause-rule : goal.returns-in_err-even-clause-rule
-returns-in_err-even-clause-rule c = c.advance_even.ensures.rule ∙ c.advance_odd.ensures.rule
-
-pub returns-in_err-even-clause-most : goal.returns-in_err-even-clause-most
-returns-in_err-even-clause-most c = IfOk-from_err _ _ c.from_residual-in_err-even.ensures.0
-
-pub returns-in_err-even-clause-after : goal.returns-in_err-even-clause-after
-returns-in_err-even-clause-after c = IfOk-from_err _ _ c.from_residual-in_err-even.ensures.0
+pub overflow_mul-result : goal.overflow_mul-result
+overflow_mul-result c = fits_below _ _ (halves (c.args.most - c.loop-made.made)) (fits_below _ c.args.most (less c.args.most c.loop-made.made) c.ranges.most)
 
 pub overflow_add-result : goal.overflow_add-result
-overflow_add-result c =
-    fits_below _ c.args.most (both c.args.most c.in_ok-odd.odd c.in_ok-even.even c.in_ok-odd.ensures.most c.in_ok-even.ensures.most) c.ranges.most
+overflow_add-result c = fits_below _ c.args.most (with_left c.args.most c.loop-made.made c.loop-made.invariant.most) c.ranges.most
+
+pub returns-then-still-clause-rule : goal.returns-then-still-clause-rule
+returns-then-still-clause-rule c = c.loop-made.invariant.rule
+
+pub returns-then-still-clause-most : goal.returns-then-still-clause-most
+returns-then-still-clause-most c = with_left c.args.most c.loop-made.made c.loop-made.invariant.most
+
+pub overflow_sub-most-in-loop-made : goal.overflow_sub-most-in-loop-made
+overflow_sub-most-in-loop-made c = c.loop-made.invariant.most
+
+pub even_count-count-requires : goal.even_count-count-requires
+even_count-count-requires c = c.loop-made-test.true
+
+pub leap-requires-clause-some : goal.leap-requires-clause-some
+leap-requires-clause-some c = c.even_count-count.ensures.some
+
+pub leap-requires-clause-few : goal.leap-requires-clause-few
+leap-requires-clause-few c = c.even_count-count.ensures.few
+
+pub returns-in_err-leapt-clause-rule : goal.returns-in_err-leapt-clause-rule
+returns-in_err-leapt-clause-rule c = c.leap.ensures.rule ∙ c.loop-made.invariant.rule
+
+pub returns-in_err-leapt-clause-most : goal.returns-in_err-leapt-clause-most
+returns-in_err-leapt-clause-most c = IfOk-from_err _ _ c.from_residual-in_err-leapt.ensures.0
+
+pub returns-in_err-leapt-clause-after : goal.returns-in_err-leapt-clause-after
+returns-in_err-leapt-clause-after c = IfOk-from_err _ _ c.from_residual-in_err-leapt.ensures.0
+
+pub returns-then-leapt-eq0-clause-rule : goal.returns-then-leapt-eq0-clause-rule
+returns-then-leapt-eq0-clause-rule c = c.leap.ensures.rule ∙ c.loop-made.invariant.rule
+
+pub returns-then-leapt-eq0-clause-most : goal.returns-then-leapt-eq0-clause-most
+returns-then-leapt-eq0-clause-most c = c.loop-made.invariant.most
+
+pub returns-then-leapt-eq0-clause-after : goal.returns-then-leapt-eq0-clause-after
+returns-then-leapt-eq0-clause-after c =
+    let before = c.loop-made.invariant in
+    c.in_ok-leapt.ensures.after ∙ (λ i. after (before.rule i) (before.after i) (c.if-leapt-eq0.true i))
+    ∙ after-none c.args.self.now.rule (after c.args.self.now.rule c.args.self.now.cells c.loop-made.made)
+
+pub overflow_add-made : goal.overflow_add-made
+overflow_add-made c =
+    fits_below _ c.args.most (more_made c.args.most c.loop-made.made _ c.in_ok-leapt.leapt c.loop-made.invariant.most
+    c.even_count-count.ensures.most c.in_ok-leapt.ensures.most) c.ranges.most
+
+pub loop-made-smaller : goal.loop-made-smaller
+loop-made-smaller c =
+    fewer_left c.args.most c.loop-made.made _ c.in_ok-leapt.leapt c.if-leapt-eq0.false c.even_count-count.ensures.most c.in_ok-leapt.ensures.most
 
 pub returns-clause-rule : goal.returns-clause-rule
-returns-clause-rule c = c.advance_even.ensures.rule ∙ c.advance_odd.ensures.rule
+returns-clause-rule c = c.loop-made.invariant.rule
 
 pub returns-clause-most : goal.returns-clause-most
-returns-clause-most c = both c.args.most c.in_ok-odd.odd c.in_ok-even.even c.in_ok-odd.ensures.most c.in_ok-even.ensures.most
+returns-clause-most c = c.loop-made.invariant.most
+
+pub returns-clause-after : goal.returns-clause-after
+returns-clause-after c = c.loop-made.invariant.after

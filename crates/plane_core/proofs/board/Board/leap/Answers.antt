@@ -1,119 +1,179 @@
-use Rattle.std.proofs.Common.{◌≡◌, ◌∙◌, ◌++◌, ℕ, List, ap, length, refl, sym, take}
-use Rattle.std.proofs.Math.Seq.{take-append_seam}
-use Rattle.std.proofs.lemmas.Bool.{false≢true}
+use Rattle.std.proofs.Common.{◌≡◌, ◌≤◌, ◌∙◌, ℕ, List, ap, arith, length, refl, subst, sym}
+use Rattle.std.specs.List.{All}
 use Rattle.std.proofs.lemmas.List.{with_items_is}
+use Rattle.std.proofs.lemmas.List.Elements.{All-same}
+use Rattle.std.proofs.lemmas.Result.{IfOk-from_err}
 use Rattle.plane_core.specs.Answers.{rule_of}
-use Rattle.plane_core.specs.Boards.{Running}
+use Rattle.plane_core.specs.declared.bounds.Bounds.{Bounds}
+use Rattle.plane_core.specs.declared.frame.Frame.{Frame}
+use Rattle.plane_core.specs.declared.place.Place.{Place}
+use Rattle.plane_core.specs.declared.spans.Span.{Span}
+use Rattle.plane_core.specs.Boards.{HasGoneOn, Running}
+use Rattle.plane_core.specs.Bounds.{AreSidesWithin}
+use Rattle.plane_core.specs.Boxes.{AreCovered, box_bound}
 use Rattle.plane_core.specs.Generations.{after}
-use Rattle.plane_core.proofs.AdvanceLemmas.{empty_board, is_ready, leapt_board}
+use Rattle.plane_core.specs.Leaps.{ArePutBack, AreRun}
+use Rattle.plane_core.specs.OnBoard.{cells_on}
+use Rattle.plane_core.specs.Places.{IsOnBoard}
+use Rattle.plane_core.specs.Spans.{AreWidened}
+use Rattle.plane_core.proofs.AdvanceLemmas.{has_gone_on, is_ready, leapt_board}
+use Rattle.plane_core.proofs.GenerationLemmas.{after-none}
+use Rattle.plane_core.proofs.LeapLemmas.{leapt}
+use Rattle.plane_core.proofs.OnBoardLemmas.{cells_in_order, shows_cells}
+use Rattle.plane_core.proofs.OrderLemmas.{itself}
 use Rattle.plane_core.proofs.board.Board.leap.Goals as goal
+
+nothing : (n : ℕ) → 0 ≤ n
+nothing n = omega arith
+
+-- the same lists by other names
+covered_by : (ps qs : List Place) (bs cs : List Bounds) → qs ≡ ps → bs ≡ cs → AreCovered ps bs → AreCovered qs cs
+covered_by ps qs bs cs places boxes covered =
+    subst (λ (xs : List Place). AreCovered xs cs) (sym places) (subst (λ (xs : List Bounds). AreCovered ps xs) boxes covered)
+
+put_back : (at : Frame) (places : List Place) (hs held : List (List ℕ)) (ws old new : List ℕ) → hs ≡ held → ws ≡ old
+    → ArePutBack at places hs (length places) ws new → ArePutBack at places held (length places) old new
+put_back at places hs held ws old new rows words put =
+    subst (λ (us : List ℕ). ArePutBack at places held (length places) us new) words
+    (subst (λ (xs : List (List ℕ)). ArePutBack at places xs (length places) ws new) rows put)
 
 pub returns-then-not-are_enough-clause-rule : goal.returns-then-not-are_enough-clause-rule
 returns-then-not-are_enough-clause-rule c = refl
 
-pub returns-then-not-are_enough-clause-stopped : goal.returns-then-not-are_enough-clause-stopped
-returns-then-not-are_enough-clause-stopped c e = refl
+pub returns-then-not-are_enough-clause-most : goal.returns-then-not-are_enough-clause-most
+returns-then-not-are_enough-clause-most c = nothing c.args.count
 
-pub returns-then-not-are_enough-clause-leapt : goal.returns-then-not-are_enough-clause-leapt
-returns-then-not-are_enough-clause-leapt c e = absurd (false≢true e)
-
-pub leap_on-leapt-requires-clause-some : goal.leap_on-leapt-requires-clause-some
-leap_on-leapt-requires-clause-some c = c.requires.some
-
-pub leap_on-leapt-requires-clause-few : goal.leap_on-leapt-requires-clause-few
-leap_on-leapt-requires-clause-few c = c.requires.few
-
-pub leap_on-leapt-requires-clause-ready : goal.leap_on-leapt-requires-clause-ready
-leap_on-leapt-requires-clause-ready c =
-    let inside = c.self.inside in
-    rw (c.as_mut_slice.ensures.value, c.as_mut_slice-2.ensures.value)
-    (is_ready (rule_of inside.answers) inside.at c.args.count inside.words.items inside.boxes.items
-    inside.holds_all inside.spans.items c.self.invariant
-    (c.are_enough.ensures c.if-not-are_enough.false))
-
--- as many elements of a list and another as the first has are the first
-taken : (n : ℕ) (xs ys : List ℕ) → length xs ≡ n → take n (xs ++ ys) ≡ xs
-taken n xs ys long = ap (λ (m : ℕ). take m (xs ++ ys)) (sym long) ∙ take-append_seam xs ys
+pub returns-then-not-are_enough-clause-after : goal.returns-then-not-are_enough-clause-after
+returns-then-not-are_enough-clause-after c = sym (after-none c.args.self.now.rule c.args.self.now.cells)
 
 pub invariant_of-self : goal.invariant_of-self
-invariant_of-self c =
+invariant_of-self c = c.self.invariant
+
+pub invariant_of-self-then-not-inside : goal.invariant_of-self-then-not-inside
+invariant_of-self-then-not-inside c = c.self.invariant
+
+pub invariant_of-self-in_err-run_all : goal.invariant_of-self-in_err-run_all
+invariant_of-self-in_err-run_all c = c.self.invariant
+
+pub returns-in_err-inside-clause-rule : goal.returns-in_err-inside-clause-rule
+returns-in_err-inside-clause-rule c = ap (λ (b : Running). b.rule) c.self.view_is
+
+pub returns-in_err-inside-clause-most : goal.returns-in_err-inside-clause-most
+returns-in_err-inside-clause-most c = IfOk-from_err _ _ c.from_residual.ensures.0
+
+pub returns-in_err-inside-clause-after : goal.returns-in_err-inside-clause-after
+returns-in_err-inside-clause-after c = IfOk-from_err _ _ c.from_residual.ensures.0
+
+pub returns-then-not-inside-clause-rule : goal.returns-then-not-inside-clause-rule
+returns-then-not-inside-clause-rule c = ap (λ (b : Running). b.rule) c.self.view_is
+
+pub returns-then-not-inside-clause-most : goal.returns-then-not-inside-clause-most
+returns-then-not-inside-clause-most c = nothing c.args.count
+
+pub returns-then-not-inside-clause-after : goal.returns-then-not-inside-clause-after
+returns-then-not-inside-clause-after c =
+    ap (λ (b : Running). b.cells) c.self.view_is ∙ sym (after-none c.args.self.now.rule c.args.self.now.cells)
+
+pub returns-in_err-run_all-clause-rule : goal.returns-in_err-run_all-clause-rule
+returns-in_err-run_all-clause-rule c = ap (λ (b : Running). b.rule) c.self.view_is
+
+pub returns-in_err-run_all-clause-most : goal.returns-in_err-run_all-clause-most
+returns-in_err-run_all-clause-most c = IfOk-from_err _ _ c.from_residual-in_err-run_all.ensures.0
+
+pub returns-in_err-run_all-clause-after : goal.returns-in_err-run_all-clause-after
+returns-in_err-run_all-clause-after c = IfOk-from_err _ _ c.from_residual-in_err-run_all.ensures.0
+
+pub returns-clause-rule : goal.returns-clause-rule
+returns-clause-rule c = ap (λ (b : Running). b.rule) c.self.view_is
+
+pub returns-clause-most : goal.returns-clause-most
+returns-clause-most c = itself c.args.count
+
+gone_on : (c : goal.After-self-3-1) → HasGoneOn (rule_of c.self.inside.answers) c.self.inside.at c.args.count c.self.inside.words.items c.put_all.new.words
+    c.run_all.new.boxes.items c.widen_by.new.spans
+gone_on c =
     let inside = c.self.inside in
-    let new = c.leap_on-leapt.new.words in
-    let spans = c.leap_on-leapt.new.spans in
-    let kept : length new ≡ length c.as_mut_slice.result.now = c.leap_on-leapt.auto.words in
-    let long : length new ≡ inside.words.len = kept ∙ c.as_mut_slice.ensures.len in
-    let held : length spans ≡ length c.as_mut_slice-2.result.now = c.leap_on-leapt.auto.spans in
-    let lanes : length spans ≡ inside.spans.len = held ∙ c.as_mut_slice-2.ensures.len in
-    rw (with_items_is inside.words new long, with_items_is inside.spans spans lanes)
-    (leapt_board (rule_of inside.answers) inside.at c.args.count inside.words.items new inside.boxes.items
-    c.leap_on-leapt.new.boxes.items inside.holds_all inside.spans.items spans
-    c.self.invariant (kept ∙ ap length c.as_mut_slice.ensures.value) (held ∙ ap length c.as_mut_slice-2.ensures.value)
-    (rw c.as_mut_slice.ensures.value at (c.in-Ok-true.ensures.leapt c.in-Ok-true.field-0-test)))
+    let rule = rule_of inside.answers in
+    let old = inside.words.items in
+    let places = c.as_slice-places.result.now in
+    let held = c.run_all.new.held.items in
+    let on = subst (λ (ps : List Place). All (IsOnBoard inside.at) ps) (sym c.as_slice-places.ensures.value)
+    (c.in_ok-inside.ensures.inside c.if-not-inside.false) in
+    let ran = subst (λ (ws : List ℕ). AreRun inside.at ws rule c.args.count places held c.run_all.new.boxes.items) c.as_slice-2.ensures.value
+    c.in_ok-run_all.ensures in
+    has_gone_on rule inside.at c.args.count old c.put_all.new.words inside.boxes.items c.run_all.new.boxes.items inside.spans.items
+    c.widen_by.new.spans places
+    (is_ready rule inside.at c.args.count old inside.boxes.items inside.holds_all inside.spans.items c.self.invariant
+    (c.are_enough.ensures c.if-not-are_enough.false))
+    (covered_by _ places _ inside.boxes.items c.as_slice-places.ensures.value c.as_slice.ensures.value c.in_ok-inside.ensures.covered)
+    c.requires.some c.requires.few on
+    (subst (λ (ss : List Span). AreWidened ss c.widen_by.new.spans) c.as_mut_slice.ensures.value c.widen_by.ensures.kept) c.widen_by.ensures.covered
+    (leapt inside.at rule c.args.count places held c.run_all.new.boxes.items old c.put_all.new.words ran
+    (put_back inside.at places c.as_slice-3.result.now held c.as_mut_slice-2.result.now old c.put_all.new.words c.as_slice-3.ensures.value
+    c.as_mut_slice-2.ensures.value c.put_all.ensures))
+    ran.sides (ran.differences (cells_on inside.at old) (cells_in_order inside.at old) (shows_cells inside.at old))
 
-pub returns-in-Ok-true-clause-rule : goal.returns-in-Ok-true-clause-rule
-returns-in-Ok-true-clause-rule c = ap (λ (b : Running). b.rule) c.self.view_is
-
-pub returns-in-Ok-true-clause-stopped : goal.returns-in-Ok-true-clause-stopped
-returns-in-Ok-true-clause-stopped c e = absurd (false≢true (sym e))
-
-pub returns-in-Ok-false-clause-rule : goal.returns-in-Ok-false-clause-rule
-returns-in-Ok-false-clause-rule c = ap (λ (b : Running). b.rule) c.self.view_is
-
-pub returns-in-Ok-false-clause-stopped : goal.returns-in-Ok-false-clause-stopped
-returns-in-Ok-false-clause-stopped c e =
+pub invariant_of-self-2 : goal.invariant_of-self-2
+invariant_of-self-2 c =
     let inside = c.self.inside in
-    let new = c.leap_on-leapt.new.words in
-    let long : length new ≡ inside.words.len = c.leap_on-leapt.auto.words ∙ c.as_mut_slice.ensures.len in
-    rw (with_items_is inside.words new long, (c.in-Ok-false.ensures.stopped c.in-Ok-false.field-0-test).0 ∙ c.as_mut_slice.ensures.value)
-    (ap (λ (b : Running). b.cells) c.self.view_is)
-
-pub returns-in-Ok-false-clause-leapt : goal.returns-in-Ok-false-clause-leapt
-returns-in-Ok-false-clause-leapt c e = absurd (false≢true e)
-
-pub returns-in-Err-clause-rule : goal.returns-in-Err-clause-rule
-returns-in-Err-clause-rule c = ap (λ (b : Running). b.rule) c.self.view_is
-
-pub returns-in-Err-clause-stopped : goal.returns-in-Err-clause-stopped
-returns-in-Err-clause-stopped c = tt
-
-pub returns-in-Err-clause-leapt : goal.returns-in-Err-clause-leapt
-returns-in-Err-clause-leapt c = tt
-
-pub returns-in-Ok-true-clause-leapt : goal.returns-in-Ok-true-clause-leapt
-returns-in-Ok-true-clause-leapt c e =
-    let inside = c.self.inside in
-    let new = c.leap_on-leapt.new.words in
-    let long : length new ≡ inside.words.len = c.leap_on-leapt.auto.words ∙ c.as_mut_slice.ensures.len in
-    rw (with_items_is inside.words new long)
-    ((rw c.as_mut_slice.ensures.value at (c.in-Ok-true.ensures.leapt c.in-Ok-true.field-0-test)).cells
-    ∙ (λ i. after (c.self.view_is i).rule (c.self.view_is i).cells c.args.count))
-
-pub invariant_of-self-in-Ok-false : goal.invariant_of-self-in-Ok-false
-invariant_of-self-in-Ok-false c =
-    let inside = c.self.inside in
-    let new = c.leap_on-leapt.new.words in
-    let spans = c.leap_on-leapt.new.spans in
-    let long : length new ≡ inside.words.len = c.leap_on-leapt.auto.words ∙ c.as_mut_slice.ensures.len in
-    let lanes : length spans ≡ inside.spans.len = c.leap_on-leapt.auto.spans ∙ c.as_mut_slice-2.ensures.len in
-    let same = c.in-Ok-false.ensures.stopped c.in-Ok-false.field-0-test in
+    let new = c.put_all.new.words in
+    let spans = c.widen_by.new.spans in
+    let kept : length new ≡ length c.as_mut_slice-2.result.now = c.put_all.auto.words in
+    let held : length spans ≡ length c.as_mut_slice.result.now = c.widen_by.auto.spans in
     rw (
-      with_items_is inside.words new long,
-      with_items_is inside.spans spans lanes,
-      same.0 ∙ c.as_mut_slice.ensures.value,
-      same.1,
-      same.2 ∙ c.as_mut_slice-2.ensures.value,
-    ) c.self.invariant
+      with_items_is inside.words new (kept ∙ c.as_mut_slice-2.ensures.len),
+      with_items_is inside.spans spans (held ∙ c.as_mut_slice.ensures.len),
+      c.swap.ensures.x_after,
+    )
+    (leapt_board (rule_of inside.answers) inside.at c.args.count inside.words.items new inside.boxes.items c.run_all.new.boxes.items inside.holds_all
+    inside.spans.items spans c.self.invariant (kept ∙ ap length c.as_mut_slice-2.ensures.value) (held ∙ ap length c.as_mut_slice.ensures.value)
+    (gone_on c))
 
-pub invariant_of-self-in-Err : goal.invariant_of-self-in-Err
-invariant_of-self-in-Err c =
+pub returns-clause-after : goal.returns-clause-after
+returns-clause-after c =
     let inside = c.self.inside in
-    let new = c.zero.new.words in
-    let spans = c.leap_on-leapt.new.spans in
-    let kept : length new ≡ length c.as_mut_slice-in-Err.result.now = c.zero.auto.words in
-    let long : length new ≡ inside.words.len = kept ∙ c.as_mut_slice-in-Err.ensures.len in
-    let held : length spans ≡ length c.as_mut_slice-2.result.now = c.leap_on-leapt.auto.spans in
-    let lanes : length spans ≡ inside.spans.len = held ∙ c.as_mut_slice-2.ensures.len in
-    let first : length inside.words.items ≡ inside.words.len = sym (ap length c.as_mut_slice.ensures.value) ∙ c.as_mut_slice.ensures.len in
-    rw (taken inside.words.len new _ long, with_items_is inside.spans spans lanes)
-    (empty_board (rule_of inside.answers) inside.at inside.words.items new inside.boxes.items c.clear.new.self.items inside.holds_all
-    inside.spans.items spans c.clear.ensures.items c.self.invariant (long ∙ sym first) (held ∙ ap length c.as_mut_slice-2.ensures.value) c.zero.ensures)
+    let new = c.put_all.new.words in
+    rw (with_items_is inside.words new (c.put_all.auto.words ∙ c.as_mut_slice-2.ensures.len))
+    ((gone_on c).cells ∙ (λ i. after (c.self.view_is i).rule (c.self.view_is i).cells c.args.count))
+
+pub cover-requires : goal.cover-requires
+cover-requires c = All-same (AreSidesWithin box_bound) _ _ c.as_slice.ensures.value c.self.invariant.board.sides
+
+pub run_all-requires-clause-frame : goal.run_all-requires-clause-frame
+run_all-requires-clause-frame c = c.self.invariant.board.frame
+
+pub run_all-requires-clause-long : goal.run_all-requires-clause-long
+run_all-requires-clause-long c = ap length c.as_slice-2.ensures.value ∙ c.self.invariant.board.long
+
+pub run_all-requires-clause-on_board : goal.run_all-requires-clause-on_board
+run_all-requires-clause-on_board c =
+    All-same (IsOnBoard c.self.inside.at) _ _ c.as_slice-places.ensures.value (c.in_ok-inside.ensures.inside c.if-not-inside.false)
+
+pub run_all-requires-clause-some : goal.run_all-requires-clause-some
+run_all-requires-clause-some c = c.requires.some
+
+pub run_all-requires-clause-few : goal.run_all-requires-clause-few
+run_all-requires-clause-few c = c.requires.few
+
+pub widen_by-requires-clause-frame : goal.widen_by-requires-clause-frame
+widen_by-requires-clause-frame c = c.self.invariant.board.frame
+
+pub widen_by-requires-clause-on_board : goal.widen_by-requires-clause-on_board
+widen_by-requires-clause-on_board c =
+    All-same (IsOnBoard c.self.inside.at) _ _ c.as_slice-places.ensures.value (c.in_ok-inside.ensures.inside c.if-not-inside.false)
+
+pub widen_by-requires-clause-long : goal.widen_by-requires-clause-long
+widen_by-requires-clause-long c = ap length c.as_mut_slice.ensures.value ∙ c.self.invariant.spanned.lanes
+
+pub put_all-requires-clause-frame : goal.put_all-requires-clause-frame
+put_all-requires-clause-frame c = c.self.invariant.board.frame
+
+pub put_all-requires-clause-long : goal.put_all-requires-clause-long
+put_all-requires-clause-long c = ap length c.as_mut_slice-2.ensures.value ∙ c.self.invariant.board.long
+
+pub put_all-requires-clause-on_board : goal.put_all-requires-clause-on_board
+put_all-requires-clause-on_board c =
+    All-same (IsOnBoard c.self.inside.at) _ _ c.as_slice-places.ensures.value (c.in_ok-inside.ensures.inside c.if-not-inside.false)
+
+pub put_all-requires-clause-each : goal.put_all-requires-clause-each
+put_all-requires-clause-each c = ap length c.as_slice-3.ensures.value ∙ c.in_ok-run_all.ensures.long

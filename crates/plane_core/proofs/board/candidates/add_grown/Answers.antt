@@ -17,7 +17,7 @@ pub loop-init : goal.loop-init
 loop-init c = λ cells o shows all. all
 
 pub pattern_of-requires : goal.pattern_of-requires
-pattern_of-requires c = c.requires
+pattern_of-requires c = record { frame = c.requires.frame; plane = c.requires.plane; lanes = c.requires.lanes; rows = c.requires.rows }
 
 pub returns-in_default : goal.returns-in_default
 returns-in_default c = c.loop.invariant

@@ -1,10 +1,20 @@
-use Rattle.std.proofs.Common.{arith, subst, ℕ}
+use Rattle.std.proofs.Common.{◌+◌, ◌-◌, ◌<◌, ◌≤◌, arith, subst, ℕ}
 use Rattle.plane_core.specs.Directions.{IsSeen}
 use Rattle.plane_core.specs.OnBoard.{cells_on}
 use Rattle.plane_core.specs.Without.{without}
-use Rattle.plane_core.proofs.DirectionLemmas.{goes_deeper, lane_seen, rows_seen}
+use Rattle.plane_core.proofs.DirectionLemmas.{goes_deeper, goes_on, lane_seen, rows_seen}
 use Rattle.plane_core.proofs.OrderLemmas.{below_too}
 use Rattle.plane_core.proofs.board.reach.deepest_in_lane.Goals as goal
+
+nothing : (n : ℕ) → 0 ≤ n
+nothing n = omega arith
+
+none_before : (n : ℕ) → n < 0 → ⊥
+none_before n low = omega (arith, low)
+
+-- a step further leaves less
+falls_past : (step next count : ℕ) {end : ℕ} → next < end → step ≤ next → end ≤ count → count - (next + 1) < count - step
+falls_past step next count inside later most = omega (arith, inside, later, most)
 
 pub returns-then-step-end-clause-seen : goal.returns-then-step-end-clause-seen
 returns-then-step-end-clause-seen c =
@@ -73,3 +83,13 @@ deepest_in_row-deepest-requires-clause-lane c = c.requires.lane
 
 pub deepest_in_row-deepest-requires-clause-row : goal.deepest_in_row-deepest-requires-clause-row
 deepest_in_row-deepest-requires-clause-row c = below_too _ _ _ c.row_inwards-row.ensures.high c.requires.end
+
+pub loop-step-init : goal.loop-step-init
+loop-step-init c = record {
+  most = nothing _;
+  deeper = goes_on c.args.way (without (cells_on c.args.at c.args.words.now) c.args.gone.now) c.args.found;
+  seen = λ step low. absurd (none_before step low);
+}
+
+pub loop-step-smaller : goal.loop-step-smaller
+loop-step-smaller c = falls_past _ _ _ c.if-step-end.false c.next_live-step.ensures.later c.rows_to_see-end.ensures.most

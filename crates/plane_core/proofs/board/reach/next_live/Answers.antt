@@ -1,6 +1,7 @@
 use borrow.Author.Count.{falls}
+use Rattle.plane_core.proofs.DirectionLemmas.{dead_more}
 use Rattle.plane_core.proofs.PlacedLemmas.{index_in}
-use Rattle.plane_core.proofs.OrderLemmas.{below_too, not_both}
+use Rattle.plane_core.proofs.OrderLemmas.{below_too, fits_next, itself, not_both, past_too}
 use Rattle.plane_core.proofs.board.reach.next_live.Goals as goal
 
 pub row_inwards-requires : goal.row_inwards-requires
@@ -31,8 +32,18 @@ loop-step-smaller c = falls c.args.end c.loop-step.step c.loop-step-test.true
 pub returns-clause-later : goal.returns-clause-later
 returns-clause-later c = c.loop-step.invariant.later
 
-pub returns-clause-live : goal.returns-clause-live
-returns-clause-live c = λ low. absurd (not_both _ _ low c.loop-step-test.false)
-
 pub returns-clause-dead : goal.returns-clause-dead
 returns-clause-dead c = c.loop-step.invariant.dead
+
+pub loop-step-init : goal.loop-step-init
+loop-step-init c = record { later = itself c.args.from; dead = λ step from to. absurd (not_both _ _ to from) }
+
+pub loop-step-preserved : goal.loop-step-preserved
+loop-step-preserved c = record {
+  later = past_too _ _ c.loop-step.invariant.later;
+  dead = dead_more c.args.at c.args.way c.args.words.now c.args.lane c.args.rows c.args.from c.loop-step.step c.index.result c.row_inwards.result
+      c.loop-step.invariant.dead c.row_inwards.ensures.row c.index.ensures.index c.if-words-index-ne0.false;
+}
+
+pub overflow_add-step : goal.overflow_add-step
+overflow_add-step c = fits_next _ _ c.loop-step-test.true c.ranges.end

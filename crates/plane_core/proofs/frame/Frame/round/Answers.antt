@@ -23,33 +23,33 @@ few_words : (words n population : ℕ) → words ≤ 256 * n + 262400 → n ≡ 
 few_words words n population low is = omega (arith, low, is)
 
 pub returns-clause-on : goal.returns-clause-on
-returns-clause-on c = lie_on c.args.pattern.now c.in_ok-bounds.bounds c.round_box-at.result c.in_ok-bounds.ensures.least c.round_box-at.ensures.on
+returns-clause-on c = lie_on c.args.pattern.now c.in-Some.bounds c.round_box-at.result c.in-Some.ensures.least c.round_box-at.ensures.on
 
 pub returns-clause-inside : goal.returns-clause-inside
 returns-clause-inside c =
-    lies_round c.args.pattern.now c.in_ok-bounds.bounds _ c.in_ok-bounds.ensures.least (fewer_sides _ _ _
+    lies_round c.args.pattern.now c.in-Some.bounds _ c.in-Some.ensures.least (fewer_sides _ _ _
     (inside c.farthest.result c.args.generations c.if-farthest-margin.false) c.farthest.ensures)
 
 pub round_box-at-requires-clause-across : goal.round_box-at-requires-clause-across
-round_box-at-requires-clause-across c = (box_in_order c.args.pattern.now c.in_ok-bounds.bounds c.in_ok-bounds.ensures.least).0
+round_box-at-requires-clause-across c = (box_in_order c.args.pattern.now c.in-Some.bounds c.in-Some.ensures.least).0
 
 pub round_box-at-requires-clause-down : goal.round_box-at-requires-clause-down
-round_box-at-requires-clause-down c = (box_in_order c.args.pattern.now c.in_ok-bounds.bounds c.in_ok-bounds.ensures.least).1
+round_box-at-requires-clause-down c = (box_in_order c.args.pattern.now c.in-Some.bounds c.in-Some.ensures.least).1
 
-pub returns-in_err-bounds-clause-frame : goal.returns-in_err-bounds-clause-frame
-returns-in_err-bounds-clause-frame c = rw c.from_residual.ensures tt
+pub returns-in_default-clause-frame : goal.returns-in_default-clause-frame
+returns-in_default-clause-frame c = tt
 
-pub returns-in_err-bounds-clause-plane : goal.returns-in_err-bounds-clause-plane
-returns-in_err-bounds-clause-plane c = rw c.from_residual.ensures tt
+pub returns-in_default-clause-plane : goal.returns-in_default-clause-plane
+returns-in_default-clause-plane c = tt
 
-pub returns-in_err-bounds-clause-on : goal.returns-in_err-bounds-clause-on
-returns-in_err-bounds-clause-on c = rw c.from_residual.ensures tt
+pub returns-in_default-clause-on : goal.returns-in_default-clause-on
+returns-in_default-clause-on c = tt
 
-pub returns-in_err-bounds-clause-inside : goal.returns-in_err-bounds-clause-inside
-returns-in_err-bounds-clause-inside c = rw c.from_residual.ensures tt
+pub returns-in_default-clause-inside : goal.returns-in_default-clause-inside
+returns-in_default-clause-inside c = tt
 
-pub returns-in_err-bounds-clause-words : goal.returns-in_err-bounds-clause-words
-returns-in_err-bounds-clause-words c = rw c.from_residual.ensures tt
+pub returns-in_default-clause-words : goal.returns-in_default-clause-words
+returns-in_default-clause-words c = tt
 
 pub returns-then-farthest-margin-clause-frame : goal.returns-then-farthest-margin-clause-frame
 returns-then-farthest-margin-clause-frame c = tt
@@ -94,7 +94,7 @@ pub round_box-at-requires-clause-margin : goal.round_box-at-requires-clause-marg
 round_box-at-requires-clause-margin c = small_margin c.args.generations c.requires
 
 pub round_box-at-requires-clause-sides : goal.round_box-at-requires-clause-sides
-round_box-at-requires-clause-sides c = fewer_sides c.farthest.result _ c.in_ok-bounds.bounds c.if-farthest-margin.false c.farthest.ensures
+round_box-at-requires-clause-sides c = fewer_sides c.farthest.result _ c.in-Some.bounds c.if-farthest-margin.false c.farthest.ensures
 
 pub is_sparse-requires : goal.is_sparse-requires
 is_sparse-requires c = c.round_box-at.ensures.frame

@@ -1,12 +1,11 @@
-use Rattle.std.proofs.Common.{◌≡◌, ◌≤◌, ◌%◌, ◌-◌}
+use Rattle.std.proofs.Common.{◌≡◌, ◌≤◌, ◌-◌}
 use Rattle.plane_core.specs.Generations.{after}
-use Rattle.plane_core.proofs.board.Board.advance_even.Given as goal
+use Rattle.plane_core.proofs.board.Board.advance.Given as goal
 
 abbrev pub invariant-loop-made : goal.invariant-loop-made
 invariant-loop-made l = record {
   rule : l.self.rule ≡ l.fn.self.rule;
   most : l.made ≤ l.most;
-  even : l.made % 2 ≡ 0;
   after : l.self.cells ≡ after l.fn.self.rule l.fn.self.cells l.made;
 }
 

@@ -3,7 +3,7 @@ use Rattle.std.proofs.lemmas.List.{with_items_is}
 use Rattle.plane_core.specs.Answers.{rule_of}
 use Rattle.plane_core.proofs.BoardLemmas.{blank_board}
 use Rattle.plane_core.proofs.SpanLemmas.{empty_spans}
-use Rattle.plane_core.proofs.board.Board.clear.Goals as goal
+use Rattle.plane_core.proofs.board.Board.show.Goals as goal
 
 pub empty-requires-clause-long : goal.empty-requires-clause-long
 empty-requires-clause-long c = rw c.as_mut_slice.ensures.value c.self.invariant.board.long
@@ -32,10 +32,19 @@ invariant_of-self c =
       plane = c.self.invariant.plane;
     }
 
-pub returns-clause-cells : goal.returns-clause-cells
-returns-clause-cells c =
+pub place-requires : goal.place-requires
+place-requires c =
     let inside = c.self.inside in
     let new = c.empty.new.words in
     let kept : length new ≡ length c.as_mut_slice.result.now = c.empty.auto.words in
     let long : length new ≡ inside.words.len = kept ∙ c.as_mut_slice.ensures.len in
-    rw (with_items_is inside.words new long) c.empty.ensures
+    record { empty = rw (with_items_is inside.words new long) c.empty.ensures }
+
+pub returns-clause-rule : goal.returns-clause-rule
+returns-clause-rule c = c.place.ensures.rule ∙ c.new-self-inside.ensures
+
+pub returns-clause-shown : goal.returns-clause-shown
+returns-clause-shown c = c.place.ensures.placed
+
+pub returns-clause-none : goal.returns-clause-none
+returns-clause-none c = c.place.ensures.none
