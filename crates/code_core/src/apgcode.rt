@@ -21,7 +21,7 @@ ghost use Rattle.code_core.specs.declared.apgcode.Kind.{Kind};
 
 use itoa::Buffer;
 use memory::OutOfMemory;
-use std::alloc::{AllocError, Global};
+use std::alloc::Global;
 use std::cmp::Ordering;
 use std::fmt;
 use std::hash::{Hash, Hasher};
@@ -145,13 +145,18 @@ pub fn readings()
 
 /// The text of a name.
 #[tactic(auto, unfolding(crate::specs::Apgcodes::code_text))]
-fn spelled(alloc: Global, kind: Kind, number: u64, text: Option<&str>) -> Result<String, AllocError>
+fn spelled(
+    alloc: Global,
+    kind: Kind,
+    number: u64,
+    text: Option<&str>,
+) -> Result<String, OutOfMemory>
     ensures { IfOk result (λ code. string_bytes code ≡ code_text kind number (option_map (λ t. t.now) text.entry)) }
 {
     let letter = kind.letter();
     match text {
-        Some(text) => format!(in alloc; "x{letter}{number}_{text}"),
-        None => format!(in alloc; "ov_{letter}{number}"),
+        Some(text) => Ok(format!(in alloc; "x{letter}{number}_{text}")?),
+        None => Ok(format!(in alloc; "ov_{letter}{number}")?),
     }
 }
 

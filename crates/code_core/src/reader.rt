@@ -34,7 +34,7 @@ use thiserror::Error;
 pub const TEXT_LIMIT: usize = 10_000;
 
 /// What is wrong with a text. Places count bytes from 0.
-#[derive(Clone, Copy, Debug, PartialEq, Eq, Error)]
+#[derive(Clone, Copy, PartialEq, Eq, Error)]
 pub enum WechslerFault {
     /// The text is longer than 10,000 bytes.
     TooLong,
@@ -57,8 +57,15 @@ impl fmt::Display for WechslerFault {
     }
 }
 
+/// Shows the message, as `Display` does.
+impl fmt::Debug for WechslerFault {
+    fn fmt<W: fmt::Write>(&self, f: &mut fmt::Formatter<W>) -> fmt::Result {
+        fmt::Display::fmt(self, f)
+    }
+}
+
 /// Why no pattern was read.
-#[derive(Clone, Copy, Debug, PartialEq, Eq, Error)]
+#[derive(Clone, Copy, PartialEq, Eq, Error)]
 pub enum WechslerError {
     /// The text says no pattern.
     Fault(WechslerFault),
@@ -72,6 +79,13 @@ impl fmt::Display for WechslerError {
             WechslerError::Fault(fault) => fault.fmt(f),
             WechslerError::Memory(_) => f.write_str("out of memory"),
         }
+    }
+}
+
+/// Shows the message, as `Display` does.
+impl fmt::Debug for WechslerError {
+    fn fmt<W: fmt::Write>(&self, f: &mut fmt::Formatter<W>) -> fmt::Result {
+        fmt::Display::fmt(self, f)
     }
 }
 

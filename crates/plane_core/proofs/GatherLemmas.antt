@@ -11,7 +11,7 @@ use Rattle.std.proofs.lemmas.List.Quantifiers.{all_pairs_push}
 use Rattle.plane_core.specs.declared.cell.Cell.{Cell}
 use Rattle.plane_core.specs.Cells.{cell_cmp, king_distance, has, on_plane, InOrder, IsPattern}
 use Rattle.plane_core.specs.Clusters.{Leads, Linked, IsCluster, AreClusters, FirstBefore}
-use Rattle.plane_core.specs.Forest.{cell_of, parent_of, numbered, IsForest, IsGathering, ArePutInClusters, JoinsAll, Labels}
+use Rattle.plane_core.specs.Forest.{cell_of, parent_of, numbered, IsForest, IsGatheringCells, ArePutInClusters, JoinsAll, Labels}
 use Rattle.plane_core.proofs.SetLemmas.{IsBefore, has-cases, has-head, or_right, in_order-head, in_order-tail, in_order-cons, in_order-nil}
 use Rattle.plane_core.proofs.SearchLemmas.{list_all-has, has-list_all}
 use Rattle.plane_core.proofs.ClusterLemmas.{king_distance-sym, linked-itself, linked-trans, linked-sym}
@@ -445,7 +445,7 @@ number_inside cells parents numbers clusters place n f low branch is g =
 
 -- places that get a number, one after another
 module _ (cells : List Cell) (parents : List ℕ) (clusters : List (List Cell)) (place : ℕ) (low : place < length cells)
-    (g : IsGathering cells parents clusters place) where
+    (g : IsGatheringCells cells parents clusters place) where
   -- a place that wasn't passed leads as in the forest
   leads : parent_of g.forest place ≡ parent_of parents place
   leads =
@@ -464,7 +464,7 @@ module _ (cells : List Cell) (parents : List ℕ) (clusters : List (List Cell)) 
       sym (get_or-take place parents (parent_of parents place) 0 early) ∙ ap (λ k. get_or (take place parents) k 0) (sym leads)
 
   one_more : (n : ℕ) (new : List (List Cell)) → ArePutInClusters cells g.forest (take place parents ++ n ∷ []) new (place + 1)
-      → IsGathering cells (set parents place n) new (place + 1)
+      → IsGatheringCells cells (set parents place n) new (place + 1)
   one_more n new more = record {
     forest = g.forest;
     is_forest = g.is_forest;
@@ -476,7 +476,7 @@ module _ (cells : List Cell) (parents : List ℕ) (clusters : List (List Cell)) 
 
   -- a root begins a cluster
   pub gathering-begun : {E : Type 0} (begun : Result (Unit {0}) E) (new : List (List Cell)) → IsPattern cells → parent_of parents place ≡ place
-      → OnOk begun (new ≡ clusters ++ (cell_of cells place ∷ []) ∷ []) → OnOk begun (IsGathering cells (set parents place (length clusters)) new (place + 1))
+      → OnOk begun (new ≡ clusters ++ (cell_of cells place ∷ []) ∷ []) → OnOk begun (IsGatheringCells cells (set parents place (length clusters)) new (place + 1))
   gathering-begun begun new p root grown = on_ok_weaker begun (λ is. one_more (length clusters) new
       (subst (λ cs. ArePutInClusters cells g.forest (take place parents ++ length clusters ∷ []) cs (place + 1)) (sym is)
       (gathering-root cells g.forest (take place parents) clusters place p.in_order g.is_forest low (leads ∙ root) g.passed))) grown
@@ -493,7 +493,7 @@ module _ (cells : List Cell) (parents : List ℕ) (clusters : List (List Cell)) 
   pub gathering-grown : {E : Type 0} (grown : Result (Unit {0}) E) (new : List (List Cell)) → IsPattern cells → parent_of parents place ≢ place
       → OnOk grown (new ≡ set clusters (parent_of parents (parent_of parents place))
       (get_or clusters (parent_of parents (parent_of parents place)) [] ++ cell_of cells place ∷ []))
-      → OnOk grown (IsGathering cells (set parents place (parent_of parents (parent_of parents place))) new (place + 1))
+      → OnOk grown (IsGatheringCells cells (set parents place (parent_of parents (parent_of parents place))) new (place + 1))
   gathering-grown grown new p branch told = on_ok_weaker grown (λ is. one_more _ new
       (subst (λ cs. ArePutInClusters cells g.forest (take place parents ++ parent_of parents (parent_of parents place) ∷ []) cs (place + 1)) (sym is)
       (gathering-other cells g.forest (take place parents) clusters place _ p.in_order g.is_forest low (λ e. branch (sym leads ∙ e)) (number_there branch)
@@ -515,7 +515,7 @@ gathering-none cells parents numbers clusters none empty =
     })
 
 pub gathering-start : (cells : List Cell) (parents : List ℕ) (clusters : List (List Cell)) → IsForest cells parents → JoinsAll cells parents (length cells)
-    → clusters ≡ [] → IsGathering cells parents clusters 0
+    → clusters ≡ [] → IsGatheringCells cells parents clusters 0
 gathering-start cells parents clusters f joined empty = record {
   forest = parents;
   is_forest = f;

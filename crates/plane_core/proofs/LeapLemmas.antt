@@ -17,7 +17,7 @@ use Rattle.plane_core.specs.Bounds.{AreSidesWithin, IsWithin}
 use Rattle.plane_core.specs.Boxes.{HoldsDifference, IsInOne, box_bound}
 use Rattle.plane_core.specs.Cells.{InOrder, has}
 use Rattle.plane_core.specs.Differences.{DiffersOnlyIn}
-use Rattle.plane_core.specs.Floods.{ShowsRows}
+use Rattle.plane_core.specs.Floods.{ShowsInAllRows}
 use Rattle.plane_core.specs.Frames.{Shows, board_cell, word_of}
 use Rattle.plane_core.specs.Generations.{after}
 use Rattle.plane_core.specs.Leaps.{ArePutBack, AreRun, HasLeapt, IsRun, IsRunAt, ShowsInner}
@@ -119,13 +119,13 @@ shown_read at p words x y n window cells lanes rows left top shows read r i a lo
 
 -- so do rows that were read
 pub rows_shown : (at : Frame) (left top : ℤ) (words : List ℕ) (x y : ℕ) (rows : List ℕ) (cells : List Cell) → x / 64 + 1 < at.lanes → y + 64 ≤ at.rows
-    → left ≡ at.left +ℤ pos x → top ≡ at.top +ℤ pos y → Shows at words cells → AreRowsRead at words x y 64 rows → ShowsRows left top rows cells
+    → left ≡ at.left +ℤ pos x → top ≡ at.top +ℤ pos y → Shows at words cells → AreRowsRead at words x y 64 rows → ShowsInAllRows left top rows cells
 rows_shown at left top words x y rows cells lanes fit west north shows read r i hr hi =
     ap (has cells) (same_cell_at _ _ (at.left +ℤ pos (x + i)) (at.top +ℤ pos (y + r)) (omega (arith, ints)) (omega (arith, ints)))
     ∙ shows_bit at words cells (x + i) (y + r) shows (omega arith) (omega arith) ∙ ap (λ (m : ℕ). m == 1) (sym (read r i hr hi))
 
 -- and the window of these rows
-pub window_shown : (left top : ℤ) (rows : List ℕ) (window : List (List ℕ)) (cells : List Cell) → ShowsRows left top rows cells
+pub window_shown : (left top : ℤ) (rows : List ℕ) (window : List (List ℕ)) (cells : List Cell) → ShowsInAllRows left top rows cells
     → ((r : ℕ) → r < 64 → row_at 16 window r ≡ slice_index rows r) → IsShownInside 16 left top 0 window cells
 window_shown left top rows window cells shows packed r i a low d inside =
     shows r i (omega (arith, low)) (omega (arith, inside)) ∙ ap (λ (w : ℕ). bit_at w i == 1) (sym (packed r (omega (arith, low))))

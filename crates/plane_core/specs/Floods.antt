@@ -15,8 +15,8 @@ pub record AreNear (reach a b : ℕ) : Type 0 where
   pub high : b ≤ a + reach
 
 -- each of 64 rows shows the pattern
-abbrev pub ShowsRows : ℤ → ℤ → List ℕ → List Cell → Type 0
-ShowsRows left top rows cells = (r i : ℕ) → r < 64 → i < 64 → has cells (cell_at (left +ℤ pos i) (top +ℤ pos r)) ≡ (bit_in rows r i == 1)
+abbrev pub ShowsInAllRows : ℤ → ℤ → List ℕ → List Cell → Type 0
+ShowsInAllRows left top rows cells = (r i : ℕ) → r < 64 → i < 64 → has cells (cell_at (left +ℤ pos i) (top +ℤ pos r)) ≡ (bit_in rows r i == 1)
 
 -- two or more inside the window the rows show the pattern
 abbrev pub ShowsInRows : ℤ → ℤ → List ℕ → List Cell → Type 0

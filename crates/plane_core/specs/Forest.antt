@@ -87,7 +87,7 @@ pub record ArePutInClusters (cells : List Cell) (parents numbers : List ℕ) (cl
   pub in_order : AllPairs FirstBefore clusters
 
 -- The places that were passed have the numbers of their clusters, and the others lead as they did in the forest.
-pub record IsGathering (cells : List Cell) (parents : List ℕ) (clusters : List (List Cell)) (place : ℕ) : Type 0 where
+pub record IsGatheringCells (cells : List Cell) (parents : List ℕ) (clusters : List (List Cell)) (place : ℕ) : Type 0 where
   pub forest : List ℕ
   pub is_forest : IsForest cells forest
   pub joined : JoinsAll cells forest (length cells)

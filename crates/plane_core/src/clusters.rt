@@ -12,7 +12,7 @@ ghost use Rattle.plane_core.specs.Cells.{IsPattern};
 ghost use Rattle.plane_core.specs.Clusters.{AreClusters};
 ghost use Rattle.plane_core.specs.Clusters.{ClustersAreDetermined, ClustersLieApart, ClustersMoveAlong};
 ghost use Rattle.plane_core.specs.Clusters.{ClustersPartition, LinkedIsAnEquivalence};
-ghost use Rattle.plane_core.specs.Forest.{IsForest, IsGathering, JoinsAll};
+ghost use Rattle.plane_core.specs.Forest.{IsForest, IsGatheringCells, JoinsAll};
 
 use crate::cell::Cell;
 use crate::forest::{join_all, roots};
@@ -96,8 +96,8 @@ fn gather(
 ) -> Result<(), OutOfMemory>
     requires pattern { IsPattern cells.now }
     requires place { place < length cells.now }
-    requires gathering { IsGathering cells.now parents.old clusters.old.items place }
-    ensures { OnOk result (IsGathering cells.now parents.new clusters.new.items (place + 1)) }
+    requires gathering { IsGatheringCells cells.now parents.old clusters.old.items place }
+    ensures { OnOk result (IsGatheringCells cells.now parents.new clusters.new.items (place + 1)) }
 {
     let parent = parents[place];
     if parent == place {

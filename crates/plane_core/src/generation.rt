@@ -34,7 +34,7 @@ use std::fmt::{self, Display};
 use thiserror::Error;
 
 /// Why a pattern has no next generation.
-#[derive(Clone, Copy, Debug, PartialEq, Eq, Error)]
+#[derive(Clone, Copy, PartialEq, Eq, Error)]
 pub enum StepError {
     /// A cell lies on the edge of the plane, so a neighbour would lie past it.
     Edge,
@@ -48,6 +48,13 @@ impl fmt::Display for StepError {
             StepError::Edge => f.write_str("a cell lies on the edge of the plane"),
             StepError::Memory(refused) => refused.fmt(f),
         }
+    }
+}
+
+/// Shows the message, as `Display` does.
+impl fmt::Debug for StepError {
+    fn fmt<W: fmt::Write>(&self, f: &mut fmt::Formatter<W>) -> fmt::Result {
+        fmt::Display::fmt(self, f)
     }
 }
 

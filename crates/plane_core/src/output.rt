@@ -8,7 +8,7 @@ use std::marker::Model;
 use thiserror::Error;
 
 /// A write failed or took no byte. Who holds one got it from a writer.
-#[derive(Clone, Copy, Debug, PartialEq, Eq, Error)]
+#[derive(Clone, Copy, PartialEq, Eq, Error)]
 pub struct WriteError {
     /// What the writer failed with. `None` if it took no byte, or was called 2^64 times for one piece.
     kind: Option<ErrorKind>,
@@ -17,6 +17,13 @@ pub struct WriteError {
 impl fmt::Display for WriteError {
     fn fmt<W: fmt::Write>(&self, f: &mut fmt::Formatter<W>) -> fmt::Result {
         f.write_str("write failed")
+    }
+}
+
+/// Shows the message, as `Display` does.
+impl fmt::Debug for WriteError {
+    fn fmt<W: fmt::Write>(&self, f: &mut fmt::Formatter<W>) -> fmt::Result {
+        fmt::Display::fmt(self, f)
     }
 }
 

@@ -14,7 +14,7 @@ use std::marker::Model;
 use thiserror::Error;
 
 /// Why a list of cells is not a pattern.
-#[derive(Clone, Copy, Debug, PartialEq, Eq, Error)]
+#[derive(Clone, Copy, PartialEq, Eq, Error)]
 pub enum FromCellsError {
     /// The cell at this index, counted from 0, is the first past the bound.
     OutOfPlane { index: usize },
@@ -30,6 +30,13 @@ impl fmt::Display for FromCellsError {
             }
             FromCellsError::Memory(refused) => refused.fmt(f),
         }
+    }
+}
+
+/// Shows the message, as `Display` does.
+impl fmt::Debug for FromCellsError {
+    fn fmt<W: fmt::Write>(&self, f: &mut fmt::Formatter<W>) -> fmt::Result {
+        fmt::Display::fmt(self, f)
     }
 }
 

@@ -26,7 +26,7 @@ use std::fmt::{self, Display};
 use thiserror::Error;
 
 /// Why a pattern can't be put somewhere.
-#[derive(Clone, Copy, Debug, PartialEq, Eq, Error)]
+#[derive(Clone, Copy, PartialEq, Eq, Error)]
 pub enum PlaceError {
     /// A cell would lie past the bound.
     OutOfPlane,
@@ -40,6 +40,13 @@ impl fmt::Display for PlaceError {
             PlaceError::OutOfPlane => f.write_str("a cell would lie past the bound of the plane"),
             PlaceError::Memory(refused) => refused.fmt(f),
         }
+    }
+}
+
+/// Shows the message, as `Display` does.
+impl fmt::Debug for PlaceError {
+    fn fmt<W: fmt::Write>(&self, f: &mut fmt::Formatter<W>) -> fmt::Result {
+        fmt::Display::fmt(self, f)
     }
 }
 

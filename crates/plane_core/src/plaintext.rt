@@ -52,7 +52,7 @@ const LINE_FEED: u8 = b'\n';
 const DEAD_CELLS: [u8; 64] = [DEAD; 64];
 
 /// Why a text is not a plaintext pattern.
-#[derive(Clone, Copy, Debug, PartialEq, Eq, Error)]
+#[derive(Clone, Copy, PartialEq, Eq, Error)]
 pub enum PlaintextFault {
     /// A byte of a row is none of `.`, `O` and `*`. Lines and columns count from 1.
     BadByte { line: usize, column: usize },
@@ -71,8 +71,15 @@ impl fmt::Display for PlaintextFault {
     }
 }
 
+/// Shows the message, as `Display` does.
+impl fmt::Debug for PlaintextFault {
+    fn fmt<W: fmt::Write>(&self, f: &mut fmt::Formatter<W>) -> fmt::Result {
+        fmt::Display::fmt(self, f)
+    }
+}
+
 /// Why a text was not read.
-#[derive(Clone, Copy, Debug, PartialEq, Eq, Error)]
+#[derive(Clone, Copy, PartialEq, Eq, Error)]
 pub enum PlaintextError {
     /// The text is not a plaintext pattern.
     Fault(PlaintextFault),
@@ -86,6 +93,13 @@ impl fmt::Display for PlaintextError {
             PlaintextError::Fault(fault) => fault.fmt(f),
             PlaintextError::Memory(refused) => refused.fmt(f),
         }
+    }
+}
+
+/// Shows the message, as `Display` does.
+impl fmt::Debug for PlaintextError {
+    fn fmt<W: fmt::Write>(&self, f: &mut fmt::Formatter<W>) -> fmt::Result {
+        fmt::Display::fmt(self, f)
     }
 }
 

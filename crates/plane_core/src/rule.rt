@@ -11,7 +11,7 @@ use std::marker::Model;
 use thiserror::Error;
 
 /// Why a text is not a rule.
-#[derive(Clone, Copy, Debug, PartialEq, Eq, Error)]
+#[derive(Clone, Copy, PartialEq, Eq, Error)]
 pub enum RuleFault {
     /// The byte at `place` can't stand there, or the text ends there too early. Places count from 0.
     BadRule { place: usize },
@@ -25,6 +25,13 @@ impl fmt::Display for RuleFault {
             RuleFault::BadRule { place } => write!(f, "bad rule at {place}"),
             RuleFault::BirthZero => f.write_str("birth on zero neighbours"),
         }
+    }
+}
+
+/// Shows the message, as `Display` does.
+impl fmt::Debug for RuleFault {
+    fn fmt<W: fmt::Write>(&self, f: &mut fmt::Formatter<W>) -> fmt::Result {
+        fmt::Display::fmt(self, f)
     }
 }
 

@@ -7,7 +7,7 @@ use std::marker::Model;
 use thiserror::Error;
 
 /// Why four numbers are not a profile.
-#[derive(Clone, Copy, Debug, PartialEq, Eq, Error)]
+#[derive(Clone, Copy, PartialEq, Eq, Error)]
 pub enum ProfileError {
     /// The period is not 1 to 64.
     Period,
@@ -27,6 +27,13 @@ impl fmt::Display for ProfileError {
             ProfileError::Stride => "bad stride",
             ProfileError::Limit => "bad limit",
         })
+    }
+}
+
+/// Shows the message, as `Display` does.
+impl fmt::Debug for ProfileError {
+    fn fmt<W: fmt::Write>(&self, f: &mut fmt::Formatter<W>) -> fmt::Result {
+        fmt::Display::fmt(self, f)
     }
 }
 

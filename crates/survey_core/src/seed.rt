@@ -10,7 +10,7 @@ use thiserror::Error;
 pub const MOST_BYTES: usize = 64;
 
 /// Why a text is not a seed.
-#[derive(Clone, Copy, Debug, PartialEq, Eq, Error)]
+#[derive(Clone, Copy, PartialEq, Eq, Error)]
 pub enum SeedFault {
     /// The text has over 64 bytes.
     TooLong,
@@ -24,6 +24,13 @@ impl fmt::Display for SeedFault {
             SeedFault::TooLong => f.write_str("seed too long"),
             SeedFault::BadByte { place } => write!(f, "bad byte in seed at {place}"),
         }
+    }
+}
+
+/// Shows the message, as `Display` does.
+impl fmt::Debug for SeedFault {
+    fn fmt<W: fmt::Write>(&self, f: &mut fmt::Formatter<W>) -> fmt::Result {
+        fmt::Display::fmt(self, f)
     }
 }
 

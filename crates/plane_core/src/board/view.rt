@@ -12,7 +12,7 @@
 //! +-------------------------------------+
 //! ```
 ghost use Rattle.std.specs.Prelude.{◌<◌, ◌^◌, IfSome};
-ghost use Rattle.plane_core.specs.Floods.{ShowsRows};
+ghost use Rattle.plane_core.specs.Floods.{ShowsInAllRows};
 ghost use Rattle.plane_core.specs.Frames.{IsViewFrame};
 
 use crate::board::Board;
@@ -35,7 +35,7 @@ impl Board {
     pub(super) fn view(&self, bounds: Bounds) -> Option<View>
         ensures frame { IfSome result (λ view. IsViewFrame view.at) }
         ensures shown { IfSome result
-            (λ view. ShowsRows view.at.left view.at.top view.rows self.now.cells) }
+            (λ view. ShowsInAllRows view.at.left view.at.top view.rows self.now.cells) }
     {
         let at = self.at;
         let Some(x) = first_of(bounds.left, bounds.right, at.left) else {

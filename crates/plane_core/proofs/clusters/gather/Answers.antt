@@ -4,7 +4,7 @@ use Rattle.std.proofs.lemmas.List.{get_or_default}
 use Rattle.std.proofs.lemmas.Result.{on_ok_weaker}
 use Rattle.plane_core.specs.declared.cell.Cell.{Cell}
 use Rattle.plane_core.specs.Cells.{IsPattern}
-use Rattle.plane_core.specs.Forest.{IsGathering, cell_of, parent_of}
+use Rattle.plane_core.specs.Forest.{IsGatheringCells, cell_of, parent_of}
 use Rattle.plane_core.proofs.GatherLemmas.{gathering-begun, gathering-grown, number_is_inside, parent_inside, pattern_grown, pattern-root}
 use Rattle.plane_core.proofs.clusters.gather.Goals as goal
 
@@ -14,7 +14,7 @@ begin-requires c = pattern-root c.args.cells.now c.args.place c.requires.pattern
 pub returns-then-parent-place : goal.returns-then-parent-place
 returns-then-parent-place c =
     let number : c.len.result ≡ length c.args.clusters.now.items = search rules in
-    subst (λ n. OnOk c.begin.result (IsGathering c.args.cells.now (set c.args.parents.now c.args.place n) c.begin.new.clusters.items (c.args.place + 1)))
+    subst (λ n. OnOk c.begin.result (IsGatheringCells c.args.cells.now (set c.args.parents.now c.args.place n) c.begin.new.clusters.items (c.args.place + 1)))
     (sym number)
     (gathering-begun c.args.cells.now c.args.parents.now c.args.clusters.now.items c.args.place c.requires.place c.requires.gathering c.begin.result _
     c.requires.pattern c.if-parent-place.true c.begin.ensures)

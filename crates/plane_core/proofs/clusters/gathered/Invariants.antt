@@ -1,5 +1,5 @@
-use Rattle.plane_core.specs.Forest.{IsGathering}
+use Rattle.plane_core.specs.Forest.{IsGatheringCells}
 use Rattle.plane_core.proofs.clusters.gathered.Given as goal
 
 abbrev pub invariant-loop-place : goal.invariant-loop-place
-invariant-loop-place l = IsGathering l.cells l.parents l.clusters.items l.place
+invariant-loop-place l = IsGatheringCells l.cells l.parents l.clusters.items l.place

@@ -5,7 +5,7 @@ use Rattle.plane_core.specs.Boards.{Running}
 use Rattle.plane_core.specs.Generations.{after}
 use Rattle.plane_core.specs.OnBoard.{cells_on}
 use Rattle.plane_core.specs.Refusing.{HasRestlessCluster}
-use Rattle.plane_core.specs.Floods.{ShowsRows}
+use Rattle.plane_core.specs.Floods.{ShowsInAllRows}
 use Rattle.plane_core.proofs.LeapLemmas.{window_shown}
 use Rattle.plane_core.proofs.OnBoardLemmas.{cells_in_order}
 use Rattle.plane_core.proofs.RunLemmas.{in_order-after}
@@ -25,7 +25,7 @@ returns-then-refuses c = λ _.
     let view = c.in-Some.view in
     let shown = c.generations.ensures S view.at.left view.at.top 0 (cells_in_order at words)
     (window_shown view.at.left view.at.top view.rows c.packed-window.result S
-    (subst (λ (b : Running). ShowsRows view.at.left view.at.top view.rows b.cells) (sym c.self.view_is) c.in-Some.ensures.shown)
+    (subst (λ (b : Running). ShowsInAllRows view.at.left view.at.top view.rows b.cells) (sym c.self.view_is) c.in-Some.ensures.shown)
     c.packed-window.ensures) in
     subst (λ (b : Running). HasRestlessCluster b.rule (after b.rule b.cells look.ahead) look.horizon look.period) c.self.view_is
     (c.refuses.ensures c.if-refuses.true (after rule S look.ahead) view.at.left view.at.top (in_order-after rule S look.ahead (cells_in_order at words))
