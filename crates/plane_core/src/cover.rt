@@ -135,13 +135,14 @@ fn absorbed_at(rectangles: &mut Vec<Bounds>, i: usize, rectangle: Bounds) -> Bou
 }
 
 /// Whether the two take no fewer windows than the least rectangle that has both in it. Mostly the two are far apart, and
-/// this is told in no time: where a column or a row of windows fits between them, nothing is saved.
+/// this is told in no time: where a column or a row of windows fits between them, nothing is saved. The sides lie near
+/// the plane, so no difference wraps.
 #[inline(always)]
 fn saves_windows(one: Bounds, other: Bounds) -> bool {
-    other.left.saturating_sub(one.right) <= 56
-        && one.left.saturating_sub(other.right) <= 56
-        && other.top.saturating_sub(one.bottom) <= 32
-        && one.top.saturating_sub(other.bottom) <= 32
+    other.left.wrapping_sub(one.right) <= 56
+        && one.left.wrapping_sub(other.right) <= 56
+        && other.top.wrapping_sub(one.bottom) <= 32
+        && one.top.wrapping_sub(other.bottom) <= 32
         && windows_for(one.joined(other)) <= windows_for(one).saturating_add(windows_for(other))
 }
 
