@@ -106,8 +106,8 @@ fn text_in(alloc: Global, pattern: &Pattern, bounds: Bounds) -> Result<String, O
     Ok(text)
 }
 
-/// Adds the text of strip k, of which there are at most eight, of a pattern with this box. A `z` parts it from the strip
-/// before it.
+/// Adds the text of strip k, of which there are at most eight, of a pattern with this box. A `z` parts it from the
+/// strip before it.
 fn push_strip(
     text: &mut String,
     pattern: &Pattern,

@@ -97,13 +97,6 @@ moved_nowhere (t ∷ ts) = λ i. record { cell = record { y = on t.cell.y i; x =
     on : (a : ℤ) → a +ℤ pos 0 ≡ a
     on a = omega (arith, ints)
 
--- all but the first tally can be moved as well, and each one that can
-pub tail_movable : (dx dy : ℤ) (t : Tally) (ts : List Tally) → AreMovable dx dy (t ∷ ts) → AreMovable dx dy ts
-tail_movable dx dy t ts m = record { right = m.right; down = m.down; near = (and_parts (near_plane t.cell) (list_all near_plane (cells_of ts)) m.near).1 }
-
-pub first_near : (dx dy : ℤ) (t : Tally) (ts : List Tally) → AreMovable dx dy (t ∷ ts) → near_plane t.cell ≡ true
-first_near dx dy t ts m = (and_parts (near_plane t.cell) (list_all near_plane (cells_of ts)) m.near).0
-
 -- a shift the other way, and none
 pub back_movable : (dx dy : ℤ) (ts : List Tally) → AreMovable dx dy ts → AreMovable (neg_ℤ dx) (neg_ℤ dy) ts
 back_movable dx dy ts m = record { right = neg_small dx m.right; down = neg_small dy m.down; near = m.near }

@@ -162,12 +162,6 @@ length-begins c (t ∷ ts) e =
     let same : t.cell ≡ c = cc in
     rw (same, same_cell-itself c) (omega arith)
 
--- what holds of the cells of all tallies holds of each one's
-pub all_cells_at : (p : Cell → Bool) (ts : List Tally) (i : ℕ) (d : Tally) → i < length ts → list_all p (cells_of ts) ≡ true → p ((get_or ts i d).cell) ≡ true
-all_cells_at p [] i d low h = absurd (omega arith)
-all_cells_at p (t ∷ ts) zero d low h = (and_parts (p t.cell) (list_all p (cells_of ts)) h).0
-all_cells_at p (t ∷ ts) (suc i) d low h = all_cells_at p ts i d (omega arith) (and_parts (p t.cell) (list_all p (cells_of ts)) h).1
-
 -- one tally more of a list, of which those that pass a test are selected
 pub selected-with : (p : Tally → Bool) (ts : List Tally) (i : ℕ) (d : Tally) (cells : List Cell) → i < length ts → p (get_or ts i d) ≡ true
     → cells ≡ cells_of (filter p (take i ts)) → cells ++ (get_or ts i d).cell ∷ [] ≡ cells_of (filter p (take (i + 1) ts))

@@ -134,9 +134,9 @@ fn absorbed_at(rectangles: &mut Vec<Bounds>, i: usize, rectangle: Bounds) -> Bou
     other.joined(rectangle)
 }
 
-/// Whether the two take no fewer windows than the least rectangle that has both in it. Mostly the two are far apart, and
-/// this is told in no time: where a column or a row of windows fits between them, nothing is saved. The sides lie near
-/// the plane, so no difference wraps.
+/// Whether the two take no fewer windows than the least rectangle that has both in it. Mostly the two are far apart: if
+/// a column or a row of windows fits between them, nothing is saved. The sides lie near the plane, so no difference
+/// wraps.
 #[inline(always)]
 fn saves_windows(one: Bounds, other: Bounds) -> bool {
     other.left.wrapping_sub(one.right) <= 56

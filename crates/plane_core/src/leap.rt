@@ -73,8 +73,8 @@ fn run_at(words: &[u64], at: Frame, place: Place, rule: &Answers, count: usize) 
 
 /// Runs the windows of all places.
 ///
-/// Both lists are cleared and filled anew: `held` with the rows of the windows, and `boxes` with a box for each window in
-/// which something has changed. So all room is made before the first word is written.
+/// Both lists are cleared and filled anew: `held` with the rows of the windows, and `boxes` with a box for each window
+/// in which something has changed. So all room is made before the first word is written.
 pub(crate) fn run_all(
     words: &[u64],
     at: Frame,

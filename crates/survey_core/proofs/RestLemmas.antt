@@ -42,11 +42,6 @@ apart_at_once rule cells clusters are =
 
 -- ---- the clusters beside the whole
 
-pub alone_later : (rule : Numbers) (clusters : List (List Cell)) (g : ℕ)
-    → map (next rule) (map (λ part. after rule part g) clusters) ≡ map (λ part. after rule part (g + 1)) clusters
-alone_later rule [] g = refl
-alone_later rule (part ∷ parts) g = λ i. sym (after-more rule part g) i ∷ alone_later rule parts g i
-
 -- each cluster later lies in order
 pub alone_in_order : (rule : Numbers) (clusters : List (List Cell)) (g : ℕ) → All InOrder clusters
     → All InOrder (map (λ part. after rule part g) clusters)

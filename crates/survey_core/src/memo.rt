@@ -215,8 +215,8 @@ impl Memo {
         Ok(Some(sweeps))
     }
 
-    /// Whether it is seen at a glance that one of the patterns doesn't come back within so many generations. One that is
-    /// remembered does.
+    /// Whether it is seen at a glance that one of the patterns doesn't come back within so many generations. One that
+    /// is remembered does.
     fn sees_change(&self, rule: &Rule, limit: u32, patterns: &[Pattern]) -> bool
         ensures { IsTrue result → ¬ All (ComesBack rule.now limit) patterns.now }
     {
