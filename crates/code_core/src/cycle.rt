@@ -5,7 +5,6 @@
 //! ```
 ghost use Rattle.std.specs.Prelude.{◌≡◌, ◌≢◌, ◌++◌, ◌<◌, ◌≤◌, ◌+◌, suc, [], ◌∷◌, Err};
 ghost use Rattle.std.specs.Prelude.{OnOk};
-ghost use Rattle.plane_core.specs.Generations.{touches_edge};
 ghost use Rattle.code_core.specs.Recurrences.{IsCycle, Recurs, SearchEnds};
 
 use crate::recurrence::Recurrence;
@@ -65,7 +64,7 @@ pub(crate) fn follow(
     ensures { SearchEnds (λ cycle. IsCycle rule.now pattern.now limit cycle.phases.items cycle.recurrence)
         rule.now pattern.now limit result }
 {
-    if touches_edge(pattern) {
+    if pattern.touches_edge() {
         return Err(StepError::Edge);
     }
     // Most patterns that don't come back are small, and seen not to at a fraction of what their phases cost.
@@ -84,18 +83,6 @@ pub(crate) fn follow(
         latest = next;
     }
     Ok(None)
-}
-
-/// Whether a cell of the pattern lies on the edge of the plane.
-fn touches_edge(pattern: &Pattern) -> bool
-    ensures { result ≡ touches_edge pattern.now }
-{
-    for cell in pattern.cells() {
-        if cell.is_on_edge() {
-            return true;
-        }
-    }
-    false
 }
 
 /// The recurrence whose period is one more than this number of generations.

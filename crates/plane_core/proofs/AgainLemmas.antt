@@ -7,7 +7,6 @@ use Rattle.std.proofs.lemmas.Bool.{false≢true}
 use Rattle.std.proofs.lemmas.Int.{ints}
 use Rattle.std.proofs.lemmas.Nat.Bits.{bit_at-lt, bit_at-trailing_zeros, bit_at-zero, same_from_bits}
 use Rattle.plane_core.specs.declared.cell.Cell.{Cell}
-use Rattle.plane_core.specs.declared.never_back.Corner.{Corner}
 use Rattle.plane_core.specs.Bounds.{shifted}
 use Rattle.plane_core.specs.Cells.{has, moved_by}
 use Rattle.plane_core.specs.Generations.{after, next}
@@ -203,20 +202,20 @@ begins n left top x S w some h whole columns alive small =
     let f = bit_at-trailing_zeros w64 w alive small in begins_column n left top x S w (trailing_zeros w64 w) some h whole columns f.1 f.2
 
 -- the same rows, where the code reads an empty one past the window
-pub same_rows : (n : ℕ) (left top dx dy : ℤ) (x y : List (List ℕ)) (S : List Cell) (w v p q r : ℕ) (first second : Corner) → 0 < n → AreVectors n x → AreVectors n y
-    → IsColumns n x w → IsColumns n y v → Holds n left top x S → Holds n left top y (shifted dx dy S) → IsCorner n x w first → IsCorner n y v second
-    → (first.row + r < 4 * n → p ≡ row_at n x (first.row + r)) → (4 * n ≤ first.row + r → p ≡ 0)
-    → (second.row + r < 4 * n → q ≡ row_at n y (second.row + r)) → (4 * n ≤ second.row + r → q ≡ 0)
-    → p / 2 ^ first.column ≡ q / 2 ^ second.column
-same_rows n left top dx dy x y S w v p q r first second some wx wy cw cv hx hy cx cy p1 p2 q1 q2 =
-    ap (λ (m : ℕ). m / 2 ^ first.column) (read n x (first.row + r) p some wx p1 p2)
-    ∙ rows_again n x y first.column second.column first.row second.row r
-    (is_again n left top dx dy x y S first.column second.column first.row second.row some wx wy hx hy
-    (begins_column n left top x S w first.column some hx wx cw cx.some cx.none)
-    (begins_column n left top y (shifted dx dy S) v second.column some hy wy cv cy.some cy.none)
-    (begins_row n left top x S first.row some hx wx cx.row)
-    (begins_row n left top y (shifted dx dy S) second.row some hy wy cy.row))
-    ∙ sym (ap (λ (m : ℕ). m / 2 ^ second.column) (read n y (second.row + r) q some wy q1 q2))
+pub same_rows : (n : ℕ) (left top dx dy : ℤ) (x y : List (List ℕ)) (S : List Cell) (w v p q r first second a b : ℕ) → 0 < n → AreVectors n x → AreVectors n y
+    → IsColumns n x w → IsColumns n y v → Holds n left top x S → Holds n left top y (shifted dx dy S) → IsCorner n x w first a → IsCorner n y v second b
+    → (first + r < 4 * n → p ≡ row_at n x (first + r)) → (4 * n ≤ first + r → p ≡ 0)
+    → (second + r < 4 * n → q ≡ row_at n y (second + r)) → (4 * n ≤ second + r → q ≡ 0)
+    → p / 2 ^ a ≡ q / 2 ^ b
+same_rows n left top dx dy x y S w v p q r first second a b some wx wy cw cv hx hy cx cy p1 p2 q1 q2 =
+    ap (λ (m : ℕ). m / 2 ^ a) (read n x (first + r) p some wx p1 p2)
+    ∙ rows_again n x y a b first second r
+    (is_again n left top dx dy x y S a b first second some wx wy hx hy
+    (begins_column n left top x S w a some hx wx cw cx.some cx.none)
+    (begins_column n left top y (shifted dx dy S) v b some hy wy cv cy.some cy.none)
+    (begins_row n left top x S first some hx wx cx.row_is)
+    (begins_row n left top y (shifted dx dy S) second some hy wy cy.row_is))
+    ∙ sym (ap (λ (m : ℕ). m / 2 ^ b) (read n y (second + r) q some wy q1 q2))
   where
     read : (n : ℕ) (z : List (List ℕ)) (s m : ℕ) → 0 < n → AreVectors n z → (s < 4 * n → m ≡ row_at n z s) → (4 * n ≤ s → m ≡ 0) → m ≡ row_at n z s
     read n z s m some whole inside past = elim (less_or_not s (4 * n)) [ inl low ↦ inside low | inr far ↦ past far ∙ sym (row_past n z s some whole far) ]

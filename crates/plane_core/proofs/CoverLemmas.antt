@@ -192,8 +192,9 @@ few_columns first last spans is near far =
     let s = is.small in
     omega (arith, ints)
 
-pub row_near : (first row : ℤ) (i : ℕ) → unsigned_abs first ≤ 2 ^ 25 → i ≤ 2 ^ 20 → row ≡ first +ℤ pos (32 * i) → unsigned_abs row ≤ 2 ^ 26
-row_near first row i near few is = omega (arith, ints, is)
+pub row_near : (first row : ℤ) (i count : ℕ) → i < count → count ≤ 2 ^ 20 → unsigned_abs first ≤ 2 ^ 25 → row ≡ first +ℤ pos (32 * i)
+    → unsigned_abs row ≤ 2 ^ 26
+row_near first row i count low few near is = omega (arith, ints, is)
 
 pub wider_bound : (first : ℤ) → unsigned_abs first ≤ 2 ^ 25 → unsigned_abs first ≤ 2 ^ 26
 wider_bound first near = omega arith
@@ -210,16 +211,16 @@ pub fits_column : (first : ℤ) (i count : ℕ) → i < count → count ≤ 2 ^ 
     → FitsSigned w32 (to_z w32 (of_z w32 first) +ℤ to_z w32 (of_z w32 (pos 56 *ℤ to_z w32 i)))
 fits_column first i count low few near = omega (arith, ints)
 
-pub column_is : (first : ℤ) (i count : ℕ) → i < count → count ≤ 2 ^ 20 → unsigned_abs first ≤ 2 ^ 26
-    → to_z w32 (of_z w32 (to_z w32 (of_z w32 first) +ℤ to_z w32 (of_z w32 (pos 56 *ℤ to_z w32 i)))) ≡ first +ℤ pos (56 * i)
-column_is first i count low few near = omega (arith, ints)
+pub fits_rows : (i count : ℕ) → i < count → count ≤ 2 ^ 20 → FitsSigned w32 (pos 32 *ℤ to_z w32 i)
+fits_rows i count low few = omega (arith, ints)
 
-pub column_near : (first column : ℤ) (i count : ℕ) → i < count → count ≤ 2 ^ 20 → unsigned_abs first ≤ 2 ^ 26 → column ≡ first +ℤ pos (56 * i)
-    → unsigned_abs column ≤ 2 ^ 28
-column_near first column i count low few near is = omega (arith, ints, is)
+pub fits_row : (first : ℤ) (i count : ℕ) → i < count → count ≤ 2 ^ 20 → unsigned_abs first ≤ 2 ^ 25
+    → FitsSigned w32 (to_z w32 (of_z w32 first) +ℤ to_z w32 (of_z w32 (pos 32 *ℤ to_z w32 i)))
+fits_row first i count low few near = omega (arith, ints)
 
-pub top_near : (top : ℤ) → unsigned_abs top ≤ 2 ^ 26 → unsigned_abs (to_z w32 (of_z w32 top)) ≤ 2 ^ 28
-top_near top near = omega (arith, ints)
+pub row_is : (first : ℤ) (i count : ℕ) → i < count → count ≤ 2 ^ 20 → unsigned_abs first ≤ 2 ^ 25
+    → to_z w32 (of_z w32 (to_z w32 (of_z w32 first) +ℤ to_z w32 (of_z w32 (pos 32 *ℤ to_z w32 i)))) ≡ first +ℤ pos (32 * i)
+row_is first i count low few near = omega (arith, ints)
 
 pub fits_less : (x : ℤ) → unsigned_abs x ≤ box_bound → FitsSigned w32 (to_z w32 (of_z w32 x) -ℤ pos 4)
 fits_less x near = omega (arith, ints)

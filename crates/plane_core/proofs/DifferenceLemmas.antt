@@ -1,9 +1,9 @@
 -- Where two windows differ.
 use Rattle.std.proofs.Common.{◌≡◌, ◌+◌, ◌-◌, ◌*◌, ◌/◌, ◌%◌, ◌<◌, ◌≤◌, ℕ, List, length, ◌^◌, Bool, true, false, not, cond, map, replicate, w64}
 use Rattle.std.proofs.Common.{zero, suc, max, slice_index, get_or, inl, inr, ◌⊎◌}
-use Rattle.std.proofs.Common.{arith, refl, ap, ◌∙◌, sym, subst, bit_and, bit_or, bit_xor}
+use Rattle.std.proofs.Common.{arith, refl, ap, ◌∙◌, sym, subst, bit_and, bit_xor}
 use Rattle.std.specs.Int.{bit_at}
-use Rattle.std.proofs.lemmas.Nat.Bits.{bit_at_and, bit_at_or, bit_at_xor, bit_at-lt, bit_at-zero}
+use Rattle.std.proofs.lemmas.Nat.Bits.{bit_at_and, bit_at_xor, bit_at-lt, bit_at-zero}
 use Rattle.std.proofs.lemmas.Bool.{eqb-true}
 use Rattle.std.proofs.lemmas.Simd.{tops_compared, length-zip2, get_or-sel_l, get_or-zip2, get_or-replicate}
 use Rattle.plane_core.specs.declared.change.Change.{Change}
@@ -31,13 +31,6 @@ no_difference one other mask j i lo lt lm low set none =
       bit_at-lt (slice_index one j) i,
       bit_at-lt (slice_index other j) i,
     )
-
-pub neither : (one other : List ℕ) (j i : ℕ) → length one ≡ 4 → length other ≡ 4 → j < 4 → bit_of (zip2 bit_or one other) j i ≡ 0
-    → (bit_of one j i ≡ 0) × (bit_of other j i ≡ 0)
-neither one other j i lo lt low none =
-    let at : bit_at (bit_or (slice_index one j) (slice_index other j)) i ≡ 0 = ap (λ (w : ℕ). bit_at w i) (sym (lane_of bit_or one other j lo lt low))
-    ∙ none in
-    (omega (arith, bit_at_or (slice_index one j) (slice_index other j) i), omega (arith, bit_at_or (slice_index one j) (slice_index other j) i))
 
 -- a bit that is in no lane
 pub in_no_lane : (v : List ℕ) (word : ℕ)

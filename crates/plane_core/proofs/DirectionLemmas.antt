@@ -1,7 +1,7 @@
 -- How deep cells lie in a direction, and the deepest cell of a board.
 use Rattle.std.proofs.Common.{◌≡◌, ◌≢◌, ◌==◌, ◌+◌, ◌-◌, ◌*◌, ◌/◌, ◌%◌, ◌^◌, ◌<◌, ◌≤◌, ℕ, ℤ, pos, ◌+ℤ◌, ◌-ℤ◌, ◌≤ℤ◌, Bool, true, false, not}
 use Rattle.std.proofs.Common.{◌&&◌, ◌||◌, List, [], ◌∷◌, Option, None, Some, IfSome, FitsSigned, of_z, to_z, arith, refl, ap, ◌∙◌, sym, subst, inl, inr, ◌⊎◌}
-use Rattle.std.proofs.Common.{zero, suc, min, max, bit_and, bit_or, get_or, length, slice_index, take, unsigned_abs, w32, w64}
+use Rattle.std.proofs.Common.{zero, suc, min, max, bit_and, bit_or, unwrap_or, get_or, length, slice_index, take, unsigned_abs, w32, w64}
 use Rattle.std.specs.Cmp.{both_ways as both_true}
 use Rattle.std.specs.Int.{bit_at, bit_not, int_max, leading_zeros, trailing_zeros}
 use Rattle.std.proofs.Math.Pow.{pow-lt}
@@ -215,32 +215,25 @@ outer_depth at way lane row i column far = by_cases way.right far (counted way.d
 
 -- ---- the greater of two depths
 
-pub greater_of : (found : Option ℤ) (deepest depth most : ℤ) → FitsSigned w32 deepest → FitsSigned w32 depth → FitsSigned w32 most
-    → found ≡ Some deepest → most ≡ int_max (to_z w32 (of_z w32 deepest)) (to_z w32 (of_z w32 depth)) → IsGreater found depth (to_z w32 (of_z w32 most))
-greater_of found deepest depth most fits_deepest fits_depth fits is at =
-    subst (λ (m : ℤ). IsGreater found depth m) (sym (to_z-of_z w32 most fits)) (record {
-      kept = λ z reached. kept z (subst (λ (o : Option ℤ). IsReached o z) is reached);
-      least = omega (arith, ints, clamps, greatest);
-      either = one (max_cases deepest depth);
-    })
+pub greater_or : (found : Option ℤ) (depth other most : ℤ) → FitsSigned w32 other → FitsSigned w32 depth
+    → other ≡ unwrap_or found (to_z w32 (of_z w32 depth)) → most ≡ int_max (to_z w32 (of_z w32 other)) (to_z w32 (of_z w32 depth))
+    → IsGreater found (to_z w32 (of_z w32 depth)) most
+greater_or found depth other most fits_other fits is at =
+    subst (λ (d : ℤ). IsGreater found d most) (sym (to_z-of_z w32 depth fits)) (by_cases found (is ∙ ap (unwrap_or found) (to_z-of_z w32 depth fits)))
   where
-    greatest : most ≡ int_max deepest depth
-    greatest = at ∙ (λ i. int_max (to_z-of_z w32 deepest fits_deepest i) (to_z-of_z w32 depth fits_depth i))
+    greatest : most ≡ int_max other depth
+    greatest = at ∙ (λ i. int_max (to_z-of_z w32 other fits_other i) (to_z-of_z w32 depth fits i))
 
-    kept : (z : ℤ) → z ≤ℤ deepest → z ≤ℤ most
-    kept z low = omega (arith, ints, clamps, greatest)
+    least : depth ≤ℤ most
+    least = omega (arith, ints, clamps, greatest)
 
-    one : (int_max deepest depth ≡ deepest) ⊎ (int_max deepest depth ≡ depth) → (most ≡ depth) ⊎ (found ≡ Some most)
-    one (inl e) = inr (is ∙ ap (λ (m : ℤ). Some m) (sym (greatest ∙ e)))
-    one (inr e) = inl (greatest ∙ e)
-
-pub greater_of_one : (found : Option ℤ) (depth : ℤ) → FitsSigned w32 depth → found ≡ None → IsGreater found depth (to_z w32 (of_z w32 depth))
-greater_of_one found depth fits is =
-    subst (λ (m : ℤ). IsGreater found depth m) (sym (to_z-of_z w32 depth fits)) (record {
-      kept = λ z reached. absurd (subst (λ (o : Option ℤ). IsReached o z) is reached);
-      least = omega (arith, ints);
-      either = inl refl;
-    })
+    by_cases : (found : Option ℤ) → other ≡ unwrap_or found depth → IsGreater found depth most
+    by_cases None e = record { kept = λ z reached. absurd reached; least = least; either = inl (omega (arith, ints, clamps, greatest, e)) }
+    by_cases (Some m) e = record { kept = λ z low. omega (arith, ints, clamps, greatest, e); least = least; either = one (max_cases other depth) }
+      where
+        one : (int_max other depth ≡ other) ⊎ (int_max other depth ≡ depth) → (most ≡ depth) ⊎ (Some m ≡ Some most)
+        one (inl e') = inr (ap (λ (n : ℤ). Some n) (sym (greatest ∙ e' ∙ e)))
+        one (inr e') = inl (greatest ∙ e')
 
 -- ---- a row
 

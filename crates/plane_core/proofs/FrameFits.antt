@@ -1,7 +1,6 @@
 -- That the numbers from which a frame is made fit their types.
 use Rattle.std.proofs.Common.{◌≡◌, ◌+◌, ◌-◌, ◌*◌, ◌/◌, ◌^◌, ◌<◌, ◌≤◌, ℕ, ℤ, pos, ◌+ℤ◌, ◌-ℤ◌, ◌≤ℤ◌, Fits, FitsSigned, true, false}
-use Rattle.std.proofs.Common.{◌∙◌, ap, arith, leb, max, unsigned_abs, of_z, subst, to_z, w32, w64}
-use Rattle.std.proofs.lemmas.Bool.{leb-true}
+use Rattle.std.proofs.Common.{◌∙◌, ap, arith, max, unsigned_abs, of_z, subst, to_z, w32, w64}
 use Rattle.std.proofs.lemmas.Int.{ints, to_z-of_z}
 use lib.Signed.{le_z, lt_z}
 use Rattle.plane_core.specs.declared.bounds.Bounds.{Bounds}
@@ -156,20 +155,17 @@ pub half_low : (n k m : ℕ) → m + n ≤ plane_bound → (n - k) / 2 ≤ plane
 half_low n k m low = omega (arith, low)
 
 pub has_room : (at : Frame) (b : Bounds) (width height far : ℕ) → width ≡ distance b.left b.right → height ≡ distance b.top b.bottom
-    → width + 1 + 400 ≤ 64 * at.lanes → leb (height + 1 + 400) at.rows ≡ true → 64 * at.lanes + at.rows ≤ plane_bound → AreSidesWithin far b
+    → width + 1 + 400 ≤ 64 * at.lanes → height + 1 + 400 ≤ at.rows → 64 * at.lanes + at.rows ≤ plane_bound → AreSidesWithin far b
     → far ≤ plane_bound - (64 * at.lanes + at.rows) → HasRoom at b
 has_room at b width height far across down wide high plane sides near = record {
   across = subst (λ (d : ℕ). d + 1 ≤ 64 * at.lanes) across (less width (64 * at.lanes) wide);
-  down = subst (λ (d : ℕ). d + 1 ≤ at.rows) down (less height at.rows (leb-true _ _ high));
+  down = subst (λ (d : ℕ). d + 1 ≤ at.rows) down (less height at.rows high);
   plane = plane;
   sides = fewer_sides far _ b near sides;
 }
   where
     less : (n m : ℕ) → n + 1 + 400 ≤ m → n + 1 ≤ m
     less n m low = omega arith
-
-pub not_wide : (n m : ℕ) → m < n → leb n m ≡ true → ⊥
-not_wide n m less e = let h = leb-true n m e in omega (arith, less)
 
 -- ---- the first cell of a row of a lane
 

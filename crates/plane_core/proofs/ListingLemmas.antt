@@ -1,5 +1,6 @@
 -- The cells that are read off a board.
-use Rattle.std.proofs.Common.{◌≡◌, ◌≢◌, ◌==◌, ◌+◌, ◌*◌, ◌/◌, ◌%◌, ◌^◌, ◌-◌, ◌<◌, ◌≤◌, ℕ, ℤ, pos, ◌+ℤ◌, ◌-ℤ◌, ◌≤ℤ◌, Bool, true, false, ◌||◌, List, [], ◌∷◌, ◌++◌}
+use Rattle.std.proofs.lemmas.Bool.Decides.{nat_tests}
+use Rattle.std.proofs.Common.{nat_le, min, ◌≡◌, ◌≢◌, ◌==◌, ◌+◌, ◌*◌, ◌/◌, ◌%◌, ◌^◌, ◌-◌, ◌<◌, ◌≤◌, ℕ, ℤ, pos, ◌+ℤ◌, ◌-ℤ◌, ◌≤ℤ◌, Bool, true, false, ◌||◌, List, [], ◌∷◌, ◌++◌}
 use Rattle.std.proofs.Common.{arith, refl, ap, ◌∙◌, sym, subst, inl, inr, ◌⊎◌, bit_or, slice_index, unsigned_abs, w64}
 use Rattle.std.specs.Int.{bit_at, trailing_zeros}
 use Rattle.std.specs.Cmp.{both_ways as both_true}
@@ -11,7 +12,7 @@ use Rattle.std.proofs.lemmas.Bool.{false≢true, or_cases, eqb-true}
 use Rattle.plane_core.specs.declared.frame.Frame.{Frame}
 use Rattle.plane_core.specs.declared.cell.Cell.{Cell}
 use Rattle.plane_core.specs.Cells.{InOrder, cell_at, has, set_of}
-use Rattle.plane_core.specs.Frames.{LieOn, Shows, board_cell, word_of}
+use Rattle.plane_core.specs.Frames.{IsFrame, LieOn, Shows, board_cell, word_of}
 use Rattle.plane_core.specs.Listing.{AreAmong, AreDead, HasRead, HasReadRow, HasReadRows, IsBandEmpty, IsLaneEmpty, IsNextAlive, IsRowEmpty}
 use Rattle.plane_core.specs.OnBoard.{cells_on}
 use Rattle.plane_core.specs.Spans.{HasRow, IsInSpan, LieInLanes, LieInSpans}
@@ -230,6 +231,10 @@ eight-more words from k columns before b m none near = go (same_or_not m k)
         let e = bit_at_or columns (slice_index words (from + k)) b in
         before b m (omega (arith, e, none)) (omega arith)
 
+-- a span that ends before eight rows, or begins past them, has none of them
+pub missed_eight : (span : Span) (first : ℕ) → (nat_le span.end first || nat_le (first + 8) span.from) ≡ true → (k : ℕ) → k < 8 → HasRow span (first + k) → ⊥
+missed_eight span first e k low inside = let a = inside.low in let b = inside.high in grind (arith, nat_tests)
+
 -- where its span doesn't reach, a lane is empty
 pub lane_missed : (at : Frame) (words : List ℕ) (spans : List Span) (s band : ℕ) → s < at.lanes → band < at.rows / 8
     → LieInSpans at spans (cells_on at words) → ((k : ℕ) → k < 8 → IsInSpan spans s (8 * band + k) → ⊥) → IsLaneEmpty at words band s
@@ -251,6 +256,20 @@ band_joined at words band from mid to first second s past near = elim (less_or_n
   | inl less ↦ first s past less
   | inr more ↦ second s more near
 ]
+
+-- the bands that have the rows of a span, as far as these are on the board
+pub bands_begin : (first all from : ℕ) → from ≡ min first all → 8 * (from / 8) ≤ all
+bands_begin first all from is = omega (arith, is)
+
+pub bands_end : (at : Frame) (last end : ℕ) → IsFrame at → end ≡ min last at.rows → (end + 7) / 8 ≤ at.rows / 8
+bands_end at last end frame is = let h = frame.bands in omega (arith, is)
+
+pub bands_held : (rows : Span) (all from end r : ℕ) → from ≡ min rows.from all → end ≡ min rows.end all → r < all → HasRow rows r
+    → HasRow (record { from = from / 8; end = (end + 7) / 8 }) (r / 8)
+bands_held rows all from end r from_is end_is low inside =
+    let a = inside.low in
+    let b = inside.high in
+    record { low = omega (arith, from_is); high = omega (arith, end_is) }
 
 -- outside of the bands that spans reach there is nothing to read
 pub bands_before : (at : Frame) (words : List ℕ) (spans : List Span) (bands : Span) (cells : List Cell) → cells ≡ [] → 8 * bands.from ≤ at.rows

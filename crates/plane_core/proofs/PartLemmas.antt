@@ -14,7 +14,7 @@ use Rattle.plane_core.specs.declared.parts.Axis.TheVariants.{Columns, Rows}
 use Rattle.plane_core.specs.declared.parts.Cut.{Cut}
 use Rattle.plane_core.specs.Cells.{has, same_cell, set_of, king_distance, distance, on_plane, plane_bound, is_within, InOrder, IsPattern}
 use Rattle.plane_core.specs.Generations.{around, lives, next, after, lies_within, touches_edge}
-use Rattle.plane_core.specs.Parts.{AreApart, FarPatternsRunAlone, HasRun, HasSides, IsCut, IsStretch, is_before, is_on_side, leaves_band, place_on, side}
+use Rattle.plane_core.specs.Parts.{AreApart, FarPatternsRunAlone, HasRun, HasSides, IsCut, is_before, is_on_side, leaves_band, place_on, side}
 use Rattle.plane_core.specs.Rules.{Numbers, is_birth, is_survival}
 use Rattle.plane_core.proofs.NeighbourhoodLemmas.{around-cons}
 use Rattle.plane_core.proofs.GenerationLemmas.{a_neighbour, after-none, after-one, distance_itself, has-next, lives_cases}
@@ -347,6 +347,13 @@ pub all_more : (test : Cell → Bool) (S : List Cell) (i : ℕ) (d : Cell) → i
 all_more test S i d l before here = list_all_more test S i d l ∙ (λ k. before k && here k)
 
 -- ---- a stretch of generations
+
+-- the pattern some generations later, at most so many, of which none but the last may have a cell at the edge
+pub record IsStretch (rule : Numbers) (cells : List Cell) (most count : ℕ) (later : List Cell) : Type 0 where
+  pub some : 0 < count
+  pub within : count ≤ most
+  pub inside : (g : ℕ) → g < count → touches_edge (after rule cells g) ≡ false
+  pub after : later ≡ after rule cells count
 
 pub stretch_of_run : (rule : Numbers) (S : List Cell) (most count : ℕ) (later : List Cell) → 0 < most → count ≡ min most 256 → HasRun rule S count later
     → IsStretch rule S most count later

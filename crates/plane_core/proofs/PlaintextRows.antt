@@ -1,13 +1,14 @@
 -- One row of a plaintext text, from a column on: its first fault, and its cells.
-use Rattle.std.proofs.Common.{◌≡◌, ℕ, zero, suc, pos, ◌+◌, ◌<◌, ◌≤◌, true, false, List, [], ◌∷◌, ◌++◌}
+use Rattle.std.proofs.Common.{◌≡◌, ℕ, zero, suc, pos, ◌+◌, ◌<◌, ◌≤◌, true, false, nat_lt, ◌&&◌, List, [], ◌∷◌, ◌++◌}
 use Rattle.std.proofs.Common.{Option, Some, None, length, get_or, drop, map, refl, sym, ap, ◌∙◌, arith}
 use Rattle.std.specs.List.{slice_get, filter_map, cons_option, enumerate_from}
 use Rattle.std.proofs.lemmas.List.{drop_more, drop_all, append_assoc, append-nil}
 use Rattle.std.proofs.lemmas.Bool.Decides.{nat_tests}
 use Rattle.plane_core.specs.declared.cell.Cell.{Cell}
 use Rattle.plane_core.specs.declared.plaintext.PlaintextFault.{PlaintextFault}
+use Rattle.plane_core.specs.declared.plaintext.PlaintextFault.TheVariants.{BadByte, TooLarge}
 use Rattle.plane_core.specs.Cells.{cell_at}
-use Rattle.plane_core.specs.Plaintext.{is_live, fault_at, first_fault, live_cells}
+use Rattle.plane_core.specs.Plaintext.{is_cell, is_live, fault_at, first_fault, live_cells}
 use Rattle.plane_core.specs.PlaintextPlaces.{side_limit, Place}
 
 -- the places of row y from column x on
@@ -46,6 +47,22 @@ fault_here line y x row f h e = ap first_fault (places_from_more line y x row h)
 pub no_fault_here : (line y x : ℕ) (row : List ℕ) → x < length row → fault_at (place_at line y x row) ≡ None
     → first_fault (places_from line y x (drop x row)) ≡ first_fault (places_from line y (x + 1) (drop (x + 1) row))
 no_fault_here line y x row h e = ap first_fault (places_from_more line y x row h) ∙ first_fault-cons_none _ _ e
+
+-- a byte that is no cell, one past the limits, and one within them
+pub bad_byte : (line y x : ℕ) (row : List ℕ) → x < length row → is_cell (get_or row x 0) ≡ false
+    → first_fault (places_from line y x (drop x row)) ≡ Some (BadByte line (x + 1))
+unfolding fault_at
+bad_byte line y x row h bad = fault_here line y x row (BadByte line (x + 1)) h (rw bad refl)
+
+pub past_limits : (line y x : ℕ) (row : List ℕ) → x < length row → is_cell (get_or row x 0) ≡ true → (nat_lt x side_limit && nat_lt y side_limit) ≡ false
+    → first_fault (places_from line y x (drop x row)) ≡ Some TooLarge
+unfolding fault_at
+past_limits line y x row h cell large = fault_here line y x row TooLarge h (rw (cell, large) refl)
+
+pub within_limits : (line y x : ℕ) (row : List ℕ) → x < length row → is_cell (get_or row x 0) ≡ true → (nat_lt x side_limit && nat_lt y side_limit) ≡ true
+    → first_fault (places_from line y x (drop x row)) ≡ first_fault (places_from line y (x + 1) (drop (x + 1) row))
+unfolding fault_at
+within_limits line y x row h cell small = no_fault_here line y x row h (rw (cell, small) refl)
 
 pub no_fault_past : (line y x : ℕ) (row : List ℕ) → length row ≤ x → first_fault (places_from line y x (drop x row)) ≡ None
 unfolding first_fault

@@ -1,12 +1,11 @@
 -- Three lists of tallies, merged one cell at a time.
 use Rattle.std.proofs.Common.{◌≡◌, ℕ, ◌+◌, ◌<◌, ◌≤◌, Bool, true, false, ◌||◌, ◌&&◌, List, [], ◌∷◌, ◌++◌, arith, cond}
-use Rattle.std.proofs.Common.{refl, ap, ◌∙◌, sym, inl, inr, ◌⊎◌, length, Option, Some, None, get_or, zero, suc, filter, take}
-use Rattle.std.specs.List.{list_all, AllByRecursion}
+use Rattle.std.proofs.Common.{refl, ap, ◌∙◌, sym, inl, inr, ◌⊎◌, length, Option, Some, None, get_or, filter, take}
+use Rattle.std.specs.List.{AllByRecursion}
 use Rattle.std.specs.Ordering.{is_eq, match_ordering}
 use Rattle.std.specs.Cmp.{tied_itself}
 use Rattle.std.specs.declared.cmp.Ordering.{Ordering}
 use Rattle.std.specs.declared.cmp.Ordering.TheVariants.{Less, Equal, Greater}
-use Rattle.std.proofs.lemmas.Bool.{and_parts}
 use Rattle.plane_core.specs.declared.cell.Cell.{Cell}
 use Rattle.plane_core.specs.declared.tally.Tally.{Tally}
 use Rattle.plane_core.specs.Cells.{cell_cmp, same_cell, InOrder}

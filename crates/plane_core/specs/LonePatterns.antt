@@ -2,7 +2,6 @@
 use Rattle.std.specs.Prelude.{◌≡◌, ◌-◌, ◌*◌, ◌<◌, ◌≤◌, ◌^◌, ℕ, ℤ, ◌+ℤ◌, ◌≤ℤ◌, ◌<ℤ◌, pos, List, [], length, slice_index, slice_index_or, true}
 use Rattle.std.specs.Int.{bit_at}
 use Rattle.plane_core.specs.declared.cell.Cell.{Cell}
-use Rattle.plane_core.specs.declared.never_back.Corner.{Corner}
 use Rattle.plane_core.specs.Cells.{InOrder, has}
 use Rattle.plane_core.specs.Generations.{NeverBack, after}
 use Rattle.plane_core.specs.Rules.{Numbers}
@@ -58,8 +57,8 @@ pub record IsFirstRow (n : ℕ) (x : List (List ℕ)) (row : ℕ) : Type 0 where
   pub none : (r : ℕ) → r < row → row_at n x r ≡ 0
 
 -- Which row and column a window's cells are counted from: the first row and the first column that have one.
-pub record IsCorner (n : ℕ) (x : List (List ℕ)) (columns : ℕ) (corner : Corner) : Type 0 where
-  pub row : IsFirstRow n x corner.row
-  pub low : corner.column < 64
-  pub some : bit_at columns corner.column ≡ 1
-  pub none : (i : ℕ) → i < corner.column → bit_at columns i ≡ 0
+pub record IsCorner (n : ℕ) (x : List (List ℕ)) (columns row column : ℕ) : Type 0 where
+  pub row_is : IsFirstRow n x row
+  pub low : column < 64
+  pub some : bit_at columns column ≡ 1
+  pub none : (i : ℕ) → i < column → bit_at columns i ≡ 0

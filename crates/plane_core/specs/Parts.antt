@@ -1,12 +1,12 @@
 -- Parts of a pattern that lie so far apart that they don't meet for some generations.
-use Rattle.std.specs.Prelude.{◌≡◌, ◌<◌, ◌≤◌, ◌*◌, ◌++◌, ◌+ℤ◌, ◌||◌, ℕ, ℤ, pos, Bool, true, false, not, List, filter, int_lt, if◌then◌else◌, ◌-◌}
+use Rattle.std.specs.Prelude.{◌≡◌, ◌<◌, ◌*◌, ◌++◌, ◌+ℤ◌, ◌||◌, ℕ, ℤ, pos, Bool, true, false, not, List, filter, int_lt, if◌then◌else◌, ◌-◌}
 use Rattle.std.specs.List.{list_all, list_any}
 use Rattle.plane_core.specs.declared.cell.Cell.{Cell}
 use Rattle.plane_core.specs.declared.parts.Axis.{Axis}
 use Rattle.plane_core.specs.declared.parts.Axis.TheVariants.{Columns, Rows}
 use Rattle.plane_core.specs.declared.parts.Cut.{Cut}
 use Rattle.plane_core.specs.Cells.{InOrder, has, king_distance, plane_bound, set_of}
-use Rattle.plane_core.specs.Generations.{after, lies_within, touches_edge}
+use Rattle.plane_core.specs.Generations.{after, lies_within}
 use Rattle.plane_core.specs.Rules.{Numbers}
 
 -- the number of a cell's column, or of its row
@@ -50,13 +50,6 @@ pub record IsCut (band : ℕ) (cells : List Cell) (cut : Cut) : Type 0 where
 pub record HasRun (rule : Numbers) (cells : List Cell) (n : ℕ) (later : List Cell) : Type 0 where
   pub after : later ≡ after rule cells n
   pub inside : lies_within (plane_bound - n) cells ≡ true
-
--- the pattern some generations later, at most so many, of which none but the last may have a cell at the edge
-pub record IsStretch (rule : Numbers) (cells : List Cell) (most count : ℕ) (later : List Cell) : Type 0 where
-  pub some : 0 < count
-  pub within : count ≤ most
-  pub inside : (g : ℕ) → g < count → touches_edge (after rule cells g) ≡ false
-  pub after : later ≡ after rule cells count
 
 -- the cells of the one pattern are further than so far from those of the other
 abbrev pub LieFurther : ℕ → List Cell → List Cell → Type 0

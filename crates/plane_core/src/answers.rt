@@ -15,12 +15,12 @@
 //! type of its own, so that the loop of a generation is built once for Life and once for any rule.
 ghost use Rattle.std.specs.Prelude.{◌≡◌, ◌==◌, ◌+◌, ◌-◌, ◌*◌, ◌<◌, ◌≤◌, ◌%◌, true, ℕ, slice_index};
 ghost use Rattle.std.specs.Int.{bit_at};
-ghost use Rattle.plane_core.specs.Lanes.{AnswersRows, AnswersTotal, AreBeside, bit_of};
+ghost use Rattle.plane_core.specs.Lanes.{AnswersRows, AreBeside, bit_of};
 ghost use Rattle.plane_core.specs.Rules.{Numbers, is_birth, is_survival};
 ghost use Rattle.plane_core.specs.Tallies.{lives_by};
 ghost use Rattle.plane_core.specs.Words.{life, one_if};
 
-use crate::lanes::{RowSums, Sum, Total, added, choice, only_one, summed};
+use crate::lanes::{RowSums, Sum, added, choice, only_one, summed};
 use crate::rule::Rule;
 use std::simd::u64x4;
 
@@ -113,20 +113,6 @@ impl AnyRule {
             self.at_two(n, ones, now),
         )
     }
-
-    /// The answer for the totals 0 to 9.
-    #[inline(always)]
-    fn at_nine(&self, total: Total, now: u64x4) -> u64x4
-        ensures { AnswersTotal self.now.rule total now result }
-    {
-        let high = self.at_two(8, total.ones, now);
-        let low = choice(
-            total.fours,
-            self.at_four(4, total.ones, total.twos, now),
-            self.at_four(0, total.ones, total.twos, now),
-        );
-        choice(total.eights, high, low)
-    }
 }
 
 impl Answering for AnyRule {
@@ -134,7 +120,14 @@ impl Answering for AnyRule {
 
     #[inline(always)]
     fn answer(&self, up: Sum, here: RowSums, down: Sum, now: u64x4) -> u64x4 {
-        self.at_nine(summed(up, here.all, down), now)
+        let total = summed(up, here.all, down);
+        let high = self.at_two(8, total.ones, now);
+        let low = choice(
+            total.fours,
+            self.at_four(4, total.ones, total.twos, now),
+            self.at_four(0, total.ones, total.twos, now),
+        );
+        choice(total.eights, high, low)
     }
 }
 

@@ -46,6 +46,19 @@ use std::alloc::Global;
 use std::marker::Model;
 use std::mem::swap;
 
+/// How many lanes a large board has: 64, and one more, since a window wants a lane to its right.
+const LARGE_LANES: usize = 65;
+
+/// How many rows it has: as many as columns, and 72 more. A multiple of 512 would bring the same row of several lanes
+/// to one place of the processor's cache.
+const LARGE_ROWS: usize = 4168;
+
+/// How many lanes a small board has, whose words are cleared in no time: 8, and one more.
+const SMALL_LANES: usize = 9;
+
+/// And how many rows: as many as columns, and 72 more.
+const SMALL_ROWS: usize = 584;
+
 /// For how many cells there is room from the start where a pattern is read: it takes a kilobyte.
 const ROOM: usize = 128;
 
@@ -59,13 +72,9 @@ pub struct Board {
     boxes: Vec<Bounds>,
     /// Whether the boxes hold all live cells.
     holds_all: bool,
-    lists: Lists,
-}
-
-/// The lists of a leap. They are kept from one to the next, since new ones each time would cost a tenth of all.
-struct Lists {
+    // The lists of a leap. They are kept from one to the next, since new ones each time would cost a tenth of all.
     /// Rectangles, and then the boxes for the next leap.
-    boxes: Vec<Bounds>,
+    next_boxes: Vec<Bounds>,
     places: Vec<Place>,
     held: Vec<[u64; 40]>,
 }
@@ -93,12 +102,16 @@ impl Drop for Board {
             spans,
             boxes,
             holds_all: _,
-            lists,
+            next_boxes,
+            places,
+            held,
         } = self;
         drop(words);
         drop(spans);
         drop(boxes);
-        drop(lists);
+        drop(next_boxes);
+        drop(places);
+        drop(held);
     }
 }
 
@@ -113,7 +126,13 @@ impl Board {
         ensures rule { IfOk result (λ board. board.rule ≡ rule.now) }
         ensures cells { IfOk result (λ board. board.cells ≡ []) }
     {
-        Board::blank(alloc, rule, Frame::round_origin())
+        let at = Frame {
+            left: -2048,
+            top: -2084,
+            lanes: LARGE_LANES,
+            rows: LARGE_ROWS,
+        };
+        Board::blank(alloc, rule, at)
     }
 
     /// An empty board as `new` makes it, but for its size: it has 512 columns, and a lane more, and 584 rows, so it
@@ -126,7 +145,13 @@ impl Board {
         ensures rule { IfOk result (λ board. board.rule ≡ rule.now) }
         ensures cells { IfOk result (λ board. board.cells ≡ []) }
     {
-        Board::blank(alloc, rule, Frame::small_round_origin())
+        let at = Frame {
+            left: -256,
+            top: -292,
+            lanes: SMALL_LANES,
+            rows: SMALL_ROWS,
+        };
+        Board::blank(alloc, rule, at)
     }
 
     /// A board that shows the pattern.
@@ -157,7 +182,9 @@ impl Board {
             spans,
             boxes,
             holds_all: true,
-            lists: Lists::new(alloc),
+            next_boxes: Vec::new(alloc),
+            places: Vec::new(alloc),
+            held: Vec::new(alloc),
         })
     }
 
@@ -192,16 +219,6 @@ impl Board {
         self.boxes.clear();
         self.holds_all = true;
         self.answers = Answers::new(rule);
-        self.place(pattern)
-    }
-
-    /// Puts a pattern in the middle of an empty board, if it has room there.
-    fn place(&mut self, pattern: &Pattern) -> Result<bool, OutOfMemory>
-        requires empty { self.old.cells ≡ [] }
-        ensures rule { self.new.rule ≡ self.old.rule }
-        ensures placed { IfOk result (λ placed. placed ≡ true → self.new.cells ≡ pattern.now) }
-        ensures none { IfOk result (λ placed. placed ≡ false → self.new.cells ≡ []) }
-    {
         let Some(at) = self.at.centred(pattern) else {
             return Ok(false);
         };
@@ -209,7 +226,6 @@ impl Board {
         match boxes_round(cells, &mut self.boxes) {
             Ok(()) => {
                 self.at = at;
-                self.holds_all = true;
                 fill(at, self.words.as_mut_slice(), cells);
                 widen_by_cells(at, self.spans.as_mut_slice(), cells);
                 Ok(true)
@@ -232,13 +248,18 @@ impl Board {
         ensures most { IfOk result (λ made. made ≤ most) }
         ensures after { IfOk result (λ made. self.new.cells ≡ after self.old.rule self.old.cells made) }
     {
-        let mut made = self.advance_odd(most)?;
+        let mut made = 0;
+        if most % 2 == 1 {
+            // One or three, so that an even number is left for leaps of four generations, and two at the end.
+            made = self.leap(most % 4)?;
+        }
         while most - made >= 2 {
             let still = self.is_still();
             if still {
                 return Ok(made + (most - made) / 2 * 2);
             }
-            let count = even_count(most - made);
+            // Four, or else two.
+            let count = (most - made).min(4) / 2 * 2;
             let leapt = self.leap(count)?;
             if leapt == 0 {
                 return Ok(made);
@@ -246,19 +267,6 @@ impl Board {
             made += leapt;
         }
         Ok(made)
-    }
-
-    /// Makes one or three generations, if most is odd, so that an even number of them is left for leaps of four
-    /// generations, and two at the end.
-    fn advance_odd(&mut self, most: u32) -> Result<u32, OutOfMemory>
-        ensures rule { self.new.rule ≡ self.old.rule }
-        ensures most { IfOk result (λ made. made ≤ most) }
-        ensures after { IfOk result (λ made. self.new.cells ≡ after self.old.rule self.old.cells made) }
-    {
-        if most % 2 == 0 {
-            return Ok(0);
-        }
-        self.leap(most % 4)
     }
 
     /// Whether it is seen that no even number of generations changes anything. `false` says nothing.
@@ -280,25 +288,24 @@ impl Board {
         if !are_enough(self.holds_all, count) {
             return Ok(0);
         }
-        let lists = &mut self.lists;
         let inside = cover(
             self.at,
             self.boxes.as_slice(),
-            &mut lists.boxes,
-            &mut lists.places,
+            &mut self.next_boxes,
+            &mut self.places,
         )?;
         if !inside {
             return Ok(0);
         }
-        let places = lists.places.as_slice();
+        let places = self.places.as_slice();
         run_all(
             self.words.as_slice(),
             self.at,
             places,
             &self.answers,
             count as usize,
-            &mut lists.held,
-            &mut lists.boxes,
+            &mut self.held,
+            &mut self.next_boxes,
         )?;
         // Nothing fails from here on.
         widen_by(self.at, self.spans.as_mut_slice(), places);
@@ -306,9 +313,9 @@ impl Board {
             self.words.as_mut_slice(),
             self.at,
             places,
-            lists.held.as_slice(),
+            self.held.as_slice(),
         );
-        swap(&mut self.boxes, &mut lists.boxes);
+        swap(&mut self.boxes, &mut self.next_boxes);
         self.holds_all = count % 2 == 1;
         Ok(count)
     }
@@ -340,44 +347,9 @@ impl Board {
     }
 }
 
-impl Drop for Lists {
-    fn drop(self) {
-        let Lists {
-            boxes,
-            places,
-            held,
-        } = self;
-        drop(boxes);
-        drop(places);
-        drop(held);
-    }
-}
-
-impl Lists {
-    /// Empty lists.
-    fn new(alloc: Global) -> Lists {
-        Lists {
-            boxes: Vec::new(alloc),
-            places: Vec::new(alloc),
-            held: Vec::new(alloc),
-        }
-    }
-}
-
 /// Whether boxes are enough for a leap of so many generations: for an odd number they have to hold all live cells.
 fn are_enough(hold_all: bool, count: u32) -> bool
     ensures { IsTrue result → count % 2 ≡ 1 → hold_all ≡ true }
 {
     hold_all || count % 2 == 0
-}
-
-/// How many generations the next leap makes where so many are left: four, or else two.
-fn even_count(left: u32) -> u32
-    requires { 2 ≤ left }
-    ensures even { result % 2 ≡ 0 }
-    ensures some { 1 ≤ result }
-    ensures few { result ≤ 4 }
-    ensures most { result ≤ left }
-{
-    if left < 4 { 2 } else { 4 }
 }

@@ -10,7 +10,7 @@
 //! |..X. |
 //! +-----+
 //! ```
-ghost use Rattle.std.specs.Prelude.{◌≡◌, ◌<◌, ℕ, true, All, IfSome, OnOk, length};
+ghost use Rattle.std.specs.Prelude.{◌≡◌, ℕ, true, All, OnOk};
 ghost use Rattle.plane_core.specs.Bounds.{IsWithin};
 ghost use Rattle.plane_core.specs.Boxes.{AreWider, HoldAll, IsInOne};
 ghost use Rattle.plane_core.specs.Generations.{lies_within};
@@ -38,36 +38,27 @@ pub(crate) fn put_in_boxes(cells: &[Cell], boxes: &mut Vec<Bounds>) -> Result<()
     Ok(())
 }
 
-/// Widens a box that is near the part so that it has the part in it. If there is none, the part is a box. If memory
-/// runs out, the boxes have at least what they had.
+/// Widens the last box that is near the part, if one of the last sixteen is, so that it has the part in it. Else the
+/// part is a box. If memory runs out, the boxes have at least what they had.
 pub(crate) fn put_in_box(part: Bounds, boxes: &mut Vec<Bounds>) -> Result<(), OutOfMemory>
     ensures wider { AreWider boxes.old.items boxes.new.items }
     ensures held { OnOk result ((c : Cell) → IsWithin part c → IsInOne boxes.new.items c) }
     ensures sides { (n : ℕ) → AreSidesWithin n part → All (AreSidesWithin n) boxes.old.items
         → All (AreSidesWithin n) boxes.new.items }
 {
-    let Some(i) = box_near(boxes.as_slice(), part) else {
-        boxes.push(part)?;
-        return Ok(());
-    };
-    let wide = boxes[i].joined(part);
-    boxes[i] = wide;
-    Ok(())
-}
-
-/// The last of the boxes that is near the part, if one of the last sixteen is. Mostly it is the last one.
-fn box_near(boxes: &[Bounds], part: Bounds) -> Option<usize>
-    ensures { IfSome result (λ i. i < length boxes.now) }
-{
+    // Mostly it is the last one.
     let mut i = boxes.len();
     let earliest = i.saturating_sub(LAST_BOXES);
     while i > earliest {
         i -= 1;
         if is_near(boxes[i], part) {
-            return Some(i);
+            let wide = boxes[i].joined(part);
+            boxes[i] = wide;
+            return Ok(());
         }
     }
-    None
+    boxes.push(part)?;
+    Ok(())
 }
 
 /// Whether the part is at most eight columns and rows from the box, and the two fit one window.

@@ -64,6 +64,7 @@ impl Change {
 
 /// The first and the last bit of a word that is 1, if there is one.
 #[inline(always)]
+#[tactic(auto, using(crate::proofs::ChangeLemmas::spans))]
 fn span_of(word: u64) -> Option<Span>
     ensures { MatchOption result ((i : ℕ) → bit_at word i ≡ 0) (HasBits word) }
 {

@@ -7,7 +7,7 @@
 //! The places are gone through in order. A root begins the next cluster; any other place goes into the cluster of the
 //! place to which it leads, which stands earlier. That place has its cluster's number by then, in place of where it
 //! led. So the clusters come in the order of their first cells, and the cells of each in their own.
-ghost use Rattle.std.specs.Prelude.{◌≡◌, ◌+◌, ◌<◌, ◌++◌, [], ◌∷◌, length, All, IfOk, OnOk};
+ghost use Rattle.std.specs.Prelude.{◌+◌, ◌<◌, length, All, IfOk, OnOk};
 ghost use Rattle.plane_core.specs.Cells.{IsPattern};
 ghost use Rattle.plane_core.specs.Clusters.{AreClusters};
 ghost use Rattle.plane_core.specs.Clusters.{ClustersAreDetermined, ClustersLieApart, ClustersMoveAlong};
@@ -19,6 +19,9 @@ use crate::forest::{join_all, roots};
 use crate::pattern::Pattern;
 use memory::OutOfMemory;
 use std::alloc::Global;
+
+/// For how many cells a new cluster has room. Of the clusters that a soup leaves, few have more.
+const COMMON_SIZE: usize = 8;
 
 impl Pattern {
     /// The clusters, ordered by their first cells.
@@ -41,6 +44,7 @@ impl Pattern {
 }
 
 /// A law of all patterns: to be linked is an equivalence of their cells.
+#[tactic(auto, using(crate::proofs::ClusterLaws::linked_law))]
 pub fn linked_is_an_equivalence()
     ensures { LinkedIsAnEquivalence }
 {}
@@ -102,23 +106,12 @@ fn gather(
     let parent = parents[place];
     if parent == place {
         parents[place] = clusters.len();
-        return begin(alloc, clusters, cells[place]);
+        let mut first = Vec::with_capacity(alloc, COMMON_SIZE)?;
+        first.push(cells[place])?;
+        clusters.push(Pattern::from_ordered(first))?;
+        return Ok(());
     }
     let number = parents[parent];
     parents[place] = number;
     clusters[number].push(cells[place])
-}
-
-/// For how many cells a new cluster has room. Of the clusters that a soup leaves, few have more.
-const COMMON_SIZE: usize = 8;
-
-/// Begins a cluster with this cell, after the others.
-fn begin(alloc: Global, clusters: &mut Vec<Pattern>, cell: Cell) -> Result<(), OutOfMemory>
-    requires { IsPattern (cell ∷ []) }
-    ensures { OnOk result (clusters.new.items ≡ clusters.old.items ++ (cell ∷ []) ∷ []) }
-{
-    let mut first = Vec::with_capacity(alloc, COMMON_SIZE)?;
-    first.push(cell)?;
-    clusters.push(Pattern::from_ordered(first))?;
-    Ok(())
 }

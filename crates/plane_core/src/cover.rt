@@ -12,11 +12,11 @@
 //! | +-----+-----+ |
 //! +-------+-------+
 //! ```
-ghost use Rattle.std.specs.Prelude.{◌≡◌, ◌+◌, ◌*◌, ◌^◌, ◌<◌, ◌≤◌, ◌⊎◌, ◌+ℤ◌, pos, All};
-ghost use Rattle.std.specs.Prelude.{IfOk, IsTrue, OnOk, true, unsigned_abs, vec_len};
-ghost use Rattle.plane_core.specs.Bounds.{IsWithin, enlarged};
+ghost use Rattle.std.specs.Prelude.{◌≡◌, ◌+◌, ◌*◌, ◌^◌, ◌<◌, ◌≤◌, ◌⊎◌, All};
+ghost use Rattle.std.specs.Prelude.{IfOk, IsTrue, OnOk, true, unsigned_abs};
+ghost use Rattle.plane_core.specs.Bounds.{IsWithin};
 ghost use Rattle.plane_core.specs.Boxes.{AreCovered, IsInOne, IsNearOne, box_bound, rectangle_bound};
-ghost use Rattle.plane_core.specs.Covers.{AreSideBySide, BeginsAt, IsInRow};
+ghost use Rattle.plane_core.specs.Covers.{AreSideBySide, IsInRow};
 ghost use Rattle.plane_core.specs.Bounds.{AreSidesWithin};
 ghost use Rattle.plane_core.specs.Places.{IsCovered, IsOnBoard};
 ghost use Rattle.plane_core.specs.declared.cell.Cell.{Cell};
@@ -76,25 +76,16 @@ fn unite(boxes: &[Bounds], rectangles: &mut Vec<Bounds>) -> Result<(), OutOfMemo
 {
     rectangles.clear();
     for bounds in boxes {
-        let rectangle = absorbed(rectangles, with_margin(*bounds));
+        let with_margin = Bounds {
+            left: bounds.left - 4,
+            top: bounds.top - 4,
+            right: bounds.right + 4,
+            bottom: bounds.bottom + 4,
+        };
+        let rectangle = absorbed(rectangles, with_margin);
         rectangles.push(rectangle)?;
     }
     Ok(())
-}
-
-/// The box with four columns and rows more on each side.
-#[inline(always)]
-fn with_margin(bounds: Bounds) -> Bounds
-    requires { AreSidesWithin box_bound bounds }
-    ensures margin { result ≡ enlarged 4 bounds }
-    ensures sides { AreSidesWithin rectangle_bound result }
-{
-    Bounds {
-        left: bounds.left - 4,
-        top: bounds.top - 4,
-        right: bounds.right + 4,
-        bottom: bounds.bottom + 4,
-    }
 }
 
 /// The rectangle, united with those of the last sixteen with which that saves windows. These are taken off the list.
@@ -111,27 +102,13 @@ fn absorbed(rectangles: &mut Vec<Bounds>, rectangle: Bounds) -> Bounds
     let mut all = rectangle;
     while i > earliest {
         i -= 1;
-        all = absorbed_at(rectangles, i, all);
+        if !saves_windows(rectangles[i], all) {
+            continue;
+        }
+        let other = rectangles.swap_remove(i);
+        all = other.joined(all);
     }
     all
-}
-
-/// The rectangle, united with one of the list if that saves windows. It is taken off the list then.
-fn absorbed_at(rectangles: &mut Vec<Bounds>, i: usize, rectangle: Bounds) -> Bounds
-    requires i { i < vec_len rectangles.old }
-    requires all_sides { All (AreSidesWithin rectangle_bound) rectangles.old.items }
-    requires sides { AreSidesWithin rectangle_bound rectangle }
-    ensures held { (c : Cell) → IsWithin rectangle c ⊎ IsInOne rectangles.old.items c
-        → IsWithin result c ⊎ IsInOne rectangles.new.items c }
-    ensures all_sides { All (AreSidesWithin rectangle_bound) rectangles.new.items }
-    ensures sides { AreSidesWithin rectangle_bound result }
-    ensures long { i ≤ vec_len rectangles.new }
-{
-    if !saves_windows(rectangles[i], rectangle) {
-        return rectangle;
-    }
-    let other = rectangles.swap_remove(i);
-    other.joined(rectangle)
 }
 
 /// Whether the two take no fewer windows than the least rectangle that has both in it. Mostly the two are far apart: if
@@ -163,19 +140,10 @@ fn lay(rectangle: Bounds, places: &mut Vec<Place>) -> Result<(), OutOfMemory>
     let across = side_by_side(rectangle.left, rectangle.right, 56);
     let down = side_by_side(rectangle.top, rectangle.bottom, 32);
     for i in 0..down.count {
-        lay_row(across, row_of(down, i), places)?;
+        let row = down.first + 32 * i as i32;
+        lay_row(across, row, places)?;
     }
     Ok(())
-}
-
-/// The row in which a span of 32 rows begins.
-#[inline(always)]
-fn row_of(down: Spans, i: u32) -> i32
-    requires first { unsigned_abs down.first ≤ 2 ^ 25 }
-    requires i { i ≤ 2 ^ 20 }
-    ensures { result ≡ down.first +ℤ pos (32 * i) }
-{
-    down.first + 32 * i as i32
 }
 
 /// Lays windows side by side, whose inner parts begin in this row.
@@ -187,27 +155,19 @@ fn lay_row(across: Spans, top: i32, places: &mut Vec<Place>) -> Result<(), OutOf
     ensures laid { OnOk result ((c : Cell) → IsInRow across top c → IsCovered places.new.items c) }
 {
     for i in 0..across.count {
-        places.push(beginning_at(across.first + 56 * i as i32, top))?;
+        let column = across.first + 56 * i as i32;
+        places.push(Place {
+            left: column - 4,
+            top: top - 4,
+        })?;
     }
     Ok(())
-}
-
-/// The window whose inner part begins in this column and this row.
-#[inline(always)]
-fn beginning_at(column: i32, row: i32) -> Place
-    requires column { unsigned_abs column ≤ 2 ^ 28 }
-    requires row { unsigned_abs row ≤ 2 ^ 28 }
-    ensures { BeginsAt result column row }
-{
-    Place {
-        left: column - 4,
-        top: row - 4,
-    }
 }
 
 /// Spans of this length, side by side, that reach from the first number to the last and as far past the one as past the
 /// other.
 #[inline(always)]
+#[tactic(auto, using(crate::proofs::CoverLemmas::side_by_side_is))]
 fn side_by_side(first: i32, last: i32, size: u32) -> Spans
     requires first { unsigned_abs first ≤ rectangle_bound }
     requires last { unsigned_abs last ≤ rectangle_bound }

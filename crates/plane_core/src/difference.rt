@@ -15,7 +15,7 @@ ghost use Rattle.plane_core.specs.Placed.{inner_mask};
 ghost use Rattle.plane_core.specs.Differences.{DiffersOnlyIn};
 
 use crate::change::Change;
-use crate::never_back::in_any_lane;
+use crate::never_back::{either, in_any_lane};
 use crate::placed::INNER;
 use std::simd::cmp::SimdPartialEq;
 use std::simd::u64x4;
@@ -28,30 +28,14 @@ fn inner_if(inside: bool) -> u64
     if inside { INNER } else { 0 }
 }
 
-/// The places of vector k that lie in the inner part of its window.
+/// The places of vector k that lie in the inner part of its window, of those in which two of them differ.
 #[inline(always)]
-fn inner_of(k: usize) -> u64x4
+fn differing(one: u64x4, other: u64x4, k: usize) -> u64x4
     requires { k < 10 }
-    ensures { (j i : ℕ) → j < 4 → 4 ≤ i → i < 60 → 4 ≤ j * 10 + k → j * 10 + k < 36 → bit_of result j i ≡ 1 }
+    ensures { (j i : ℕ) → j < 4 → 4 ≤ i → i < 60 → 4 ≤ j * 10 + k → j * 10 + k < 36 → bit_of result j i ≡ 0
+        → bit_of one j i ≡ bit_of other j i }
 {
-    u64x4::from_array([inner_if(k >= 4), INNER, INNER, inner_if(k < 6)])
-}
-
-/// The places of the mask in which two vectors differ.
-#[inline(always)]
-fn differing(one: u64x4, other: u64x4, mask: u64x4) -> u64x4
-    ensures { (j i : ℕ) → j < 4 → bit_of mask j i ≡ 1 → bit_of result j i ≡ 0 → bit_of one j i ≡ bit_of other j i }
-{
-    (one ^ other) & mask
-}
-
-/// The places of both vectors.
-#[inline(always)]
-fn either(one: u64x4, other: u64x4) -> u64x4
-    ensures one { (j i : ℕ) → j < 4 → bit_of result j i ≡ 0 → bit_of one j i ≡ 0 }
-    ensures other { (j i : ℕ) → j < 4 → bit_of result j i ≡ 0 → bit_of other j i ≡ 0 }
-{
-    one | other
+    (one ^ other) & u64x4::from_array([inner_if(k >= 4), INNER, INNER, inner_if(k < 6)])
 }
 
 /// The rows of vector k of which a place is set, as bits of a word in each lane.
@@ -74,7 +58,7 @@ pub(crate) fn difference_of(one: &[u64x4; 10], other: &[u64x4; 10]) -> Change
     let mut columns = u64x4::splat(0);
     let mut rows = u64x4::splat(0);
     for k in 0..10 {
-        let places = differing(one[k], other[k], inner_of(k));
+        let places = differing(one[k], other[k], k);
         columns = either(columns, places);
         rows = either(rows, marked(places, k));
     }

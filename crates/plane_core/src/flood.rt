@@ -8,9 +8,9 @@
 //!
 //! Near the border of the window not all cells may be right, and what lies outside isn't seen: so a flood that comes
 //! within four of the border is none.
-ghost use Rattle.std.specs.Prelude.{◌≡◌, ◌<◌, ◌≤◌, ◌⊎◌, ℕ, IsTrue};
+ghost use Rattle.std.specs.Prelude.{◌≡◌, ◌<◌, ◌≤◌, ℕ, IsTrue};
 ghost use Rattle.std.specs.Int.{bit_at};
-ghost use Rattle.plane_core.specs.Floods.{AreNear, HasGrown, IsClosed, IsClosedAt, IsFlooded, IsWellInside, LiesInside};
+ghost use Rattle.plane_core.specs.Floods.{AreNear, HasGrown, IsClosed, IsFlooded, IsWellInside, LiesInside};
 ghost use Rattle.plane_core.specs.Floods.{bit_in};
 
 /// The columns in which a window is right two generations after it was read, 2 to 61.
@@ -30,7 +30,8 @@ pub(crate) fn flood(rows: &[u64; 64], flood: &mut [u64; 64], row: usize, column:
     if row < 4 || row >= 60 || column < 4 || column >= 60 || (rows[row] >> column) & 1 == 0 {
         return false;
     }
-    *flood = begun(row, column);
+    *flood = [0; 64];
+    flood[row] = 1 << column;
     let mut first = row;
     let mut end = row + 1;
     for _ in 0..ROUNDS {
@@ -42,18 +43,6 @@ pub(crate) fn flood(rows: &[u64; 64], flood: &mut [u64; 64], row: usize, column:
         }
     }
     false
-}
-
-/// A flood of one cell.
-fn begun(row: usize, column: u32) -> [u64; 64]
-    requires row { row < 64 }
-    requires column { column < 64 }
-    ensures start { bit_in result row column ≡ 1 }
-    ensures only { (r i : ℕ) → bit_in result r i ≡ 1 → (r ≡ row) × (i ≡ column) }
-{
-    let mut flood = [0; 64];
-    flood[row] = 1 << column;
-    flood
 }
 
 /// The first row to look at: two further, where the flood has come to it.
@@ -114,19 +103,10 @@ fn grow_row(rows: &[u64; 64], flood: &mut [u64; 64], r: usize) -> u64
     ensures { HasGrown rows.now flood.old flood.new }
 {
     let here = flood[r];
-    let grown = grown(here, near_rows(flood, r), rows[r]);
+    let near = near_rows(flood, r);
+    let grown = here | (beside(beside(near)) & rows[r] & COLUMNS);
     flood[r] = grown;
     grown ^ here
-}
-
-/// The flood in a row, and those cells of the row that are near it.
-#[inline(always)]
-fn grown(here: u64, near: u64, row: u64) -> u64
-    ensures kept { (i : ℕ) → bit_at here i ≡ 1 → bit_at result i ≡ 1 }
-    ensures new { (i : ℕ) → bit_at result i ≡ 1 → (bit_at here i ≡ 1)
-        ⊎ ((bit_at row i ≡ 1) × (2 ≤ i) × (i < 62) × (j : ℕ) × (AreNear 2 i j) × (bit_at near j ≡ 1)) }
-{
-    here | (beside(beside(near)) & row & COLUMNS)
 }
 
 /// The bits of the rows that are at most two away.
@@ -177,18 +157,8 @@ fn is_closed(rows: &[u64; 64], flood: &[u64; 64]) -> bool
 {
     let mut all = 0;
     for r in 2..62 {
-        all |= missing(rows, flood, r);
+        let cells = beside(beside(near_rows(flood, r))) & rows[r];
+        all |= cells & (cells ^ flood[r]);
     }
     all == 0
-}
-
-/// The cells of this row that are near the flood and not in it.
-#[inline(always)]
-fn missing(rows: &[u64; 64], flood: &[u64; 64], q: usize) -> u64
-    requires low { 2 ≤ q }
-    requires high { q < 62 }
-    ensures { (j : ℕ) → bit_at result j ≡ 0 → j < 64 → IsClosedAt rows.now flood.now q j }
-{
-    let cells = beside(beside(near_rows(flood, q))) & rows[q];
-    cells & (cells ^ flood[q])
 }

@@ -15,7 +15,7 @@
 ghost use Rattle.std.specs.Prelude.{◌≡◌, ◌≢◌, ◌+◌, ◌<◌, ◌<ℤ◌, ◌≤◌, ℕ, true, IfOk, List, length, nat_le};
 ghost use Rattle.std.specs.declared.cmp.Ordering.TheVariants.{Less};
 ghost use Rattle.plane_core.specs.Cells.{IsPattern, cell_cmp, king_distance, on_plane};
-ghost use Rattle.plane_core.specs.Forest.{IsBridged, IsForest, IsPassed, Joined, JoinsAll, JoinsLinked};
+ghost use Rattle.plane_core.specs.Forest.{IsBridged, IsForest, IsPassed, Joined, JoinsAll};
 ghost use Rattle.plane_core.specs.Forest.{Keeps, LeadsBack, NeedsJoin};
 ghost use Rattle.plane_core.specs.Clusters.{Linked};
 ghost use Rattle.plane_core.specs.Forest.{cell_of, parent_of};
@@ -146,7 +146,7 @@ fn fresh_from(cells: &[Cell], place: usize, from: Cell) -> Cell
     }
 }
 
-/// Joins two places if their cells are near.
+/// Joins the trees of two places if their cells are near: the later root leads to the earlier.
 fn join_if_near(cells: &[Cell], parents: &mut [usize], one: usize, other: usize)
     requires pattern { IsPattern cells.now }
     requires one { one < length cells.now }
@@ -156,20 +156,9 @@ fn join_if_near(cells: &[Cell], parents: &mut [usize], one: usize, other: usize)
     ensures keeps { Keeps parents.old parents.new }
     ensures joined { NeedsJoin cells.now one other → Joined parents.new one other }
 {
-    if are_near(cells[one], cells[other]) {
-        join(parents, one, other);
+    if !are_near(cells[one], cells[other]) {
+        return;
     }
-}
-
-/// Joins the trees of two places: the later root leads to the earlier.
-fn join(parents: &mut [usize], one: usize, other: usize)
-    requires one { one < length parents.old }
-    requires other { other < length parents.old }
-    requires back { LeadsBack parents.old }
-    ensures forest { JoinsLinked parents.old parents.new one other }
-    ensures keeps { Keeps parents.old parents.new }
-    ensures joined { Joined parents.new one other }
-{
     let left = root(parents, one);
     let right = root(parents, other);
     let later = left.max(right);

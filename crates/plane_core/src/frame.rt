@@ -9,11 +9,11 @@
 //! row 2    word 2                 word 2 + rows
 //! ```
 ghost use Rattle.std.specs.Prelude.{◌≡◌, ◌+◌, ◌*◌, ◌<◌, ◌≤◌, ◌^◌, ◌-ℤ◌, ◌≤ℤ◌, ◌-◌, ◌↔◌, true, false, pos};
-ghost use Rattle.std.specs.Prelude.{IfSome, IsTrue, OnSome, []};
+ghost use Rattle.std.specs.Prelude.{IfSome, IsTrue, OnSome};
 ghost use Rattle.std.specs.Prelude.{unsigned_abs};
 ghost use Rattle.plane_core.specs.Bounds.{IsWithin};
 ghost use Rattle.plane_core.specs.Cells.{plane_bound};
-ghost use Rattle.plane_core.specs.Frames.{HasFewWords, HasRoom, IsFrame, LieOn, bounds_of, board_cell, word_of};
+ghost use Rattle.plane_core.specs.Frames.{HasFewWords, IsFrame, LieOn, bounds_of, board_cell, word_of};
 ghost use Rattle.plane_core.specs.Generations.{lies_within};
 ghost use Rattle.plane_core.specs.Bounds.{AreSidesWithin};
 ghost use Rattle.plane_core.specs.declared.cell.Cell.{Cell};
@@ -22,19 +22,6 @@ use crate::bounds::Bounds;
 use crate::cell::{BOUND, Cell};
 use crate::coordinate::{apart, back};
 use crate::pattern::Pattern;
-
-/// How many lanes a large board has: 64, and one more, since a window wants a lane to its right.
-const LARGE_LANES: usize = 65;
-
-/// How many rows it has: as many as columns, and 72 more. A multiple of 512 would bring the same row of several lanes
-/// to one place of the processor's cache.
-const LARGE_ROWS: usize = 4168;
-
-/// How many lanes a small board has: 8, and one more.
-const SMALL_LANES: usize = 9;
-
-/// And how many rows: as many as columns, and 72 more.
-const SMALL_ROWS: usize = 584;
 
 /// Where a board lies: its first column and row, how many lanes of 64 columns it has, and how many rows. The rows are a
 /// multiple of eight.
@@ -115,34 +102,6 @@ impl Frame {
         }
     }
 
-    /// A frame round the origin for patterns that are shown one after another.
-    pub(crate) fn round_origin() -> Frame
-        ensures frame { IsFrame result }
-        ensures words { HasFewWords result [] }
-        ensures plane { AreSidesWithin plane_bound (bounds_of result) }
-    {
-        Frame {
-            left: -2048,
-            top: -2084,
-            lanes: LARGE_LANES,
-            rows: LARGE_ROWS,
-        }
-    }
-
-    /// A smaller frame round the origin, whose words are cleared in no time.
-    pub(crate) fn small_round_origin() -> Frame
-        ensures frame { IsFrame result }
-        ensures words { HasFewWords result [] }
-        ensures plane { AreSidesWithin plane_bound (bounds_of result) }
-    {
-        Frame {
-            left: -256,
-            top: -292,
-            lanes: SMALL_LANES,
-            rows: SMALL_ROWS,
-        }
-    }
-
     /// The frame of the same size in whose middle the pattern lies, if it has room there, and the frame lies on the
     /// plane.
     pub(crate) fn centred(self, pattern: &Pattern) -> Option<Frame>
@@ -157,53 +116,44 @@ impl Frame {
         let Some(bounds) = pattern.bounds() else {
             return Some(self);
         };
-        let fits = self.has_room(bounds);
-        if !fits {
-            return None;
-        }
-        Some(self.round_middle(bounds))
+        self.round_middle(bounds)
     }
 
-    /// Whether the box has room on a board of this size, in whose middle it lies, and the board lies on the plane then.
-    fn has_room(self, bounds: Bounds) -> bool
-        requires { IsFrame self }
-        ensures { IsTrue result → HasRoom self bounds }
+    /// The frame of the same size in whose middle the box lies, if it has room there, and the frame lies on the plane.
+    fn round_middle(self, bounds: Bounds) -> Option<Frame>
+        requires frame { IsFrame self }
+        requires across { bounds.left ≤ℤ bounds.right }
+        requires down { bounds.top ≤ℤ bounds.bottom }
+        ensures frame { IfSome result IsFrame }
+        ensures plane { IfSome result (λ at. AreSidesWithin plane_bound (bounds_of at)) }
+        ensures on { IfSome result (λ at. (c : Cell) → IsWithin bounds c → IsWithin (bounds_of at) c) }
+        ensures lanes { IfSome result (λ at. at.lanes ≡ self.lanes) }
+        ensures rows { IfSome result (λ at. at.rows ≡ self.rows) }
     {
         let columns = 64 * self.lanes as u32;
         let rows = self.rows as u32;
         let around = columns + rows;
         if around > BOUND {
-            return false;
+            return None;
         }
         if farthest(bounds) > BOUND - around {
-            return false;
+            return None;
         }
         let width = apart(bounds.left, bounds.right) + 1;
         let height = apart(bounds.top, bounds.bottom) + 1;
-        let is_wide = width + 2 * ROOM <= columns;
-        is_wide && height + 2 * ROOM <= rows
-    }
-
-    /// The frame of the same size in whose middle the box lies.
-    fn round_middle(self, bounds: Bounds) -> Frame
-        requires frame { IsFrame self }
-        requires across { bounds.left ≤ℤ bounds.right }
-        requires down { bounds.top ≤ℤ bounds.bottom }
-        requires room { HasRoom self bounds }
-        ensures frame { IsFrame result }
-        ensures plane { AreSidesWithin plane_bound (bounds_of result) }
-        ensures on { (c : Cell) → IsWithin bounds c → IsWithin (bounds_of result) c }
-        ensures lanes { result.lanes ≡ self.lanes }
-        ensures rows { result.rows ≡ self.rows }
-    {
-        let width = apart(bounds.left, bounds.right) + 1;
-        let height = apart(bounds.top, bounds.bottom) + 1;
-        Frame {
-            left: back(bounds.left, (64 * self.lanes as u32 - width) / 2),
-            top: back(bounds.top, (self.rows as u32 - height) / 2),
+        let room = 2 * ROOM;
+        if width + room > columns {
+            return None;
+        }
+        if height + room > rows {
+            return None;
+        }
+        Some(Frame {
+            left: back(bounds.left, (columns - width) / 2),
+            top: back(bounds.top, (rows - height) / 2),
             lanes: self.lanes,
             rows: self.rows,
-        }
+        })
     }
 
     /// Whether there are many more words than cells: over 262,144, which take 2 megabytes, and 256 a cell.
@@ -284,6 +234,7 @@ impl Frame {
 }
 
 /// How far the sides of a box are from the origin, at most.
+#[tactic(auto, using(crate::proofs::FrameFits::sides_below))]
 pub(crate) fn farthest(bounds: Bounds) -> u32
     ensures { AreSidesWithin result bounds }
 {

@@ -14,6 +14,7 @@ use crate::rule::Rule;
 
 /// The law of frontiers. Under a slow rule, no pattern grows by more than a cell in two generations in a diagonal
 /// direction.
+#[tactic(auto, using(crate::proofs::FrontierLemmas::frontiers_are_slow, crate::proofs::FrontierLemmas::frontiers_go_on))]
 pub fn frontiers()
     ensures slow { FrontiersAreSlow }
     ensures go_on { FrontiersGoOn }

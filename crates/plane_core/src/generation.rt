@@ -15,7 +15,7 @@ ghost use Rattle.plane_core.specs.Generations.{next, after, lives, touches_edge,
 ghost use Rattle.plane_core.specs.Generations.{SpeedFromOrigin, SpeedOfCells, SpeedOfLight};
 ghost use Rattle.plane_core.specs.Bounds.{AreSidesWithin};
 ghost use Rattle.plane_core.specs.Frames.{HasFewWords, IsFrame, LieOn, bounds_of};
-ghost use Rattle.plane_core.specs.Parts.{FarPatternsRunAlone, HasRun, IsStretch, side};
+ghost use Rattle.plane_core.specs.Parts.{FarPatternsRunAlone, HasRun, side};
 ghost use Rattle.plane_core.specs.Refusals.{RefusesStep};
 ghost use Rattle.plane_core.specs.declared.cell.Cell.{Cell};
 ghost use Rattle.plane_core.specs.declared.generation.StepError.TheVariants.{Memory};
@@ -90,24 +90,29 @@ impl Pattern {
         ensures inside { OnOk result (touches_edge self.now ≡ false) }
         ensures refused { IfErr result (RefusesStep self.now) }
     {
-        if touches(self.cells()) {
+        if self.touches_edge() {
             return Err(StepError::Edge);
         }
-        self.next(alloc, rule).map_err(StepError::Memory)
-    }
-
-    /// The next generation: in a window if it fits, on a board if one is worth it, and else cell by cell.
-    fn next(&self, alloc: Global, rule: &Rule) -> Result<Pattern, OutOfMemory>
-        requires { touches_edge self.now ≡ false }
-        ensures { IfOk result (λ pattern. pattern ≡ next rule.now self.now) }
-    {
         if let Some(pattern) = next_in_window(alloc, rule, self)? {
             return Ok(pattern);
         }
-        match self.run_on(alloc, rule, Frame::for_a_step(self), 1)? {
-            Some(pattern) => Ok(pattern),
-            None => self.counted(alloc, rule),
+        if let Some(pattern) = self.run_on(alloc, rule, Frame::for_a_step(self), 1)? {
+            return Ok(pattern);
         }
+        Ok(self.counted(alloc, rule)?)
+    }
+
+    /// Whether a cell has a coordinate of 1,000,000 in size. Then there is no next generation: a neighbour of it would
+    /// lie past the plane.
+    pub fn touches_edge(&self) -> bool
+        ensures { result ≡ touches_edge self.now }
+    {
+        for cell in self.cells() {
+            if cell.is_on_edge() {
+                return true;
+            }
+        }
+        false
     }
 
     /// The next generation, counted cell by cell.
@@ -140,33 +145,25 @@ impl Pattern {
         ensures edge { IsErrOf result StepError.Edge
             → (g : ℕ) × (g < generations) × (touches_edge (after rule.now self.now g) ≡ true) }
     {
-        if generations > 0 && touches(self.cells()) {
+        if generations > 0 && self.touches_edge() {
             return Err(StepError::Edge);
         }
         let mut pattern = self.copy(alloc)?;
         let mut made = 0;
         while made < generations {
-            let stretch = pattern.stretch(alloc, rule, generations - made)?;
-            pattern = stretch.pattern;
-            made += stretch.count;
-        }
-        Ok(pattern)
-    }
-
-    /// The pattern some generations later, at most so many: on boards if they are worth it, and else after one step.
-    fn stretch(&self, alloc: Global, rule: &Rule, most: u32) -> Result<Stretch, StepError>
-        requires { 0 < most }
-        ensures run { IfOk result (λ stretch. IsStretch rule.now self.now most stretch.count stretch.pattern) }
-        ensures edge { IsErrOf result StepError.Edge → touches_edge self.now ≡ true }
-    {
-        let count = most.min(STRETCH);
-        match self.run_in_parts(alloc, rule, count, CUTS)? {
-            Some(pattern) => Ok(Stretch { pattern, count }),
-            None => {
-                let pattern = self.step(alloc, rule)?;
-                Ok(Stretch { pattern, count: 1 })
+            let count = (generations - made).min(STRETCH);
+            match pattern.run_in_parts(alloc, rule, count, CUTS)? {
+                Some(later) => {
+                    pattern = later;
+                    made += count;
+                }
+                None => {
+                    pattern = pattern.step(alloc, rule)?;
+                    made += 1;
+                }
             }
         }
+        Ok(pattern)
     }
 
     /// The pattern after so many generations, each part that lies far from the others on a board of its own. It is
@@ -215,6 +212,7 @@ impl Pattern {
     }
 
     /// The pattern after so many generations on a board, if one is worth it and there is room for them.
+    #[tactic(auto, using(crate::proofs::PartLemmas::ran_on_board))]
     fn run_on(
         &self,
         alloc: Global,
@@ -237,13 +235,6 @@ impl Pattern {
     }
 }
 
-/// A pattern some generations later, and how many.
-#[derive(Drop)]
-struct Stretch {
-    pattern: Pattern,
-    count: u32,
-}
-
 /// A law of all rules: in g generations no pattern comes further than g cells from where it lay.
 pub fn speed_of_light()
     ensures boxes { SpeedOfLight }
@@ -252,6 +243,7 @@ pub fn speed_of_light()
 {}
 
 /// A law of all rules: two patterns that lie further than 2g apart run for g generations as if each were alone.
+#[tactic(auto, using(crate::proofs::PartLemmas::far_patterns))]
 pub fn far_patterns_run_alone()
     ensures { FarPatternsRunAlone }
 {}
@@ -279,16 +271,4 @@ fn shown_after(
     }
     let cells = board.cells(alloc, room)?;
     Ok(Some(Pattern::from_ordered(cells)))
-}
-
-/// Whether a cell lies on the edge of the plane.
-fn touches(cells: &[Cell]) -> bool
-    ensures { result ≡ touches_edge cells.now }
-{
-    for cell in cells {
-        if cell.is_on_edge() {
-            return true;
-        }
-    }
-    false
 }

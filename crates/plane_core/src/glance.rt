@@ -15,7 +15,7 @@
 ghost use Rattle.std.specs.Prelude.{◌≡◌, ◌<◌, ◌≤◌, ℕ, IfSome, IsTrue, false, true};
 ghost use Rattle.plane_core.specs.Cells.{InOrder, has};
 ghost use Rattle.plane_core.specs.Generations.{NeverBack, after, touches_edge};
-ghost use Rattle.plane_core.specs.Glances.{IsInland, IsSpot};
+ghost use Rattle.plane_core.specs.Glances.{IsInland};
 ghost use Rattle.plane_core.specs.LonePatterns.{Holds, IsInWindow};
 ghost use Rattle.plane_core.specs.Refusing.{HasRestlessCluster};
 ghost use Rattle.plane_core.specs.declared.cell.Cell.{Cell};
@@ -34,13 +34,6 @@ use std::simd::u64x4;
 
 /// How far from the origin the sides of a pattern's box are at most: far from the edge of the plane.
 const INLAND: u32 = 900_000;
-
-/// A place in the window: columns and rows from its first cell.
-#[derive(Clone, Copy)]
-struct Spot {
-    across: usize,
-    down: usize,
-}
 
 impl Pattern {
     /// Whether it is seen at a glance that no generation from 1 to this one is the pattern again, moved or not, and
@@ -101,21 +94,9 @@ pub(crate) fn window_of(place: Place, cells: &[Cell]) -> [u64x4; 16]
 {
     let mut rows = [0; 64];
     for cell in cells {
-        let spot = spot_of(place, *cell);
-        rows[spot.down] |= 1 << spot.across;
+        let across = (cell.x - place.left) as usize;
+        let down = (cell.y - place.top) as usize;
+        rows[down] |= 1 << across;
     }
     packed(&rows)
-}
-
-/// Where the cell is in the window.
-fn spot_of(place: Place, cell: Cell) -> Spot
-    requires { IsInWindow 16 place.left place.top cell }
-    ensures spot { IsSpot place cell result.across result.down }
-    ensures across { result.across < 64 }
-    ensures down { result.down < 64 }
-{
-    Spot {
-        across: (cell.x - place.left) as usize,
-        down: (cell.y - place.top) as usize,
-    }
 }

@@ -7,7 +7,7 @@
 //! ones      01100101    00000000    11010001    00010000
 //! twos      00100100    00000000    01000001    11000000
 //! ```
-ghost use Rattle.std.specs.Prelude.{◌≡◌, ◌==◌, ◌+◌, ◌*◌, ◌<◌, ℕ, if◌then◌else◌, slice_index};
+ghost use Rattle.std.specs.Prelude.{◌≡◌, ◌==◌, ◌+◌, ◌<◌, ℕ, if◌then◌else◌, slice_index};
 ghost use Rattle.plane_core.specs.Words.{one_if};
 ghost use Rattle.plane_core.specs.Lanes.{AreBeside, bit_of, row_sum, sum_of, total_of};
 
@@ -38,23 +38,13 @@ pub(crate) struct Total {
 
 /// The sum of three bits, at each place.
 #[inline(always)]
+#[tactic(auto, using(crate::proofs::LaneLemmas::lane_adder))]
 pub(crate) fn added(a: u64x4, b: u64x4, c: u64x4) -> Sum
     ensures { (j i : ℕ) → j < 4 → sum_of result j i ≡ bit_of a j i + bit_of b j i + bit_of c j i }
 {
     Sum {
         ones: a ^ b ^ c,
         twos: (a & b) | ((a ^ b) & c),
-    }
-}
-
-/// The sum of two bits, at each place.
-#[inline(always)]
-fn pair(a: u64x4, b: u64x4) -> Sum
-    ensures { (j i : ℕ) → j < 4 → sum_of result j i ≡ bit_of a j i + bit_of b j i }
-{
-    Sum {
-        ones: a ^ b,
-        twos: a & b,
     }
 }
 
@@ -67,7 +57,10 @@ pub(crate) fn across(words: u64x4) -> RowSums
     let left = words << 1;
     let right = words >> 1;
     RowSums {
-        beside: pair(left, right),
+        beside: Sum {
+            ones: left ^ right,
+            twos: left & right,
+        },
         all: added(left, right, words),
     }
 }
@@ -78,15 +71,8 @@ pub(crate) fn summed(up: Sum, here: Sum, down: Sum) -> Total
     ensures { (j i : ℕ) → j < 4 → total_of result j i ≡ sum_of up j i + sum_of here j i + sum_of down j i }
 {
     let low = added(up.ones, here.ones, down.ones);
+    // Each of these counts twice.
     let high = added(up.twos, here.twos, down.twos);
-    joined(low, high)
-}
-
-/// The sum of a low and a high pair of digits: the high one counts twice.
-#[inline(always)]
-fn joined(low: Sum, high: Sum) -> Total
-    ensures { (j i : ℕ) → j < 4 → total_of result j i ≡ sum_of low j i + 2 * sum_of high j i }
-{
     let carry = low.twos & high.ones;
     Total {
         ones: low.ones,
@@ -98,6 +84,7 @@ fn joined(low: Sum, high: Sum) -> Total
 
 /// At each place, the bit of `yes` if the test has a 1, and that of `no` if it has a 0.
 #[inline(always)]
+#[tactic(auto, using(crate::proofs::LaneLemmas::lane_choice))]
 pub(crate) fn choice(test: u64x4, yes: u64x4, no: u64x4) -> u64x4
     ensures { (j i : ℕ) → j < 4
         → bit_of result j i ≡ (if bit_of test j i == 1 then bit_of yes j i else bit_of no j i) }
@@ -107,6 +94,7 @@ pub(crate) fn choice(test: u64x4, yes: u64x4, no: u64x4) -> u64x4
 
 /// Whether exactly one of four bits is 1, at each place.
 #[inline(always)]
+#[tactic(auto, using(crate::proofs::AnswerLemmas::lane_only_one))]
 pub(crate) fn only_one(a: u64x4, b: u64x4, c: u64x4, d: u64x4) -> u64x4
     ensures { (j i : ℕ) → j < 4
         → bit_of result j i ≡ one_if (bit_of a j i + bit_of b j i + bit_of c j i + bit_of d j i == 1) }
@@ -116,44 +104,28 @@ pub(crate) fn only_one(a: u64x4, b: u64x4, c: u64x4, d: u64x4) -> u64x4
     odd ^ (odd & two)
 }
 
-/// The words a lane on: the first lane is empty.
-#[inline(always)]
-fn later(words: u64x4) -> u64x4
-    ensures first { slice_index result 0 ≡ 0 }
-    ensures others { (j : ℕ) → j < 3 → slice_index result (j + 1) ≡ slice_index words j }
-{
-    u64x4::splat(0).shuffle(words, [3, 4, 5, 6])
-}
-
-/// The words a lane back: the last lane is empty.
-#[inline(always)]
-fn earlier(words: u64x4) -> u64x4
-    ensures others { (j : ℕ) → j < 3 → slice_index result j ≡ slice_index words (j + 1) }
-    ensures last { slice_index result 3 ≡ 0 }
-{
-    words.shuffle(u64x4::splat(0), [1, 2, 3, 4])
-}
-
-/// The sums a lane on.
+/// The sums a lane on: the first lane is empty.
 #[inline(always)]
 pub(crate) fn later_sum(sum: Sum) -> Sum
     ensures first { (i : ℕ) → sum_of result 0 i ≡ 0 }
     ensures others { (j i : ℕ) → j < 3 → sum_of result (j + 1) i ≡ sum_of sum j i }
 {
+    let none = u64x4::splat(0);
     Sum {
-        ones: later(sum.ones),
-        twos: later(sum.twos),
+        ones: none.shuffle(sum.ones, [3, 4, 5, 6]),
+        twos: none.shuffle(sum.twos, [3, 4, 5, 6]),
     }
 }
 
-/// The sums a lane back.
+/// The sums a lane back: the last lane is empty.
 #[inline(always)]
 pub(crate) fn earlier_sum(sum: Sum) -> Sum
     ensures others { (j i : ℕ) → j < 3 → sum_of result j i ≡ sum_of sum (j + 1) i }
     ensures last { (i : ℕ) → sum_of result 3 i ≡ 0 }
 {
+    let none = u64x4::splat(0);
     Sum {
-        ones: earlier(sum.ones),
-        twos: earlier(sum.twos),
+        ones: sum.ones.shuffle(none, [1, 2, 3, 4]),
+        twos: sum.twos.shuffle(none, [1, 2, 3, 4]),
     }
 }

@@ -12,7 +12,7 @@
 ghost use Rattle.std.specs.Prelude.{◌≡◌, ◌<◌, ◌≤◌, All, OnOk, length};
 ghost use Rattle.plane_core.specs.Answers.{rule_of};
 ghost use Rattle.plane_core.specs.Frames.{FillsFrame, IsFrame};
-ghost use Rattle.plane_core.specs.Leaps.{ArePutBack, AreRun, IsRun, IsRunAt};
+ghost use Rattle.plane_core.specs.Leaps.{ArePutBack, AreRun, IsRun};
 ghost use Rattle.plane_core.specs.Places.{IsOnBoard};
 
 use crate::answering::Answers;
@@ -26,13 +26,6 @@ use crate::rows::{packed, unpacked};
 use crate::window::generations;
 use memory::OutOfMemory;
 use std::simd::u64x4;
-
-/// The rows of a window that was run, and where it has changed.
-#[derive(Clone, Copy)]
-struct Ran {
-    rows: [u64; 40],
-    change: Change,
-}
 
 /// Runs a window for one to four generations. For an even number it tells where the last one differs from the one two
 /// before it, and for an odd one where it has live cells.
@@ -50,25 +43,6 @@ fn run(window: &mut [u64x4; 10], rule: &Answers, count: usize) -> Change
     let earlier = *window;
     generations(window, rule, 2);
     difference_of(window, &earlier)
-}
-
-/// Reads the window of a place and runs it.
-#[inline(always)]
-fn run_at(words: &[u64], at: Frame, place: Place, rule: &Answers, count: usize) -> Ran
-    requires frame { IsFrame at }
-    requires long { FillsFrame at words.now }
-    requires on_board { IsOnBoard at place }
-    requires some { 1 ≤ count }
-    requires few { count ≤ 4 }
-    ensures { IsRunAt at words.now (rule_of rule.now) count place result.rows result.change }
-{
-    let rows = read_rows::<40>(words, at, column_of(at, place), row_of(at, place));
-    let mut window = packed(&rows);
-    let change = run(&mut window, rule, count);
-    Ran {
-        rows: unpacked(&window),
-        change,
-    }
 }
 
 /// Runs the windows of all places.
@@ -95,9 +69,11 @@ pub(crate) fn run_all(
     held.clear();
     boxes.clear();
     for place in places {
-        let ran = run_at(words, at, *place, rule, count);
-        held.push(ran.rows)?;
-        let Some(bounds) = ran.change.bounds(*place) else {
+        let rows = read_rows::<40>(words, at, column_of(at, *place), row_of(at, *place));
+        let mut window = packed(&rows);
+        let change = run(&mut window, rule, count);
+        held.push(unpacked(&window))?;
+        let Some(bounds) = change.bounds(*place) else {
             continue;
         };
         boxes.push(bounds)?;

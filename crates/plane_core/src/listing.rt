@@ -11,14 +11,14 @@
 //! band 3    .     .     .     .     .
 //! ```
 ghost use Rattle.std.specs.Prelude.{◌≡◌, ◌+◌, ◌*◌, ◌/◌, ◌<◌, ◌≤◌, ◌^◌, ◌-ℤ◌, ◌+ℤ◌, ℕ, List, length, pos};
-ghost use Rattle.std.specs.Prelude.{slice_index, IfNone, IfOk, IfSome, IsTrue, OnOk, unsigned_abs};
+ghost use Rattle.std.specs.Prelude.{slice_index, IfOk, IsTrue, OnOk, unsigned_abs};
 ghost use Rattle.std.specs.Int.{bit_at};
 ghost use Rattle.plane_core.specs.Cells.{InOrder, cell_at};
 ghost use Rattle.plane_core.specs.Frames.{FillsFrame, IsFrame, LieOn, Shows, word_of};
 ghost use Rattle.plane_core.specs.OnBoard.{cells_on};
 ghost use Rattle.plane_core.specs.Spans.{HasRow, LieInLanes, LieInSpans};
-ghost use Rattle.plane_core.specs.Listing.{AreDead, HasRead, HasReadRows, IsBandEmpty};
-ghost use Rattle.plane_core.specs.Listing.{IsLaneEmpty, IsNextAlive};
+ghost use Rattle.plane_core.specs.Listing.{HasRead, HasReadRows, IsBandEmpty};
+ghost use Rattle.plane_core.specs.Listing.{IsLaneEmpty};
 ghost use Rattle.plane_core.specs.declared.cell.Cell.{Cell};
 
 use crate::cell::Cell;
@@ -47,9 +47,11 @@ pub(crate) fn list(
 {
     let mut cells = Vec::with_capacity(alloc, room)?;
     let hull = hull_of(at, spans);
-    let lanes = hull.lanes_on(at);
-    let bands = hull.bands_on(at);
-    for band in bands.from..bands.end {
+    let lanes = hull.lanes.below(at.lanes);
+    // The bands that have all rows of the hull.
+    let first = hull.rows.from.min(at.rows) / 8;
+    let end = (hull.rows.end.min(at.rows) + 7) / 8;
+    for band in first..end {
         read_band(at, words, spans, lanes, band, &mut cells)?;
     }
     Ok(in_order(cells))
@@ -61,7 +63,12 @@ fn read_word(word: u64, first: Cell, cells: &mut Vec<Cell>) -> Result<(), OutOfM
     ensures { OnOk result (HasRead word first cells.old.items 64 cells.new.items) }
 {
     let mut done = 0;
-    while let Some(i) = next_alive(word, done) {
+    while done < 64 {
+        let remainder = word >> done;
+        if remainder == 0 {
+            return Ok(());
+        }
+        let i = done + remainder.trailing_zeros() as usize;
         cells.push(along(first, i))?;
         done = i + 1;
     }
@@ -166,36 +173,16 @@ fn is_lane_empty(at: Frame, words: &[u64], spans: &[Span], lane: usize, band: us
     requires live { LieInSpans at spans.now (cells_on at words.now) }
     ensures { IsTrue result → IsLaneEmpty at words.now band lane }
 {
-    if spans[lane].misses_eight(8 * band) {
+    let rows = spans[lane];
+    let first = 8 * band;
+    let is_missed = (rows.end <= first) | (first + 8 <= rows.from);
+    if is_missed {
         return true;
     }
-    columns_of_eight(words, at.index(lane, 8 * band)) == 0
-}
-
-/// Which columns have a live cell in eight words, from this one on.
-fn columns_of_eight(words: &[u64], from: usize) -> u64
-    requires { from + 8 ≤ length words.now }
-    ensures { (b k : ℕ) → bit_at result b ≡ 0 → k < 8 → bit_at (slice_index words.now (from + k)) b ≡ 0 }
-{
+    let from = at.index(lane, first);
     let mut columns = 0;
     for k in 0..8 {
         columns |= words[from + k];
     }
-    columns
-}
-
-/// The first live cell of a word, from this place on: the first bit that is 1.
-fn next_alive(word: u64, from: usize) -> Option<usize>
-    requires { from ≤ 64 }
-    ensures some { IfSome result (IsNextAlive word from) }
-    ensures none { IfNone result (AreDead word from 64) }
-{
-    if from == 64 {
-        return None;
-    }
-    let remainder = word >> from;
-    if remainder == 0 {
-        return None;
-    }
-    Some(from + remainder.trailing_zeros() as usize)
+    columns == 0
 }

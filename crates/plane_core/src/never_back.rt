@@ -11,12 +11,11 @@
 //! ```
 //!
 //! Only the 'no' is sure: what may have come back, or has come to the rim, is run elsewhere.
-ghost use Rattle.std.specs.Prelude.{◌≡◌, ◌+◌, ◌-◌, ◌*◌, ◌/◌, ◌^◌, ◌<◌, ◌≤◌, [], ℕ, ℤ, IfSome, IsTrue, List, max};
-ghost use Rattle.std.specs.Prelude.{slice_index, slice_index_or};
+ghost use Rattle.std.specs.Prelude.{◌≡◌, ◌+◌, ◌-◌, ◌*◌, ◌/◌, ◌^◌, ◌<◌, ◌≤◌, ℕ, ℤ, IfSome, IsTrue, List, max};
 ghost use Rattle.std.specs.Int.{bit_at};
 ghost use Rattle.plane_core.specs.Answers.{rule_of};
 ghost use Rattle.plane_core.specs.Bounds.{shifted};
-ghost use Rattle.plane_core.specs.LonePatterns.{AreAlike, HasChanged, Holds, IsColumns, IsCorner, IsFirstRow};
+ghost use Rattle.plane_core.specs.LonePatterns.{AreAlike, HasChanged, Holds, IsColumns, IsFirstRow};
 ghost use Rattle.plane_core.specs.LonePatterns.{IsRimClear, IsVector, AreVectors};
 ghost use Rattle.plane_core.specs.Lanes.{bit_of};
 ghost use Rattle.plane_core.specs.Windows.{row_at};
@@ -25,13 +24,6 @@ ghost use Rattle.plane_core.specs.declared.cell.Cell.{Cell};
 use crate::answering::Answers;
 use crate::window::generation;
 use std::simd::u64x4;
-
-/// The first row and the first column of a window that have a live cell.
-#[derive(Clone, Copy)]
-struct Corner {
-    row: usize,
-    column: u32,
-}
 
 /// Whether it is seen that no generation from 1 to `most` is the pattern again, moved or not, and that each lies in the
 /// window. The pattern is what `start` shows, and lies in the window whole. `false` says nothing.
@@ -87,7 +79,7 @@ pub(crate) fn columns_of<const N: usize>(window: &[u64x4; N]) -> u64
 
 /// The bits of both.
 #[inline(always)]
-fn either(a: u64x4, b: u64x4) -> u64x4
+pub(crate) fn either(a: u64x4, b: u64x4) -> u64x4
     ensures bits { (j i : ℕ) → j < 4 → bit_of result j i ≡ max (bit_of a j i) (bit_of b j i) }
     ensures vector { IsVector b }
 {
@@ -96,6 +88,7 @@ fn either(a: u64x4, b: u64x4) -> u64x4
 
 /// The bits of all four lanes.
 #[inline(always)]
+#[tactic(auto, using(crate::proofs::NeverBackLemmas::four_words))]
 pub(crate) fn in_any_lane(vector: u64x4) -> u64
     ensures { (i : ℕ) → bit_at result i
         ≡ max (max (bit_of vector 0 i) (bit_of vector 1 i)) (max (bit_of vector 2 i) (bit_of vector 3 i)) }
@@ -186,39 +179,25 @@ fn may_be_again<const N: usize>(
     if columns == 0 {
         return false;
     }
-    if from >> from.trailing_zeros() != columns >> columns.trailing_zeros() {
+    let first_column = from.trailing_zeros();
+    let second_column = columns.trailing_zeros();
+    if from >> first_column != columns >> second_column {
         return false;
     }
-    let Some(first) = corner_of(start, from) else {
+    let Some(first) = first_row(start) else {
         return true;
     };
-    let Some(second) = corner_of(now, columns) else {
+    let Some(second) = first_row(now) else {
         return true;
     };
     for r in 0..4 * N {
-        if row_or_none(start, first.row + r) >> first.column
-            != row_or_none(now, second.row + r) >> second.column
+        if row_or_none(start, first + r) >> first_column
+            != row_or_none(now, second + r) >> second_column
         {
             return false;
         }
     }
     true
-}
-
-/// The first row and the first column with a live cell.
-fn corner_of<const N: usize>(window: &[u64x4; N], columns: u64) -> Option<Corner>
-    requires some { 0 < N }
-    requires few { N ≤ 16 }
-    requires alive { 0 < columns }
-    ensures { IfSome result (IsCorner N window.now columns) }
-{
-    let Some(row) = first_row(window) else {
-        return None;
-    };
-    Some(Corner {
-        row,
-        column: columns.trailing_zeros(),
-    })
 }
 
 /// The first row with a live cell.

@@ -6,7 +6,7 @@
 //! . . .    . . .    . . .    . . .    . . .
 //! ```
 ghost use Rattle.std.specs.Prelude.{◌≡◌, true};
-ghost use Rattle.plane_core.specs.Cells.{cell_at, on_plane};
+ghost use Rattle.plane_core.specs.Cells.{on_plane};
 ghost use Rattle.plane_core.specs.Orientations.{orientations, turned_cell};
 ghost use Rattle.plane_core.specs.OrientationLaws.{OrientationsDiffer, ProductAssociates};
 ghost use Rattle.plane_core.specs.OrientationLaws.{SameIsIdentity, TurningBack, TurningMoved, TurningTwice};
@@ -66,13 +66,25 @@ impl Orientation {
         let Cell { x, y } = cell;
         match self {
             Orientation::Same => cell,
-            Orientation::Quarter => at(negated(y), x),
-            Orientation::Half => at(negated(x), negated(y)),
-            Orientation::ThreeQuarter => at(y, negated(x)),
-            Orientation::Mirror => at(negated(x), y),
-            Orientation::Flip => at(x, negated(y)),
-            Orientation::Diagonal => at(y, x),
-            Orientation::AntiDiagonal => at(negated(y), negated(x)),
+            Orientation::Quarter => Cell {
+                x: negated(y),
+                y: x,
+            },
+            Orientation::Half => Cell {
+                x: negated(x),
+                y: negated(y),
+            },
+            Orientation::ThreeQuarter => Cell {
+                x: y,
+                y: negated(x),
+            },
+            Orientation::Mirror => Cell { x: negated(x), y },
+            Orientation::Flip => Cell { x, y: negated(y) },
+            Orientation::Diagonal => Cell { x: y, y: x },
+            Orientation::AntiDiagonal => Cell {
+                x: negated(y),
+                y: negated(x),
+            },
         }
     }
 }
@@ -89,10 +101,3 @@ pub fn square_group()
     ensures twice { TurningTwice }
     ensures moved { TurningMoved }
 {}
-
-/// The cell in column x of row y.
-fn at(x: i32, y: i32) -> Cell
-    ensures { result ≡ cell_at x y }
-{
-    Cell { y, x }
-}

@@ -3,10 +3,9 @@
 //! A cut between two columns, or two rows, parts a pattern in two if there is an empty band before it that is wide
 //! enough. Each part is cut again as long as there is such a band. So a spaceship that has left costs no more than a
 //! board of its own.
-ghost use Rattle.std.specs.Prelude.{◌≡◌, ◌<◌, ◌^◌, ◌+ℤ◌, IfOk, IfSome, IsTrue, OnSome, pos};
-ghost use Rattle.plane_core.specs.Parts.{HasSides, IsCut, is_before, leaves_band, place_on, side};
+ghost use Rattle.std.specs.Prelude.{◌≡◌, ◌<◌, ◌^◌, IfOk, IfSome, IsTrue, OnSome};
+ghost use Rattle.plane_core.specs.Parts.{HasSides, IsCut, place_on, side};
 
-use crate::bounds::Bounds;
 use crate::cell::{BOUND, Cell};
 use crate::pattern::Pattern;
 use memory::OutOfMemory;
@@ -34,14 +33,6 @@ impl Axis {
         match self {
             Axis::Columns => cell.x,
             Axis::Rows => cell.y,
-        }
-    }
-
-    /// The first column or row of a box, and the last.
-    fn sides(self, bounds: Bounds) -> (i32, i32) {
-        match self {
-            Axis::Columns => (bounds.left, bounds.right),
-            Axis::Rows => (bounds.top, bounds.bottom),
         }
     }
 }
@@ -80,7 +71,14 @@ impl Cut {
             return Ok(None);
         };
         let cells = pattern.cells();
-        let (low, high) = axis.sides(bounds);
+        let low = axis.place(Cell {
+            y: bounds.top,
+            x: bounds.left,
+        });
+        let high = axis.place(Cell {
+            y: bounds.bottom,
+            x: bounds.right,
+        });
         let mut lanes = vec![in alloc; false; lane_of(low, high) + 1]?;
         mark_lanes(&mut lanes, axis, low, cells);
         let Some(lane) = gap_end(lanes.as_slice(), band as usize / 64 + 1) else {
@@ -91,20 +89,6 @@ impl Cut {
         Ok(cut.parts(band, cells).then_some(cut))
     }
 
-    /// Whether the cell lies before the cut.
-    fn is_before(self, cell: Cell) -> bool
-        ensures { result ≡ is_before self cell }
-    {
-        i64::from(self.axis.place(cell)) < self.at
-    }
-
-    /// Whether the cell lies past the cut, or before the band of so many columns or rows before it.
-    fn leaves_band_at(self, band: u32, cell: Cell) -> bool
-        ensures { result ≡ leaves_band self band cell }
-    {
-        !self.is_before(cell) || past_band(self.axis.place(cell), band) < self.at
-    }
-
     /// Whether each side of the cut has a cell, and none lies in the band of so many columns or rows before it.
     fn parts(self, band: u32, cells: &[Cell]) -> bool
         ensures { IsTrue result → HasSides self band cells.now }
@@ -112,10 +96,12 @@ impl Cut {
         let mut before = false;
         let mut past = false;
         for cell in cells {
-            if !self.leaves_band_at(band, *cell) {
+            let place = i64::from(self.axis.place(*cell));
+            let is_before = place < self.at;
+            let leaves_band = !is_before | (place + i64::from(band) < self.at);
+            if !leaves_band {
                 return false;
             }
-            let is_before = self.is_before(*cell);
             before |= is_before;
             past |= !is_before;
         }
@@ -133,19 +119,13 @@ impl Cut {
     {
         let mut part = Vec::new(alloc);
         for cell in pattern.cells() {
-            if self.is_before(*cell) == before {
+            let is_before = i64::from(self.axis.place(*cell)) < self.at;
+            if is_before == before {
                 part.push(*cell)?;
             }
         }
         Ok(Pattern::from_ordered(part))
     }
-}
-
-/// The column or row so many further on.
-fn past_band(place: i32, band: u32) -> i64
-    ensures { result ≡ place +ℤ pos band }
-{
-    i64::from(place) + i64::from(band)
 }
 
 /// Marks which lanes of 64 columns, or rows, have a cell, from the first column or row on.
@@ -169,24 +149,19 @@ fn lane_of(low: i32, place: i32) -> usize
 fn gap_end(lanes: &[bool], width: usize) -> Option<usize> {
     let middle = lanes.len() / 2;
     let mut empty = 0usize;
-    let mut best = None;
+    let mut best: Option<usize> = None;
     for (i, occupied) in lanes.iter().enumerate() {
         if !*occupied {
             empty = empty.saturating_add(1);
         } else {
             if empty >= width {
-                best = Some(nearer(best, i, middle));
+                best = match best {
+                    Some(other) if other.abs_diff(middle) <= i.abs_diff(middle) => best,
+                    _ => Some(i),
+                };
             }
             empty = 0;
         }
     }
     best
-}
-
-/// The one of two places that lies nearer to the middle.
-fn nearer(best: Option<usize>, i: usize, middle: usize) -> usize {
-    match best {
-        Some(best) if best.abs_diff(middle) <= i.abs_diff(middle) => best,
-        _ => i,
-    }
 }

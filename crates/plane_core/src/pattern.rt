@@ -1,7 +1,7 @@
 //! Patterns: finite sets of live cells. A pattern is kept as the list of its cells in order, each once.
-ghost use Rattle.std.specs.Prelude.{◌≡◌, ◌++◌, List, [], ◌∷◌, length, IfOk, IfErr, IsTrue, OnOk, position, None};
+ghost use Rattle.std.specs.Prelude.{◌≡◌, ◌++◌, List, [], ◌∷◌, length, IfOk, IfErr, OnOk, position, None};
 ghost use Rattle.memory.specs.Evidence.{out_of_memory};
-ghost use Rattle.plane_core.specs.Cells.{InOrder, IsPattern, SetsHaveOneList, cell_at, has, set_of, off_plane};
+ghost use Rattle.plane_core.specs.Cells.{IsPattern, SetsHaveOneList, cell_at, has, set_of, off_plane};
 ghost use Rattle.plane_core.specs.Refusals.{RefusesCells};
 ghost use Rattle.plane_core.specs.declared.cell.Cell.{Cell};
 ghost use Rattle.plane_core.specs.declared.pattern.FromCellsError.TheVariants.{Memory};
@@ -83,8 +83,10 @@ impl Pattern {
         ensures plane { OnOk result (position off_plane cells.now ≡ None) }
         ensures refused { IfErr result (RefusesCells cells.now) }
     {
-        if let Some(index) = first_off_plane(cells) {
-            return Err(FromCellsError::OutOfPlane { index });
+        for (index, cell) in cells.iter().enumerate() {
+            if !cell.is_on_plane() {
+                return Err(FromCellsError::OutOfPlane { index });
+            }
         }
         let cells = Vec::from_slice(alloc, cells)?;
         Ok(Pattern {
@@ -156,46 +158,25 @@ impl Pattern {
 }
 
 /// A law of all sets of cells: each has one list in order. So two patterns with the same cells are the same list.
+#[tactic(auto, using(crate::proofs::SetLemmas::same_lists))]
 pub fn sets_have_one_list()
     ensures { SetsHaveOneList }
 {}
-
-/// The place of the first cell that lies past the bound.
-fn first_off_plane(cells: &[Cell]) -> Option<usize>
-    ensures { result ≡ position off_plane cells.now }
-{
-    for (index, cell) in cells.iter().enumerate() {
-        if !cell.is_on_plane() {
-            return Some(index);
-        }
-    }
-    None
-}
 
 /// The cells in order, each once. Those that are read off a board are so already.
 pub(crate) fn in_order(cells: Vec<Cell>) -> Vec<Cell>
     ensures { result.items ≡ set_of cells.items }
 {
-    if are_in_order(cells.as_slice()) {
-        return cells;
-    }
     let mut set = cells;
-    set.sort_unstable();
-    set.dedup();
-    set
-}
-
-/// Whether each cell comes before the next.
-fn are_in_order(cells: &[Cell]) -> bool
-    ensures { IsTrue result → InOrder cells.now }
-{
     let mut place = 1;
-    while place < cells.len() {
-        let before = cells[place - 1] < cells[place];
+    while place < set.len() {
+        let before = set[place - 1] < set[place];
         if !before {
-            return false;
+            set.sort_unstable();
+            set.dedup();
+            return set;
         }
         place += 1;
     }
-    true
+    set
 }

@@ -42,18 +42,8 @@ pub(crate) fn row_of(at: Frame, place: Place) -> usize
     (place.top - at.top) as usize
 }
 
-/// The word that begins so many columns further: the end of the first one with the beginning of the second one.
-#[inline(always)]
-fn joined(first: u64, second: u64, shift: usize) -> u64
-    requires { shift < 64 }
-    ensures left { (i : ℕ) → i + shift < 64 → bit_at result i ≡ bit_at first (i + shift) }
-    ensures right { (i : ℕ) → i < 64 → 64 ≤ i + shift → bit_at result i ≡ bit_at second (i + shift - 64) }
-{
-    (first >> shift) | (second << 1 << (63 - shift))
-}
-
-/// Reads the rows of a window that begins in column x and row y of the board. They are read in order, so that four of
-/// them are read at once.
+/// Reads the rows of a window that begins in column x and row y of the board: each is the end of a word of the first
+/// lane with the beginning of one of the second. They are read in order, so that four of them are read at once.
 #[inline(always)]
 pub(crate) fn read_rows<const R: usize>(words: &[u64], at: Frame, x: usize, y: usize) -> [u64; R]
     requires long { FillsFrame at words.now }
@@ -63,9 +53,10 @@ pub(crate) fn read_rows<const R: usize>(words: &[u64], at: Frame, x: usize, y: u
 {
     let first = x / 64 * at.rows + y;
     let second = first + at.rows;
+    let shift = x % 64;
     let mut rows = [0; R];
     for r in 0..R {
-        rows[r] = joined(words[first + r], words[second + r], x % 64);
+        rows[r] = (words[first + r] >> shift) | (words[second + r] << 1 << (63 - shift));
     }
     rows
 }
@@ -82,6 +73,7 @@ fn in_first(word: u64, shift: usize) -> u64
 
 /// The word's columns that lie in the second lane.
 #[inline(always)]
+#[tactic(auto, using(crate::proofs::ShiftLemmas::bit_second))]
 fn in_second(word: u64, shift: usize) -> u64
     requires { shift < 64 }
     ensures { (i : ℕ) → bit_at result i ≡ bit_at word (i + 64 - shift) }

@@ -19,7 +19,7 @@ ghost use Rattle.plane_core.specs.Cells.{IsPattern, cell_at, has};
 ghost use Rattle.plane_core.specs.declared.cell.Cell.{Cell};
 ghost use Rattle.plane_core.specs.declared.plaintext.PlaintextFault.{PlaintextFault};
 ghost use Rattle.plane_core.specs.Generations.{lies_within};
-ghost use Rattle.plane_core.specs.Plaintext.{is_live, fault_at, first_fault, live_cells, pattern, row_text};
+ghost use Rattle.plane_core.specs.Plaintext.{is_live, first_fault, live_cells, pattern, row_text};
 ghost use Rattle.plane_core.specs.Plaintext.{plain, FitsThousandSquare};
 ghost use Rattle.plane_core.specs.PlaintextPlaces.{byte_at, dot, is_comment, line_feed, places_of_row, places, side_limit};
 
@@ -126,7 +126,10 @@ impl Pattern {
         if let Some(fault) = fault_in(input) {
             return Err(PlaintextError::Fault(fault));
         }
-        pattern_in(alloc, input).map_err(PlaintextError::Memory)
+        match pattern_in(alloc, input) {
+            Ok(pattern) => Ok(pattern),
+            Err(refused) => Err(PlaintextError::Memory(refused)),
+        }
     }
 
     /// Writes the pattern as plaintext (LifeWiki, "Plaintext"): the rows of its least box from the top, each from the
@@ -157,6 +160,7 @@ impl Pattern {
 
 /// A law of all patterns whose box is at most 1,000 by 1,000: what is written is read again, as the pattern moved to
 /// the corner.
+#[tactic(auto, using(crate::proofs::PlaintextRoundTrip::round_trip))]
 pub fn round_trip()
     ensures { (cells : List Cell) → IsPattern cells → IfSome (box_of cells) FitsThousandSquare
         → pattern (plain cells) ≡ Ok (at_corner cells) }
@@ -191,33 +195,21 @@ fn is_live(byte: u8) -> bool
     byte == LIVE || byte == STAR
 }
 
-/// The fault of a byte of a row, if it has one. Lines count from 1, and x and y from 0.
-#[tactic(auto, unfolding(crate::specs::Plaintext::fault_at))]
-fn fault_at(line: usize, y: usize, x: usize, byte: u8) -> Option<PlaintextFault>
-    requires { x < usize.MAX }
-    ensures { result ≡ fault_at (record { line = line; y = y; x = x; byte = byte }) }
-{
-    if byte != DEAD && !is_live(byte) {
-        return Some(PlaintextFault::BadByte {
-            line,
-            column: x + 1,
-        });
-    }
-    if x < PLAINTEXT_SIDE_LIMIT && y < PLAINTEXT_SIDE_LIMIT {
-        None
-    } else {
-        Some(PlaintextFault::TooLarge)
-    }
-}
-
-/// The first fault of a row.
-#[tactic(auto, using(crate::proofs::PlaintextRows::fault_here, crate::proofs::PlaintextRows::no_fault_here, crate::proofs::PlaintextRows::no_fault_past))]
+/// The first fault of a row. Lines count from 1, and x and y from 0.
 fn fault_in_row(line: usize, y: usize, row: &[u8]) -> Option<PlaintextFault>
     ensures { result ≡ first_fault (places_of_row (y, (line, row.now))) }
 {
     for (x, byte) in row.iter().enumerate() {
-        if let Some(fault) = fault_at(line, y, x, *byte) {
-            return Some(fault);
+        let is_cell = (*byte == DEAD) | is_live(*byte);
+        if !is_cell {
+            return Some(PlaintextFault::BadByte {
+                line,
+                column: x + 1,
+            });
+        }
+        let is_small = (x < PLAINTEXT_SIDE_LIMIT) & (y < PLAINTEXT_SIDE_LIMIT);
+        if !is_small {
+            return Some(PlaintextFault::TooLarge);
         }
     }
     None
@@ -242,18 +234,6 @@ fn fault_in(text: &[u8]) -> Option<PlaintextFault>
     None
 }
 
-/// The cell of a place in the first 1,000 columns and rows.
-fn small_cell(x: usize, y: usize) -> Cell
-    requires column { x < side_limit }
-    requires row { y < side_limit }
-    ensures { result ≡ cell_at (pos x) (pos y) }
-{
-    Cell {
-        y: y as i32,
-        x: x as i32,
-    }
-}
-
 /// Adds the cells of row y, each byte of which is in the first 1,000 columns and rows.
 #[tactic(auto, using(crate::proofs::PlaintextRows::live_here, crate::proofs::PlaintextRows::dead_here, crate::proofs::PlaintextRows::no_cell_past))]
 fn push_row(cells: &mut Vec<Cell>, y: usize, row: &[u8]) -> Result<(), OutOfMemory>
@@ -263,7 +243,10 @@ fn push_row(cells: &mut Vec<Cell>, y: usize, row: &[u8]) -> Result<(), OutOfMemo
 {
     for (x, byte) in row.iter().enumerate() {
         if is_live(*byte) {
-            cells.push(small_cell(x, y))?;
+            cells.push(Cell {
+                y: y as i32,
+                x: x as i32,
+            })?;
         }
     }
     Ok(())

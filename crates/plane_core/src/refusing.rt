@@ -8,12 +8,12 @@
 //! ```
 //!
 //! Only the 'no' to a rest is sure, and most patterns that aren't at rest are told so by a single cluster.
-ghost use Rattle.std.specs.Prelude.{◌≤◌, ℕ, IsTrue};
+ghost use Rattle.std.specs.Prelude.{◌≤◌, IsTrue};
 ghost use Rattle.plane_core.specs.Answers.{rule_of};
-ghost use Rattle.plane_core.specs.Refusing.{HoldsCluster, RefusesAll};
+ghost use Rattle.plane_core.specs.Refusing.{RefusesAll};
 
 use crate::answering::Answers;
-use crate::changing::{Spot, changing_cells, first_cell};
+use crate::changing::{changing_cells, first_cell};
 use crate::excerpt::{excerpt, excerpt_round};
 use crate::flood::flood;
 use crate::never_back::never_back;
@@ -36,10 +36,13 @@ pub(crate) fn refuses(
     let Some(spot) = first_cell(&changing_cells(window, rule)) else {
         return false;
     };
-    let mut alone = *window;
-    if !keep_cluster(&mut alone, spot) {
+    let mut cluster = [0; 64];
+    let whole = flood(&unpacked(window), &mut cluster, spot.row, spot.column);
+    if !whole {
         return false;
     }
+    // The window with nothing in it but the cluster.
+    let alone = packed(&cluster);
     let Some(from) = excerpt_round(&alone) else {
         return shows_stray(window, &alone, rule, depth, horizon)
             || never_back(&alone, rule, period);
@@ -51,15 +54,4 @@ pub(crate) fn refuses(
         return true;
     }
     never_back(&part, rule, period) || never_back(&alone, rule, period)
-}
-
-/// Leaves nothing in the window but the cluster in this place. Returns whether it is seen to lie well inside.
-fn keep_cluster(window: &mut [u64x4; 16], spot: Spot) -> bool
-    ensures { IsTrue result → (depth : ℕ) → depth ≤ 2 → HoldsCluster 16 window.old window.new depth }
-{
-    let rows = unpacked(window);
-    let mut cluster = [0; 64];
-    let whole = flood(&rows, &mut cluster, spot.row, spot.column);
-    *window = packed(&cluster);
-    whole
 }

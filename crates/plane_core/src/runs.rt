@@ -8,10 +8,9 @@
 //! | ..OO..O.O.. |
 //! +-------------+
 //! ```
-ghost use Rattle.std.specs.Prelude.{◌≡◌, ◌⊎◌, ℕ, true, All, IfOk, OnOk};
-ghost use Rattle.plane_core.specs.Bounds.{AreSidesWithin, IsWithin};
-ghost use Rattle.plane_core.specs.Boxes.{AreWider, HoldAll, IsInOne};
-ghost use Rattle.plane_core.specs.Cells.{is_within};
+ghost use Rattle.std.specs.Prelude.{◌≡◌, ℕ, true, All, OnOk};
+ghost use Rattle.plane_core.specs.Bounds.{AreSidesWithin};
+ghost use Rattle.plane_core.specs.Boxes.{HoldAll};
 ghost use Rattle.plane_core.specs.Generations.{lies_within};
 ghost use Rattle.plane_core.specs.declared.cell.Cell.{Cell};
 
@@ -40,29 +39,14 @@ pub(crate) fn boxes_round(cells: &[Cell], boxes: &mut Vec<Bounds>) -> Result<(),
     };
     let mut run = Bounds::at(*first);
     for cell in cells {
-        run = next_run(run, *cell, boxes)?;
+        if is_at_end(run, *cell) {
+            run = run.widened(*cell);
+            continue;
+        }
+        put_in_box(run, boxes)?;
+        run = Bounds::at(*cell);
     }
     put_in_box(run, boxes)
-}
-
-/// The run with the cell, if this stands at its end. Else the run is put in a box, and the cell begins the next one.
-#[inline(always)]
-fn next_run(run: Bounds, cell: Cell, boxes: &mut Vec<Bounds>) -> Result<Bounds, OutOfMemory>
-    ensures wider { OnOk result (AreWider boxes.old.items boxes.new.items) }
-    ensures run { IfOk result
-        (λ next. (c : Cell) → IsWithin run c → IsWithin next c ⊎ IsInOne boxes.new.items c) }
-    ensures cell { IfOk result (λ next. IsWithin next cell) }
-    ensures run_sides { IfOk result
-        (λ next. (n : ℕ) → is_within n cell ≡ true → AreSidesWithin n run → AreSidesWithin n next) }
-    ensures sides { OnOk result
-        ((n : ℕ) → AreSidesWithin n run → All (AreSidesWithin n) boxes.old.items
-        → All (AreSidesWithin n) boxes.new.items) }
-{
-    if is_at_end(run, cell) {
-        return Ok(run.widened(cell));
-    }
-    put_in_box(run, boxes)?;
-    Ok(Bounds::at(cell))
 }
 
 /// Whether the cell stands in the row of the run, near its end, and the run stays short with it.

@@ -12,7 +12,6 @@ ghost use Rattle.plane_core.specs.Bounds.{AreSidesWithin};
 ghost use Rattle.plane_core.specs.Cells.{plane_bound};
 ghost use Rattle.plane_core.specs.Frames.{IsFrame, bounds_of};
 ghost use Rattle.plane_core.specs.Generations.{next};
-ghost use Rattle.plane_core.specs.Glances.{IsInland};
 ghost use Rattle.plane_core.specs.OnBoard.{cells_on};
 
 use crate::answering::Answers;
@@ -21,7 +20,6 @@ use crate::glance::{place_round, window_of};
 use crate::listing::list;
 use crate::never_back::{columns_of, is_rim_clear};
 use crate::pattern::Pattern;
-use crate::place::Place;
 use crate::rows::unpacked;
 use crate::rule::Rule;
 use crate::spans::Span;
@@ -48,26 +46,15 @@ pub(crate) fn next_in_window(
         return Ok(None);
     }
     generation(&mut window, &Answers::new(rule));
-    let later = pattern_of(alloc, frame_of(place), &unpacked(&window))?;
-    Ok(Some(later))
-}
-
-/// The window at this place as a board, of one lane.
-fn frame_of(place: Place) -> Frame
-    requires { IsInland place }
-    ensures frame { IsFrame result }
-    ensures plane { AreSidesWithin plane_bound (bounds_of result) }
-    ensures left { result.left ≡ place.left }
-    ensures top { result.top ≡ place.top }
-    ensures lanes { result.lanes ≡ 1 }
-    ensures rows { result.rows ≡ 64 }
-{
-    Frame {
+    // The window as a board, of one lane.
+    let at = Frame {
         left: place.left,
         top: place.top,
         lanes: 1,
         rows: 64,
-    }
+    };
+    let later = pattern_of(alloc, at, &unpacked(&window))?;
+    Ok(Some(later))
 }
 
 /// The pattern whose cells are these rows of a window that lies here.

@@ -8,14 +8,14 @@
 //! row 2     .     #     #     .      all is dead.
 //! row 3     .     .     #     .
 //! ```
-ghost use Rattle.std.specs.Prelude.{◌≡◌, ◌+◌, ◌*◌, ◌/◌, ◌<◌, ◌≤◌, ◌^◌, ◌∷◌, ◌⊎◌};
-ghost use Rattle.std.specs.Prelude.{[], All, ℕ, IsTrue, length, slice_index};
+ghost use Rattle.std.specs.Prelude.{◌≡◌, ◌+◌, ◌*◌, ◌/◌, ◌<◌, ◌≤◌, ◌∷◌, ◌⊎◌};
+ghost use Rattle.std.specs.Prelude.{[], All, ℕ, length, slice_index};
 ghost use Rattle.plane_core.specs.Bounds.{IsWithin};
 ghost use Rattle.plane_core.specs.Frames.{FillsFrame, IsFrame, LieOn, bounds_of, word_of};
 ghost use Rattle.plane_core.specs.OnBoard.{cells_on};
 ghost use Rattle.plane_core.specs.Places.{IsOnBoard};
 ghost use Rattle.plane_core.specs.Spans.{AreWidened, HoldCovered, HoldInner, HoldsSpans};
-ghost use Rattle.plane_core.specs.Spans.{HasRow, IsInHull, IsInSpan, LieInSpans};
+ghost use Rattle.plane_core.specs.Spans.{HasRow, IsInSpan, LieInSpans};
 
 use crate::cell::Cell;
 use crate::frame::Frame;
@@ -62,14 +62,6 @@ impl Span {
             from,
             end: self.end.min(limit).max(from),
         }
-    }
-
-    /// Whether none of eight numbers, from this one on, lies in the span.
-    pub(crate) fn misses_eight(self, from: usize) -> bool
-        requires { from < 2 ^ 32 }
-        ensures { IsTrue result → (k : ℕ) → k < 8 → ¬ HasRow self (from + k) }
-    {
-        self.end <= from || from + 8 <= self.from
     }
 }
 
@@ -128,65 +120,26 @@ pub(crate) struct Hull {
     pub(crate) rows: Span,
 }
 
-impl Hull {
-    /// Nothing.
-    fn empty() -> Hull {
-        Hull {
-            lanes: Span::empty(),
-            rows: Span::empty(),
-        }
-    }
-
-    /// The hull with a lane more, of which these are the rows.
-    fn with(self, lane: usize, span: Span) -> Hull
-        requires { lane < 2 ^ 32 }
-        ensures kept { (s r : ℕ) → IsInHull self s r → IsInHull result s r }
-        ensures held { (r : ℕ) → HasRow span r → IsInHull result lane r }
-    {
-        if span.end <= span.from {
-            return self;
-        }
-        Hull {
-            lanes: self.lanes.joined(Span {
-                from: lane,
-                end: lane + 1,
-            }),
-            rows: self.rows.joined(span),
-        }
-    }
-
-    /// The lanes of the hull, as lanes of the board.
-    pub(crate) fn lanes_on(self, at: Frame) -> Span
-        ensures order { result.from ≤ result.end }
-        ensures most { result.end ≤ at.lanes }
-        ensures held { (s : ℕ) → s < at.lanes → HasRow self.lanes s → HasRow result s }
-    {
-        self.lanes.below(at.lanes)
-    }
-
-    /// The bands of eight rows that have all rows of the hull.
-    pub(crate) fn bands_on(self, at: Frame) -> Span
-        requires { IsFrame at }
-        ensures from { 8 * result.from ≤ at.rows }
-        ensures end { result.end ≤ at.rows / 8 }
-        ensures held { (r : ℕ) → r < at.rows → HasRow self.rows r → HasRow result (r / 8) }
-    {
-        Span {
-            from: self.rows.from.min(at.rows) / 8,
-            end: (self.rows.end.min(at.rows) + 7) / 8,
-        }
-    }
-}
-
 /// The lanes and the rows in which spans lie.
 pub(crate) fn hull_of(at: Frame, spans: &[Span]) -> Hull
     requires frame { IsFrame at }
     requires long { length spans.now ≡ at.lanes }
     ensures { HoldsSpans spans.now at.lanes result }
 {
-    let mut hull = Hull::empty();
+    let mut hull = Hull {
+        lanes: Span::empty(),
+        rows: Span::empty(),
+    };
     for lane in 0..at.lanes {
-        hull = hull.with(lane, spans[lane]);
+        let rows = spans[lane];
+        if rows.from < rows.end {
+            let here = Span {
+                from: lane,
+                end: lane + 1,
+            };
+            hull.lanes = hull.lanes.joined(here);
+            hull.rows = hull.rows.joined(rows);
+        }
     }
     hull
 }

@@ -9,8 +9,7 @@
 //! ```
 //!
 //! Both are run in windows, which are right a cell less far out with each generation.
-ghost use Rattle.std.specs.Prelude.{◌≡◌, ◌+◌, ◌≤◌, ◌<◌, ℕ, IsTrue};
-ghost use Rattle.std.specs.Int.{bit_at};
+ghost use Rattle.std.specs.Prelude.{◌+◌, ◌≤◌, ◌<◌, IsTrue};
 ghost use Rattle.plane_core.specs.Answers.{rule_of};
 ghost use Rattle.plane_core.specs.Refusing.{HasStray, ShowsStray};
 
@@ -89,7 +88,8 @@ fn has_stray<const N: usize>(whole: &[u64x4; N], alone: &[u64x4; N], depth: usiz
     requires depth { depth < 20 }
     ensures { IsTrue result → HasStray N whole.now alone.now depth }
 {
-    let inside = columns_inside(depth);
+    // The columns that are so deep inside.
+    let inside = u64::MAX >> (2 * depth) << depth;
     if columns_astray(whole, alone) & inside == 0 {
         return false;
     }
@@ -110,12 +110,4 @@ fn columns_astray<const N: usize>(whole: &[u64x4; N], alone: &[u64x4; N]) -> u64
         all = all | (alone[k] & (alone[k] ^ whole[k]));
     }
     in_any_lane(all)
-}
-
-/// The columns that are so deep inside.
-fn columns_inside(depth: usize) -> u64
-    requires { depth < 32 }
-    ensures { (i : ℕ) → bit_at result i ≡ 1 → (depth ≤ i) × (i + depth < 64) }
-{
-    u64::MAX >> (2 * depth) << depth
 }

@@ -13,7 +13,7 @@
 //! A live cell is counted in its own neighbourhood. So the four cells with a 3 are alive next under Life: one is dead
 //! and has three neighbours, and the others are alive and have two.
 ghost use Rattle.std.specs.Prelude.{◌≡◌, ◌+◌, ◌<◌, ◌≤◌, map, filter, neg_ℤ, true, unsigned_abs, IfOk};
-ghost use Rattle.plane_core.specs.Cells.{InOrder, IsPattern, moved_by, near_plane};
+ghost use Rattle.plane_core.specs.Cells.{InOrder, IsPattern, moved_by};
 ghost use Rattle.plane_core.specs.Tallies.{AddsNeighbours, AreMovable, CountsNeighbourhoods, cells_of, counted_at};
 ghost use Rattle.plane_core.specs.Tallies.{alive_first, count_first, earlier_of, first_of, moved_tally};
 ghost use Rattle.plane_core.specs.Tallies.{one_of, remainder_at, tally_lives};
@@ -99,16 +99,6 @@ struct Shift {
 }
 
 impl Shift {
-    /// The cell a shift further.
-    fn of(self, cell: Cell) -> Cell
-        requires near { near_plane cell ≡ true }
-        requires right { unsigned_abs self.dx ≤ 1 }
-        requires down { unsigned_abs self.dy ≤ 1 }
-        ensures { result ≡ moved_by self.dx self.dy cell }
-    {
-        cell.moved(self.dx, self.dy)
-    }
-
     /// The shift the other way.
     fn back(self) -> Shift
         requires right { unsigned_abs self.dx ≤ 1 }
@@ -136,10 +126,9 @@ fn with_neighbours(alloc: Global, tallies: &[Tally], by: Shift) -> Result<Vec<Ta
     let none = Shift { dx: 0, dy: 0 };
     let (mut left, mut middle, mut right) = (tallies, tallies, tallies);
     let mut sums = Vec::new(alloc);
-    while let Some(cell) = earliest(
+    while let Some(cell) = earlier(
         first_cell(left, back),
-        first_cell(middle, none),
-        first_cell(right, by),
+        earlier(first_cell(middle, none), first_cell(right, by)),
     ) {
         let from_left = take_at(left, back, cell);
         let from_middle = take_at(middle, none, cell);
@@ -174,7 +163,7 @@ fn take_at(tallies: &[Tally], by: Shift, cell: Cell) -> Taken<'_>
     ensures movable { AreMovable by.dx by.dy result.remainder.now }
 {
     match tallies {
-        [first, remainder @ ..] if cell == by.of(first.cell) => Taken {
+        [first, remainder @ ..] if cell == first.cell.moved(by.dx, by.dy) => Taken {
             count: first.count,
             alive: first.alive,
             remainder,
@@ -187,14 +176,7 @@ fn take_at(tallies: &[Tally], by: Shift, cell: Cell) -> Taken<'_>
     }
 }
 
-/// The earliest of three cells, where there are some.
-fn earliest(a: Option<Cell>, b: Option<Cell>, c: Option<Cell>) -> Option<Cell>
-    ensures { result ≡ earlier_of a (earlier_of b c) }
-{
-    earlier(a, earlier(b, c))
-}
-
-/// The earlier of two cells.
+/// The earlier of two cells, where there are some.
 fn earlier(a: Option<Cell>, b: Option<Cell>) -> Option<Cell>
     ensures { result ≡ earlier_of a b }
 {
@@ -215,6 +197,6 @@ fn first_cell(tallies: &[Tally], by: Shift) -> Option<Cell>
 {
     match tallies {
         [] => None,
-        [first, ..] => Some(by.of(first.cell)),
+        [first, ..] => Some(first.cell.moved(by.dx, by.dy)),
     }
 }

@@ -124,7 +124,9 @@ fn a_blinker_runs_to_the_edge_and_no_further(rt: HostRuntime) -> Result<(), Fail
     for (x, y, is_upright) in AT_EDGES {
         let start = blinker(rt.alloc(), x, y, is_upright)?;
         let at_edge = blinker(rt.alloc(), x, y, !is_upright)?;
+        assert!(rt; !start.touches_edge());
         assert!(rt; ends_with(start.run(rt.alloc(), &Rule::life(), 1), &at_edge));
+        assert!(rt; at_edge.touches_edge());
         assert!(rt; is_edge(start.run(rt.alloc(), &Rule::life(), 2)));
     }
     Ok(())

@@ -2,9 +2,9 @@
 use Rattle.std.proofs.Common.{◌≡◌, ◌≢◌, ◌==◌, ◌∙◌, ◌<◌, ap, sym, refl, subst, ℕ, Bool, true, false, List, arith, cond, get_or, inl, inr, length, IfNone, IfSome}
 use Rattle.std.proofs.Common.{[], ◌∷◌, ◌+◌, eq-or-lt_of_le, get_or-set_other, get_or-set_same, nat_lt, set, ◌≤◌}
 use Rattle.std.specs.Bool.{then_some}
-use Rattle.std.proofs.lemmas.Bool.{ltb-false, ltb-true}
+use Rattle.std.proofs.lemmas.Bool.{cases_eq, eqb-true, ltb-false, ltb-true}
 use Rattle.std.proofs.lemmas.Bool.Decides.{Decides-eqb}
-use Rattle.std.proofs.lemmas.List.{get_or_default}
+use Rattle.std.proofs.lemmas.List.{get_or_default, length-set}
 use Rattle.plane_core.specs.declared.cell.Cell.{Cell}
 use Rattle.plane_core.specs.Cells.{InOrder, king_distance}
 use Rattle.plane_core.specs.Clusters.{AreClusters, LieApart}
@@ -27,7 +27,7 @@ stay_default horizon sweeps i j d e f one other apart =
     subst (λ (s : Sweep). StayApart horizon s (get_or sweeps j d)) (get_or_default sweeps i e d one)
     (subst (λ (s : Sweep). StayApart horizon (get_or sweeps i e) s) (get_or_default sweeps j f d other) apart)
 
-renamed_from : (from to k : ℕ) → k ≡ from → renamed from to k ≡ to
+pub renamed_from : (from to k : ℕ) → k ≡ from → renamed from to k ≡ to
 renamed_from from to k is = ap (λ (b : Bool). cond {A = ℕ} b to k) ((Decides-eqb k from).1 is)
 
 renamed_to : (from to k : ℕ) → k ≡ to → renamed from to k ≡ to
@@ -52,6 +52,13 @@ below_differs k i low = omega arith
 
 above_differs : (k i : ℕ) → i + 1 ≤ k → k ≢ i
 above_differs k i low = omega arith
+
+pub renamed_other : (from to k : ℕ) → k ≢ from → k ≡ renamed from to k
+renamed_other from to k differs = go (k == from) refl
+  where
+    go : (b : Bool) → (k == from) ≡ b → k ≡ cond {A = ℕ} b to k
+    go true e = absurd (differs (eqb-true _ _ e))
+    go false e = refl
 
 -- one group of the list more has its number
 pub renamed_more : (from to i : ℕ) (old now : List ℕ) (number : ℕ) → i < length now → number ≡ renamed from to (get_or now i 0)
@@ -98,6 +105,38 @@ pairs_more horizon sweeps old new place there count coarser before here i j lt l
   where
     in_old : (k : ℕ) → k < place → k < length old
     in_old k less = subst (λ (n : ℕ). k < n) (sym count) (omega (arith, less, there))
+
+-- a group of its own, numbered by its place
+pub numbered : (sweeps : List Sweep) (groups : List ℕ) (place : ℕ) → place < length sweeps → AreNumbers sweeps groups
+    → AreNumbers sweeps (set groups place place)
+numbered sweeps groups place there are = record {
+  count = length-set groups place place ∙ are.count;
+  below = λ i d low. elim (cases_eq i place) [
+    | inl same ↦ subst (λ (k : ℕ). k < length sweeps)
+        (sym (ap (λ (k : ℕ). get_or (set groups place place) k d) same
+        ∙ get_or-set_same groups place place d (subst (λ (n : ℕ). place < n) (sym are.count) there))) there
+    | inr other ↦ subst (λ (k : ℕ). k < length sweeps) (sym (get_or-set_other groups place i place d other))
+        (are.below i d (subst (λ (n : ℕ). i < n) (length-set groups place place) low))
+  ];
+}
+
+-- and the pairs before it are right as they were
+pub numbered_pairs : (horizon : ℕ) (sweeps : List Sweep) (groups : List ℕ) (place : ℕ)
+    → ((i j : ℕ) → j < i → i < place → PairIsRight horizon sweeps groups i j)
+    → (i j : ℕ) → j < i → i < place → PairIsRight horizon sweeps (set groups place place) i j
+numbered_pairs horizon sweeps groups place before i j lt low d ne =
+    before i j lt low d (λ same. ne (get_or-set_other groups place i place 0 (below_differs i place low) ∙ same
+    ∙ sym (get_or-set_other groups place j place 0 (below_differs j place (omega (arith, lt, low))))))
+
+-- one pair more of a cluster and one before it is right
+pub places_more : (horizon : ℕ) (sweeps : List Sweep) (old new : List ℕ) (place other : ℕ) → place < length sweeps → length old ≡ length sweeps
+    → other < place → Coarser old new → ((j : ℕ) → j < other → PairIsRight horizon sweeps old place j) → PairIsRight horizon sweeps new place other
+    → (j : ℕ) → j < other + 1 → PairIsRight horizon sweeps new place j
+places_more horizon sweeps old new place other there count before coarser each here j low = elim (eq-or-lt_of_le (le_of_lt_one j other low)) [
+  | inl is ↦ subst (λ (k : ℕ). PairIsRight horizon sweeps new place k) (sym is) here
+  | inr less ↦ λ d ne. each j less d (coarser place j (subst (λ (n : ℕ). place < n) (sym count) there)
+      (subst (λ (n : ℕ). j < n) (sym count) (omega (arith, less, before, there))) ne)
+]
 
 -- an element of a list that has one
 pub first_of : (sweeps : List Sweep) (i : ℕ) → i < length sweeps → Sweep

@@ -1,5 +1,5 @@
 -- What is known of a shape holds of each pattern that it is about.
-use Rattle.std.proofs.Common.{◌≡◌, ◌∙◌, refl, sym, subst, ℕ, ℤ, Bool, false, not, true, List, All, IfSome, Option, None, Some, arith}
+use Rattle.std.proofs.Common.{◌≡◌, ◌∙◌, refl, sym, subst, ℕ, ℤ, Bool, false, not, true, List, All, arith}
 use Rattle.std.proofs.lemmas.Int.{ints}
 use Rattle.std.proofs.lemmas.List.Elements.{All-map}
 use Rattle.plane_core.specs.declared.bounds.Bounds.{Bounds}
@@ -60,13 +60,6 @@ code_known rule limit cells shift fact known about =
     (subst (λ (n : ℕ). IsCode fact.rule cells n fact.code) about.limit_is
     (subst (λ (S : List Cell). IsCode fact.rule S fact.limit fact.code) about.shape_is
     (codes_moved shift.0 shift.1 fact.rule fact.shape fact.limit fact.code known.swept.in_order known.named)))
-
--- the sweep that is told, if it is that of the shape, moved
-pub sweep_told : (rule : Numbers) (limit : ℕ) (cells : List Cell) (shift : ℤ × ℤ) (fact : Fact) (told : Option Sweep) → IsKnown fact
-    → IsAbout rule limit cells shift fact → IfSome told (λ moved. moved ≡ moved_sweep shift fact.sweep) → IfSome told (IsSweep rule limit cells)
-sweep_told rule limit cells shift fact None known about is = tt
-sweep_told rule limit cells shift fact (Some sweep) known about is =
-    subst (IsSweep rule limit cells) (sym is) (sweep_known rule limit cells shift fact known about)
 
 -- two rules that don't differ
 pub same_rules : (one other : Numbers) (differs : Bool) → differs ≡ not (same_rule one other) → differs ≡ false → one ≡ other

@@ -30,6 +30,13 @@ multiple_then m n = (
   λ (k, is). (Decides-eqb (m % n) 0).1 (ap (λ (x : ℕ). x % n) is ∙ mul-mod_left k n),
 )
 
+-- of nothing only 0 is a multiple
+pub never_of_none : (m n : ℕ) → 1 ≤ m → n ≡ 0 → ¬ IsMultiple m n
+never_of_none m n some none (k, is) = none_left k m n some none is
+  where
+    none_left : (k m n : ℕ) → 1 ≤ m → n ≡ 0 → m ≡ k * n → ⊥
+    none_left k m n some none is = grind (arith, some, none, is)
+
 -- ---- codes
 
 -- two texts that compare as equal are one

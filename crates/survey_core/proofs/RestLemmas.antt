@@ -6,11 +6,11 @@ use Rattle.std.proofs.lemmas.List.Elements.{All-map}
 use Rattle.plane_core.specs.declared.cell.Cell.{Cell}
 use Rattle.plane_core.specs.Cells.{InOrder, has, is_within}
 use Rattle.plane_core.specs.Clusters.{AreClusters, IsCluster, Partition}
-use Rattle.plane_core.specs.Generations.{after, lies_within, next}
+use Rattle.plane_core.specs.Generations.{after, lies_within}
 use Rattle.plane_core.specs.Rules.{Numbers}
 use Rattle.plane_core.proofs.ClusterLemmas.{linked-has, linked-itself}
 use Rattle.plane_core.proofs.ClusterLaws.{determined_law, partition_law}
-use Rattle.plane_core.proofs.GenerationLemmas.{after-none, after-more}
+use Rattle.plane_core.proofs.GenerationLemmas.{after-none}
 use Rattle.plane_core.proofs.SearchLemmas.{has-list_all, list_all-has}
 use Rattle.code_core.proofs.MovedCodes.{in_order-after}
 use Rattle.plane_core.proofs.SetLemmas.{has-set_of}

@@ -1,10 +1,11 @@
 -- Texts without an invisible byte.
-use Rattle.std.proofs.Common.{◌≡◌, refl, ℕ, suc, ◌+◌, ◌≤◌, Bool, true, false, not, List, [], ◌∷◌, position, length, None, Some, nat_lt, arith, cond, ◌&&◌}
+use Rattle.std.proofs.Common.{◌≡◌, refl, ℕ, suc, ◌+◌, ◌≤◌, Bool, true, false, not, List, [], ◌∷◌, position, length, None, Option, Some, Err, nat_lt, arith, cond, ◌&&◌}
 use Rattle.std.proofs.Common.{◌∙◌, ◌++◌, ◌-◌, ◌<◌, ap, append_assoc, drop, get_or, replicate, set, sym, take}
 use Rattle.std.specs.List.{list_all, position_from, prefix_len}
-use Rattle.std.proofs.lemmas.Bool.{ltb-false}
+use Rattle.std.proofs.lemmas.Bool.{ltb-false, ltb-true}
 use Rattle.std.proofs.lemmas.List.{drop_all, drop_more, length-take-le, set_at, take_all, take_more}
-use Rattle.survey_core.specs.Seeds.{is_invisible, is_visible}
+use Rattle.survey_core.specs.Seeds.{is_invisible, is_visible, most_bytes, seed_read, seed_with_fault}
+use Rattle.survey_core.specs.declared.seed.SeedFault.TheVariants.{TooLong}
 
 -- no byte is invisible, so all are visible
 pub all_visible : (bytes : List ℕ) → position is_invisible bytes ≡ None → list_all is_visible bytes ≡ true
@@ -23,6 +24,16 @@ all_visible bytes e = reached bytes (whole (nat_lt (prefix_len (λ b. not (is_in
             → (length ds ≤ prefix_len (λ b. not (is_invisible b)) ds → list_all is_visible ds ≡ true) → (b && list_all is_visible ds) ≡ true
         head true h ih = ih (omega arith)
         head false h ih = absurd (omega arith)
+
+-- what a text that isn't too long is read as
+pub read_as : (text : List ℕ) (found : Option ℕ) → length text ≤ 64 → position is_invisible text ≡ found
+    → seed_with_fault text found ≡ seed_read text
+read_as text found short is = go (nat_lt most_bytes (length text)) refl
+  where
+    go : (b : Bool) → nat_lt most_bytes (length text) ≡ b
+        → seed_with_fault text found ≡ cond b (Err TooLong) (seed_with_fault text (position is_invisible text))
+    go true e = let long : 64 < length text = ltb-true 64 (length text) e in absurd (omega (arith, long, short))
+    go false e = ap (seed_with_fault text) (sym is)
 
 -- one byte more is written over the zeros
 pub padded_more : (bytes : List ℕ) (place : ℕ) → place < length bytes → length bytes ≤ 64

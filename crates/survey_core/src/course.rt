@@ -126,8 +126,15 @@ impl Course {
         ensures cells { IfOk result (λ course. course.cells ≡ after self.rule self.cells profile.now.stride) }
     {
         let Course { rule, place } = self;
-        let place = later(alloc, &rule, place, profile, memo)?;
-        Ok(Course { rule, place })
+        let generations = profile.stride();
+        match place {
+            Kept::Listed(pattern) => from_list(alloc, &rule, pattern, generations, memo),
+            Kept::Shown(harbour, ahead) => {
+                let total = ahead + generations;
+                let harbour = harbour.send_off(alloc, &rule, profile.period(), total, memo)?;
+                on_board(alloc, &rule, harbour, total, memo)
+            }
+        }
     }
 
     /// Gives the board back on which the pattern was, for the next one.
@@ -139,30 +146,6 @@ impl Course {
     }
 }
 
-/// Goes on to the next look from wherever the pattern is kept.
-fn later(
-    alloc: Global,
-    rule: &Rule,
-    place: Kept,
-    profile: &Profile,
-    memo: &mut Memo,
-) -> Result<Kept, OutOfMemory>
-    requires kept { IsKept rule.now place }
-    requires near { StaysNear rule.now (kept place) profile.now.stride }
-    ensures cells { IfOk result (λ later. kept later ≡ after rule.now (kept place) profile.now.stride) }
-    ensures kept { IfOk result (IsKept rule.now) }
-{
-    let generations = profile.stride();
-    match place {
-        Kept::Listed(pattern) => from_list(alloc, rule, pattern, generations, memo),
-        Kept::Shown(harbour, ahead) => {
-            let total = ahead + generations;
-            let harbour = harbour.send_off(alloc, rule, profile.period(), total, memo)?;
-            on_board(alloc, rule, harbour, total, memo)
-        }
-    }
-}
-
 /// Goes on from a list by so many generations: on a board of the memo, if there is one with room.
 fn from_list(
     alloc: Global,
@@ -170,17 +153,17 @@ fn from_list(
     pattern: Pattern,
     generations: u32,
     memo: &mut Memo,
-) -> Result<Kept, OutOfMemory>
+) -> Result<Course, OutOfMemory>
     requires few { generations ≤ 10001 }
     requires near { StaysNear rule.now pattern generations }
-    ensures cells { IfOk result (λ place. kept place ≡ after rule.now pattern generations) }
-    ensures kept { IfOk result (IsKept rule.now) }
+    ensures rule { IfOk result (λ course. course.rule ≡ rule.now) }
+    ensures cells { IfOk result (λ course. course.cells ≡ after rule.now pattern generations) }
 {
     // That a pattern's cells stand in order is known of them where they are asked for.
     let _in_order = pattern.cells();
     let Some(board) = memo.board_with(alloc, rule, &pattern)? else {
         let later = run_on(alloc, rule, generations, &pattern)?;
-        return Ok(Kept::Listed(later));
+        return Ok(Course::start(rule, later));
     };
     let harbour = Harbour::new(alloc, board);
     on_board(alloc, rule, harbour, generations, memo)
@@ -194,20 +177,23 @@ fn on_board(
     harbour: Harbour,
     generations: u32,
     memo: &mut Memo,
-) -> Result<Kept, OutOfMemory>
+) -> Result<Course, OutOfMemory>
     requires rule { harbour.rule ≡ rule.now }
     requires few { generations ≤ 10001 }
     requires near { StaysNear rule.now harbour.cells generations }
-    ensures cells { IfOk result (λ place. kept place ≡ after rule.now harbour.cells generations) }
-    ensures kept { IfOk result (IsKept rule.now) }
+    ensures rule { IfOk result (λ course. course.rule ≡ rule.now) }
+    ensures cells { IfOk result (λ course. course.cells ≡ after rule.now harbour.cells generations) }
 {
     let ahead = generations % 2;
     match harbour.advance(alloc, rule, generations - ahead)? {
-        Ok(harbour) => Ok(Kept::Shown(harbour, ahead)),
+        Ok(harbour) => Ok(Course {
+            rule: *rule,
+            place: Kept::Shown(harbour, ahead),
+        }),
         Err(stop) => {
             let later = run_on(alloc, rule, generations - stop.made, &stop.pattern)?;
             memo.outgrow(stop.board);
-            Ok(Kept::Listed(later))
+            Ok(Course::start(rule, later))
         }
     }
 }

@@ -17,7 +17,6 @@ ghost use Rattle.survey_core.specs.Soups.{soup};
 use crate::course::Course;
 use crate::job::Job;
 use crate::memo::Memo;
-use crate::noes::Noes;
 use crate::objects::Objects;
 use crate::profile::Profile;
 use crate::rest::clusters_at_rest;
@@ -122,7 +121,7 @@ pub fn survey_pattern_with(
     let limit = profile.limit();
     let stride = profile.stride();
     let mut course = Course::start(rule, pattern);
-    let mut noes = Noes::none();
+    let mut noes = [false; 2];
     let mut checkpoint = 0;
     loop {
         let found = look_at(alloc, profile, rule, checkpoint, &course, &mut noes, memo)?;
@@ -163,13 +162,22 @@ pub fn findings_for_good()
 {}
 
 /// The finding of a pattern that has come so far at the checkpoint, if it is at rest.
+///
+/// Where an even number of generations changes nothing, the pattern is the same in every second generation. So a look
+/// that has said no answers for each later one that is an even number of generations on, and that is noted in one of
+/// the `noes`: the first is about even generations, and the second about odd ones.
+///
+/// ```text
+/// generation   404   505   606   707   808
+/// looked at    no    no    -     -     -       From 404 on nothing changes in two generations.
+/// ```
 fn look_at(
     alloc: Global,
     profile: &Profile,
     rule: &Rule,
     checkpoint: u32,
     course: &Course,
-    noes: &mut Noes,
+    noes: &mut [bool; 2],
     memo: &mut Memo,
 ) -> Result<Option<Finding>, OutOfMemory>
     requires rule { course.now.rule ≡ rule.now }
@@ -180,35 +188,18 @@ fn look_at(
     ensures few { IfOk result (λ found. IfSome found (λ finding. objects_in finding < 2 ^ 64)) }
     ensures noes { OnOk result (AreNoes rule.now profile.now course.now.cells checkpoint noes.new) }
 {
-    if noes.has(checkpoint) {
+    let parity = (checkpoint % 2) as usize;
+    if noes[parity] {
         return Ok(None);
     }
     if course.is_seen_to_move(profile) {
         return Ok(None);
     }
     let latest = course.look(alloc)?;
-    let found = finding_at(alloc, profile, rule, checkpoint, &latest, memo)?;
-    if found.is_none() && course.is_still() {
-        *noes = noes.with(checkpoint);
-    }
-    Ok(found)
-}
-
-/// The finding of a pattern that is this one at the checkpoint, if it is at rest.
-fn finding_at(
-    alloc: Global,
-    profile: &Profile,
-    rule: &Rule,
-    checkpoint: u32,
-    latest: &Pattern,
-    memo: &mut Memo,
-) -> Result<Option<Finding>, OutOfMemory>
-    requires { lies_within survey_reach latest.now ≡ true }
-    ensures settled { IfOk result (λ found. IfSome found (SettlesAt rule.now profile.now latest.now checkpoint)) }
-    ensures moves { IfOk result (λ found. IfNone found (¬ IsAtRest rule.now profile.now latest.now)) }
-    ensures few { IfOk result (λ found. IfSome found (λ finding. objects_in finding < 2 ^ 64)) }
-{
-    let Some(clusters) = clusters_at_rest(alloc, profile, rule, latest, memo)? else {
+    let Some(clusters) = clusters_at_rest(alloc, profile, rule, &latest, memo)? else {
+        if course.is_still() {
+            noes[parity] = true;
+        }
         return Ok(None);
     };
     let objects = Objects::of_clusters(alloc, rule, profile.period(), clusters.as_slice(), memo)?;

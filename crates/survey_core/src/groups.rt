@@ -12,10 +12,8 @@
 //!
 //! A group of one has nothing to meet, so only the others are run.
 
-ghost use Rattle.std.specs.Prelude.{◌≡◌, ◌≢◌, ◌<◌, ◌≤◌, ℕ, All, IfOk, get_or, length, map};
-ghost use Rattle.std.specs.List.{range_with_len};
+ghost use Rattle.std.specs.Prelude.{◌≢◌, ◌<◌, ◌≤◌, ℕ, IfOk, get_or, length, map};
 ghost use Rattle.survey_core.specs.Grouping.{AreGroups, AreNumbers, AreRenamed, Coarser, PairIsRight};
-ghost use Rattle.survey_core.specs.Groups.{renamed};
 
 use crate::sweep::{Sweep, stay_apart};
 use memory::OutOfMemory;
@@ -35,22 +33,16 @@ pub(crate) fn groups(
     requires { horizon ≤ 4096 }
     ensures { IfOk result (λ groups. AreGroups horizon sweeps.now groups.items) }
 {
+    let mut groups = vec![in alloc; 0; sweeps.len()]?;
     if sweeps.len() > MOST_GROUPED {
-        return Ok(vec![in alloc; 0; sweeps.len()]?);
+        return Ok(groups);
     }
-    let mut groups = numbers(alloc, sweeps.len())?;
     for place in 0..sweeps.len() {
+        // A group of its own, before it is joined with others.
+        groups[place] = place;
         join(horizon, sweeps, place, groups.as_mut_slice());
     }
     Ok(groups)
-}
-
-/// The first numbers.
-fn numbers(alloc: Global, count: usize) -> Result<Vec<usize>, OutOfMemory>
-    ensures count { IfOk result (λ numbers. length numbers.items ≡ count) }
-    ensures below { IfOk result (λ numbers. All (λ k. k < count) numbers.items) }
-{
-    Ok((0..count).collect(alloc)?)
 }
 
 /// Joins the group of the cluster at this place with those of the clusters before it that it may meet.
@@ -63,26 +55,13 @@ fn join(horizon: u32, sweeps: &[Sweep], place: usize, groups: &mut [usize])
     ensures apart { (j : ℕ) → j < place → PairIsRight horizon sweeps.now groups.new place j }
 {
     for other in 0..place {
-        join_pair(horizon, sweeps, place, other, groups);
+        let apart = stay_apart(horizon, &sweeps[place], &sweeps[other]);
+        if apart {
+            continue;
+        }
+        let (from, to) = (groups[place], groups[other]);
+        rename(groups, from, to);
     }
-}
-
-/// Joins the groups of these two clusters, if the two may meet.
-fn join_pair(horizon: u32, sweeps: &[Sweep], one: usize, other: usize, groups: &mut [usize])
-    requires horizon { horizon ≤ 4096 }
-    requires one { one < length sweeps.now }
-    requires other { other < length sweeps.now }
-    requires numbers { AreNumbers sweeps.now groups.old }
-    ensures numbers { AreNumbers sweeps.now groups.new }
-    ensures coarser { Coarser groups.old groups.new }
-    ensures apart { PairIsRight horizon sweeps.now groups.new one other }
-{
-    let apart = stay_apart(horizon, &sweeps[one], &sweeps[other]);
-    if apart {
-        return;
-    }
-    let (from, to) = (groups[one], groups[other]);
-    rename(groups, from, to);
 }
 
 /// Gives the one group the number of the other.
@@ -90,13 +69,9 @@ fn rename(groups: &mut [usize], from: usize, to: usize)
     ensures { AreRenamed from to groups.old groups.new }
 {
     for group in groups.iter_mut() {
-        *group = renamed(from, to, *group);
+        if *group != from {
+            continue;
+        }
+        *group = to;
     }
-}
-
-/// The number of a group, where the one group has the number of the other.
-fn renamed(from: usize, to: usize, group: usize) -> usize
-    ensures { result ≡ renamed from to group }
-{
-    if group == from { to } else { group }
 }

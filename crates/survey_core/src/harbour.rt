@@ -24,7 +24,6 @@ use crate::memo::Memo;
 use crate::ships::{Ship, at_time, ship_of};
 use memory::OutOfMemory;
 use plane_core::board::Board;
-use plane_core::cell::Cell;
 use plane_core::frontier::is_slow;
 use plane_core::pattern::Pattern;
 use plane_core::rule::Rule;
@@ -136,7 +135,8 @@ impl Harbour {
     }
 
     /// Takes ships off the board that are ahead of all the rest, before it goes on by so many generations. They are
-    /// looked for only once in a while. Ships whose period is over the limit, 1 to 64, stay.
+    /// looked for only before the board comes past a multiple of `EVERY`. Ships whose period is over the limit, 1 to
+    /// 64, stay.
     pub(crate) fn send_off(
         self,
         alloc: Global,
@@ -153,7 +153,10 @@ impl Harbour {
         ensures cells { IfOk result (λ harbour. harbour.cells ≡ self.cells) }
     {
         let slow = is_slow(rule);
-        if !slow || !self.is_time_to_look(limit, generations) {
+        if !slow || limit < SHORTEST_PERIOD {
+            return Ok(self);
+        }
+        if self.time % EVERY + generations.min(EVERY) + 1 < EVERY {
             return Ok(self);
         }
         let Harbour {
@@ -173,12 +176,6 @@ impl Harbour {
             }
         }
         Ok(Harbour { board, ships, time })
-    }
-
-    /// Whether ships are looked for before the board goes on by so many generations: if there may be any, and before
-    /// it comes past a multiple of `EVERY`.
-    fn is_time_to_look(&self, limit: u32, generations: u32) -> bool {
-        limit >= SHORTEST_PERIOD && self.time % EVERY + generations.min(EVERY) + 1 >= EVERY
     }
 
     /// Goes on by so many generations, an even number, if the board has room for all of them.
@@ -264,8 +261,8 @@ fn leave(
 fn has_left(ships: &[Ship], cells: &Pattern) -> bool
     ensures { result ≡ false → IsNoneOf ships.now cells.now }
 {
-    for ship in ships {
-        let same = are_same(ship.cells.cells(), cells.cells());
+    for other in ships {
+        let same = are_same(other.cells.cells(), cells.cells());
         if same {
             return true;
         }
@@ -291,23 +288,7 @@ fn whole(
     if ships.is_empty() {
         return Ok(pattern);
     }
-    together(alloc, rule, time, pattern.cells(), ships)
-}
-
-/// The cells of a board and of some ships.
-fn together(
-    alloc: Global,
-    rule: &Rule,
-    time: u32,
-    board: &[Cell],
-    ships: &[Ship],
-) -> Result<Pattern, OutOfMemory>
-    requires traced { All (IsTraced rule.now time) ships.now }
-    requires early { time ≤ latest_time + 10001 }
-    requires near { lies_within survey_reach (whole_at rule.now time board.now ships.now) ≡ true }
-    ensures { IfOk result (λ pattern. pattern ≡ whole_at rule.now time board.now ships.now) }
-{
-    let mut cells = Vec::from_slice(alloc, board)?;
+    let mut cells = Vec::from_slice(alloc, pattern.cells())?;
     for ship in ships {
         let ship = at_time(alloc, rule, ship, time)?;
         cells.extend_from_slice(ship.cells())?;

@@ -31,7 +31,5 @@ mod groups;
 mod later;
 /// A board, and the ships that have left it.
 mod harbour;
-/// Looks whose answer is known.
-mod noes;
 /// In which slot of a memo a pattern belongs.
 mod slot;

@@ -20,7 +20,7 @@ ghost use Rattle.std.specs.Prelude.{◌≡◌, ◌≢◌, ◌+ℤ◌, ◌≤◌,
 ghost use Rattle.plane_core.specs.Cells.{InOrder};
 ghost use Rattle.plane_core.specs.Generations.{lies_within};
 ghost use Rattle.code_core.specs.Names.{IsCode};
-ghost use Rattle.survey_core.specs.Memos.{IsAbout, moved_sweep};
+ghost use Rattle.survey_core.specs.Memos.{IsAbout};
 ghost use Rattle.survey_core.specs.Rest.{ComesBack};
 ghost use Rattle.survey_core.specs.Sweeps.{AreSweeps, IsSweep};
 ghost use Rattle.survey_core.specs.UnderWay.{survey_reach};
@@ -117,14 +117,19 @@ impl Memo {
     /// A memo that knows nothing yet, with room for 4,096 shapes: half a megabyte, and some three if all of them are
     /// large. If there is no memory for it, it has no room.
     pub fn new(alloc: Global) -> Memo {
-        match empty_slots(alloc) {
-            Ok(slots) => Memo {
-                slots,
-                board: None,
-                size: Size::Small,
-                lacks_board: false,
-            },
-            Err(_) => Memo::without_room(alloc),
+        let Ok(mut slots) = Vec::with_capacity(alloc, SLOTS) else {
+            return Memo::without_room(alloc);
+        };
+        for _ in 0..SLOTS {
+            let Ok(()) = slots.push(None) else {
+                return Memo::without_room(alloc);
+            };
+        }
+        Memo {
+            slots,
+            board: None,
+            size: Size::Small,
+            lacks_board: false,
         }
     }
 
@@ -231,7 +236,8 @@ impl Memo {
         false
     }
 
-    /// The sweep of a pattern, or `None` if it doesn't come back within so many generations.
+    /// The sweep of a pattern, or `None` if it doesn't come back within so many generations. One that does is named,
+    /// and what is known of it is kept in its slot, unless it is large.
     pub(crate) fn sweep(
         &mut self,
         alloc: Global,
@@ -253,7 +259,19 @@ impl Memo {
         let Some(sweep) = Sweep::find(alloc, rule, limit, pattern)? else {
             return Ok(None);
         };
-        self.keep(alloc, rule, limit, pattern, sweep)?;
+        let slot = slot_of(pattern, self.slots.len());
+        if slot >= self.slots.len() || pattern.population() > MOST_CELLS {
+            return Ok(Some(sweep));
+        }
+        let code = code_of(alloc, rule, limit, pattern)?;
+        let shape = pattern.copy(alloc)?;
+        self.slots[slot] = Some(Known {
+            rule: *rule,
+            limit,
+            shape,
+            sweep,
+            code,
+        });
         Ok(Some(sweep))
     }
 
@@ -278,14 +296,27 @@ impl Memo {
         }
     }
 
-    /// The sweep of a pattern, if it is remembered.
+    /// The sweep of a pattern, if it is remembered: that of the shape, moved, if 32 bits can say its numbers.
     fn recalled_sweep(&self, rule: &Rule, limit: u32, pattern: &Pattern) -> Option<Sweep>
         ensures { IfSome result (IsSweep rule.now limit pattern.now) }
     {
         let Some((known, shift)) = self.recalled(rule, limit, pattern) else {
             return None;
         };
-        moved_sweep(known.sweep, shift)
+        let Sweep { recurrence, bounds } = known.sweep;
+        let Some((left, right)) = moved(bounds.left, bounds.right, shift.0) else {
+            return None;
+        };
+        let Some((top, bottom)) = moved(bounds.top, bounds.bottom, shift.1) else {
+            return None;
+        };
+        let bounds = Bounds {
+            left,
+            top,
+            right,
+            bottom,
+        };
+        Some(Sweep { recurrence, bounds })
     }
 
     /// What is known of a pattern, if it is remembered, and the shift that makes the shape into the pattern.
@@ -304,66 +335,6 @@ impl Memo {
         };
         Some((known, shift))
     }
-
-    /// Names a pattern, and keeps what is known of it in its slot, unless it is large.
-    fn keep(
-        &mut self,
-        alloc: Global,
-        rule: &Rule,
-        limit: u32,
-        pattern: &Pattern,
-        sweep: Sweep,
-    ) -> Result<(), OutOfMemory>
-        requires least { 1 ≤ limit }
-        requires most { limit ≤ 64 }
-        requires some { pattern.now ≢ [] }
-        requires near { lies_within survey_reach pattern.now ≡ true }
-        requires sweep { IsSweep rule.now limit pattern.now sweep }
-    {
-        let slot = slot_of(pattern, self.slots.len());
-        if slot >= self.slots.len() || pattern.population() > MOST_CELLS {
-            return Ok(());
-        }
-        let code = code_of(alloc, rule, limit, pattern)?;
-        let shape = pattern.copy(alloc)?;
-        self.slots[slot] = Some(Known {
-            rule: *rule,
-            limit,
-            shape,
-            sweep,
-            code,
-        });
-        Ok(())
-    }
-}
-
-/// As many slots as a memo has, with nothing in them.
-fn empty_slots(alloc: Global) -> Result<Vec<Option<Known>>, OutOfMemory> {
-    let mut slots = Vec::with_capacity(alloc, SLOTS)?;
-    for _ in 0..SLOTS {
-        slots.push(None)?;
-    }
-    Ok(slots)
-}
-
-/// A sweep, moved, if that can be said in numbers of 32 bits.
-fn moved_sweep(sweep: Sweep, shift: (i32, i32)) -> Option<Sweep>
-    ensures { IfSome result (λ moved. moved ≡ moved_sweep shift sweep) }
-{
-    let Sweep { recurrence, bounds } = sweep;
-    let Some((left, right)) = moved(bounds.left, bounds.right, shift.0) else {
-        return None;
-    };
-    let Some((top, bottom)) = moved(bounds.top, bounds.bottom, shift.1) else {
-        return None;
-    };
-    let bounds = Bounds {
-        left,
-        top,
-        right,
-        bottom,
-    };
-    Some(Sweep { recurrence, bounds })
 }
 
 /// The first and the last column or row, moved.

@@ -1,14 +1,14 @@
 //! The objects of a finding, counted: each code once, in ASCII order, with how many there are.
-ghost use Rattle.std.specs.Prelude.{◌≡◌, ◌+◌, ◌<◌, ◌≤◌, ◌^◌, ◌↔◌, ◌≢◌, [], ℕ, All, IfOk, IsTrue, List, OnOk, length};
-ghost use Rattle.std.specs.Prelude.{sum, true, if◌then◌else◌};
+ghost use Rattle.std.specs.Prelude.{◌≡◌, ◌+◌, ◌<◌, ◌≤◌, ◌↔◌, ◌≢◌, [], ℕ, All, IfOk, IsTrue, List, length};
+ghost use Rattle.std.specs.Prelude.{sum, true};
 ghost use Rattle.std.specs.Map.{values_of};
 ghost use Rattle.std.specs.Prelude.{unwrap_or};
 ghost use Rattle.plane_core.specs.Generations.{lies_within};
 ghost use Rattle.code_core.specs.Apgcodes.{kind_in};
 ghost use Rattle.code_core.specs.Names.{IsCode};
 ghost use Rattle.code_core.specs.declared.apgcode.Kind.TheVariants.{Ship};
-ghost use Rattle.survey_core.specs.Objects.{AreObjects, AreObjectsOf, CountsAreSome, IsCommonMultiple, IsMultiple};
-ghost use Rattle.survey_core.specs.Objects.{StayForGood, count_of, is_code, period_in};
+ghost use Rattle.survey_core.specs.Objects.{AreObjects, AreObjectsOf, IsCommonMultiple};
+ghost use Rattle.survey_core.specs.Objects.{StayForGood};
 ghost use Rattle.survey_core.specs.Rest.{ComesBack};
 ghost use Rattle.survey_core.specs.UnderWay.{survey_reach};
 
@@ -67,7 +67,8 @@ impl Objects {
         let mut counts = BTreeMap::new(alloc);
         for cluster in clusters {
             let code = memo.code(alloc, rule, limit, cluster)?;
-            count(&mut counts, code)?;
+            let before = counts.get(&code).copied().unwrap_or(0);
+            counts.insert(code, before + 1)?;
         }
         let counted = counts.into_iter().collect(alloc)?;
         Ok(Objects { counted })
@@ -91,72 +92,35 @@ impl Objects {
     }
 }
 
-/// Counts one object more with this code.
-fn count(counts: &mut BTreeMap<Apgcode, u64>, code: Apgcode) -> Result<(), OutOfMemory>
-    requires room { (c : List ℕ) → count_of counts.old.entries c + 1 < 2 ^ 64 }
-    requires some { CountsAreSome counts.old.entries }
-    ensures counts { OnOk result
-        ((c : List ℕ) → count_of counts.new.entries c
-        ≡ count_of counts.old.entries c + (if is_code c code then 1 else 0)) }
-    ensures some { OnOk result (CountsAreSome counts.new.entries) }
-    ensures number { OnOk result (sum (values_of counts.new.entries) ≡ sum (values_of counts.old.entries) + 1) }
-{
-    let before = counts.get(&code).copied().unwrap_or(0);
-    counts.insert(code, before + 1)?;
-    Ok(())
-}
-
 /// Whether none of the objects is a spaceship.
 fn none_is_ship(objects: &[(Apgcode, u64)]) -> bool
     ensures { IsTrue result ↔ All (λ object. kind_in object.0 ≢ Ship) objects.now }
 {
     for object in objects {
-        let ship = is_ship(&object.0);
-        if ship {
-            return false;
+        match object.0.kind() {
+            Kind::Ship => return false,
+            Kind::Still | Kind::Oscillator => continue,
         }
     }
     true
 }
 
-/// Whether an object with this code is a spaceship.
-fn is_ship(code: &Apgcode) -> bool
-    ensures { IsTrue result ↔ (kind_in code.now ≡ Ship) }
-{
-    match code.kind() {
-        Kind::Ship => true,
-        Kind::Still | Kind::Oscillator => false,
-    }
-}
-
-/// Whether the number, which isn't 0, is a multiple of the period of each object.
+/// Whether the number, which isn't 0, is a multiple of the period of each object. The period of a still life is 1.
 fn is_common_multiple(objects: &[(Apgcode, u64)], multiple: u32) -> bool
     requires { 1 ≤ multiple }
     ensures { IsTrue result ↔ IsCommonMultiple objects.now multiple }
 {
     for object in objects {
-        let whole = is_multiple(multiple, period(&object.0));
-        if !whole {
+        let period = match object.0.kind() {
+            Kind::Still => continue,
+            Kind::Oscillator | Kind::Ship => object.0.number(),
+        };
+        if period == 0 {
+            return false;
+        }
+        if u64::from(multiple) % period != 0 {
             return false;
         }
     }
     true
-}
-
-/// Whether the number, which isn't 0, is a multiple of the other.
-fn is_multiple(number: u32, of: u64) -> bool
-    requires { 1 ≤ number }
-    ensures { IsTrue result ↔ IsMultiple number of }
-{
-    of > 0 && u64::from(number) % of == 0
-}
-
-/// The period of an object with this code: 1 for a still life.
-fn period(code: &Apgcode) -> u64
-    ensures { result ≡ period_in code.now }
-{
-    match code.kind() {
-        Kind::Still => 1,
-        Kind::Oscillator | Kind::Ship => code.number(),
-    }
 }

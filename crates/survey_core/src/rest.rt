@@ -153,7 +153,9 @@ fn keep_apart(
         ↔ ((g : ℕ) → g ≤ horizon
         → KeepApart rule.now (union_of (clusters_of clusters.old)) (clusters_of clusters.old) g)) }
 {
-    let mut whole = union(alloc, clusters)?;
+    let cells = all_cells(alloc, clusters)?;
+    let mut whole = pattern_of(alloc, cells.as_slice())?;
+    drop(cells);
     for _ in 0..horizon {
         whole = next(alloc, rule, &whole)?;
         step_each(alloc, rule, clusters)?;
@@ -166,15 +168,6 @@ fn keep_apart(
         }
     }
     Ok(true)
-}
-
-/// The cells of all the clusters as they are now.
-fn union(alloc: Global, clusters: &[Alone]) -> Result<Pattern, OutOfMemory>
-    requires { All (λ part. lies_within 999999 part ≡ true) (latest_of clusters.now) }
-    ensures { IfOk result (λ whole. whole ≡ union_of (latest_of clusters.now)) }
-{
-    let cells = all_cells(alloc, clusters)?;
-    pattern_of(alloc, cells.as_slice())
 }
 
 /// Whether the clusters as they are now share no cell, and are the whole together.

@@ -1,6 +1,6 @@
 //! Seeds: the texts from which soups are made.
-ghost use Rattle.std.specs.Prelude.{◌≡◌, ◌≤◌, ◌-◌, ◌++◌, length, position, replicate};
-ghost use Rattle.survey_core.specs.Seeds.{IsSeed, is_invisible, is_visible, most_bytes, seed_read};
+ghost use Rattle.std.specs.Prelude.{◌≡◌};
+ghost use Rattle.survey_core.specs.Seeds.{IsSeed, is_visible, seed_read};
 
 use std::fmt;
 use std::marker::Model;
@@ -74,13 +74,17 @@ impl Seed {
         if bytes.len() > MOST_BYTES {
             return Err(SeedFault::TooLong);
         }
-        match first_invisible(bytes) {
-            Some(place) => Err(SeedFault::BadByte { place }),
-            None => Ok(Seed {
-                padded: padded(bytes),
-                count: bytes.len(),
-            }),
+        let mut padded = [0; 64];
+        for (place, byte) in bytes.iter().enumerate() {
+            if !is_visible(*byte) {
+                return Err(SeedFault::BadByte { place });
+            }
+            padded[place] = *byte;
         }
+        Ok(Seed {
+            padded,
+            count: bytes.len(),
+        })
     }
 
     /// The bytes of the text.
@@ -91,30 +95,6 @@ impl Seed {
         let Seed { padded, count } = self;
         &padded[..*count]
     }
-}
-
-/// The place of the first byte that isn't visible.
-fn first_invisible(bytes: &[u8]) -> Option<usize>
-    ensures { result ≡ position is_invisible bytes.now }
-{
-    for (place, byte) in bytes.iter().enumerate() {
-        if !is_visible(*byte) {
-            return Some(place);
-        }
-    }
-    None
-}
-
-/// The bytes, and zeros after them.
-fn padded(bytes: &[u8]) -> [u8; 64]
-    requires { length bytes.now ≤ most_bytes }
-    ensures { result ≡ bytes.now ++ replicate (most_bytes - length bytes.now) 0 }
-{
-    let mut padded = [0; 64];
-    for (place, byte) in bytes.iter().enumerate() {
-        padded[place] = *byte;
-    }
-    padded
 }
 
 /// Whether the byte is a visible ASCII character.

@@ -11,20 +11,19 @@
 //! A ship is kept as it was when it left, with the time. Where it is later comes of whole periods, each of which moves
 //! it by the same shift, and of a part of one, which is made generation by generation.
 
-ghost use Rattle.std.specs.Prelude.{◌≡◌, ◌≢◌, ◌+◌, ◌≤◌, ◌^◌, [], ℕ, IfOk, IfSome, IsTrue, true, unsigned_abs};
+ghost use Rattle.std.specs.Prelude.{◌≡◌, ◌≢◌, ◌+◌, ◌≤◌, ◌^◌, [], IfOk, IfSome, IsTrue, true, unsigned_abs};
 ghost use Rattle.std.specs.Prelude.{◌+ℤ◌, ◌*ℤ◌, ◌≤ℤ◌, pos};
 ghost use Rattle.plane_core.specs.Bounds.{IsWithin};
 ghost use Rattle.plane_core.specs.Cells.{cell_at};
 ghost use Rattle.plane_core.specs.Frontiers.{depth};
 ghost use Rattle.plane_core.specs.Generations.{after, lies_within};
 ghost use Rattle.plane_core.specs.Orientations.{turned_cell};
-ghost use Rattle.plane_core.specs.Rules.{Numbers};
 ghost use Rattle.plane_core.specs.declared.cell.Cell.{Cell};
 ghost use Rattle.survey_core.specs.Harbours.{HasSmallNumbers, IsTraced};
 ghost use Rattle.survey_core.specs.Ships.{BeginsPast, IsForemost, IsPartOf, ShipsRunAlone};
 ghost use Rattle.survey_core.specs.Harbours.{latest_time, ship_at};
 ghost use Rattle.survey_core.specs.Ships.{ShipsStayAhead};
-ghost use Rattle.survey_core.specs.Sweeps.{IsSweep, times};
+ghost use Rattle.survey_core.specs.Sweeps.{times};
 ghost use Rattle.survey_core.specs.UnderWay.{survey_reach};
 
 use crate::later::run_on;
@@ -92,7 +91,15 @@ pub(crate) fn ship_of(
     let Some(sweep) = memo.sweep(alloc, rule, limit, part)? else {
         return Ok(None);
     };
-    let is_ahead = is_ahead(board, part, &sweep);
+    let way = way_of(sweep.recurrence);
+    let fast = is_fast(way, sweep.recurrence);
+    if !fast {
+        return Ok(None);
+    }
+    let Some(frontier) = board.frontier_without(way, part) else {
+        return Ok(None);
+    };
+    let is_ahead = begins_past(way, frontier, &sweep);
     if !is_ahead {
         return Ok(None);
     }
@@ -102,23 +109,6 @@ pub(crate) fn ship_of(
         since: time,
         recurrence: sweep.recurrence,
     }))
-}
-
-/// Whether a part of the board with this sweep is ahead of all the rest.
-fn is_ahead(board: &Board, part: &Pattern, sweep: &Sweep) -> bool
-    requires { IsPartOf board.now.cells part.now }
-    ensures { IsTrue result → (rule : Numbers) (limit : ℕ) → IsSweep rule limit part.now sweep.now
-        → IsForemost rule board.now.cells sweep.now.recurrence part.now }
-{
-    let way = way_of(sweep.recurrence);
-    let fast = is_fast(way, sweep.recurrence);
-    if !fast {
-        return false;
-    }
-    match board.frontier_without(way, part) {
-        Some(frontier) => begins_past(way, frontier, sweep),
-        None => false,
-    }
 }
 
 /// The orientation that turns the way of a ship to the right and down.
@@ -141,20 +131,15 @@ fn is_fast(way: Orientation, recurrence: Recurrence) -> bool
     ensures { IsTrue result
         → pos recurrence.period ≤ℤ (pos 2 *ℤ depth (turned_cell way (cell_at recurrence.dx recurrence.dy))) }
 {
-    i64::from(recurrence.period) <= 2 * least_depth(way, step(recurrence))
-}
-
-/// The cell to which the origin is moved in a period, as a box.
-fn step(recurrence: Recurrence) -> Bounds
-    ensures { IsWithin result (cell_at recurrence.dx recurrence.dy) }
-{
-    let Recurrence { dx, dy, .. } = recurrence;
-    Bounds {
+    let Recurrence { period, dx, dy } = recurrence;
+    // The cell to which the origin is moved in a period, as a box.
+    let step = Bounds {
         left: dx,
         top: dy,
         right: dx,
         bottom: dy,
-    }
+    };
+    i64::from(period) <= 2 * least_depth(way, step)
 }
 
 /// Whether the box of all phases begins far enough past the frontier.

@@ -9,15 +9,13 @@
 //!
 //! So the cell at place i of the square, counted row by row, is bit 7 - i mod 8 of byte i div 8.
 
-ghost use Rattle.std.specs.Prelude.{◌≡◌, ◌<◌, ◌++◌, decimal, All, IfOk};
+ghost use Rattle.std.specs.Prelude.{◌≡◌, ◌<◌, All, IfOk};
 ghost use Rattle.plane_core.specs.Bounds.{IsWithin};
-ghost use Rattle.sha2.specs.Sha256.{sha256};
-ghost use Rattle.survey_core.specs.Soups.{SoupsByCells, is_alive_at, live_in_square, soup, soup_of, square};
+ghost use Rattle.survey_core.specs.Soups.{SoupsByCells, is_alive_at, soup, soup_of, square};
 ghost use Rattle.survey_core.specs.Soups.{square_cell};
 
 use crate::job::Job;
 use crate::later::pattern_of;
-use crate::seed::Seed;
 use itoa::Buffer;
 use memory::OutOfMemory;
 use plane_core::cell::Cell;
@@ -35,7 +33,11 @@ pub fn soup(alloc: Global, job: &Job, number: u64) -> Result<Pattern, OutOfMemor
     ensures soup { IfOk result (λ pattern. pattern ≡ soup job.now.seed number) }
     ensures small { IfOk result (All (IsWithin square)) }
 {
-    soup_of_digest(alloc, &digest(&job.seed, number))
+    let mut buffer = Buffer::new();
+    let mut hasher = Sha256::new();
+    hasher.update(job.seed.bytes());
+    hasher.update(buffer.format(number).as_bytes());
+    soup_of_digest(alloc, &hasher.finalize())
 }
 
 /// The soup of a digest: the cell in column x of row y, both 0 to 15, is bit 7 - x mod 8 of byte 2y + x div 8, where
@@ -48,7 +50,12 @@ pub fn soup_of_digest(alloc: Global, digest: &[u8; 32]) -> Result<Pattern, OutOf
     ensures soup { IfOk result (λ pattern. pattern ≡ soup_of digest.now) }
     ensures small { IfOk result (All (IsWithin square)) }
 {
-    let cells = live_cells(alloc, digest)?;
+    let mut cells = Vec::new(alloc);
+    for place in 0..256 {
+        if is_alive_at(digest, place) {
+            cells.push(square_cell(place))?;
+        }
+    }
     pattern_of(alloc, cells.as_slice())
 }
 
@@ -57,30 +64,6 @@ pub fn soup_of_digest(alloc: Global, digest: &[u8; 32]) -> Result<Pattern, OutOf
 pub fn soups_by_cells()
     ensures { SoupsByCells }
 {}
-
-/// The live cells of the square.
-fn live_cells(alloc: Global, digest: &[u8; 32]) -> Result<Vec<Cell>, OutOfMemory>
-    ensures { IfOk result (λ cells. cells.items ≡ live_in_square digest.now 256) }
-{
-    let mut cells = Vec::new(alloc);
-    for place in 0..256 {
-        if is_alive_at(digest, place) {
-            cells.push(square_cell(place))?;
-        }
-    }
-    Ok(cells)
-}
-
-/// The digest of the seed's bytes and then the number in decimal.
-fn digest(seed: &Seed, number: u64) -> [u8; 32]
-    ensures { result ≡ sha256 (seed.now ++ decimal number) }
-{
-    let mut buffer = Buffer::new();
-    let mut hasher = Sha256::new();
-    hasher.update(seed.bytes());
-    hasher.update(buffer.format(number).as_bytes());
-    hasher.finalize()
-}
 
 /// Whether the cell at this place of the square is alive.
 #[tactic(auto, unfolding(crate::specs::Soups::is_alive_at))]

@@ -15,15 +15,15 @@
 //! that move with different periods are taken to come near each other, and are run.
 
 ghost use Rattle.std.specs.Prelude.{◌≡◌, ◌≢◌, ◌↔◌, ◌+◌, ◌*◌, ◌/◌, ◌-ℤ◌, ◌+ℤ◌, ◌<◌, ◌≤◌, ◌<ℤ◌, ◌≤ℤ◌, ◌⊎◌, ◌^◌};
-ghost use Rattle.std.specs.Prelude.{[], ℕ, pos};
+ghost use Rattle.std.specs.Prelude.{[], pos};
 ghost use Rattle.std.specs.Prelude.{All, IfNone, IfOk, IfSome, IsTrue, true, unsigned_abs};
 ghost use Rattle.std.specs.Int.{int_max, int_min};
 ghost use Rattle.plane_core.specs.Bounds.{IsWithin};
 ghost use Rattle.plane_core.specs.Cells.{InOrder};
-ghost use Rattle.plane_core.specs.Generations.{after, lies_within};
+ghost use Rattle.plane_core.specs.Generations.{lies_within};
 ghost use Rattle.survey_core.specs.Rest.{ComesBack};
 ghost use Rattle.survey_core.specs.Sweeps.{IsSweep, Serves, ShipsMoveByTurns, StayApart, StayClear};
-ghost use Rattle.survey_core.specs.Sweeps.{gap_stays, gaps_of, is_gap, is_past};
+ghost use Rattle.survey_core.specs.Sweeps.{gap_stays, gaps_of, is_past};
 ghost use Rattle.survey_core.specs.UnderWay.{survey_reach};
 
 use crate::later::next;
@@ -58,32 +58,20 @@ impl Sweep {
         ensures sweep { IfOk result (λ found. IfSome found (IsSweep rule.now limit pattern.now)) }
         ensures never { IfOk result (λ found. IfNone found (¬ ComesBack rule.now limit pattern.now)) }
     {
-        match Recurrence::find(alloc, pattern, rule, limit) {
-            Ok(Some(recurrence)) => {
-                let bounds = swept(alloc, rule, recurrence.period, pattern)?;
-                Ok(Some(Sweep { recurrence, bounds }))
-            }
-            Ok(None) => Ok(None),
-            Err(StepError::Memory(error)) => Err(error),
+        let recurrence = match Recurrence::find(alloc, pattern, rule, limit) {
+            Ok(Some(recurrence)) => recurrence,
+            Ok(None) => return Ok(None),
+            Err(StepError::Memory(error)) => return Err(error),
             Err(StepError::Edge) => unreachable!(),
+        };
+        let mut phase = pattern.copy(alloc)?;
+        let mut bounds = box_round(pattern);
+        for age in 0..recurrence.period - 1 {
+            phase = next(alloc, rule, &phase)?;
+            bounds = bounds.joined(box_round(&phase));
         }
+        Ok(Some(Sweep { recurrence, bounds }))
     }
-}
-
-/// A box in which the pattern lies in each of the first generations, so many of them.
-fn swept(alloc: Global, rule: &Rule, period: u32, pattern: &Pattern) -> Result<Bounds, OutOfMemory>
-    requires some { 1 ≤ period }
-    requires few { period ≤ 64 }
-    requires near { lies_within survey_reach pattern.now ≡ true }
-    ensures { IfOk result (λ bounds. (g : ℕ) → g < period → All (IsWithin bounds) (after rule.now pattern.now g)) }
-{
-    let mut phase = pattern.copy(alloc)?;
-    let mut bounds = box_round(pattern);
-    for age in 0..period - 1 {
-        phase = next(alloc, rule, &phase)?;
-        bounds = bounds.joined(box_round(&phase));
-    }
-    Ok(bounds)
 }
 
 /// The least box round the pattern. For the empty pattern it is any box.
@@ -106,9 +94,15 @@ pub(crate) fn stay_apart(horizon: u32, one: &Sweep, other: &Sweep) -> bool
     requires { horizon ≤ 4096 }
     ensures { IsTrue result → StayApart horizon one.now other.now }
 {
-    let Some(period) = common_turns(one, other) else {
-        return false;
+    // How many generations a turn has for both, if there is such a number.
+    let period = if is_still(one) {
+        other.recurrence.period
+    } else {
+        one.recurrence.period
     };
+    if period == 0 || !serves(period, one) || !serves(period, other) {
+        return false;
+    }
     are_clear_for(one, other, turns_in(horizon, period))
 }
 
@@ -125,24 +119,6 @@ fn turns_in(horizon: u32, period: u32) -> u32
         2 => horizon / 2 + 1,
         4 => horizon / 4 + 1,
         _ => horizon / period + 1,
-    }
-}
-
-/// How many generations a turn has for both, if there is such a number.
-fn common_turns(one: &Sweep, other: &Sweep) -> Option<u32>
-    ensures some { IfSome result (λ period. 1 ≤ period) }
-    ensures one { IfSome result (λ period. Serves period one.now) }
-    ensures other { IfSome result (λ period. Serves period other.now) }
-{
-    let period = if is_still(one) {
-        other.recurrence.period
-    } else {
-        one.recurrence.period
-    };
-    if period > 0 && serves(period, one) && serves(period, other) {
-        Some(period)
-    } else {
-        None
     }
 }
 
@@ -173,7 +149,8 @@ fn are_clear_for(one: &Sweep, other: &Sweep, turns: u32) -> bool
         if gaps.stay(step) {
             return true;
         }
-        if !gaps.is_some() {
+        let are_clear = gaps.right | gaps.left | gaps.below | gaps.above;
+        if !are_clear {
             return false;
         }
         offset = offset.moved(step);
@@ -246,13 +223,6 @@ impl Gaps {
             below: is_past(one.bottom, 0, other.top, offset.y),
             above: is_past(other.bottom, offset.y, one.top, 0),
         }
-    }
-
-    /// Whether the boxes are clear of each other.
-    fn is_some(self) -> bool
-        ensures { result ≡ is_gap self }
-    {
-        self.right | self.left | self.below | self.above
     }
 
     /// Whether there is a gap over which no step leads back.

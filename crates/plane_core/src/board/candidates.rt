@@ -20,6 +20,7 @@ ghost use Rattle.plane_core.specs.Frames.{IsViewFrame};
 ghost use Rattle.plane_core.specs.declared.cell.Cell.{Cell};
 
 use crate::board::Board;
+use crate::board::view::longer_side;
 use crate::bounds::Bounds;
 use crate::changing::{changing_cells, first_cell};
 use crate::flood::flood;
@@ -59,7 +60,8 @@ impl Board {
             if tries == 0 {
                 break;
             }
-            if !is_small_box(*bounds) || !leads_somewhere(boxes, *bounds) {
+            // Little else than a ship may change in a small box.
+            if longer_side(*bounds) >= SHIP || !leads_somewhere(boxes, *bounds) {
                 continue;
             }
             tries -= 1;
@@ -73,61 +75,32 @@ impl Board {
     }
 }
 
-/// Whether the box is so small that a ship and little else may change in it.
-fn is_small_box(bounds: Bounds) -> bool {
-    bounds.left.abs_diff(bounds.right) < SHIP && bounds.top.abs_diff(bounds.bottom) < SHIP
-}
-
 /// Whether the box lies ahead of all others in some diagonal direction. What is in another box can't be ahead of all
 /// the rest, unless what is ahead of it goes first.
 fn leads_somewhere(boxes: &[Bounds], bounds: Bounds) -> bool {
-    leads(boxes, bounds, true, true)
-        || leads(boxes, bounds, true, false)
-        || leads(boxes, bounds, false, true)
-        || leads(boxes, bounds, false, false)
-}
-
-/// Whether the box lies ahead of all others to the right or left, and down or up. Those that it meets don't count,
-/// since a ship has boxes from more than one window.
-fn leads(boxes: &[Bounds], bounds: Bounds, right: bool, down: bool) -> bool {
-    let least = least_depth(bounds, right, down);
+    let mut right_down = true;
+    let mut right_up = true;
+    let mut left_down = true;
+    let mut left_up = true;
     for other in boxes {
-        if most_depth(*other, right, down) >= least && !meets(*other, bounds) {
+        // How far it lies to the right of the other one, to the left, below and above: not at all, if not more than 0.
+        let right = bounds.left.saturating_sub(other.right);
+        let left = other.left.saturating_sub(bounds.right);
+        let down = bounds.top.saturating_sub(other.bottom);
+        let up = other.top.saturating_sub(bounds.bottom);
+        // Those that it meets don't count, since a ship has boxes from more than one window.
+        if right.max(left).max(down).max(up) <= 1 {
+            continue;
+        }
+        right_down &= right.saturating_add(down) > 0;
+        right_up &= right.saturating_add(up) > 0;
+        left_down &= left.saturating_add(down) > 0;
+        left_up &= left.saturating_add(up) > 0;
+        if !(right_down | right_up | left_down | left_up) {
             return false;
         }
     }
     true
-}
-
-/// How deep the nearest corner of a box lies in a direction.
-fn least_depth(bounds: Bounds, right: bool, down: bool) -> i64 {
-    let across = counted(right, bounds.left, bounds.right);
-    let along = counted(down, bounds.top, bounds.bottom);
-    across.saturating_add(along)
-}
-
-/// How deep the farthest corner of a box lies in a direction.
-fn most_depth(bounds: Bounds, right: bool, down: bool) -> i64 {
-    let across = counted(right, bounds.right, bounds.left);
-    let along = counted(down, bounds.bottom, bounds.top);
-    across.saturating_add(along)
-}
-
-/// The first coordinate, counted forwards, or the second one, counted backwards.
-fn counted(forwards: bool, first: i32, second: i32) -> i64 {
-    if forwards {
-        i64::from(first)
-    } else {
-        0i64.saturating_sub(i64::from(second))
-    }
-}
-
-/// Whether two boxes have a cell in common, or lie side by side.
-fn meets(one: Bounds, other: Bounds) -> bool {
-    one.left.saturating_sub(other.right) <= 1
-        && other.left.saturating_sub(one.right) <= 1
-        && one.top.saturating_sub(other.bottom) <= 1
-        && other.top.saturating_sub(one.bottom) <= 1
 }
 
 /// Adds the clusters of the cells that change in a window that lies here, if they are small and not among the others
@@ -149,8 +122,8 @@ fn add_grown(
         };
         let mut cluster = [0; 64];
         let whole = flood(rows, &mut cluster, spot.row, spot.column);
-        strike_out(changing, &cluster);
-        if !whole || !is_small(&cluster) {
+        let population = strike_out(changing, &cluster);
+        if !whole || population > MOST {
             continue;
         }
         let pattern = pattern_of(alloc, at, &cluster)?;
@@ -162,24 +135,15 @@ fn add_grown(
     Ok(())
 }
 
-/// Takes the cells of a cluster off others.
-fn strike_out(cells: &mut [u64; 64], cluster: &[u64; 64]) {
+/// Takes the cells of a cluster off others. Returns how many cells the cluster has.
+fn strike_out(cells: &mut [u64; 64], cluster: &[u64; 64]) -> u32 {
+    let mut count = 0u32;
     for row in 0..64 {
         cells[row] &= !cluster[row];
+        // At most 4,096, so nothing wraps.
+        count = count.wrapping_add(cluster[row].count_ones());
     }
-}
-
-/// Whether a cluster has few cells.
-fn is_small(cluster: &[u64; 64]) -> bool {
-    let mut left = MOST;
-    for row in cluster {
-        let cells = row.count_ones();
-        if cells > left {
-            return false;
-        }
-        left -= cells;
-    }
-    true
+    count
 }
 
 /// Whether the cluster is one of the others.

@@ -14,10 +14,13 @@ ghost use Rattle.plane_core.specs.Generations.{after};
 ghost use Rattle.plane_core.specs.Refusing.{HasRestlessCluster};
 
 use crate::board::Board;
-use crate::board::view::is_large;
+use crate::board::view::longer_side;
 use crate::refusing::refuses;
 use crate::rows::packed;
 use crate::window::generations;
+
+/// How many columns and rows the box of what changes in a small oscillator has at most.
+const SMALL: u32 = 6;
 
 /// How many boxes are tried at most.
 const TRIES: u32 = 4;
@@ -62,7 +65,8 @@ impl Board {
             if *tries == 0 {
                 return false;
             }
-            if is_large(*bounds) != large {
+            let is_large = longer_side(*bounds) >= SMALL;
+            if is_large != large {
                 continue;
             }
             *tries -= 1;

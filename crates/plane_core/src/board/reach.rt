@@ -14,8 +14,8 @@ ghost use Rattle.std.specs.Prelude.{◌≡◌, ◌==◌, ◌-◌, ◌<◌, ◌�
 ghost use Rattle.std.specs.Prelude.{slice_index};
 ghost use Rattle.std.specs.Int.{bit_at};
 ghost use Rattle.plane_core.specs.Bounds.{AreSidesWithin};
-ghost use Rattle.plane_core.specs.Cells.{cell_at, has, plane_bound, same_cell};
-ghost use Rattle.plane_core.specs.Directions.{GoesDeeper, IsGreater, IsSeen, NoDeeper, depth_in, inner_row};
+ghost use Rattle.plane_core.specs.Cells.{cell_at, plane_bound, same_cell};
+ghost use Rattle.plane_core.specs.Directions.{GoesDeeper, IsSeen, NoDeeper, depth_in, inner_row};
 ghost use Rattle.plane_core.specs.Frames.{FillsFrame, IsFrame, board_cell, bounds_of, word_of};
 ghost use Rattle.plane_core.specs.Frontiers.{LiesUpTo};
 ghost use Rattle.plane_core.specs.OnBoard.{cells_on};
@@ -176,22 +176,17 @@ fn deepest_in_row(
     ensures deeper { GoesDeeper way (without (cells_on at words.now) gone.now) found result }
     ensures seen { IsSeen at way (without (cells_on at words.now) gone.now) lane row result }
 {
-    let word = words[at.index(lane, row)] & !bits_of(gone, at.corner(lane, row));
+    let first = at.corner(lane, row);
+    let mut gone_here = 0;
+    for cell in gone {
+        gone_here |= bit_of(*cell, first);
+    }
+    let word = words[at.index(lane, row)] & !gone_here;
     if word == 0 {
         return found;
     }
     let depth = depth_at(at, lane, row, way.farthest(word), way);
-    Some(deeper(found, depth))
-}
-
-/// The greater of two depths, if there are two.
-fn deeper(found: Option<i32>, depth: i32) -> i32
-    ensures { IsGreater found depth result }
-{
-    match found {
-        Some(deepest) => deepest.max(depth),
-        None => depth,
-    }
+    Some(found.unwrap_or(depth).max(depth))
 }
 
 /// How deep the cell in this column of a row of a lane lies.
@@ -205,17 +200,6 @@ fn depth_at(at: Frame, lane: usize, row: usize, column: usize, way: Direction) -
     ensures { result ≡ depth_in way (board_cell at lane row column) }
 {
     way.depth(along(at.corner(lane, row), column))
-}
-
-/// The bits of those of the cells that stand in the 64 columns from this cell on, in its row.
-fn bits_of(cells: &[Cell], first: Cell) -> u64
-    ensures { (i : ℕ) → i < 64 → (bit_at result i == 1) ≡ has cells.now (cell_at (first.x +ℤ pos i) first.y) }
-{
-    let mut bits = 0;
-    for cell in cells {
-        bits |= bit_of(*cell, first);
-    }
-    bits
 }
 
 /// The bit of a cell, if it stands in the 64 columns from this cell on, in its row.

@@ -20,9 +20,6 @@ use crate::bounds::Bounds;
 use crate::frame::Frame;
 use crate::placed::read_rows;
 
-/// How many columns and rows the box of what changes in a small oscillator has at most.
-const SMALL: u32 = 6;
-
 /// What is seen, and where it lies: a board of its own, of one lane.
 #[derive(Clone, Copy)]
 pub(super) struct View {
@@ -62,12 +59,14 @@ impl Board {
     }
 }
 
-/// Whether the box is larger than that of a small oscillator.
-pub(super) fn is_large(bounds: Bounds) -> bool {
-    bounds.left.abs_diff(bounds.right) >= SMALL || bounds.top.abs_diff(bounds.bottom) >= SMALL
+/// How far the sides of the box are apart, those that are further from one another.
+pub(super) fn longer_side(bounds: Bounds) -> u32 {
+    let across = bounds.left.abs_diff(bounds.right);
+    across.max(bounds.top.abs_diff(bounds.bottom))
 }
 
 /// Where on a board that starts here a view begins that has the middle of these ends in its middle, if all lie on it.
+#[tactic(auto, using(crate::proofs::FrameFits::middle_low))]
 fn first_of(from: i32, to: i32, start: i32) -> Option<usize>
     ensures { IfSome result (λ first. first < 2 ^ 32) }
 {

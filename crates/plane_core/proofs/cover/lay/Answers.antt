@@ -1,8 +1,7 @@
-use Rattle.std.proofs.Common.{◌∙◌, ◌<◌, ◌≤◌, ℕ, ℤ, arith, of_z, rules, to_z, unsigned_abs, w32, FitsSigned}
+use Rattle.std.proofs.Common.{◌^◌, ◌*ℤ◌, ◌+ℤ◌, pos, ◌<◌, ◌≤◌, ℕ, ℤ, arith, of_z, rules, to_z, unsigned_abs, w32, FitsSigned}
 use Rattle.std.proofs.lemmas.Int.{to_z-of_z}
 use Rattle.std.proofs.lemmas.Result.{IfOk-from_err}
-use Rattle.plane_core.specs.Boxes.{rectangle_bound}
-use Rattle.plane_core.proofs.CoverLemmas.{below_end, few_columns, few_rows, none_above, row_near, rows_more, spans_begin, wider_bound}
+use Rattle.plane_core.proofs.CoverLemmas.{below_end, few_columns, few_rows, fits_count, fits_row, fits_rows, none_above, row_is, row_near, rows_more, spans_begin, wider_bound}
 use Rattle.plane_core.proofs.cover.lay.Goals as goal
 use borrow.Author.Count.{falls}
 
@@ -28,28 +27,35 @@ columns = omega arith
 rows : 32 ≤ 64
 rows = omega arith
 
-up_to : (i n m : ℕ) → i < n → n ≤ m → i ≤ m
-up_to i n m low few = omega arith
+row_fits : (first : ℤ) (i count : ℕ) → i < count → count ≤ 2 ^ 20 → unsigned_abs first ≤ 2 ^ 25
+    → unsigned_abs (to_z w32 (of_z w32 (to_z w32 (of_z w32 first) +ℤ to_z w32 (of_z w32 (pos 32 *ℤ to_z w32 i))))) ≤ 2 ^ 26
+row_fits first i count low few near = row_near first _ i count low few near (row_is first i count low few near)
 
-pub row_of-requires-clause-first : goal.row_of-requires-clause-first
-row_of-requires-clause-first c =
-    spans_begin _ _ 32 c.side_by_side-down.result c.side_by_side-down.ensures rows
-    (passed c.args.rectangle.top _ (search rules) c.requires.top)
+pub overflow_cast-row : goal.overflow_cast-row
+overflow_cast-row c =
+    fits_count c.loop-i.i c.side_by_side-down.result.count c.loop-i-test.true
+    (few_rows _ _ c.side_by_side-down.result c.side_by_side-down.ensures
+    (passed c.args.rectangle.top _ (search rules) c.requires.top) (passed c.args.rectangle.bottom _ (search rules) c.requires.bottom))
 
-pub row_of-requires-clause-i : goal.row_of-requires-clause-i
-row_of-requires-clause-i c =
-    up_to c.loop-i.i c.side_by_side-down.result.count _ c.loop-i-test.true (few_rows _ _ c.side_by_side-down.result c.side_by_side-down.ensures
-    (passed c.args.rectangle.top _ (search rules) c.requires.top)
-    (passed c.args.rectangle.bottom _ (search rules) c.requires.bottom))
+pub overflow_mul-row : goal.overflow_mul-row
+overflow_mul-row c =
+    fits_rows c.loop-i.i c.side_by_side-down.result.count c.loop-i-test.true
+    (few_rows _ _ c.side_by_side-down.result c.side_by_side-down.ensures
+    (passed c.args.rectangle.top _ (search rules) c.requires.top) (passed c.args.rectangle.bottom _ (search rules) c.requires.bottom))
+
+pub overflow_add-row : goal.overflow_add-row
+overflow_add-row c =
+    fits_row c.side_by_side-down.result.first c.loop-i.i c.side_by_side-down.result.count c.loop-i-test.true
+    (few_rows _ _ c.side_by_side-down.result c.side_by_side-down.ensures
+    (passed c.args.rectangle.top _ (search rules) c.requires.top) (passed c.args.rectangle.bottom _ (search rules) c.requires.bottom))
+    (spans_begin _ _ 32 c.side_by_side-down.result c.side_by_side-down.ensures rows (passed c.args.rectangle.top _ (search rules) c.requires.top))
 
 pub lay_row-requires-clause-top : goal.lay_row-requires-clause-top
 lay_row-requires-clause-top c =
-    let down = c.side_by_side-down.result in
-    let top = passed c.args.rectangle.top rectangle_bound (search rules) c.requires.top in
-    let bottom = passed c.args.rectangle.bottom rectangle_bound (search rules) c.requires.bottom in
-    passed c.row_of.result _ (search rules)
-    (row_near down.first c.row_of.result c.loop-i.i (spans_begin _ _ 32 down c.side_by_side-down.ensures rows top)
-    (up_to c.loop-i.i down.count _ c.loop-i-test.true (few_rows _ _ down c.side_by_side-down.ensures top bottom)) c.row_of.ensures)
+    row_fits c.side_by_side-down.result.first c.loop-i.i c.side_by_side-down.result.count c.loop-i-test.true
+    (few_rows _ _ c.side_by_side-down.result c.side_by_side-down.ensures
+    (passed c.args.rectangle.top _ (search rules) c.requires.top) (passed c.args.rectangle.bottom _ (search rules) c.requires.bottom))
+    (spans_begin _ _ 32 c.side_by_side-down.result c.side_by_side-down.ensures rows (passed c.args.rectangle.top _ (search rules) c.requires.top))
 
 pub lay_row-requires-clause-first : goal.lay_row-requires-clause-first
 lay_row-requires-clause-first c =
@@ -88,11 +94,13 @@ pub loop-i-preserved : goal.loop-i-preserved
 loop-i-preserved c =
     let left : FitsSigned w32 c.args.rectangle.left = search rules in
     let right : FitsSigned w32 c.args.rectangle.right = search rules in
-    let row : FitsSigned w32 c.row_of.result = search rules in
     record {
       kept = λ d some. c.in_ok-lay_row.ensures.kept d (c.loop-i.invariant.kept d some);
       laid = rows_more c.args.rectangle c.side_by_side-across.result c.side_by_side-down.result.first _ c.loop-i.i c.loop-i.places.items
-          c.lay_row.new.places.items (to_z-of_z w32 c.row_of.result row ∙ c.row_of.ensures)
+          c.lay_row.new.places.items (row_is c.side_by_side-down.result.first c.loop-i.i c.side_by_side-down.result.count c.loop-i-test.true
+          (few_rows _ _ c.side_by_side-down.result c.side_by_side-down.ensures
+          (passed c.args.rectangle.top _ (search rules) c.requires.top) (passed c.args.rectangle.bottom _ (search rules) c.requires.bottom))
+          (spans_begin _ _ 32 c.side_by_side-down.result c.side_by_side-down.ensures rows (passed c.args.rectangle.top _ (search rules) c.requires.top)))
           (simp to_z-of_z at c.side_by_side-across.ensures) c.loop-i.invariant.laid c.in_ok-lay_row.ensures.kept c.in_ok-lay_row.ensures.laid;
     }
 

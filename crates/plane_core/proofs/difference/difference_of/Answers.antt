@@ -1,6 +1,12 @@
-use Rattle.std.proofs.Common.{◌≡◌, ℕ, arith, subst}
+use Rattle.std.proofs.Common.{◌≡◌, ℕ, arith, max, subst}
 use Rattle.plane_core.proofs.DifferenceLemmas.{DifferInColumns, DifferInRows, HoldPlaces, columns_more, differs_only, in_no_lane, rows_more}
 use Rattle.plane_core.proofs.difference.difference_of.Goals as goal
+
+first_none : (n a b : ℕ) → n ≡ max a b → n ≡ 0 → a ≡ 0
+first_none n a b is none = omega (arith, is, none)
+
+second_none : (n a b : ℕ) → n ≡ max a b → n ≡ 0 → b ≡ 0
+second_none n a b is none = omega (arith, is, none)
 
 pub loop-k-init : goal.loop-k-init
 loop-k-init c = record { columns = λ k low. absurd (omega arith); rows = λ k low. absurd (omega arith) }
@@ -12,13 +18,15 @@ loop-k-preserved c =
     let k = c.loop-k.k in
     let places = c.differing-places.result in
     let hold : HoldPlaces one other places k =
-    λ j i low a b d e none. c.differing-places.ensures j i low (c.inner_of.ensures j i low a b d e) none in
+    c.differing-places.ensures in
     record {
       columns =
           columns_more one other c.loop-k.columns places c.either-columns.result k c.loop-k.invariant.columns hold
-          c.either-columns.ensures.one c.either-columns.ensures.other;
+          (λ j i low none. first_none _ _ _ (c.either-columns.ensures.bits j i low) none)
+          (λ j i low none. second_none _ _ _ (c.either-columns.ensures.bits j i low) none);
       rows = rows_more one other c.loop-k.rows places c.marked.result c.either-rows.result k c.loop-k.invariant.rows hold c.marked.ensures
-          c.either-rows.ensures.one c.either-rows.ensures.other;
+          (λ j i low none. first_none _ _ _ (c.either-rows.ensures.bits j i low) none)
+          (λ j i low none. second_none _ _ _ (c.either-rows.ensures.bits j i low) none);
     }
 
 pub returns : goal.returns

@@ -1,36 +1,43 @@
 use borrow.Author.Count.{falls}
-use Rattle.std.proofs.Common.{◌≡◌, ◌<◌, ◌∙◌, ℕ, ap, pos, arith, inl, inr, length, subst, sym, List}
+use Rattle.std.proofs.Common.{◌≡◌, ◌<◌, ◌∙◌, ℕ, ap, get_or, pos, arith, inl, inr, length, subst, sym, List}
 use Rattle.std.specs.List.{All}
 use Rattle.std.proofs.lemmas.List.Elements.{All-nil, All-push}
 use Rattle.std.proofs.lemmas.Result.{IfOk-from_err}
 use Rattle.plane_core.specs.Answers.{rule_of}
+use Rattle.plane_core.specs.declared.place.Place.{Place}
 use Rattle.plane_core.specs.declared.bounds.Bounds.{Bounds}
 use Rattle.plane_core.specs.Bounds.{AreSidesWithin, IsWithin}
 use Rattle.plane_core.specs.Boxes.{box_bound}
 use Rattle.plane_core.proofs.BoxLemmas.{all_in_reach, any_pushed, hold_all}
-use Rattle.plane_core.proofs.LeapLemmas.{run_more}
+use Rattle.plane_core.proofs.LeapLemmas.{run_more, run_place, shown_read}
+use Rattle.plane_core.proofs.PlacedLemmas.{read_packed}
 use Rattle.plane_core.proofs.leap.run_all.Goals as goal
 
-pub run_at-ran-requires-clause-frame : goal.run_at-ran-requires-clause-frame
-run_at-ran-requires-clause-frame c = c.requires.frame
+abbrev origin : Place
+origin = record { left = pos 0; top = pos 0 }
 
-pub run_at-ran-requires-clause-long : goal.run_at-ran-requires-clause-long
-run_at-ran-requires-clause-long c = c.requires.long
+pub column_of-requires-clause-frame : goal.column_of-requires-clause-frame
+column_of-requires-clause-frame c = c.requires.frame
 
-pub run_at-ran-requires-clause-on_board : goal.run_at-ran-requires-clause-on_board
-run_at-ran-requires-clause-on_board c =
-    c.requires.on_board c.loop-place.place-index (record { left = pos 0; top = pos 0 }) c.loop-place-test.true
+pub column_of-requires-clause-on_board : goal.column_of-requires-clause-on_board
+column_of-requires-clause-on_board c = c.requires.on_board c.loop-place.place-index origin c.loop-place-test.true
 
-pub run_at-ran-requires-clause-some : goal.run_at-ran-requires-clause-some
-run_at-ran-requires-clause-some c = c.requires.some
+pub row_of-requires-clause-frame : goal.row_of-requires-clause-frame
+row_of-requires-clause-frame c = c.requires.frame
 
-pub run_at-ran-requires-clause-few : goal.run_at-ran-requires-clause-few
-run_at-ran-requires-clause-few c = c.requires.few
+pub row_of-requires-clause-on_board : goal.row_of-requires-clause-on_board
+row_of-requires-clause-on_board c = c.requires.on_board c.loop-place.place-index origin c.loop-place-test.true
+
+pub run-change-requires-clause-some : goal.run-change-requires-clause-some
+run-change-requires-clause-some c = c.requires.some
+
+pub run-change-requires-clause-few : goal.run-change-requires-clause-few
+run-change-requires-clause-few c = c.requires.few
 
 pub bounds-requires : goal.bounds-requires
 bounds-requires c =
     all_in_reach c.args.at c.args.places.now c.requires.frame c.requires.on_board c.loop-place.place-index
-    (record { left = pos 0; top = pos 0 }) c.loop-place-test.true
+    origin c.loop-place-test.true
 
 pub returns-in_err-push : goal.returns-in_err-push
 returns-in_err-push c = IfOk-from_err _ _ c.from_residual.ensures.0
@@ -42,10 +49,19 @@ pub loop-place-preserved : goal.loop-place-preserved
 loop-place-preserved c =
     let before = c.loop-place.boxes.items in
     let later = c.push-in-loop-place.new.self.items in
-    let ran = c.run_at-ran.result in
+    let at = c.args.at in
+    let words = c.args.words.now in
+    let place = get_or c.args.places.now c.loop-place.place-index origin in
+    let x = c.column_of.result in
+    let y = c.row_of.result in
+    let window = c.packed-window.result in
+    let ran = run_place at place words (rule_of c.args.rule.now) c.args.count window c.run-change.new.window c.unpacked.result c.run-change.result
+    (λ cells shows. shown_read at place words x y 10 window cells c.column_of.ensures.lanes c.row_of.ensures.rows c.column_of.ensures.is
+    c.row_of.ensures.is shows (read_packed at words x y 10 c.read_rows-rows.result window c.read_rows-rows.ensures c.packed-window.ensures))
+    c.run-change.ensures c.unpacked.ensures in
     run_more c.args.at c.args.words.now (rule_of c.args.rule.now) c.args.count c.args.places.now c.loop-place.held.items c.push.new.self.items
-    before later c.loop-place.place-index (record { left = pos 0; top = pos 0 }) ran.rows ran.change c.bounds.result
-    c.loop-place.invariant c.loop-place-test.true c.run_at-ran.ensures c.bounds.ensures.difference c.in_ok-push.ensures.items
+    before later c.loop-place.place-index origin c.unpacked.result c.run-change.result c.bounds.result
+    c.loop-place.invariant c.loop-place-test.true ran c.bounds.ensures.difference c.in_ok-push.ensures.items
     (λ d some. any_pushed (λ (b : Bounds). IsWithin b d) before later c.in-Some.bounds c.in_ok-push-2.ensures.items (inl some))
     (λ d here. any_pushed (λ (b : Bounds). IsWithin b d) before later c.in-Some.bounds c.in_ok-push-2.ensures.items (inr (rw c.in-Some.is at here)))
     (subst (λ (boxes : List Bounds). All (AreSidesWithin box_bound) boxes) (sym c.in_ok-push-2.ensures.items)
@@ -54,10 +70,19 @@ loop-place-preserved c =
 pub loop-place-preserved-in_default : goal.loop-place-preserved-in_default
 loop-place-preserved-in_default c =
     let before = c.loop-place.boxes.items in
-    let ran = c.run_at-ran.result in
+    let at = c.args.at in
+    let words = c.args.words.now in
+    let place = get_or c.args.places.now c.loop-place.place-index origin in
+    let x = c.column_of.result in
+    let y = c.row_of.result in
+    let window = c.packed-window.result in
+    let ran = run_place at place words (rule_of c.args.rule.now) c.args.count window c.run-change.new.window c.unpacked.result c.run-change.result
+    (λ cells shows. shown_read at place words x y 10 window cells c.column_of.ensures.lanes c.row_of.ensures.rows c.column_of.ensures.is
+    c.row_of.ensures.is shows (read_packed at words x y 10 c.read_rows-rows.result window c.read_rows-rows.ensures c.packed-window.ensures))
+    c.run-change.ensures c.unpacked.ensures in
     run_more c.args.at c.args.words.now (rule_of c.args.rule.now) c.args.count c.args.places.now c.loop-place.held.items c.push.new.self.items
-    before before c.loop-place.place-index (record { left = pos 0; top = pos 0 }) ran.rows ran.change c.bounds.result
-    c.loop-place.invariant c.loop-place-test.true c.run_at-ran.ensures c.bounds.ensures.difference c.in_ok-push.ensures.items
+    before before c.loop-place.place-index origin c.unpacked.result c.run-change.result c.bounds.result
+    c.loop-place.invariant c.loop-place-test.true ran c.bounds.ensures.difference c.in_ok-push.ensures.items
     (λ d some. some) (λ d here. absurd (rw c.in_default.is at here)) c.loop-place.invariant.sides
 
 pub returns : goal.returns

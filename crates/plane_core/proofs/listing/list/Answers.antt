@@ -1,38 +1,36 @@
-use Rattle.std.proofs.Common.{◌∙◌, ℕ, arith, subst}
+use Rattle.std.proofs.Common.{◌+◌, ◌/◌, ◌∙◌, ℕ, arith, subst}
 use Rattle.plane_core.specs.Listing.{HasReadRows}
-use Rattle.plane_core.proofs.ListingLemmas.{bands_after, bands_before, read_all}
+use Rattle.plane_core.proofs.ListingLemmas.{bands_begin, bands_end, bands_held, bands_after, bands_before, read_all}
 use borrow.Author.Count.{falls}
 use Rattle.plane_core.proofs.OrderLemmas.{below_too}
 use Rattle.plane_core.proofs.listing.list.Goals as goal
 
 pub loop-band-init : goal.loop-band-init
 loop-band-init c =
-    bands_before c.args.at c.args.words.now c.args.spans.now c.bands_on-bands.result _ c.in_ok-cells.ensures.items c.bands_on-bands.ensures.from
-    c.requires.live (λ s r hs hr inside. c.bands_on-bands.ensures.held r hr (c.hull_of-hull.ensures s r hs inside).row)
+    bands_before c.args.at c.args.words.now c.args.spans.now (record { from = c.min-first.result / 8; end = (c.min.result + 7) / 8 }) _ c.in_ok-cells.ensures.items
+    (bands_begin c.hull_of-hull.result.rows.from c.args.at.rows c.min-first.result c.min-first.ensures)
+    c.requires.live (λ s r hs hr inside. bands_held c.hull_of-hull.result.rows c.args.at.rows c.min-first.result c.min.result r c.min-first.ensures c.min.ensures hr (c.hull_of-hull.ensures s r hs inside).row)
 
 pub loop-band-preserved : goal.loop-band-preserved
 loop-band-preserved c =
     subst (λ (n : ℕ). HasReadRows c.args.at c.args.words.now n c.read_band.new.cells.items) (omega arith) (c.in_ok-read_band.ensures c.loop-band.invariant)
 
 pub read_band-requires-clause-lanes : goal.read_band-requires-clause-lanes
-read_band-requires-clause-lanes c = λ s r hs inside. c.lanes_on-lanes.ensures.held s hs (c.hull_of-hull.ensures s r hs inside).lane
+read_band-requires-clause-lanes c = λ s r hs inside. c.below-lanes.ensures.held s hs (c.hull_of-hull.ensures s r hs inside).lane
 
 pub returns : goal.returns
 returns c cells o fits shown =
     let words = c.args.words.now in
     c.in_order.ensures
     ∙ read_all c.args.at words cells c.loop-band.cells.items o fits shown
-    (bands_after c.args.at words c.args.spans.now c.bands_on-bands.result c.loop-band.band c.loop-band.cells.items (omega arith) c.requires.live
-    (λ s r hs hr inside. c.bands_on-bands.ensures.held r hr (c.hull_of-hull.ensures s r hs inside).row) c.loop-band.invariant)
-
-pub bands_on-bands-requires : goal.bands_on-bands-requires
-bands_on-bands-requires c = c.requires.frame
+    (bands_after c.args.at words c.args.spans.now (record { from = c.min-first.result / 8; end = (c.min.result + 7) / 8 }) c.loop-band.band c.loop-band.cells.items (omega arith) c.requires.live
+    (λ s r hs hr inside. bands_held c.hull_of-hull.result.rows c.args.at.rows c.min-first.result c.min.result r c.min-first.ensures c.min.ensures hr (c.hull_of-hull.ensures s r hs inside).row) c.loop-band.invariant)
 
 pub read_band-requires-clause-frame : goal.read_band-requires-clause-frame
 read_band-requires-clause-frame c = c.requires.frame
 
 pub read_band-requires-clause-band : goal.read_band-requires-clause-band
-read_band-requires-clause-band c = below_too _ _ _ c.loop-band-test.true c.bands_on-bands.ensures.end
+read_band-requires-clause-band c = below_too _ _ _ c.loop-band-test.true (bands_end c.args.at c.hull_of-hull.result.rows.end c.min.result c.requires.frame c.min.ensures)
 
 pub read_band-requires-clause-long : goal.read_band-requires-clause-long
 read_band-requires-clause-long c = c.requires.long
@@ -44,10 +42,10 @@ pub read_band-requires-clause-live : goal.read_band-requires-clause-live
 read_band-requires-clause-live c = c.requires.live
 
 pub read_band-requires-clause-order : goal.read_band-requires-clause-order
-read_band-requires-clause-order c = c.lanes_on-lanes.ensures.order
+read_band-requires-clause-order c = c.below-lanes.ensures.order
 
 pub read_band-requires-clause-most : goal.read_band-requires-clause-most
-read_band-requires-clause-most c = c.lanes_on-lanes.ensures.most
+read_band-requires-clause-most c = c.below-lanes.ensures.most
 
 pub loop-band-smaller : goal.loop-band-smaller
-loop-band-smaller c = falls c.bands_on-bands.result.end c.loop-band.band c.loop-band-test.true
+loop-band-smaller c = falls ((c.min.result + 7) / 8) c.loop-band.band c.loop-band-test.true

@@ -1,6 +1,7 @@
-use Rattle.std.proofs.Common.{◌≡◌, ℕ, arith, length, length-set, ◌∙◌, subst}
+use Rattle.std.proofs.Common.{◌≡◌, ◌+◌, ◌-◌, ◌*◌, ◌/◌, ◌%◌, ◌^◌, ◌<◌, ℕ, Fits, arith, bit_or, slice_index, rules, w64, length, length-set, ◌∙◌, subst}
 use Rattle.std.proofs.lemmas.List.{length-replicate}
 use Rattle.plane_core.specs.Placed.{AreRowsRead}
+use Rattle.plane_core.proofs.ShiftLemmas.{joined_left, joined_right}
 use Rattle.plane_core.proofs.PlacedLemmas.{read_word, rows_more}
 use Rattle.plane_core.proofs.PlacedLemmas.{column_low, fits_begin, fits_place, read_in}
 use borrow.Author.Count.{falls}
@@ -14,11 +15,18 @@ loop-r-preserved g c =
     let rows = c.loop-r.rows in
     let r = c.loop-r.r in
     let long : length rows ≡ g.row.R = c.loop-r.invariant.long in
+    let words = c.args.words.now in
+    let shift = c.args.x % 64 in
+    let low : shift < 64 = column_low c.args.x in
+    let first = slice_index words (c.args.x / 64 * c.args.at.rows + c.args.y + r) in
+    let second = slice_index words (c.args.x / 64 * c.args.at.rows + c.args.y + c.args.at.rows + r) in
+    let fits : Fits w64 first = search rules in
+    let word = bit_or (first / 2 ^ shift) (second * 2 % 2 ^ 64 * 2 ^ (63 - shift) % 2 ^ 64) in
     record {
-      long = length-set rows r c.joined.result ∙ long;
-      read = rows_more c.args.at c.args.words.now c.args.x c.args.y r c.joined.result rows (omega arith) c.loop-r.invariant.read
-          (λ i inside. read_word c.args.at c.args.words.now c.args.x c.args.y r i c.joined.result inside
-          (c.joined.ensures.left i) (c.joined.ensures.right i inside));
+      long = length-set rows r word ∙ long;
+      read = rows_more c.args.at words c.args.x c.args.y r word rows (omega arith) c.loop-r.invariant.read
+          (λ i inside. read_word c.args.at words c.args.x c.args.y r i word inside
+          (joined_left first second shift i low) (joined_right first second shift i fits low inside));
     }
 
 pub returns : goal.returns
@@ -31,9 +39,6 @@ bounds-words-first g c = (read_in c.args.at c.args.words.now c.args.x c.args.y c
 
 pub bounds-words-second : goal.bounds-words-second
 bounds-words-second g c = (read_in c.args.at c.args.words.now c.args.x c.args.y c.loop-r.r g.row.R c.requires.long c.requires.lanes c.requires.rows c.loop-r-test.true).1
-
-pub joined-requires : goal.joined-requires
-joined-requires g c = column_low c.args.x
 
 pub bounds-rows-r : goal.bounds-rows-r
 bounds-rows-r g c = c.loop-r-test.true
@@ -53,12 +58,12 @@ pub overflow_add-second : goal.overflow_add-second
 overflow_add-second g c =
     (fits_begin c.args.at c.args.words.now c.args.x c.args.y g.row.R c.well_formed.0.1 c.requires.long c.requires.lanes c.requires.rows).2
 
-pub overflow_add-first-in-loop-r : goal.overflow_add-first-in-loop-r
-overflow_add-first-in-loop-r g c =
+pub overflow_add-rows : goal.overflow_add-rows
+overflow_add-rows g c =
     fits_place _ c.args.words.now c.well_formed.0.1
     (read_in c.args.at c.args.words.now c.args.x c.args.y c.loop-r.r g.row.R c.requires.long c.requires.lanes c.requires.rows c.loop-r-test.true).0
 
-pub overflow_add-second-in-loop-r : goal.overflow_add-second-in-loop-r
-overflow_add-second-in-loop-r g c =
+pub overflow_add-rows-in-loop-r : goal.overflow_add-rows-in-loop-r
+overflow_add-rows-in-loop-r g c =
     fits_place _ c.args.words.now c.well_formed.0.1
     (read_in c.args.at c.args.words.now c.args.x c.args.y c.loop-r.r g.row.R c.requires.long c.requires.lanes c.requires.rows c.loop-r-test.true).1

@@ -1,14 +1,18 @@
-use Rattle.std.proofs.Common.{ℕ, ap, arith, sym, ◌∙◌}
+use Rattle.std.proofs.Common.{◌-◌, ◌*◌, ◌/◌, ◌%◌, ◌^◌, ◌<◌, ℕ, ap, arith, sym, ◌∙◌}
 use Rattle.std.specs.Int.{bit_at}
 use Rattle.std.proofs.lemmas.Bool.{false≢true}
-use Rattle.plane_core.proofs.StrayLemmas.{stray_bit}
+use Rattle.plane_core.proofs.StrayLemmas.{inside_bit, stray_bit}
 use Rattle.plane_core.proofs.OrderLemmas.{columns_deep, few_vectors, inner_low, rows_deep, ten_are_some}
 use Rattle.plane_core.proofs.stray.has_stray.Goals as goal
 
+below : (n : ℕ) → n % 2 ^ 64 < 2 ^ 64
+below n = omega arith
+
 pub returns-then-astray-ne0 : goal.returns-then-astray-ne0
 returns-then-astray-ne0 g c = λ _.
-    let bit = stray_bit c.row-here.result c.row.result c.columns_inside-inside.result c.args.depth c.if-astray-ne0.true c.columns_inside-inside.type_inv
-    c.columns_inside-inside.ensures in
+    let inside = (2 ^ 64 - 1) / 2 ^ (2 * c.args.depth) * 2 ^ c.args.depth % 2 ^ 64 in
+    let bit = stray_bit c.row-here.result c.row.result inside c.args.depth c.if-astray-ne0.true (below ((2 ^ 64 - 1) / 2 ^ (2 * c.args.depth) * 2 ^ c.args.depth))
+    (λ i. inside_bit c.args.depth i (columns_deep c.args.depth c.requires.depth)) in
     record {
       r = c.loop-r.r;
       i = bit.i;
@@ -25,9 +29,6 @@ returns-then-columns_astray-inside-eq0 g c = λ e. absurd (false≢true e)
 
 pub returns : goal.returns
 returns g c = λ e. absurd (false≢true e)
-
-pub columns_inside-inside-requires : goal.columns_inside-inside-requires
-columns_inside-inside-requires g c = columns_deep c.args.depth c.requires.depth
 
 pub columns_astray-requires : goal.columns_astray-requires
 columns_astray-requires g c = few_vectors g.row.N c.requires.few

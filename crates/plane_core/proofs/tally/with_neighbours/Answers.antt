@@ -1,8 +1,14 @@
-use Rattle.std.proofs.Common.{ap, arith}
+use Rattle.std.proofs.Common.{◌≡◌, ◌∙◌, Option, ap, arith}
+use Rattle.plane_core.specs.declared.cell.Cell.{Cell}
+use Rattle.plane_core.specs.Tallies.{earlier_of}
 use Rattle.plane_core.specs.declared.tally.Shift.{Shift}
 use Rattle.plane_core.proofs.MergeLemmas.{earliest_of, merging_all, merging_more, merging_none, shorter, sum_small}
 use Rattle.plane_core.proofs.NeighbourLemmas.{adds_merged, back_movable, in_order-moved, still_movable, totals_moved}
 use Rattle.plane_core.proofs.tally.with_neighbours.Goals as goal
+
+-- the earliest of three
+earliest : {o d : Option Cell} (a b e : Option Cell) → o ≡ earlier_of a d → d ≡ earlier_of b e → o ≡ earlier_of a (earlier_of b e)
+earliest a b e first second = first ∙ ap (earlier_of a) second
 
 pub loop-cell-init : goal.loop-cell-init
 loop-cell-init c =
@@ -35,14 +41,14 @@ overflow_add-from_left-in-Some c =
 pub loop-cell-smaller : goal.loop-cell-smaller
 loop-cell-smaller c =
     let least = shorter _ _ _ c.in-Some.cell (earliest_of c.first_cell.result c.first_cell-in-loop-cell.result c.first_cell-in-loop-cell-2.result _ _ _ _
-    c.first_cell.ensures c.first_cell-in-loop-cell.ensures c.first_cell-in-loop-cell-2.ensures c.in-Some.ensures) in
+    c.first_cell.ensures c.first_cell-in-loop-cell.ensures c.first_cell-in-loop-cell-2.ensures (earliest c.first_cell.result c.first_cell-in-loop-cell.result c.first_cell-in-loop-cell-2.result c.in-Some.ensures c.earlier.ensures)) in
     rw (c.take_at-from_left.ensures.remainder, c.take_at-from_middle.ensures.remainder, c.take_at-from_right.ensures.remainder) least
 
 -- what is pushed is what the merge adds at the earliest cell
 pub loop-cell-preserved : goal.loop-cell-preserved
 loop-cell-preserved c =
     let more = merging_more _ _ _ _ _ _ _ c.in-Some.cell c.loop-cell.invariant.merging (earliest_of c.first_cell.result c.first_cell-in-loop-cell.result
-    c.first_cell-in-loop-cell-2.result _ _ _ _ c.first_cell.ensures c.first_cell-in-loop-cell.ensures c.first_cell-in-loop-cell-2.ensures c.in-Some.ensures) in
+    c.first_cell-in-loop-cell-2.result _ _ _ _ c.first_cell.ensures c.first_cell-in-loop-cell.ensures c.first_cell-in-loop-cell-2.ensures (earliest c.first_cell.result c.first_cell-in-loop-cell.result c.first_cell-in-loop-cell-2.result c.in-Some.ensures c.earlier.ensures)) in
     record {
       merging = rw (
         c.in_ok-push.ensures.items,
@@ -65,4 +71,4 @@ returns c =
     adds_merged by.dx by.dy c.back-back.result.dx c.back-back.result.dy c.args.tallies.now c.loop-cell.sums.items (ap (λ (s : Shift). s.dx) c.back-back.ensures)
     (ap (λ (s : Shift). s.dy) c.back-back.ensures) c.requires.movable
     (merging_all _ _ _ _ _ _ _ c.loop-cell.invariant.merging (earliest_of c.first_cell.result c.first_cell-in-loop-cell.result
-    c.first_cell-in-loop-cell-2.result _ _ _ _ c.first_cell.ensures c.first_cell-in-loop-cell.ensures c.first_cell-in-loop-cell-2.ensures c.in_default.ensures))
+    c.first_cell-in-loop-cell-2.result _ _ _ _ c.first_cell.ensures c.first_cell-in-loop-cell.ensures c.first_cell-in-loop-cell-2.ensures (earliest c.first_cell.result c.first_cell-in-loop-cell.result c.first_cell-in-loop-cell-2.result c.in_default.ensures c.earlier.ensures)))

@@ -21,7 +21,7 @@ loop-course-init c = record {
   rule = c.start-course.ensures.rule;
   here = first_checkpoint c.args.profile.now;
   latest = c.start-course.ensures.cells ∙ sym (after-none c.args.rule.now c.args.pattern);
-  noes = none_known c.args.rule.now c.args.profile.now c.start-course.result.cells 0 c.none-noes.result c.none-noes.ensures;
+  noes = none_known c.args.rule.now c.args.profile.now c.start-course.result.cells 0;
   before = λ u check low rest. absurd (omega (arith, low));
 }
 

@@ -2,7 +2,7 @@ use Rattle.std.proofs.Common.{◌≡◌, ◌∙◌, ◌+◌, ◌<◌, ◌≤◌,
 use Rattle.std.proofs.lemmas.Bool.{false≢true}
 use Rattle.std.proofs.lemmas.Result.{IfOk-from_err}
 use Rattle.plane_core.specs.declared.cell.Cell.{Cell}
-use Rattle.plane_core.specs.Cells.{InOrder}
+use Rattle.plane_core.specs.Cells.{InOrder, set_of}
 use Rattle.plane_core.specs.Generations.{after, lies_within, next}
 use Rattle.plane_core.proofs.GenerationLemmas.{after-none, after-more}
 use Rattle.plane_core.proofs.SetLemmas.{in_order-set_of}
@@ -12,22 +12,24 @@ use Rattle.survey_core.specs.Rest.{KeepApart}
 use Rattle.survey_core.specs.UnderWay.{survey_reach}
 use Rattle.survey_core.proofs.ForGoodLemmas.{apart_once_back}
 use Rattle.survey_core.proofs.GroupLemmas.{union_partition}
-use Rattle.survey_core.proofs.PlaneLemmas.{within_later, within_more}
+use Rattle.survey_core.proofs.PlaneLemmas.{within_all, within_later, within_more}
 use Rattle.survey_core.proofs.RestLemmas.{alone_in_order, alone_near, apart_at_once, apart_more, apart_now, union_near}
 use Rattle.survey_core.proofs.RunLemmas.{clusters_are, first_known, later_is, latest_at_once, latest_is, latest_near}
 use Rattle.survey_core.proofs.rest.keep_apart.Goals as goal
 
-pub union-requires : goal.union-requires
-union-requires c =
-    subst (All (λ part. lies_within 999999 part ≡ true))
+pub pattern_of-requires : goal.pattern_of-requires
+pattern_of-requires c =
+    ap (lies_within 999999) (c.as_slice.ensures.value ∙ c.in_ok-cells.ensures)
+    ∙ within_all 999999 (latest_of c.args.clusters.now) (subst (All (λ part. lies_within 999999 part ≡ true))
     (sym (latest_at_once c.args.rule.now (clusters_of c.args.clusters.now) c.args.clusters.now c.requires.start))
-    (λ k d low. within_more survey_reach 999999 (get_or (clusters_of c.args.clusters.now) k d) (omega arith) (c.requires.near k d low))
+    (λ k d low. within_more survey_reach 999999 (get_or (clusters_of c.args.clusters.now) k d) (omega arith) (c.requires.near k d low)))
 
 pub loop-init : goal.loop-init
 loop-init c =
     let clusters = clusters_of c.args.clusters.now in
     record {
-      whole = c.in_ok-whole.ensures ∙ ap union_of (latest_at_once c.args.rule.now clusters c.args.clusters.now c.requires.start)
+      whole = c.in_ok-whole.ensures ∙ ap set_of (c.as_slice.ensures.value ∙ c.in_ok-cells.ensures)
+          ∙ ap union_of (latest_at_once c.args.rule.now clusters c.args.clusters.now c.requires.start)
           ∙ sym (after-none c.args.rule.now (union_of clusters));
       alone = c.requires.start;
       apart = λ k low. subst (λ (h : ℕ). KeepApart c.args.rule.now (union_of clusters) clusters h) (omega arith)
@@ -118,7 +120,10 @@ pub returns : goal.returns
 returns c = (λ e g low. c.loop.invariant.apart g (omega arith), λ apart. refl)
 
 pub returns-in_err-whole : goal.returns-in_err-whole
-returns-in_err-whole c = IfOk-from_err _ _ c.from_residual.ensures.0
+returns-in_err-whole c = IfOk-from_err _ _ c.from_residual-in_err-whole.ensures.0
+
+pub returns-in_err-cells : goal.returns-in_err-cells
+returns-in_err-cells c = IfOk-from_err _ _ c.from_residual.ensures.0
 
 pub returns-in_err-whole-2 : goal.returns-in_err-whole-2
 returns-in_err-whole-2 c = IfOk-from_err _ _ c.from_residual-in_err-whole-2.ensures.0

@@ -1,7 +1,10 @@
-use Rattle.std.proofs.Common.{List, refl, subst, sym}
+use Rattle.std.proofs.Common.{FitsSigned, List, refl, rules, subst, sym, w32, ℤ}
+use Rattle.std.proofs.lemmas.Int.{to_z-of_z}
 use Rattle.plane_core.specs.declared.cell.Cell.{Cell}
-use Rattle.survey_core.specs.Ships.{IsForemost}
+use Rattle.survey_core.specs.Ships.{BeginsPast, IsForemost}
+use Rattle.survey_core.specs.Sweeps.{IsSweep}
 use Rattle.survey_core.proofs.HarbourLemmas.{small_by_sweep}
+use Rattle.survey_core.proofs.ShipLemmas.{ahead_by_sweep}
 use Rattle.survey_core.proofs.ships.ship_of.Goals as goal
 
 pub sweep-requires-clause-least : goal.sweep-requires-clause-least
@@ -19,13 +22,23 @@ sweep-requires-clause-some c = c.requires.some
 pub sweep-requires-clause-near : goal.sweep-requires-clause-near
 sweep-requires-clause-near c = c.requires.near
 
-pub is_ahead-is_ahead-requires : goal.is_ahead-is_ahead-requires
-is_ahead-is_ahead-requires c = c.requires.part
-
 pub returns-clause-foremost : goal.returns-clause-foremost
 returns-clause-foremost c =
-    subst (λ (S : List Cell). IsForemost c.args.rule.now c.args.board.now.cells c.in-Some.sweep.recurrence S) (sym c.in_ok-cells.ensures)
-    (c.is_ahead-is_ahead.ensures c.if-not-is_ahead.false c.args.rule.now c.args.limit (rw c.in-Some.is at c.in_ok-sweep.ensures.sweep))
+    let rule = c.args.rule.now in
+    let sweep = c.in-Some.sweep in
+    let is : IsSweep rule c.args.limit c.args.part.now sweep = rw c.in-Some.is at c.in_ok-sweep.ensures.sweep in
+    let way = c.way_of-way.result in
+    let m = c.in-Some-frontier_without.frontier in
+    let fits : FitsSigned w32 m = search rules in
+    let room : BeginsPast way m sweep =
+    subst (λ (d : ℤ). BeginsPast way d sweep) (to_z-of_z w32 m fits) (c.begins_past-is_ahead.ensures c.if-not-is_ahead.false) in
+    subst (λ (S : List Cell). IsForemost rule c.args.board.now.cells sweep.recurrence S) (sym c.in_ok-cells.ensures) (record {
+      part = c.requires.part;
+      way = way;
+      m = m;
+      ahead = ahead_by_sweep rule c.args.limit c.args.part.now sweep way m is (c.is_fast-fast.ensures c.if-not-fast.false) room;
+      behind = c.in-Some-frontier_without.ensures;
+    })
 
 pub returns-clause-cells : goal.returns-clause-cells
 returns-clause-cells c = c.in_ok-cells.ensures

@@ -40,5 +40,5 @@ loop-preserved c = record {
       ∙ ap (λ (m : ℕ). times m c.step-step.result.y) (sym (add-one c.loop.counter));
   clear = clear_more c.args.one.now c.args.other.now c.loop.counter c.loop.offset.x c.loop.offset.y
       (c.loop.invariant.x ∙ ap (times c.loop.counter) c.step-step.ensures.x) (c.loop.invariant.y ∙ ap (times c.loop.counter) c.step-step.ensures.y)
-      c.loop.invariant.clear (ap is_gap (sym c.between-gaps.ensures) ∙ sym c.is_some.ensures ∙ c.if-not-is_some.false);
+      c.loop.invariant.clear (ap is_gap (sym c.between-gaps.ensures) ∙ c.if-not-are_clear.false);
 }

@@ -54,7 +54,7 @@ pub widen_by_cells-requires-clause-long : goal.widen_by_cells-requires-clause-lo
 widen_by_cells-requires-clause-long c =
     ap length (c.as_mut_slice-2.ensures.value ∙ c.in_ok-spans.ensures.items_if_clones_equal (λ y h. h)) ∙ length-replicate _ _
 
-laid : (c : goal.After-new-2) → IsSpannedBoard c.args.at (rule_of c.new.result) c.fill.new.words c.boxes_round.new.boxes.items true
+laid : (c : goal.After-new-4) → IsSpannedBoard c.args.at (rule_of c.new.result) c.fill.new.words c.boxes_round.new.boxes.items true
     c.widen_by_cells.new.spans × (cells_on c.args.at c.fill.new.words ≡ c.args.pattern.now)
 laid c =
     laid_spanned (rule_of c.new.result) c.args.at c.fill.new.words c.boxes_round.new.boxes.items c.widen_by_cells.new.spans

@@ -1,7 +1,15 @@
-use Rattle.std.proofs.Common.{◌≡◌, ◌∙◌, ap, length}
-use Rattle.std.proofs.lemmas.List.{with_items_is}
+use Rattle.std.proofs.Common.{◌≡◌, ◌∙◌, ◌*◌, ◌++◌, ℕ, List, [], ap, arith, length, subst, sym, take, true}
+use Rattle.std.proofs.lemmas.List.{take-append-le, take_all, with_items_is}
+use Rattle.plane_core.specs.declared.bounds.Bounds.{Bounds}
+use Rattle.plane_core.specs.declared.frame.Frame.{Frame}
+use Rattle.plane_core.specs.declared.spans.Span.{Span}
+use Rattle.plane_core.specs.Boards.{IsSpannedBoard}
+use Rattle.plane_core.specs.Frames.{Shows}
+use Rattle.plane_core.specs.OnBoard.{cells_on}
+use Rattle.plane_core.specs.Rules.{Numbers}
+use Rattle.plane_core.proofs.AdvanceLemmas.{laid_spanned}
 use Rattle.plane_core.specs.Answers.{rule_of}
-use Rattle.plane_core.proofs.BoardLemmas.{blank_board}
+use Rattle.plane_core.proofs.BoardLemmas.{blank_board, moved_empty}
 use Rattle.plane_core.proofs.SpanLemmas.{empty_spans}
 use Rattle.plane_core.proofs.board.Board.show.Goals as goal
 
@@ -14,37 +22,104 @@ empty-requires-clause-lanes c = rw c.as_mut_slice-2.ensures.value c.self.invaria
 pub empty-requires-clause-live : goal.empty-requires-clause-live
 empty-requires-clause-live c = rw (c.as_mut_slice.ensures.value, c.as_mut_slice-2.ensures.value) c.self.invariant.spanned.live
 
+pub centred-requires-clause-frame : goal.centred-requires-clause-frame
+centred-requires-clause-frame c = c.self.invariant.board.frame
+
+pub centred-requires-clause-plane : goal.centred-requires-clause-plane
+centred-requires-clause-plane c = c.self.invariant.plane
+
+-- the same lists by other names
+same_board : (at : Frame) (rule : Numbers) (ws vs : List ℕ) (bs : List Bounds) (ss ts : List Span) → vs ≡ ws → ts ≡ ss
+    → IsSpannedBoard at rule ws bs true ss → IsSpannedBoard at rule vs bs true ts
+same_board at rule ws vs bs ss ts words spans board =
+    subst (λ (us : List Span). IsSpannedBoard at rule vs bs true us) (sym spans)
+    (subst (λ (us : List ℕ). IsSpannedBoard at rule us bs true ss) (sym words) board)
+
+taken : {A : Type 0} (new rest : List A) (n : ℕ) → length new ≡ n → take n (new ++ rest) ≡ new
+taken new rest n is = take-append-le n new rest (omega (arith, is)) ∙ take_all n new (omega (arith, is))
+
 pub invariant_of-self : goal.invariant_of-self
 invariant_of-self c =
-    let inside = c.self.inside in
-    let new = c.empty.new.words in
-    let spans = c.empty.new.spans in
-    let kept : length new ≡ length c.as_mut_slice.result.now = c.empty.auto.words in
-    let long : length new ≡ inside.words.len = kept ∙ c.as_mut_slice.ensures.len in
-    let held : length spans ≡ length c.as_mut_slice-2.result.now = c.empty.auto.spans in
-    let lanes : length spans ≡ inside.spans.len = held ∙ c.as_mut_slice-2.ensures.len in
-    rw (with_items_is inside.words new long, with_items_is inside.spans spans lanes) record {
-      board = blank_board inside.at (rule_of c.new-self-inside.result) new c.clear.new.self.items _ c.self.invariant.board.frame
-          (kept ∙ ap length c.as_mut_slice.ensures.value ∙ c.self.invariant.board.long)
-          c.clear.ensures.items c.empty.ensures;
-      spanned = empty_spans inside.at new spans c.empty.ensures
-          (held ∙ ap length c.as_mut_slice-2.ensures.value ∙ c.self.invariant.spanned.lanes);
+    same_board c.self.inside.at (rule_of c.new-self-inside.result) c.empty.new.words _ c.clear.new.self.items c.empty.new.spans _
+    (with_items_is c.self.inside.words c.empty.new.words (c.empty.auto.words ∙ c.as_mut_slice.ensures.len))
+    (with_items_is c.self.inside.spans c.empty.new.spans (c.empty.auto.spans ∙ c.as_mut_slice-2.ensures.len))
+    (record {
+      board = blank_board c.self.inside.at (rule_of c.new-self-inside.result) c.empty.new.words c.clear.new.self.items true c.self.invariant.board.frame
+          (c.empty.auto.words ∙ ap length c.as_mut_slice.ensures.value ∙ c.self.invariant.board.long) c.clear.ensures.items c.empty.ensures;
+      spanned = empty_spans c.self.inside.at c.empty.new.words c.empty.new.spans c.empty.ensures
+          (c.empty.auto.spans ∙ ap length c.as_mut_slice-2.ensures.value ∙ c.self.invariant.spanned.lanes);
       plane = c.self.invariant.plane;
-    }
+    })
 
-pub place-requires : goal.place-requires
-place-requires c =
-    let inside = c.self.inside in
-    let new = c.empty.new.words in
-    let kept : length new ≡ length c.as_mut_slice.result.now = c.empty.auto.words in
-    let long : length new ≡ inside.words.len = kept ∙ c.as_mut_slice.ensures.len in
-    record { empty = rw (with_items_is inside.words new long) c.empty.ensures }
+pub returns-in_default-clause-rule : goal.returns-in_default-clause-rule
+returns-in_default-clause-rule c = c.new-self-inside.ensures
 
-pub returns-clause-rule : goal.returns-clause-rule
-returns-clause-rule c = c.place.ensures.rule ∙ c.new-self-inside.ensures
+pub returns-in_default-clause-none : goal.returns-in_default-clause-none
+returns-in_default-clause-none c e = ap (cells_on c.self.inside.at) (with_items_is c.self.inside.words c.empty.new.words (c.empty.auto.words ∙ c.as_mut_slice.ensures.len)) ∙ c.empty.ensures
 
-pub returns-clause-shown : goal.returns-clause-shown
-returns-clause-shown c = c.place.ensures.placed
+pub fill-requires-clause-frame : goal.fill-requires-clause-frame
+fill-requires-clause-frame c = c.in-Some.ensures.frame
 
-pub returns-clause-none : goal.returns-clause-none
-returns-clause-none c = c.place.ensures.none
+pub fill-requires-clause-on : goal.fill-requires-clause-on
+fill-requires-clause-on c = rw c.cells-cells.ensures.cells c.in-Some.ensures.on
+
+pub fill-requires-clause-long : goal.fill-requires-clause-long
+fill-requires-clause-long c =
+    ap length (c.as_mut_slice-in-Ok.ensures.value ∙ with_items_is c.self.inside.words c.empty.new.words (c.empty.auto.words ∙ c.as_mut_slice.ensures.len))
+    ∙ c.empty.auto.words ∙ ap length c.as_mut_slice.ensures.value ∙ c.self.invariant.board.long
+    ∙ sym (λ i. c.in-Some.ensures.lanes i * c.in-Some.ensures.rows i)
+
+pub fill-requires-clause-empty : goal.fill-requires-clause-empty
+fill-requires-clause-empty c =
+    subst (λ (ws : List ℕ). Shows c.in-Some.at ws [])
+    (sym (c.as_mut_slice-in-Ok.ensures.value ∙ with_items_is c.self.inside.words c.empty.new.words (c.empty.auto.words ∙ c.as_mut_slice.ensures.len)))
+    (moved_empty c.self.inside.at c.in-Some.at c.empty.new.words c.in-Some.ensures.lanes c.in-Some.ensures.rows c.empty.ensures)
+
+pub widen_by_cells-requires-clause-frame : goal.widen_by_cells-requires-clause-frame
+widen_by_cells-requires-clause-frame c = c.in-Some.ensures.frame
+
+pub widen_by_cells-requires-clause-on : goal.widen_by_cells-requires-clause-on
+widen_by_cells-requires-clause-on c = rw c.cells-cells.ensures.cells c.in-Some.ensures.on
+
+pub widen_by_cells-requires-clause-long : goal.widen_by_cells-requires-clause-long
+widen_by_cells-requires-clause-long c =
+    ap length (c.as_mut_slice-in-Ok-2.ensures.value ∙ with_items_is c.self.inside.spans c.empty.new.spans (c.empty.auto.spans ∙ c.as_mut_slice-2.ensures.len))
+    ∙ c.empty.auto.spans ∙ ap length c.as_mut_slice-2.ensures.value ∙ c.self.invariant.spanned.lanes ∙ sym c.in-Some.ensures.lanes
+
+laid : (c : goal.After-self-in-Ok-2-1) → IsSpannedBoard c.in-Some.at (rule_of c.new-self-inside.result) c.fill.new.words
+    c.boxes_round.new.boxes.items true c.widen_by_cells.new.spans × (cells_on c.in-Some.at c.fill.new.words ≡ c.args.pattern.now)
+laid c =
+    laid_spanned (rule_of c.new-self-inside.result) c.in-Some.at c.fill.new.words c.boxes_round.new.boxes.items
+    c.widen_by_cells.new.spans c.args.pattern.now c.cells-cells.result.now c.cells-cells.ensures.cells c.cells-cells.ensures.pattern
+    c.in-Some.ensures.frame c.in-Some.ensures.plane
+    (c.fill.auto.words ∙ ap length (c.as_mut_slice-in-Ok.ensures.value ∙ with_items_is c.self.inside.words c.empty.new.words (c.empty.auto.words ∙ c.as_mut_slice.ensures.len))
+    ∙ c.empty.auto.words ∙ ap length c.as_mut_slice.ensures.value ∙ c.self.invariant.board.long
+    ∙ sym (λ i. c.in-Some.ensures.lanes i * c.in-Some.ensures.rows i))
+    (c.widen_by_cells.auto.spans ∙ ap length (c.as_mut_slice-in-Ok-2.ensures.value ∙ with_items_is c.self.inside.spans c.empty.new.spans (c.empty.auto.spans ∙ c.as_mut_slice-2.ensures.len))
+    ∙ c.empty.auto.spans ∙ ap length c.as_mut_slice-2.ensures.value ∙ c.self.invariant.spanned.lanes ∙ sym c.in-Some.ensures.lanes)
+    c.in-Some.ensures.on c.fill.ensures c.widen_by_cells.ensures.held
+    c.in-Ok.ensures.held c.in-Ok.ensures.sides
+
+pub invariant_of-self-in-Ok : goal.invariant_of-self-in-Ok
+invariant_of-self-in-Ok c =
+    same_board c.in-Some.at (rule_of c.new-self-inside.result) c.fill.new.words _ c.boxes_round.new.boxes.items c.widen_by_cells.new.spans _
+    (taken c.fill.new.words _ c.self.inside.words.len (c.fill.auto.words ∙ c.as_mut_slice-in-Ok.ensures.len))
+    (taken c.widen_by_cells.new.spans _ c.self.inside.spans.len (c.widen_by_cells.auto.spans ∙ c.as_mut_slice-in-Ok-2.ensures.len))
+    (laid c).0
+
+pub invariant_of-self-in-Err : goal.invariant_of-self-in-Err
+invariant_of-self-in-Err c =
+    same_board c.self.inside.at (rule_of c.new-self-inside.result) c.empty.new.words _ c.clear-in-Err.new.self.items c.empty.new.spans _
+    (with_items_is c.self.inside.words c.empty.new.words (c.empty.auto.words ∙ c.as_mut_slice.ensures.len))
+    (with_items_is c.self.inside.spans c.empty.new.spans (c.empty.auto.spans ∙ c.as_mut_slice-2.ensures.len))
+    (record {
+      board = blank_board c.self.inside.at (rule_of c.new-self-inside.result) c.empty.new.words c.clear-in-Err.new.self.items true c.self.invariant.board.frame
+          (c.empty.auto.words ∙ ap length c.as_mut_slice.ensures.value ∙ c.self.invariant.board.long) c.clear-in-Err.ensures.items c.empty.ensures;
+      spanned = empty_spans c.self.inside.at c.empty.new.words c.empty.new.spans c.empty.ensures
+          (c.empty.auto.spans ∙ ap length c.as_mut_slice-2.ensures.value ∙ c.self.invariant.spanned.lanes);
+      plane = c.self.invariant.plane;
+    })
+
+pub returns-in-Ok-clause-shown : goal.returns-in-Ok-clause-shown
+returns-in-Ok-clause-shown c e =
+    ap (cells_on c.in-Some.at) (taken c.fill.new.words _ c.self.inside.words.len (c.fill.auto.words ∙ c.as_mut_slice-in-Ok.ensures.len)) ∙ (laid c).1

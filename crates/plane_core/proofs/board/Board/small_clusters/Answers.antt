@@ -8,9 +8,6 @@ use Rattle.plane_core.proofs.board.Board.small_clusters.Goals as goal
 pub bounds-boxes-bounds-index : goal.bounds-boxes-bounds-index
 bounds-boxes-bounds-index c = c.loop-bounds-test.true
 
-pub loop-bounds-preserved-then-not-is_small_box : goal.loop-bounds-preserved-then-not-is_small_box
-loop-bounds-preserved-then-not-is_small_box c = c.loop-bounds.invariant
-
 pub add_grown-requires : goal.add_grown-requires
 add_grown-requires c = c.in-Some.ensures.frame
 
