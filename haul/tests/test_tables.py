@@ -9,11 +9,12 @@ import pty
 import subprocess
 import sys
 import tempfile
-import time
 import unittest
+from collections.abc import Callable
 from itertools import permutations
 from math import exp, fsum, lgamma, log, ulp
 from pathlib import Path
+from types import FrameType
 
 from haul.columns import figure
 from haul.many import meet
@@ -123,13 +124,27 @@ class Intervals(unittest.TestCase):
             self.assertEqual((meet(one, other), meet(other, one)), (wanted, wanted))
 
     def test_time(self) -> None:
-        for total in (0, 10, 28, 31, 1000, 2**64 - 1):
-            took = []
-            for _ in range(20):
-                began = time.perf_counter()
-                interval(total)
-                took.append(time.perf_counter() - began)
-            self.assertLess(min(took), 0.001)
+        """The lines that it runs are counted, since a clock tells what else runs on the machine as well."""
+        for total in (0, 10, 28, 29, 30, 31, 1000, 2**64 - 1):
+            self.assertLess(lines_of(interval, total), 12_000)
+
+
+def lines_of(function: Callable[[int], object], number: int) -> int:
+    """How many lines of Python it runs for this number."""
+    lines = 0
+
+    def count(_frame: FrameType, event: str, _argument: object) -> Callable[..., object]:
+        nonlocal lines
+        lines += event == "line"
+        return count
+
+    before = sys.gettrace()
+    sys.settrace(count)
+    try:
+        function(number)
+    finally:
+        sys.settrace(before)
+    return lines
 
 
 class OfOne(Tables):
