@@ -40,7 +40,7 @@ use crate::pattern::Pattern;
 use crate::place::Place;
 use crate::rule::Rule;
 use crate::runs::boxes_round;
-use crate::spans::{Span, empty, widen_by, widen_by_cells};
+use crate::spans::{Span, empty, widen_by};
 use memory::OutOfMemory;
 use std::alloc::Global;
 use std::marker::Model;
@@ -173,8 +173,7 @@ impl Board {
         let mut boxes = Vec::new(alloc);
         let cells = pattern.cells();
         boxes_round(cells, &mut boxes)?;
-        fill(at, words.as_mut_slice(), cells);
-        widen_by_cells(at, spans.as_mut_slice(), cells);
+        fill(at, words.as_mut_slice(), spans.as_mut_slice(), cells);
         Ok(Board {
             at,
             answers: Answers::new(rule),
@@ -226,8 +225,12 @@ impl Board {
         match boxes_round(cells, &mut self.boxes) {
             Ok(()) => {
                 self.at = at;
-                fill(at, self.words.as_mut_slice(), cells);
-                widen_by_cells(at, self.spans.as_mut_slice(), cells);
+                fill(
+                    at,
+                    self.words.as_mut_slice(),
+                    self.spans.as_mut_slice(),
+                    cells,
+                );
                 Ok(true)
             }
             Err(error) => {

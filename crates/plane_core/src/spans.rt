@@ -17,7 +17,6 @@ ghost use Rattle.plane_core.specs.Places.{IsOnBoard};
 ghost use Rattle.plane_core.specs.Spans.{AreWidened, HoldCovered, HoldInner, HoldsSpans};
 ghost use Rattle.plane_core.specs.Spans.{HasRow, IsInSpan, LieInSpans};
 
-use crate::cell::Cell;
 use crate::frame::Frame;
 use crate::place::Place;
 use crate::placed::{column_of, row_of};
@@ -66,7 +65,7 @@ impl Span {
 }
 
 /// Widens the span of a lane by these rows.
-fn widen(spans: &mut [Span], lane: usize, rows: Span)
+pub(crate) fn widen(spans: &mut [Span], lane: usize, rows: Span)
     requires { lane < length spans.old }
     ensures kept { AreWidened spans.old spans.new }
     ensures held { (r : ℕ) → HasRow rows r → IsInSpan spans.new lane r }
@@ -91,25 +90,6 @@ pub(crate) fn widen_by(at: Frame, spans: &mut [Span], places: &[Place])
         };
         widen(spans, lane, rows);
         widen(spans, lane + 1, rows);
-    }
-}
-
-/// Widens the spans by cells.
-pub(crate) fn widen_by_cells(at: Frame, spans: &mut [Span], cells: &[Cell])
-    requires frame { IsFrame at }
-    requires on { LieOn at cells.now }
-    requires long { length spans.old ≡ at.lanes }
-    ensures kept { AreWidened spans.old spans.new }
-    ensures held { LieInSpans at spans.new cells.now }
-{
-    for cell in cells {
-        let lane = at.across(*cell) / 64;
-        let row = at.down(*cell);
-        let rows = Span {
-            from: row,
-            end: row + 1,
-        };
-        widen(spans, lane, rows);
     }
 }
 

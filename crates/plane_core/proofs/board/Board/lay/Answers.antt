@@ -44,32 +44,26 @@ fill-requires-clause-empty c =
     shown-empty c.args.at c.as_mut_slice.result.now
     (λ i. ap (λ (ws : List ℕ). slice_index ws i) (c.as_mut_slice.ensures.value ∙ c.in_ok-words.ensures.items_if_clones_equal (λ y h. h)) ∙ zeros _ i)
 
-pub widen_by_cells-requires-clause-frame : goal.widen_by_cells-requires-clause-frame
-widen_by_cells-requires-clause-frame c = c.requires.frame
-
-pub widen_by_cells-requires-clause-on : goal.widen_by_cells-requires-clause-on
-widen_by_cells-requires-clause-on c = rw c.cells-cells.ensures.cells c.requires.on
-
-pub widen_by_cells-requires-clause-long : goal.widen_by_cells-requires-clause-long
-widen_by_cells-requires-clause-long c =
+pub fill-requires-clause-lanes : goal.fill-requires-clause-lanes
+fill-requires-clause-lanes c =
     ap length (c.as_mut_slice-2.ensures.value ∙ c.in_ok-spans.ensures.items_if_clones_equal (λ y h. h)) ∙ length-replicate _ _
 
 laid : (c : goal.After-new-4) → IsSpannedBoard c.args.at (rule_of c.new.result) c.fill.new.words c.boxes_round.new.boxes.items true
-    c.widen_by_cells.new.spans × (cells_on c.args.at c.fill.new.words ≡ c.args.pattern.now)
+    c.fill.new.spans × (cells_on c.args.at c.fill.new.words ≡ c.args.pattern.now)
 laid c =
-    laid_spanned (rule_of c.new.result) c.args.at c.fill.new.words c.boxes_round.new.boxes.items c.widen_by_cells.new.spans
+    laid_spanned (rule_of c.new.result) c.args.at c.fill.new.words c.boxes_round.new.boxes.items c.fill.new.spans
     c.args.pattern.now c.cells-cells.result.now c.cells-cells.ensures.cells c.cells-cells.ensures.pattern c.requires.frame c.requires.plane
     (c.fill.auto.words ∙ ap length (c.as_mut_slice.ensures.value ∙ c.in_ok-words.ensures.items_if_clones_equal (λ y h. h)) ∙ length-replicate _ _
     ∙ c.count.ensures.count)
-    (c.widen_by_cells.auto.spans ∙ ap length (c.as_mut_slice-2.ensures.value ∙ c.in_ok-spans.ensures.items_if_clones_equal (λ y h. h))
-    ∙ length-replicate _ _) c.requires.on c.fill.ensures c.widen_by_cells.ensures.held
+    (c.fill.auto.spans ∙ ap length (c.as_mut_slice-2.ensures.value ∙ c.in_ok-spans.ensures.items_if_clones_equal (λ y h. h))
+    ∙ length-replicate _ _) c.requires.on c.fill.ensures.shown c.fill.ensures.held
     c.in_ok-boxes_round.ensures.held c.in_ok-boxes_round.ensures.sides
 
 pub invariant_of-result : goal.invariant_of-result
 invariant_of-result c =
     rw (
       with_items_is c.in_ok-words.words c.fill.new.words (c.fill.auto.words ∙ c.as_mut_slice.ensures.len),
-      with_items_is c.in_ok-spans.spans c.widen_by_cells.new.spans (c.widen_by_cells.auto.spans ∙ c.as_mut_slice-2.ensures.len),
+      with_items_is c.in_ok-spans.spans c.fill.new.spans (c.fill.auto.spans ∙ c.as_mut_slice-2.ensures.len),
     ) (laid c).0
 
 pub returns-clause-rule : goal.returns-clause-rule

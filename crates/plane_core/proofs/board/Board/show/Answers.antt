@@ -75,36 +75,30 @@ fill-requires-clause-empty c =
     (sym (c.as_mut_slice-in-Ok.ensures.value ∙ with_items_is c.self.inside.words c.empty.new.words (c.empty.auto.words ∙ c.as_mut_slice.ensures.len)))
     (moved_empty c.self.inside.at c.in-Some.at c.empty.new.words c.in-Some.ensures.lanes c.in-Some.ensures.rows c.empty.ensures)
 
-pub widen_by_cells-requires-clause-frame : goal.widen_by_cells-requires-clause-frame
-widen_by_cells-requires-clause-frame c = c.in-Some.ensures.frame
-
-pub widen_by_cells-requires-clause-on : goal.widen_by_cells-requires-clause-on
-widen_by_cells-requires-clause-on c = rw c.cells-cells.ensures.cells c.in-Some.ensures.on
-
-pub widen_by_cells-requires-clause-long : goal.widen_by_cells-requires-clause-long
-widen_by_cells-requires-clause-long c =
+pub fill-requires-clause-lanes : goal.fill-requires-clause-lanes
+fill-requires-clause-lanes c =
     ap length (c.as_mut_slice-in-Ok-2.ensures.value ∙ with_items_is c.self.inside.spans c.empty.new.spans (c.empty.auto.spans ∙ c.as_mut_slice-2.ensures.len))
     ∙ c.empty.auto.spans ∙ ap length c.as_mut_slice-2.ensures.value ∙ c.self.invariant.spanned.lanes ∙ sym c.in-Some.ensures.lanes
 
 laid : (c : goal.After-self-in-Ok-2-1) → IsSpannedBoard c.in-Some.at (rule_of c.new-self-inside.result) c.fill.new.words
-    c.boxes_round.new.boxes.items true c.widen_by_cells.new.spans × (cells_on c.in-Some.at c.fill.new.words ≡ c.args.pattern.now)
+    c.boxes_round.new.boxes.items true c.fill.new.spans × (cells_on c.in-Some.at c.fill.new.words ≡ c.args.pattern.now)
 laid c =
     laid_spanned (rule_of c.new-self-inside.result) c.in-Some.at c.fill.new.words c.boxes_round.new.boxes.items
-    c.widen_by_cells.new.spans c.args.pattern.now c.cells-cells.result.now c.cells-cells.ensures.cells c.cells-cells.ensures.pattern
+    c.fill.new.spans c.args.pattern.now c.cells-cells.result.now c.cells-cells.ensures.cells c.cells-cells.ensures.pattern
     c.in-Some.ensures.frame c.in-Some.ensures.plane
     (c.fill.auto.words ∙ ap length (c.as_mut_slice-in-Ok.ensures.value ∙ with_items_is c.self.inside.words c.empty.new.words (c.empty.auto.words ∙ c.as_mut_slice.ensures.len))
     ∙ c.empty.auto.words ∙ ap length c.as_mut_slice.ensures.value ∙ c.self.invariant.board.long
     ∙ sym (λ i. c.in-Some.ensures.lanes i * c.in-Some.ensures.rows i))
-    (c.widen_by_cells.auto.spans ∙ ap length (c.as_mut_slice-in-Ok-2.ensures.value ∙ with_items_is c.self.inside.spans c.empty.new.spans (c.empty.auto.spans ∙ c.as_mut_slice-2.ensures.len))
+    (c.fill.auto.spans ∙ ap length (c.as_mut_slice-in-Ok-2.ensures.value ∙ with_items_is c.self.inside.spans c.empty.new.spans (c.empty.auto.spans ∙ c.as_mut_slice-2.ensures.len))
     ∙ c.empty.auto.spans ∙ ap length c.as_mut_slice-2.ensures.value ∙ c.self.invariant.spanned.lanes ∙ sym c.in-Some.ensures.lanes)
-    c.in-Some.ensures.on c.fill.ensures c.widen_by_cells.ensures.held
+    c.in-Some.ensures.on c.fill.ensures.shown c.fill.ensures.held
     c.in-Ok.ensures.held c.in-Ok.ensures.sides
 
 pub invariant_of-self-in-Ok : goal.invariant_of-self-in-Ok
 invariant_of-self-in-Ok c =
-    same_board c.in-Some.at (rule_of c.new-self-inside.result) c.fill.new.words _ c.boxes_round.new.boxes.items c.widen_by_cells.new.spans _
+    same_board c.in-Some.at (rule_of c.new-self-inside.result) c.fill.new.words _ c.boxes_round.new.boxes.items c.fill.new.spans _
     (taken c.fill.new.words _ c.self.inside.words.len (c.fill.auto.words ∙ c.as_mut_slice-in-Ok.ensures.len))
-    (taken c.widen_by_cells.new.spans _ c.self.inside.spans.len (c.widen_by_cells.auto.spans ∙ c.as_mut_slice-in-Ok-2.ensures.len))
+    (taken c.fill.new.spans _ c.self.inside.spans.len (c.fill.auto.spans ∙ c.as_mut_slice-in-Ok-2.ensures.len))
     (laid c).0
 
 pub invariant_of-self-in-Err : goal.invariant_of-self-in-Err
