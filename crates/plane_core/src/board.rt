@@ -40,7 +40,7 @@ use crate::pattern::Pattern;
 use crate::place::Place;
 use crate::rule::Rule;
 use crate::runs::boxes_round;
-use crate::spans::{Span, empty, widen_by};
+use crate::spans::{Span, empty};
 use memory::OutOfMemory;
 use std::alloc::Global;
 use std::marker::Model;
@@ -311,9 +311,9 @@ impl Board {
             &mut self.next_boxes,
         )?;
         // Nothing fails from here on.
-        widen_by(self.at, self.spans.as_mut_slice(), places);
         put_all(
             self.words.as_mut_slice(),
+            self.spans.as_mut_slice(),
             self.at,
             places,
             self.held.as_slice(),

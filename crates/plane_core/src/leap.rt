@@ -14,6 +14,7 @@ ghost use Rattle.plane_core.specs.Answers.{rule_of};
 ghost use Rattle.plane_core.specs.Frames.{FillsFrame, IsFrame};
 ghost use Rattle.plane_core.specs.Leaps.{ArePutBack, AreRun, IsRun};
 ghost use Rattle.plane_core.specs.Places.{IsOnBoard};
+ghost use Rattle.plane_core.specs.Spans.{AreWidened, HoldCovered};
 
 use crate::answering::Answers;
 use crate::bounds::Bounds;
@@ -23,6 +24,7 @@ use crate::frame::Frame;
 use crate::place::Place;
 use crate::placed::{column_of, read_rows, row_of, write};
 use crate::rows::{packed, unpacked};
+use crate::spans::{Span, widen};
 use crate::window::generations;
 use memory::OutOfMemory;
 use std::simd::u64x4;
@@ -81,17 +83,34 @@ pub(crate) fn run_all(
     Ok(())
 }
 
-/// Puts all inner parts back.
-pub(crate) fn put_all(words: &mut [u64], at: Frame, places: &[Place], held: &[[u64; 40]])
+/// Puts all inner parts back, and widens the spans by them. Each may lie in two lanes.
+pub(crate) fn put_all(
+    words: &mut [u64],
+    spans: &mut [Span],
+    at: Frame,
+    places: &[Place],
+    held: &[[u64; 40]],
+)
     requires frame { IsFrame at }
     requires long { FillsFrame at words.old }
+    requires lanes { length spans.old ≡ at.lanes }
     requires on_board { All (IsOnBoard at) places.now }
     requires each { length held.now ≡ length places.now }
-    ensures { ArePutBack at places.now held.now (length places.now) words.old words.new }
+    ensures put { ArePutBack at places.now held.now (length places.now) words.old words.new }
+    ensures kept { AreWidened spans.old spans.new }
+    ensures covered { HoldCovered at spans.new places.now }
 {
     for k in 0..places.len() {
-        let x = column_of(at, places[k]);
-        let y = row_of(at, places[k]);
+        let place = places[k];
+        let x = column_of(at, place);
+        let y = row_of(at, place);
         write(words, at, x, y, &held[k]);
+        let rows = Span {
+            from: y + 4,
+            end: y + 36,
+        };
+        let lane = x / 64;
+        widen(spans, lane, rows);
+        widen(spans, lane + 1, rows);
     }
 }

@@ -9,17 +9,13 @@
 //! row 3     .     .     #     .
 //! ```
 ghost use Rattle.std.specs.Prelude.{◌≡◌, ◌+◌, ◌*◌, ◌/◌, ◌<◌, ◌≤◌, ◌∷◌, ◌⊎◌};
-ghost use Rattle.std.specs.Prelude.{[], All, ℕ, length, slice_index};
-ghost use Rattle.plane_core.specs.Bounds.{IsWithin};
-ghost use Rattle.plane_core.specs.Frames.{FillsFrame, IsFrame, LieOn, bounds_of, word_of};
+ghost use Rattle.std.specs.Prelude.{[], ℕ, length, slice_index};
+ghost use Rattle.plane_core.specs.Frames.{FillsFrame, IsFrame, word_of};
 ghost use Rattle.plane_core.specs.OnBoard.{cells_on};
-ghost use Rattle.plane_core.specs.Places.{IsOnBoard};
-ghost use Rattle.plane_core.specs.Spans.{AreWidened, HoldCovered, HoldInner, HoldsSpans};
+ghost use Rattle.plane_core.specs.Spans.{AreWidened, HoldsSpans};
 ghost use Rattle.plane_core.specs.Spans.{HasRow, IsInSpan, LieInSpans};
 
 use crate::frame::Frame;
-use crate::place::Place;
-use crate::placed::{column_of, row_of};
 
 /// The numbers from one on, and before another: mostly rows.
 #[derive(Clone, Copy)]
@@ -71,26 +67,6 @@ pub(crate) fn widen(spans: &mut [Span], lane: usize, rows: Span)
     ensures held { (r : ℕ) → HasRow rows r → IsInSpan spans.new lane r }
 {
     spans[lane] = spans[lane].joined(rows);
-}
-
-/// Widens the spans by the inner parts of windows, each of which may lie in two lanes.
-pub(crate) fn widen_by(at: Frame, spans: &mut [Span], places: &[Place])
-    requires frame { IsFrame at }
-    requires on_board { All (IsOnBoard at) places.now }
-    requires long { length spans.old ≡ at.lanes }
-    ensures kept { AreWidened spans.old spans.new }
-    ensures covered { HoldCovered at spans.new places.now }
-{
-    for place in places {
-        let lane = column_of(at, *place) / 64;
-        let row = row_of(at, *place);
-        let rows = Span {
-            from: row + 4,
-            end: row + 36,
-        };
-        widen(spans, lane, rows);
-        widen(spans, lane + 1, rows);
-    }
 }
 
 /// The lanes from the first that has rows to the last, and the rows from the least to the greatest.

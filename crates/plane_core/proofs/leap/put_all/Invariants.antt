@@ -1,5 +1,12 @@
+use Rattle.std.proofs.Common.{◌<◌, ℕ, slice_index_or}
+use Rattle.plane_core.specs.declared.place.Place.{Place}
 use Rattle.plane_core.specs.Leaps.{ArePutBack}
+use Rattle.plane_core.specs.Spans.{AreWidened, HoldInner}
 use Rattle.plane_core.proofs.leap.put_all.Given as goal
 
 abbrev pub invariant-loop-k : goal.invariant-loop-k
-invariant-loop-k l = ArePutBack l.at l.places l.held l.k l.initial.words l.words
+invariant-loop-k l = record {
+  put : ArePutBack l.at l.places l.held l.k l.initial.words l.words;
+  kept : AreWidened l.initial.spans l.spans;
+  covered : (k : ℕ) (p : Place) → k < l.k → HoldInner l.at l.spans (slice_index_or l.places k p);
+}

@@ -90,7 +90,7 @@ pub returns-clause-most : goal.returns-clause-most
 returns-clause-most c = itself c.args.count
 
 gone_on : (c : goal.After-self-3-1) → HasGoneOn (rule_of c.self.inside.answers) c.self.inside.at c.args.count c.self.inside.words.items c.put_all.new.words
-    c.run_all.new.boxes.items c.widen_by.new.spans
+    c.run_all.new.boxes.items c.put_all.new.spans
 gone_on c =
     let inside = c.self.inside in
     let rule = rule_of inside.answers in
@@ -102,38 +102,38 @@ gone_on c =
     let ran = subst (λ (ws : List ℕ). AreRun inside.at ws rule c.args.count places held c.run_all.new.boxes.items) c.as_slice-2.ensures.value
     c.in_ok-run_all.ensures in
     has_gone_on rule inside.at c.args.count old c.put_all.new.words inside.boxes.items c.run_all.new.boxes.items inside.spans.items
-    c.widen_by.new.spans places
+    c.put_all.new.spans places
     (is_ready rule inside.at c.args.count old inside.boxes.items inside.holds_all inside.spans.items c.self.invariant
     (c.are_enough.ensures c.if-not-are_enough.false))
     (covered_by _ places _ inside.boxes.items c.as_slice-places.ensures.value c.as_slice.ensures.value c.in_ok-inside.ensures.covered)
     c.requires.some c.requires.few on
-    (subst (λ (ss : List Span). AreWidened ss c.widen_by.new.spans) c.as_mut_slice.ensures.value c.widen_by.ensures.kept) c.widen_by.ensures.covered
+    (subst (λ (ss : List Span). AreWidened ss c.put_all.new.spans) c.as_mut_slice-2.ensures.value c.put_all.ensures.kept) c.put_all.ensures.covered
     (leapt inside.at rule c.args.count places held c.run_all.new.boxes.items old c.put_all.new.words ran
-    (put_back inside.at places c.as_slice-3.result.now held c.as_mut_slice-2.result.now old c.put_all.new.words c.as_slice-3.ensures.value
-    c.as_mut_slice-2.ensures.value c.put_all.ensures))
+    (put_back inside.at places c.as_slice-3.result.now held c.as_mut_slice.result.now old c.put_all.new.words c.as_slice-3.ensures.value
+    c.as_mut_slice.ensures.value c.put_all.ensures.put))
     ran.sides (ran.differences (cells_on inside.at old) (cells_in_order inside.at old) (shows_cells inside.at old))
 
 pub invariant_of-self-2 : goal.invariant_of-self-2
 invariant_of-self-2 c =
     let inside = c.self.inside in
     let new = c.put_all.new.words in
-    let spans = c.widen_by.new.spans in
-    let kept : length new ≡ length c.as_mut_slice-2.result.now = c.put_all.auto.words in
-    let held : length spans ≡ length c.as_mut_slice.result.now = c.widen_by.auto.spans in
+    let spans = c.put_all.new.spans in
+    let kept : length new ≡ length c.as_mut_slice.result.now = c.put_all.auto.words in
+    let held : length spans ≡ length c.as_mut_slice-2.result.now = c.put_all.auto.spans in
     rw (
-      with_items_is inside.words new (kept ∙ c.as_mut_slice-2.ensures.len),
-      with_items_is inside.spans spans (held ∙ c.as_mut_slice.ensures.len),
+      with_items_is inside.words new (kept ∙ c.as_mut_slice.ensures.len),
+      with_items_is inside.spans spans (held ∙ c.as_mut_slice-2.ensures.len),
       c.swap.ensures.x_after,
     )
     (leapt_board (rule_of inside.answers) inside.at c.args.count inside.words.items new inside.boxes.items c.run_all.new.boxes.items inside.holds_all
-    inside.spans.items spans c.self.invariant (kept ∙ ap length c.as_mut_slice-2.ensures.value) (held ∙ ap length c.as_mut_slice.ensures.value)
+    inside.spans.items spans c.self.invariant (kept ∙ ap length c.as_mut_slice.ensures.value) (held ∙ ap length c.as_mut_slice-2.ensures.value)
     (gone_on c))
 
 pub returns-clause-after : goal.returns-clause-after
 returns-clause-after c =
     let inside = c.self.inside in
     let new = c.put_all.new.words in
-    rw (with_items_is inside.words new (c.put_all.auto.words ∙ c.as_mut_slice-2.ensures.len))
+    rw (with_items_is inside.words new (c.put_all.auto.words ∙ c.as_mut_slice.ensures.len))
     ((gone_on c).cells ∙ (λ i. after (c.self.view_is i).rule (c.self.view_is i).cells c.args.count))
 
 pub cover-requires : goal.cover-requires
@@ -155,25 +155,18 @@ run_all-requires-clause-some c = c.requires.some
 pub run_all-requires-clause-few : goal.run_all-requires-clause-few
 run_all-requires-clause-few c = c.requires.few
 
-pub widen_by-requires-clause-frame : goal.widen_by-requires-clause-frame
-widen_by-requires-clause-frame c = c.self.invariant.board.frame
-
-pub widen_by-requires-clause-on_board : goal.widen_by-requires-clause-on_board
-widen_by-requires-clause-on_board c =
-    All-same (IsOnBoard c.self.inside.at) _ _ c.as_slice-places.ensures.value (c.in_ok-inside.ensures.inside c.if-not-inside.false)
-
-pub widen_by-requires-clause-long : goal.widen_by-requires-clause-long
-widen_by-requires-clause-long c = ap length c.as_mut_slice.ensures.value ∙ c.self.invariant.spanned.lanes
-
 pub put_all-requires-clause-frame : goal.put_all-requires-clause-frame
 put_all-requires-clause-frame c = c.self.invariant.board.frame
 
 pub put_all-requires-clause-long : goal.put_all-requires-clause-long
-put_all-requires-clause-long c = ap length c.as_mut_slice-2.ensures.value ∙ c.self.invariant.board.long
+put_all-requires-clause-long c = ap length c.as_mut_slice.ensures.value ∙ c.self.invariant.board.long
 
 pub put_all-requires-clause-on_board : goal.put_all-requires-clause-on_board
 put_all-requires-clause-on_board c =
     All-same (IsOnBoard c.self.inside.at) _ _ c.as_slice-places.ensures.value (c.in_ok-inside.ensures.inside c.if-not-inside.false)
+
+pub put_all-requires-clause-lanes : goal.put_all-requires-clause-lanes
+put_all-requires-clause-lanes c = ap length c.as_mut_slice-2.ensures.value ∙ c.self.invariant.spanned.lanes
 
 pub put_all-requires-clause-each : goal.put_all-requires-clause-each
 put_all-requires-clause-each c = ap length c.as_slice-3.ensures.value ∙ c.in_ok-run_all.ensures.long
