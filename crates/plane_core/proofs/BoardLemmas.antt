@@ -1,5 +1,5 @@
 -- An empty board, and the pattern on a board.
-use Rattle.std.proofs.Common.{◌≡◌, ◌==◌, ◌+◌, ◌*◌, ℕ, Bool, List, [], arith, ap, ◌∙◌, sym, subst, slice_index}
+use Rattle.std.proofs.Common.{All, ◌≡◌, ◌==◌, ◌+◌, ◌*◌, ℕ, Bool, List, [], arith, ap, ◌∙◌, sym, subst, slice_index}
 use Rattle.std.specs.Int.{bit_at}
 use Rattle.std.proofs.lemmas.Bool.{false≢true}
 use Rattle.std.proofs.lemmas.List.Elements.{All-nil}
@@ -17,19 +17,18 @@ use Rattle.plane_core.proofs.BoxRoundLemmas.{lies_in}
 use Rattle.plane_core.proofs.OnBoardLemmas.{cells_in_order, cells_lie_on, shows_cells}
 use Rattle.plane_core.proofs.QuietLemmas.{quiet-start}
 
--- a board without a live cell needs no boxes
+-- a board without a live cell needs no boxes, and may have any
 pub blank_board : (at : Frame) (rule : Numbers) (words : List ℕ) (boxes : List Bounds) (holds_all : Bool) → IsFrame at
-    → FillsFrame at words → boxes ≡ [] → cells_on at words ≡ [] → IsBoard at rule words boxes holds_all
-blank_board at rule words boxes holds_all frame long none empty = subst (λ (bs : List Bounds). IsBoard at rule words bs holds_all)
-    (sym none) record {
-      frame = frame;
-      long = long;
-      sides = All-nil (AreSidesWithin box_bound);
-      quiet = quiet-start rule (cells_on at words) [] all;
-      all = λ e. all;
-    }
+    → FillsFrame at words → All (AreSidesWithin box_bound) boxes → cells_on at words ≡ [] → IsBoard at rule words boxes holds_all
+blank_board at rule words boxes holds_all frame long sides empty = record {
+  frame = frame;
+  long = long;
+  sides = sides;
+  quiet = quiet-start rule (cells_on at words) boxes all;
+  all = λ e. all;
+}
   where
-    all : HoldAll [] (cells_on at words)
+    all : HoldAll boxes (cells_on at words)
     all c e = absurd (false≢true (sym (ap (λ (S : List Cell). has S c) empty) ∙ e))
 
 -- nor does it matter where it lies

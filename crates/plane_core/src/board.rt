@@ -30,6 +30,7 @@ mod view;
 
 use crate::answering::Answers;
 use crate::bounds::Bounds;
+use crate::boxes::put_in_boxes;
 use crate::cell::Cell;
 use crate::cover::cover;
 use crate::frame::Frame;
@@ -39,7 +40,6 @@ use crate::loading::fill;
 use crate::pattern::Pattern;
 use crate::place::Place;
 use crate::rule::Rule;
-use crate::runs::boxes_round;
 use crate::spans::{Span, empty};
 use memory::OutOfMemory;
 use std::alloc::Global;
@@ -172,7 +172,7 @@ impl Board {
         let mut spans = vec![in alloc; Span::empty(); at.lanes]?;
         let mut boxes = Vec::new(alloc);
         let cells = pattern.cells();
-        boxes_round(cells, &mut boxes)?;
+        put_in_boxes(cells, &mut boxes)?;
         fill(at, words.as_mut_slice(), spans.as_mut_slice(), cells);
         Ok(Board {
             at,
@@ -222,22 +222,15 @@ impl Board {
             return Ok(false);
         };
         let cells = pattern.cells();
-        match boxes_round(cells, &mut self.boxes) {
-            Ok(()) => {
-                self.at = at;
-                fill(
-                    at,
-                    self.words.as_mut_slice(),
-                    self.spans.as_mut_slice(),
-                    cells,
-                );
-                Ok(true)
-            }
-            Err(error) => {
-                self.boxes.clear();
-                Err(error)
-            }
-        }
+        put_in_boxes(cells, &mut self.boxes)?;
+        self.at = at;
+        fill(
+            at,
+            self.words.as_mut_slice(),
+            self.spans.as_mut_slice(),
+            cells,
+        );
+        Ok(true)
     }
 
     /// Goes on by at most so many generations, and returns how many were made: fewer, where the next leap would have

@@ -56,7 +56,6 @@ mod refusing;
 mod rows;
 /// Rules by birth and survival numbers.
 pub mod rule;
-mod runs;
 /// The shift from one pattern to another.
 pub mod shift_to;
 mod small;

@@ -4,10 +4,11 @@ use Rattle.plane_core.specs.declared.bounds.Bounds.{Bounds}
 use Rattle.plane_core.specs.declared.frame.Frame.{Frame}
 use Rattle.plane_core.specs.declared.spans.Span.{Span}
 use Rattle.plane_core.specs.Boards.{IsSpannedBoard}
+use Rattle.plane_core.specs.Boxes.{box_bound}
 use Rattle.plane_core.specs.Frames.{Shows}
 use Rattle.plane_core.specs.OnBoard.{cells_on}
 use Rattle.plane_core.specs.Rules.{Numbers}
-use Rattle.plane_core.proofs.AdvanceLemmas.{laid_spanned}
+use Rattle.plane_core.proofs.AdvanceLemmas.{box_sides, laid_spanned, more_sides, no_sides}
 use Rattle.plane_core.specs.Answers.{rule_of}
 use Rattle.plane_core.proofs.BoardLemmas.{blank_board, moved_empty}
 use Rattle.plane_core.proofs.SpanLemmas.{empty_spans}
@@ -45,7 +46,7 @@ invariant_of-self c =
     (with_items_is c.self.inside.spans c.empty.new.spans (c.empty.auto.spans ∙ c.as_mut_slice-2.ensures.len))
     (record {
       board = blank_board c.self.inside.at (rule_of c.new-self-inside.result) c.empty.new.words c.clear.new.self.items true c.self.invariant.board.frame
-          (c.empty.auto.words ∙ ap length c.as_mut_slice.ensures.value ∙ c.self.invariant.board.long) c.clear.ensures.items c.empty.ensures;
+          (c.empty.auto.words ∙ ap length c.as_mut_slice.ensures.value ∙ c.self.invariant.board.long) (no_sides box_bound _ c.clear.ensures.items) c.empty.ensures;
       spanned = empty_spans c.self.inside.at c.empty.new.words c.empty.new.spans c.empty.ensures
           (c.empty.auto.spans ∙ ap length c.as_mut_slice-2.ensures.value ∙ c.self.invariant.spanned.lanes);
       plane = c.self.invariant.plane;
@@ -65,55 +66,56 @@ fill-requires-clause-on c = rw c.cells-cells.ensures.cells c.in-Some.ensures.on
 
 pub fill-requires-clause-long : goal.fill-requires-clause-long
 fill-requires-clause-long c =
-    ap length (c.as_mut_slice-in-Ok.ensures.value ∙ with_items_is c.self.inside.words c.empty.new.words (c.empty.auto.words ∙ c.as_mut_slice.ensures.len))
+    ap length (c.as_mut_slice-3.ensures.value ∙ with_items_is c.self.inside.words c.empty.new.words (c.empty.auto.words ∙ c.as_mut_slice.ensures.len))
     ∙ c.empty.auto.words ∙ ap length c.as_mut_slice.ensures.value ∙ c.self.invariant.board.long
     ∙ sym (λ i. c.in-Some.ensures.lanes i * c.in-Some.ensures.rows i)
 
 pub fill-requires-clause-empty : goal.fill-requires-clause-empty
 fill-requires-clause-empty c =
     subst (λ (ws : List ℕ). Shows c.in-Some.at ws [])
-    (sym (c.as_mut_slice-in-Ok.ensures.value ∙ with_items_is c.self.inside.words c.empty.new.words (c.empty.auto.words ∙ c.as_mut_slice.ensures.len)))
+    (sym (c.as_mut_slice-3.ensures.value ∙ with_items_is c.self.inside.words c.empty.new.words (c.empty.auto.words ∙ c.as_mut_slice.ensures.len)))
     (moved_empty c.self.inside.at c.in-Some.at c.empty.new.words c.in-Some.ensures.lanes c.in-Some.ensures.rows c.empty.ensures)
 
 pub fill-requires-clause-lanes : goal.fill-requires-clause-lanes
 fill-requires-clause-lanes c =
-    ap length (c.as_mut_slice-in-Ok-2.ensures.value ∙ with_items_is c.self.inside.spans c.empty.new.spans (c.empty.auto.spans ∙ c.as_mut_slice-2.ensures.len))
+    ap length (c.as_mut_slice-4.ensures.value ∙ with_items_is c.self.inside.spans c.empty.new.spans (c.empty.auto.spans ∙ c.as_mut_slice-2.ensures.len))
     ∙ c.empty.auto.spans ∙ ap length c.as_mut_slice-2.ensures.value ∙ c.self.invariant.spanned.lanes ∙ sym c.in-Some.ensures.lanes
 
-laid : (c : goal.After-self-in-Ok-2-1) → IsSpannedBoard c.in-Some.at (rule_of c.new-self-inside.result) c.fill.new.words
-    c.boxes_round.new.boxes.items true c.fill.new.spans × (cells_on c.in-Some.at c.fill.new.words ≡ c.args.pattern.now)
+laid : (c : goal.After-self-6-1) → IsSpannedBoard c.in-Some.at (rule_of c.new-self-inside.result) c.fill.new.words
+    c.put_in_boxes.new.boxes.items true c.fill.new.spans × (cells_on c.in-Some.at c.fill.new.words ≡ c.args.pattern.now)
 laid c =
-    laid_spanned (rule_of c.new-self-inside.result) c.in-Some.at c.fill.new.words c.boxes_round.new.boxes.items
+    laid_spanned (rule_of c.new-self-inside.result) c.in-Some.at c.fill.new.words c.put_in_boxes.new.boxes.items
     c.fill.new.spans c.args.pattern.now c.cells-cells.result.now c.cells-cells.ensures.cells c.cells-cells.ensures.pattern
     c.in-Some.ensures.frame c.in-Some.ensures.plane
-    (c.fill.auto.words ∙ ap length (c.as_mut_slice-in-Ok.ensures.value ∙ with_items_is c.self.inside.words c.empty.new.words (c.empty.auto.words ∙ c.as_mut_slice.ensures.len))
+    (c.fill.auto.words ∙ ap length (c.as_mut_slice-3.ensures.value ∙ with_items_is c.self.inside.words c.empty.new.words (c.empty.auto.words ∙ c.as_mut_slice.ensures.len))
     ∙ c.empty.auto.words ∙ ap length c.as_mut_slice.ensures.value ∙ c.self.invariant.board.long
     ∙ sym (λ i. c.in-Some.ensures.lanes i * c.in-Some.ensures.rows i))
-    (c.fill.auto.spans ∙ ap length (c.as_mut_slice-in-Ok-2.ensures.value ∙ with_items_is c.self.inside.spans c.empty.new.spans (c.empty.auto.spans ∙ c.as_mut_slice-2.ensures.len))
+    (c.fill.auto.spans ∙ ap length (c.as_mut_slice-4.ensures.value ∙ with_items_is c.self.inside.spans c.empty.new.spans (c.empty.auto.spans ∙ c.as_mut_slice-2.ensures.len))
     ∙ c.empty.auto.spans ∙ ap length c.as_mut_slice-2.ensures.value ∙ c.self.invariant.spanned.lanes ∙ sym c.in-Some.ensures.lanes)
     c.in-Some.ensures.on c.fill.ensures.shown c.fill.ensures.held
-    c.in-Ok.ensures.held c.in-Ok.ensures.sides
+    c.in_ok-put_in_boxes.ensures.held (more_sides _ _ _ c.clear.ensures.items c.put_in_boxes.ensures.sides)
 
-pub invariant_of-self-in-Ok : goal.invariant_of-self-in-Ok
-invariant_of-self-in-Ok c =
-    same_board c.in-Some.at (rule_of c.new-self-inside.result) c.fill.new.words _ c.boxes_round.new.boxes.items c.fill.new.spans _
-    (taken c.fill.new.words _ c.self.inside.words.len (c.fill.auto.words ∙ c.as_mut_slice-in-Ok.ensures.len))
-    (taken c.fill.new.spans _ c.self.inside.spans.len (c.fill.auto.spans ∙ c.as_mut_slice-in-Ok-2.ensures.len))
+pub invariant_of-self-2 : goal.invariant_of-self-2
+invariant_of-self-2 c =
+    same_board c.in-Some.at (rule_of c.new-self-inside.result) c.fill.new.words _ c.put_in_boxes.new.boxes.items c.fill.new.spans _
+    (taken c.fill.new.words _ c.self.inside.words.len (c.fill.auto.words ∙ c.as_mut_slice-3.ensures.len))
+    (taken c.fill.new.spans _ c.self.inside.spans.len (c.fill.auto.spans ∙ c.as_mut_slice-4.ensures.len))
     (laid c).0
 
-pub invariant_of-self-in-Err : goal.invariant_of-self-in-Err
-invariant_of-self-in-Err c =
-    same_board c.self.inside.at (rule_of c.new-self-inside.result) c.empty.new.words _ c.clear-in-Err.new.self.items c.empty.new.spans _
+pub invariant_of-self-in_err-put_in_boxes : goal.invariant_of-self-in_err-put_in_boxes
+invariant_of-self-in_err-put_in_boxes c =
+    same_board c.self.inside.at (rule_of c.new-self-inside.result) c.empty.new.words _ c.put_in_boxes.new.boxes.items c.empty.new.spans _
     (with_items_is c.self.inside.words c.empty.new.words (c.empty.auto.words ∙ c.as_mut_slice.ensures.len))
     (with_items_is c.self.inside.spans c.empty.new.spans (c.empty.auto.spans ∙ c.as_mut_slice-2.ensures.len))
     (record {
-      board = blank_board c.self.inside.at (rule_of c.new-self-inside.result) c.empty.new.words c.clear-in-Err.new.self.items true c.self.invariant.board.frame
-          (c.empty.auto.words ∙ ap length c.as_mut_slice.ensures.value ∙ c.self.invariant.board.long) c.clear-in-Err.ensures.items c.empty.ensures;
+      board = blank_board c.self.inside.at (rule_of c.new-self-inside.result) c.empty.new.words c.put_in_boxes.new.boxes.items true c.self.invariant.board.frame
+          (c.empty.auto.words ∙ ap length c.as_mut_slice.ensures.value ∙ c.self.invariant.board.long) (box_sides c.args.pattern.now c.cells-cells.result.now _ c.cells-cells.ensures.cells c.cells-cells.ensures.pattern
+          (more_sides _ _ _ c.clear.ensures.items c.put_in_boxes.ensures.sides)) c.empty.ensures;
       spanned = empty_spans c.self.inside.at c.empty.new.words c.empty.new.spans c.empty.ensures
           (c.empty.auto.spans ∙ ap length c.as_mut_slice-2.ensures.value ∙ c.self.invariant.spanned.lanes);
       plane = c.self.invariant.plane;
     })
 
-pub returns-in-Ok-clause-shown : goal.returns-in-Ok-clause-shown
-returns-in-Ok-clause-shown c e =
-    ap (cells_on c.in-Some.at) (taken c.fill.new.words _ c.self.inside.words.len (c.fill.auto.words ∙ c.as_mut_slice-in-Ok.ensures.len)) ∙ (laid c).1
+pub returns-clause-shown : goal.returns-clause-shown
+returns-clause-shown c e =
+    ap (cells_on c.in-Some.at) (taken c.fill.new.words _ c.self.inside.words.len (c.fill.auto.words ∙ c.as_mut_slice-3.ensures.len)) ∙ (laid c).1
