@@ -1,6 +1,6 @@
 //! Boxes outside of which nothing changes from one generation to the next but one.
 //!
-//! When a board is loaded there is one for each group of cells that lie together. After a leap there is one for each
+//! When a board is loaded there is one for all cells that fit one window together. After a leap there is one for each
 //! window in which something still changes. So what is at rest, or alternates, costs nothing:
 //!
 //! ```text
@@ -38,9 +38,9 @@ pub(crate) fn put_in_boxes(cells: &[Cell], boxes: &mut Vec<Bounds>) -> Result<()
     Ok(())
 }
 
-/// Widens the last box that is near the part, if one of the last sixteen is, so that it has the part in it. Else the
+/// Widens one of the last sixteen boxes, so that it has the part in it and still fits one window. If none does, the
 /// part is a box. If memory runs out, the boxes have at least what they had.
-pub(crate) fn put_in_box(part: Bounds, boxes: &mut Vec<Bounds>) -> Result<(), OutOfMemory>
+fn put_in_box(part: Bounds, boxes: &mut Vec<Bounds>) -> Result<(), OutOfMemory>
     ensures wider { AreWider boxes.old.items boxes.new.items }
     ensures held { OnOk result ((c : Cell) → IsWithin part c → IsInOne boxes.new.items c) }
     ensures sides { (n : ℕ) → AreSidesWithin n part → All (AreSidesWithin n) boxes.old.items
@@ -51,8 +51,8 @@ pub(crate) fn put_in_box(part: Bounds, boxes: &mut Vec<Bounds>) -> Result<(), Ou
     let earliest = i.saturating_sub(LAST_BOXES);
     while i > earliest {
         i -= 1;
-        if is_near(boxes[i], part) {
-            let wide = boxes[i].joined(part);
+        let wide = boxes[i].joined(part);
+        if fits_window(wide) {
             boxes[i] = wide;
             return Ok(());
         }
@@ -61,14 +61,8 @@ pub(crate) fn put_in_box(part: Bounds, boxes: &mut Vec<Bounds>) -> Result<(), Ou
     Ok(())
 }
 
-/// Whether the part is at most eight columns and rows from the box, and the two fit one window.
+/// Whether the box, with four columns and rows more on each side, fits the inner part of one window.
 #[inline(always)]
-fn is_near(bounds: Bounds, part: Bounds) -> bool {
-    let wide = bounds.joined(part);
-    part.left.saturating_sub(bounds.right) <= 8
-        && bounds.left.saturating_sub(part.right) <= 8
-        && part.top.saturating_sub(bounds.bottom) <= 8
-        && bounds.top.saturating_sub(part.bottom) <= 8
-        && wide.left.abs_diff(wide.right) < 48
-        && wide.top.abs_diff(wide.bottom) < 24
+fn fits_window(bounds: Bounds) -> bool {
+    bounds.left.abs_diff(bounds.right) < 48 && bounds.top.abs_diff(bounds.bottom) < 24
 }
