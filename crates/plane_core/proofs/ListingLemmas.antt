@@ -18,8 +18,8 @@ use Rattle.plane_core.specs.OnBoard.{cells_on}
 use Rattle.plane_core.specs.Spans.{HasRow, IsInSpan, LieInLanes, LieInSpans}
 use Rattle.plane_core.specs.declared.spans.Span.{Span}
 use Rattle.plane_core.proofs.CaseLemmas.{less_or_not, same_or_not}
-use Rattle.plane_core.proofs.SpanLemmas.{dead_outside, live_bit}
 use Rattle.plane_core.proofs.FrameLemmas.{spot_inside, spot_of}
+use Rattle.plane_core.proofs.OnBoardLemmas.{cells_in_order, cells_lie_on, shows_cells}
 use Rattle.plane_core.proofs.CellLemmas.{same_cells}
 use Rattle.plane_core.proofs.SetLemmas.{has-append, has-cases, has-head, is_set_of, or_right}
 
@@ -194,3 +194,10 @@ read_all at words S new o fits shown read = sym (is_set_of S new o (λ c. both_t
         let alive : has S (board_cell at (a / 64) d (a % 64)) ≡ true = ap (λ (x : Cell). has S x) (sym is) ∙ e in
         let bit : (bit_at (slice_index words (word_of at (a / 64) d)) (a % 64) == 1) ≡ true = sym (shown (a / 64) d (a % 64) hs hr (omega arith)) ∙ alive in
         ap (λ (x : Cell). has new x) is ∙ read.complete (a / 64) d (a % 64) hs hr (omega arith) (eqb-true _ 1 bit)
+
+-- so what was read off all lanes, put in order, is the pattern
+pub all_read : (at : Frame) (words : List ℕ) (n : ℕ) (new set : List Cell) → n ≤ at.lanes → at.lanes ≤ n → HasReadLanes at words n new → set ≡ set_of new
+    → set ≡ cells_on at words
+all_read at words n new set most least read is =
+    is ∙ read_all at words (cells_on at words) new (cells_in_order at words) (cells_lie_on at words) (shows_cells at words)
+    (subst (λ (k : ℕ). HasReadLanes at words k new) (omega arith) read)

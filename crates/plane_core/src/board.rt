@@ -18,7 +18,7 @@
 ghost use Rattle.std.specs.Prelude.{◌≡◌, ◌%◌, ◌≤◌, ℕ, []};
 ghost use Rattle.std.specs.Prelude.{IfOk, IsTrue, true, false};
 ghost use Rattle.plane_core.specs.Frames.{HasFewWords, IsFrame, LieOn, bounds_of};
-ghost use Rattle.plane_core.specs.Cells.{IsPattern, plane_bound};
+ghost use Rattle.plane_core.specs.Cells.{plane_bound};
 ghost use Rattle.plane_core.specs.Generations.{after};
 ghost use Rattle.plane_core.specs.Bounds.{AreSidesWithin};
 
@@ -31,7 +31,6 @@ mod view;
 use crate::answering::Answers;
 use crate::bounds::Bounds;
 use crate::boxes::put_in_boxes;
-use crate::cell::Cell;
 use crate::cover::cover;
 use crate::frame::Frame;
 use crate::leap::{put_all, run_all};
@@ -316,20 +315,6 @@ impl Board {
         Ok(count)
     }
 
-    /// The cells, in order, with room for so many from the start.
-    pub(crate) fn cells(&self, alloc: Global, room: usize) -> Result<Vec<Cell>, OutOfMemory>
-        ensures cells { IfOk result (λ cells. cells.items ≡ self.now.cells) }
-        ensures pattern { IsPattern self.now.cells }
-    {
-        list(
-            alloc,
-            self.at,
-            self.words.as_slice(),
-            self.spans.as_slice(),
-            room,
-        )
-    }
-
     /// The pattern that the board shows.
     ///
     /// # Errors
@@ -338,8 +323,13 @@ impl Board {
     pub fn pattern(&self, alloc: Global) -> Result<Pattern, OutOfMemory>
         ensures { IfOk result (λ pattern. pattern ≡ self.now.cells) }
     {
-        let cells = self.cells(alloc, ROOM)?;
-        Ok(Pattern::from_ordered(cells))
+        list(
+            alloc,
+            self.at,
+            self.words.as_slice(),
+            self.spans.as_slice(),
+            ROOM,
+        )
     }
 }
 

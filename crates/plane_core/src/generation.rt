@@ -231,7 +231,7 @@ impl Pattern {
             return Ok(None);
         };
         let mut board = Board::lay(alloc, rule, at, self)?;
-        shown_after(alloc, &mut board, generations, self.population())
+        shown_after(alloc, &mut board, generations)
     }
 }
 
@@ -260,7 +260,6 @@ fn shown_after(
     alloc: Global,
     board: &mut Board,
     generations: u32,
-    room: usize,
 ) -> Result<Option<Pattern>, OutOfMemory>
     ensures { IfOk result
         (λ shown. IfSome shown (λ pattern. pattern ≡ after board.old.rule board.old.cells generations)) }
@@ -269,6 +268,5 @@ fn shown_after(
     if made < generations {
         return Ok(None);
     }
-    let cells = board.cells(alloc, room)?;
-    Ok(Some(Pattern::from_ordered(cells)))
+    board.pattern(alloc).map(Some)
 }

@@ -1,4 +1,4 @@
-//! The cells of a board in a list, in their order: row by row, and each row from the left.
+//! The pattern that a board shows: its cells row by row, and each row from the left.
 //!
 //! They are read lane by lane, since that is how the words stand, and of each lane only the rows of its span. At the end
 //! they are put in order:
@@ -13,8 +13,9 @@
 ghost use Rattle.std.specs.Prelude.{◌≡◌, ◌+◌, ◌*◌, ◌/◌, ◌<◌, ◌≤◌, ◌^◌, ◌-ℤ◌, ◌+ℤ◌, ℕ, List, length, pos};
 ghost use Rattle.std.specs.Prelude.{slice_index, IfOk, OnOk, unsigned_abs};
 ghost use Rattle.std.specs.Int.{bit_at};
-ghost use Rattle.plane_core.specs.Cells.{InOrder, cell_at};
-ghost use Rattle.plane_core.specs.Frames.{FillsFrame, IsFrame, LieOn, Shows, word_of};
+ghost use Rattle.plane_core.specs.Bounds.{AreSidesWithin};
+ghost use Rattle.plane_core.specs.Cells.{cell_at, plane_bound};
+ghost use Rattle.plane_core.specs.Frames.{FillsFrame, IsFrame, bounds_of, word_of};
 ghost use Rattle.plane_core.specs.OnBoard.{cells_on};
 ghost use Rattle.plane_core.specs.Spans.{HasRow, LieInSpans};
 ghost use Rattle.plane_core.specs.Listing.{HasRead, HasReadLane};
@@ -22,32 +23,31 @@ ghost use Rattle.plane_core.specs.declared.cell.Cell.{Cell};
 
 use crate::cell::Cell;
 use crate::frame::Frame;
-use crate::pattern::in_order;
+use crate::pattern::{Pattern, in_order};
 use crate::spans::Span;
 use memory::OutOfMemory;
 use std::alloc::Global;
 
-/// All cells of a board, which lie in these spans, in their order. For so many there is room from the start.
+/// The pattern of a board on the plane, whose cells lie in these spans. For so many there is room from the start.
 pub(crate) fn list(
     alloc: Global,
     at: Frame,
     words: &[u64],
     spans: &[Span],
     room: usize,
-) -> Result<Vec<Cell>, OutOfMemory>
+) -> Result<Pattern, OutOfMemory>
     requires frame { IsFrame at }
+    requires plane { AreSidesWithin plane_bound (bounds_of at) }
     requires long { FillsFrame at words.now }
     requires spans { length spans.now ≡ at.lanes }
     requires live { LieInSpans at spans.now (cells_on at words.now) }
-    ensures { IfOk result
-        (λ read. (cells : List Cell) → InOrder cells → LieOn at cells → Shows at words.now cells
-        → read.items ≡ cells) }
+    ensures { IfOk result (λ pattern. pattern ≡ cells_on at words.now) }
 {
     let mut cells = Vec::with_capacity(alloc, room)?;
     for lane in 0..at.lanes {
         read_lane(at, words, lane, spans[lane], &mut cells)?;
     }
-    Ok(in_order(cells))
+    Ok(Pattern::from_ordered(in_order(cells)))
 }
 
 /// Reads the cells of a lane, which lie in these rows, and adds them to a list.

@@ -138,7 +138,7 @@ pub(crate) fn is_rim_clear<const N: usize>(window: &[u64x4; N], columns: u64) ->
 }
 
 /// Whether two windows have the same cells.
-fn are_alike<const N: usize>(one: &[u64x4; N], other: &[u64x4; N]) -> bool
+pub(crate) fn are_alike<const N: usize>(one: &[u64x4; N], other: &[u64x4; N]) -> bool
     ensures { IsTrue result → AreAlike N one.now other.now }
 {
     let mut differ = u64x4::splat(0);

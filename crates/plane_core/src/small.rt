@@ -66,6 +66,5 @@ pub(crate) fn pattern_of(alloc: Global, at: Frame, rows: &[u64; 64]) -> Result<P
     ensures { IfOk result (λ pattern. pattern ≡ cells_on at rows.now) }
 {
     let spans = [Span { from: 0, end: 64 }];
-    let cells = list(alloc, at, rows, &spans, ROOM)?;
-    Ok(Pattern::from_ordered(cells))
+    list(alloc, at, rows, &spans, ROOM)
 }

@@ -14,13 +14,9 @@ ghost use Rattle.plane_core.specs.Answers.{rule_of};
 ghost use Rattle.plane_core.specs.Refusing.{HasStray, ShowsStray};
 
 use crate::answering::Answers;
-use crate::never_back::{columns_of, first_row, in_any_lane, last_row, row};
+use crate::never_back::{are_alike, in_any_lane, row};
 use crate::window::generation;
 use std::simd::u64x4;
-
-/// How many columns or rows off another cell is looked for. What lies further off rarely meets a cluster in 15
-/// generations.
-const NEAR: usize = 5;
 
 /// Whether it is seen within so many generations, and within 15, that what one window shows alone strays from the whole
 /// that the other one shows, both right at this depth. `false` says nothing.
@@ -36,7 +32,8 @@ pub(crate) fn shows_stray<const N: usize>(
     requires depth { depth ≤ 2 }
     ensures { IsTrue result → ShowsStray (rule_of rule.now) N whole.now alone.now depth most }
 {
-    if !has_neighbours(whole, alone) {
+    // Mostly the window has nothing else that the cluster could meet.
+    if are_alike(whole, alone) {
         return false;
     }
     let mut whole = *whole;
@@ -51,34 +48,6 @@ pub(crate) fn shows_stray<const N: usize>(
         }
     }
     false
-}
-
-/// Whether the whole has other cells so near the cluster that the two may meet in time.
-fn has_neighbours<const N: usize>(whole: &[u64x4; N], alone: &[u64x4; N]) -> bool
-    requires some { 10 ≤ N }
-    requires few { N ≤ 16 }
-{
-    let Some(first) = first_row(alone) else {
-        return false;
-    };
-    let Some(last) = last_row(alone) else {
-        return false;
-    };
-    let columns = widened(columns_of(alone));
-    let mut others = 0;
-    for r in first.saturating_sub(NEAR)..(last + NEAR + 1).min(4 * N) {
-        others |= (row(alone, r) ^ row(whole, r)) & columns;
-    }
-    others != 0
-}
-
-/// The columns, and those that are near them.
-fn widened(columns: u64) -> u64 {
-    let mut wide = columns;
-    for _ in 0..NEAR {
-        wide |= wide << 1 | wide >> 1;
-    }
-    wide
 }
 
 /// Whether so deep inside there is a cell alone that the whole hasn't.

@@ -1,6 +1,7 @@
-use Rattle.std.proofs.Common.{◌<◌, ◌≤◌, ◌≡◌, ◌∙◌, ℕ, arith, subst, sym}
-use Rattle.plane_core.specs.Listing.{HasReadLanes}
-use Rattle.plane_core.proofs.ListingLemmas.{lanes-more, lanes-none, read_all}
+use Rattle.std.proofs.Common.{◌<◌, ◌∙◌, ℕ, arith, subst, sym}
+use Rattle.plane_core.specs.Cells.{IsPattern}
+use Rattle.plane_core.proofs.BoardLemmas.{board_pattern}
+use Rattle.plane_core.proofs.ListingLemmas.{all_read, lanes-more, lanes-none}
 use Rattle.plane_core.proofs.SpanLemmas.{live_bit}
 use borrow.Author.Count.{falls}
 use Rattle.plane_core.proofs.listing.list.Goals as goal
@@ -31,13 +32,13 @@ loop-lane-preserved c = lanes-more c.args.at c.args.words.now c.loop-lane.lane _
 pub loop-lane-smaller : goal.loop-lane-smaller
 loop-lane-smaller c = falls _ _ c.loop-lane-test.true
 
-same : (a b : ℕ) → a ≤ b → b ≤ a → a ≡ b
-same a b low high = omega arith
+pub from_ordered-requires : goal.from_ordered-requires
+from_ordered-requires c =
+    subst IsPattern
+    (sym (all_read c.args.at c.args.words.now c.loop-lane.lane c.loop-lane.cells.items _ c.loop-lane.auto.lane-end (omega arith) c.loop-lane.invariant c.in_order.ensures))
+    (board_pattern c.args.at c.args.words.now c.requires.plane)
 
 pub returns : goal.returns
-returns c cells o fits shown =
-    let words = c.args.words.now in
-    c.in_order.ensures
-    ∙ read_all c.args.at words cells c.loop-lane.cells.items o fits shown
-    (subst (λ (n : ℕ). HasReadLanes c.args.at words n c.loop-lane.cells.items)
-    (same _ _ c.loop-lane.auto.lane-end c.loop-lane-test.false) c.loop-lane.invariant)
+returns c =
+    c.from_ordered.ensures
+    ∙ all_read c.args.at c.args.words.now c.loop-lane.lane c.loop-lane.cells.items _ c.loop-lane.auto.lane-end (omega arith) c.loop-lane.invariant c.in_order.ensures
