@@ -25,7 +25,7 @@ use Rattle.plane_core.specs.Places.{IsInnerCell, IsOnBoard}
 use Rattle.plane_core.proofs.CaseLemmas.{less_or_not, same_or_not}
 
 -- windows that lie on the board aren't far from the origin
-in_reach : (at : Frame) → IsFrame at → (p : Place) → IsOnBoard at p → IsInReach p
+pub in_reach : (at : Frame) → IsFrame at → (p : Place) → IsOnBoard at p → IsInReach p
 in_reach at frame p on = record {
   left = near at.left p.left on.x frame.left on.left (few_columns frame.lanes on.lanes);
   top = near at.top p.top on.y frame.top on.top (few_rows frame.rows on.rows);

@@ -283,17 +283,13 @@ impl Board {
         if !are_enough(self.holds_all, count) {
             return Ok(0);
         }
-        let inside = cover(
-            self.at,
+        cover(
             self.boxes.as_slice(),
             &mut self.next_boxes,
             &mut self.places,
         )?;
-        if !inside {
-            return Ok(0);
-        }
         let places = self.places.as_slice();
-        run_all(
+        let inside = run_all(
             self.words.as_slice(),
             self.at,
             places,
@@ -302,6 +298,9 @@ impl Board {
             &mut self.held,
             &mut self.next_boxes,
         )?;
+        if !inside {
+            return Ok(0);
+        }
         // Nothing fails from here on.
         put_all(
             self.words.as_mut_slice(),

@@ -13,16 +13,15 @@
 //! +-------+-------+
 //! ```
 ghost use Rattle.std.specs.Prelude.{◌≡◌, ◌+◌, ◌*◌, ◌^◌, ◌<◌, ◌≤◌, ◌⊎◌, All};
-ghost use Rattle.std.specs.Prelude.{IfOk, IsTrue, OnOk, true, unsigned_abs};
+ghost use Rattle.std.specs.Prelude.{OnOk, unsigned_abs};
 ghost use Rattle.plane_core.specs.Bounds.{IsWithin};
 ghost use Rattle.plane_core.specs.Boxes.{AreCovered, IsInOne, IsNearOne, box_bound, rectangle_bound};
 ghost use Rattle.plane_core.specs.Covers.{AreSideBySide, IsInRow};
 ghost use Rattle.plane_core.specs.Bounds.{AreSidesWithin};
-ghost use Rattle.plane_core.specs.Places.{IsCovered, IsOnBoard};
+ghost use Rattle.plane_core.specs.Places.{IsCovered};
 ghost use Rattle.plane_core.specs.declared.cell.Cell.{Cell};
 
 use crate::bounds::Bounds;
-use crate::frame::Frame;
 use crate::place::Place;
 use memory::OutOfMemory;
 
@@ -37,35 +36,21 @@ struct Spans {
 }
 
 /// Lays windows over the boxes, in place of those of the list, so that each cell within 4 of a box lies in the inner
-/// part of one. Returns whether all of them lie on the board. The rectangles are of use for the time of the call alone.
+/// part of one. The rectangles are of use for the time of the call alone.
 pub(crate) fn cover(
-    at: Frame,
     boxes: &[Bounds],
     rectangles: &mut Vec<Bounds>,
     places: &mut Vec<Place>,
-) -> Result<bool, OutOfMemory>
+) -> Result<(), OutOfMemory>
     requires { All (AreSidesWithin box_bound) boxes.now }
-    ensures covered { OnOk result (AreCovered places.new.items boxes.now) }
-    ensures inside { IfOk result (λ inside. inside ≡ true → All (IsOnBoard at) places.new.items) }
+    ensures { OnOk result (AreCovered places.new.items boxes.now) }
 {
     unite(boxes, rectangles)?;
     places.clear();
     for rectangle in rectangles.as_slice() {
         lay(*rectangle, places)?;
     }
-    Ok(are_on_board(at, places.as_slice()))
-}
-
-/// Whether all windows lie on the board.
-fn are_on_board(at: Frame, places: &[Place]) -> bool
-    ensures { IsTrue result → All (IsOnBoard at) places.now }
-{
-    for place in places {
-        if !place.is_on_board(at) {
-            return false;
-        }
-    }
-    true
+    Ok(())
 }
 
 /// Rectangles round the boxes, with four columns and rows more on each side, in place of those of the list.

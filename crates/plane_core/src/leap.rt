@@ -9,7 +9,7 @@
 //! ```
 //!
 //! So windows may overlap: what two of them put back is the same.
-ghost use Rattle.std.specs.Prelude.{◌≡◌, ◌<◌, ◌≤◌, All, OnOk, length};
+ghost use Rattle.std.specs.Prelude.{◌≡◌, ◌<◌, ◌≤◌, All, IfOk, length, true};
 ghost use Rattle.plane_core.specs.Answers.{rule_of};
 ghost use Rattle.plane_core.specs.Frames.{FillsFrame, IsFrame};
 ghost use Rattle.plane_core.specs.Leaps.{ArePutBack, AreRun, IsRun};
@@ -47,7 +47,7 @@ fn run(window: &mut [u64x4; 10], rule: &Answers, count: usize) -> Change
     difference_of(window, &earlier)
 }
 
-/// Runs the windows of all places.
+/// Runs the windows of all places, and returns whether all lie on the board.
 ///
 /// Both lists are cleared and filled anew: `held` with the rows of the windows, and `boxes` with a box for each window
 /// in which something has changed. So all room is made before the first word is written.
@@ -59,18 +59,21 @@ pub(crate) fn run_all(
     count: usize,
     held: &mut Vec<[u64; 40]>,
     boxes: &mut Vec<Bounds>,
-) -> Result<(), OutOfMemory>
+) -> Result<bool, OutOfMemory>
     requires frame { IsFrame at }
     requires long { FillsFrame at words.now }
-    requires on_board { All (IsOnBoard at) places.now }
     requires some { 1 ≤ count }
     requires few { count ≤ 4 }
-    ensures { OnOk result
-        (AreRun at words.now (rule_of rule.now) count places.now held.new.items boxes.new.items) }
+    ensures on_board { IfOk result (λ inside. inside ≡ true → All (IsOnBoard at) places.now) }
+    ensures run { IfOk result (λ inside. inside ≡ true
+        → AreRun at words.now (rule_of rule.now) count places.now held.new.items boxes.new.items) }
 {
     held.clear();
     boxes.clear();
     for place in places {
+        if !place.is_on_board(at) {
+            return Ok(false);
+        }
         let rows = read_rows::<40>(words, at, column_of(at, *place), row_of(at, *place));
         let mut window = packed(&rows);
         let change = run(&mut window, rule, count);
@@ -80,7 +83,7 @@ pub(crate) fn run_all(
         };
         boxes.push(bounds)?;
     }
-    Ok(())
+    Ok(true)
 }
 
 /// Puts all inner parts back, and widens the spans by them. Each may lie in two lanes.

@@ -13,13 +13,10 @@ pub unite-requires : goal.unite-requires
 unite-requires c = c.requires
 
 pub returns-in_err-unite : goal.returns-in_err-unite
-returns-in_err-unite c = record { covered = IfOk-from_err _ _ c.from_residual.ensures.0; inside = IfOk-from_err _ _ c.from_residual.ensures.0 }
+returns-in_err-unite c = IfOk-from_err _ _ c.from_residual.ensures.0
 
 pub returns-in_err-lay : goal.returns-in_err-lay
-returns-in_err-lay c = record {
-  covered = IfOk-from_err _ _ c.from_residual-in_err-lay.ensures.0;
-  inside = IfOk-from_err _ _ c.from_residual-in_err-lay.ensures.0;
-}
+returns-in_err-lay c = IfOk-from_err _ _ c.from_residual-in_err-lay.ensures.0
 
 pub loop-rectangle-preserved : goal.loop-rectangle-preserved
 loop-rectangle-preserved c = λ d some.
@@ -29,14 +26,10 @@ loop-rectangle-preserved c = λ d some.
       | inr here ↦ c.in_ok-lay.ensures.laid d here
     ]
 
-pub returns-clause-covered : goal.returns-clause-covered
-returns-clause-covered c = λ d near.
+pub returns : goal.returns
+returns c = λ d near.
     let all = take_whole c.as_slice-rectangle-items.result.now c.loop-rectangle.rectangle-index c.loop-rectangle.auto.rectangle-index-end
     c.loop-rectangle-test.false in
     c.loop-rectangle.invariant d
     (subst (λ (bs : List Bounds). IsInOne bs d) (sym all)
     (subst (λ (bs : List Bounds). IsInOne bs d) (sym c.as_slice-rectangle-items.ensures.value) (c.in_ok-unite.ensures.near d near)))
-
-pub returns-clause-inside : goal.returns-clause-inside
-returns-clause-inside c = λ yes.
-    subst (λ (places : List Place). All (IsOnBoard c.args.at) places) c.as_slice.ensures.value (c.are_on_board.ensures yes)

@@ -52,17 +52,17 @@ invariant_of-self c = c.self.invariant
 pub invariant_of-self-then-not-inside : goal.invariant_of-self-then-not-inside
 invariant_of-self-then-not-inside c = c.self.invariant
 
-pub invariant_of-self-in_err-run_all : goal.invariant_of-self-in_err-run_all
-invariant_of-self-in_err-run_all c = c.self.invariant
+pub invariant_of-self-in_err-inside : goal.invariant_of-self-in_err-inside
+invariant_of-self-in_err-inside c = c.self.invariant
 
-pub returns-in_err-inside-clause-rule : goal.returns-in_err-inside-clause-rule
-returns-in_err-inside-clause-rule c = ap (λ (b : Running). b.rule) c.self.view_is
+pub returns-in_err-cover-clause-rule : goal.returns-in_err-cover-clause-rule
+returns-in_err-cover-clause-rule c = ap (λ (b : Running). b.rule) c.self.view_is
 
-pub returns-in_err-inside-clause-most : goal.returns-in_err-inside-clause-most
-returns-in_err-inside-clause-most c = IfOk-from_err _ _ c.from_residual.ensures.0
+pub returns-in_err-cover-clause-most : goal.returns-in_err-cover-clause-most
+returns-in_err-cover-clause-most c = IfOk-from_err _ _ c.from_residual.ensures.0
 
-pub returns-in_err-inside-clause-after : goal.returns-in_err-inside-clause-after
-returns-in_err-inside-clause-after c = IfOk-from_err _ _ c.from_residual.ensures.0
+pub returns-in_err-cover-clause-after : goal.returns-in_err-cover-clause-after
+returns-in_err-cover-clause-after c = IfOk-from_err _ _ c.from_residual.ensures.0
 
 pub returns-then-not-inside-clause-rule : goal.returns-then-not-inside-clause-rule
 returns-then-not-inside-clause-rule c = ap (λ (b : Running). b.rule) c.self.view_is
@@ -74,14 +74,14 @@ pub returns-then-not-inside-clause-after : goal.returns-then-not-inside-clause-a
 returns-then-not-inside-clause-after c =
     ap (λ (b : Running). b.cells) c.self.view_is ∙ sym (after-none c.args.self.now.rule c.args.self.now.cells)
 
-pub returns-in_err-run_all-clause-rule : goal.returns-in_err-run_all-clause-rule
-returns-in_err-run_all-clause-rule c = ap (λ (b : Running). b.rule) c.self.view_is
+pub returns-in_err-inside-clause-rule : goal.returns-in_err-inside-clause-rule
+returns-in_err-inside-clause-rule c = ap (λ (b : Running). b.rule) c.self.view_is
 
-pub returns-in_err-run_all-clause-most : goal.returns-in_err-run_all-clause-most
-returns-in_err-run_all-clause-most c = IfOk-from_err _ _ c.from_residual-in_err-run_all.ensures.0
+pub returns-in_err-inside-clause-most : goal.returns-in_err-inside-clause-most
+returns-in_err-inside-clause-most c = IfOk-from_err _ _ c.from_residual-in_err-inside.ensures.0
 
-pub returns-in_err-run_all-clause-after : goal.returns-in_err-run_all-clause-after
-returns-in_err-run_all-clause-after c = IfOk-from_err _ _ c.from_residual-in_err-run_all.ensures.0
+pub returns-in_err-inside-clause-after : goal.returns-in_err-inside-clause-after
+returns-in_err-inside-clause-after c = IfOk-from_err _ _ c.from_residual-in_err-inside.ensures.0
 
 pub returns-clause-rule : goal.returns-clause-rule
 returns-clause-rule c = ap (λ (b : Running). b.rule) c.self.view_is
@@ -97,15 +97,14 @@ gone_on c =
     let old = inside.words.items in
     let places = c.as_slice-places.result.now in
     let held = c.run_all.new.held.items in
-    let on = subst (λ (ps : List Place). All (IsOnBoard inside.at) ps) (sym c.as_slice-places.ensures.value)
-    (c.in_ok-inside.ensures.inside c.if-not-inside.false) in
+    let on = c.in_ok-inside.ensures.on_board c.if-not-inside.false in
     let ran = subst (λ (ws : List ℕ). AreRun inside.at ws rule c.args.count places held c.run_all.new.boxes.items) c.as_slice-2.ensures.value
-    c.in_ok-run_all.ensures in
+    (c.in_ok-inside.ensures.run c.if-not-inside.false) in
     has_gone_on rule inside.at c.args.count old c.put_all.new.words inside.boxes.items c.run_all.new.boxes.items inside.spans.items
     c.put_all.new.spans places
     (is_ready rule inside.at c.args.count old inside.boxes.items inside.holds_all inside.spans.items c.self.invariant
     (c.are_enough.ensures c.if-not-are_enough.false))
-    (covered_by _ places _ inside.boxes.items c.as_slice-places.ensures.value c.as_slice.ensures.value c.in_ok-inside.ensures.covered)
+    (covered_by _ places _ inside.boxes.items c.as_slice-places.ensures.value c.as_slice.ensures.value c.in_ok-cover.ensures)
     c.requires.some c.requires.few on
     (subst (λ (ss : List Span). AreWidened ss c.put_all.new.spans) c.as_mut_slice-2.ensures.value c.put_all.ensures.kept) c.put_all.ensures.covered
     (leapt inside.at rule c.args.count places held c.run_all.new.boxes.items old c.put_all.new.words ran
@@ -145,10 +144,6 @@ run_all-requires-clause-frame c = c.self.invariant.board.frame
 pub run_all-requires-clause-long : goal.run_all-requires-clause-long
 run_all-requires-clause-long c = ap length c.as_slice-2.ensures.value ∙ c.self.invariant.board.long
 
-pub run_all-requires-clause-on_board : goal.run_all-requires-clause-on_board
-run_all-requires-clause-on_board c =
-    All-same (IsOnBoard c.self.inside.at) _ _ c.as_slice-places.ensures.value (c.in_ok-inside.ensures.inside c.if-not-inside.false)
-
 pub run_all-requires-clause-some : goal.run_all-requires-clause-some
 run_all-requires-clause-some c = c.requires.some
 
@@ -162,11 +157,10 @@ pub put_all-requires-clause-long : goal.put_all-requires-clause-long
 put_all-requires-clause-long c = ap length c.as_mut_slice.ensures.value ∙ c.self.invariant.board.long
 
 pub put_all-requires-clause-on_board : goal.put_all-requires-clause-on_board
-put_all-requires-clause-on_board c =
-    All-same (IsOnBoard c.self.inside.at) _ _ c.as_slice-places.ensures.value (c.in_ok-inside.ensures.inside c.if-not-inside.false)
+put_all-requires-clause-on_board c = c.in_ok-inside.ensures.on_board c.if-not-inside.false
 
 pub put_all-requires-clause-lanes : goal.put_all-requires-clause-lanes
 put_all-requires-clause-lanes c = ap length c.as_mut_slice-2.ensures.value ∙ c.self.invariant.spanned.lanes
 
 pub put_all-requires-clause-each : goal.put_all-requires-clause-each
-put_all-requires-clause-each c = ap length c.as_slice-3.ensures.value ∙ c.in_ok-run_all.ensures.long
+put_all-requires-clause-each c = ap length c.as_slice-3.ensures.value ∙ (c.in_ok-inside.ensures.run c.if-not-inside.false).long
