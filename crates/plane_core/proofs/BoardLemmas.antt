@@ -1,8 +1,7 @@
 -- An empty board, and the pattern on a board.
-use Rattle.std.proofs.Common.{All, ◌≡◌, ◌==◌, ◌+◌, ◌*◌, ℕ, Bool, List, [], arith, ap, ◌∙◌, sym, subst, slice_index}
+use Rattle.std.proofs.Common.{All, ◌≡◌, ◌==◌, ◌+◌, ◌*◌, ℕ, Bool, List, [], arith, ap, ◌∙◌, sym, slice_index}
 use Rattle.std.specs.Int.{bit_at}
 use Rattle.std.proofs.lemmas.Bool.{false≢true}
-use Rattle.std.proofs.lemmas.List.Elements.{All-nil}
 use Rattle.plane_core.specs.declared.bounds.Bounds.{Bounds}
 use Rattle.plane_core.specs.declared.cell.Cell.{Cell}
 use Rattle.plane_core.specs.declared.frame.Frame.{Frame}

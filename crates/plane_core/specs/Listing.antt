@@ -1,5 +1,5 @@
 -- How the cells of a board are read into a list.
-use Rattle.std.specs.Prelude.{◌≡◌, ◌+◌, ◌*◌, ◌<◌, ◌≤◌, ℕ, ◌+ℤ◌, pos, List, slice_index, true}
+use Rattle.std.specs.Prelude.{◌≡◌, ◌<◌, ◌≤◌, ℕ, ◌+ℤ◌, pos, List, slice_index, true}
 use Rattle.std.specs.Int.{bit_at}
 use Rattle.plane_core.specs.declared.frame.Frame.{Frame}
 use Rattle.plane_core.specs.declared.cell.Cell.{Cell}

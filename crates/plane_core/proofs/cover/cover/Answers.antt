@@ -1,11 +1,8 @@
 use Rattle.std.proofs.Common.{inl, inr, subst, sym, List}
-use Rattle.std.specs.List.{All}
 use Rattle.std.proofs.lemmas.Result.{IfOk-from_err}
 use Rattle.plane_core.specs.declared.bounds.Bounds.{Bounds}
-use Rattle.plane_core.specs.declared.place.Place.{Place}
 use Rattle.plane_core.specs.Bounds.{IsWithin}
 use Rattle.plane_core.specs.Boxes.{IsInOne}
-use Rattle.plane_core.specs.Places.{IsOnBoard}
 use Rattle.plane_core.proofs.BoxLemmas.{any_take_more, take_whole}
 use Rattle.plane_core.proofs.cover.cover.Goals as goal
 

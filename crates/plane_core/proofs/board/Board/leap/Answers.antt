@@ -1,5 +1,4 @@
 use Rattle.std.proofs.Common.{◌≡◌, ◌≤◌, ◌∙◌, ℕ, List, ap, arith, length, refl, subst, sym}
-use Rattle.std.specs.List.{All}
 use Rattle.std.proofs.lemmas.List.{with_items_is}
 use Rattle.std.proofs.lemmas.List.Elements.{All-same}
 use Rattle.std.proofs.lemmas.Result.{IfOk-from_err}
@@ -14,7 +13,6 @@ use Rattle.plane_core.specs.Boxes.{AreCovered, box_bound}
 use Rattle.plane_core.specs.Generations.{after}
 use Rattle.plane_core.specs.Leaps.{ArePutBack, AreRun}
 use Rattle.plane_core.specs.OnBoard.{cells_on}
-use Rattle.plane_core.specs.Places.{IsOnBoard}
 use Rattle.plane_core.specs.Spans.{AreWidened}
 use Rattle.plane_core.proofs.AdvanceLemmas.{has_gone_on, is_ready, leapt_board}
 use Rattle.plane_core.proofs.GenerationLemmas.{after-none}
