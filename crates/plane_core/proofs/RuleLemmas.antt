@@ -1,7 +1,7 @@
 -- Rules, their texts and what texts mean.
-use Rattle.std.proofs.Common.{◌≡◌, ◌<◌, ◌≤◌, ◌+◌, ℕ, suc, Bool, true, false, List, [], ◌∷◌, ◌++◌, length, drop}
-use Rattle.std.proofs.Common.{◌-◌, ◌⊎◌, inl, inr, zero, refl, slice_get, unwrap_or, get_or, sym, ◌∙◌, ap, arith, drop-cons, add-one, append_assoc, append-nil}
-use Rattle.std.proofs.lemmas.List.{drop_all}
+use Rattle.std.proofs.Common.{◌≡◌, ◌<◌, ◌≤◌, ◌+◌, ℕ, suc, Bool, true, false, List, [], ◌∷◌, ◌++◌, length, drop, take}
+use Rattle.std.proofs.Common.{◌-◌, ◌⊎◌, inl, inr, zero, refl, slice_get, unwrap_or, get_or, sym, ◌∙◌, ap, arith, drop-cons, add-one, set, append_assoc, append-nil}
+use Rattle.std.proofs.lemmas.List.{take_more_set, drop_all}
 use Rattle.plane_core.specs.Rules.{Numbers, digits, is_birth, is_survival}
 
 -- the digits from place i on begin with that of the number there, if it is one
@@ -40,6 +40,22 @@ pub digits-front-end : (n i : ℕ) (answers : List Bool) (front text : List ℕ)
     → text ≡ front ++ digits (n + i) (drop i answers) → text ≡ front
 unfolding digits
 digits-front-end n i answers front text h p = p ∙ ap (λ (xs : List Bool). front ++ digits (n + i) xs) (drop_all i answers h) ∙ append-nil front
+
+-- one digit more at the end of what was put
+pub digits-put : (n i end : ℕ) (answers : List Bool) (text whole : List ℕ) → i < length answers → get_or answers i false ≡ true
+    → end < length text → whole ≡ take end text ++ digits (n + i) (drop i answers)
+    → whole ≡ take (end + 1) (set text end (48 + n + i)) ++ digits (n + (i + 1)) (drop (i + 1) answers)
+digits-put n i end answers text whole h e low p =
+    digits-front-true n i answers (take end text) whole h e p
+    ∙ ap (λ (front : List ℕ). front ++ digits (n + (i + 1)) (drop (i + 1) answers)) (sym (take_more_set text end (48 + n + i) low))
+
+-- before the first digit there is the letter
+pub digits-begun : (n place letter : ℕ) (answers : List Bool) (text : List ℕ) → place < length text
+    → take place text ++ letter ∷ digits n answers ≡ take (place + 1) (set text place letter) ++ digits (n + 0) (drop 0 answers)
+digits-begun n place letter answers text low =
+    ap (λ (more : List ℕ). take place text ++ more) (digits-front-start n letter answers)
+    ∙ sym (append_assoc (take place text) (letter ∷ []) (digits (n + 0) (drop 0 answers)))
+    ∙ ap (λ (front : List ℕ). front ++ digits (n + 0) (drop 0 answers)) (sym (take_more_set text place letter low))
 
 -- ---- what a table answers for a number
 

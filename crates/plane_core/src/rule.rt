@@ -1,5 +1,5 @@
 //! Life-like rules and their texts, such as `b3s23` for Conway's Life.
-ghost use Rattle.std.specs.Prelude.{◌≡◌, ◌↔◌, ◌+◌, ◌<◌, ◌≤◌, ℕ, true, false, IsTrue, ◌∷◌, [], length, codes, IfOk};
+ghost use Rattle.std.specs.Prelude.{◌≡◌, ◌↔◌, ◌+◌, ◌<◌, ◌≤◌, ◌++◌, ℕ, true, false, IsTrue, ◌∷◌, [], length, take, codes, IfOk};
 ghost use Rattle.plane_core.specs.Out.{Writes};
 ghost use Rattle.plane_core.specs.Rules.{Numbers, IsRule, IsFirstFault, is_birth, is_survival, digits, rule_text};
 ghost use Rattle.plane_core.specs.Rules.{begins, numbers_at, rule_read};
@@ -9,6 +9,9 @@ use std::fmt;
 use std::io::Write;
 use std::marker::Model;
 use thiserror::Error;
+
+/// How many bytes the longest text of a rule has: two letters, and 17 digits.
+const LONGEST: usize = 19;
 
 /// Why a text is not a rule.
 #[derive(Clone, Copy, PartialEq, Eq, Error)]
@@ -154,30 +157,36 @@ impl Rule {
         ensures text { Writes V.contents out.old out.new result (rule_text self.now) }
         ensures rule { IsRule self.now }
     {
-        let Rule { births, survivals } = self;
-        write_numbers(out, b'b', 1, births)?;
-        write_numbers(out, b's', 0, survivals)
+        let mut text = [0; LONGEST];
+        let middle = put_numbers(&mut text, 0, b'b', 1, &self.births);
+        let end = put_numbers(&mut text, middle, b's', 0, &self.survivals);
+        out.put(&text[..end])
     }
 }
 
-/// Writes a letter, and the digits of the numbers from `least` on that the table answers true.
-fn write_numbers<V: Write>(
-    out: &mut Out<V>,
+/// Puts a letter at a place of the text, and behind it the digits of the numbers from `least` on that the table answers
+/// true. Returns the place after them.
+fn put_numbers(
+    text: &mut [u8; LONGEST],
+    place: usize,
     letter: u8,
     least: u8,
     answers: &[bool],
-) -> Result<(), WriteError>
-    requires fresh { out.old.failed ≡ false }
+) -> usize
     requires digits { least + length answers.now ≤ 10 }
-    ensures { Writes V.contents out.old out.new result (letter ∷ digits least answers.now) }
+    requires room { place + 1 + length answers.now ≤ 19 }
+    ensures end { result ≤ place + 1 + length answers.now }
+    ensures text { take result text.new ≡ take place text.old ++ letter ∷ digits least answers.now }
 {
-    out.put(&[letter])?;
+    text[place] = letter;
+    let mut end = place + 1;
     for (i, answer) in answers.iter().enumerate() {
         if *answer {
-            out.put(&[b'0' + least + i as u8])?;
+            text[end] = b'0' + least + i as u8;
+            end += 1;
         }
     }
-    Ok(())
+    end
 }
 
 /// Reads the numbers from `least` on whose digits stand in order at the front of the text, and returns the text after
