@@ -1,4 +1,4 @@
-use Rattle.std.proofs.Common.{◌≡◌, ◌+◌, ◌<◌, arith, length, rules, sym}
+use Rattle.std.proofs.Common.{◌≡◌, ◌<◌, arith, length, rules, sym}
 use Rattle.plane_core.proofs.RuleLemmas.{digits-begun, digits-front-end, digits-front-false, digits-put}
 use Rattle.plane_core.proofs.rule.put_numbers.Goals as goal
 use Rattle.plane_core.proofs.rule.put_numbers.Goals.{then-answer, else-answer}

@@ -1,4 +1,4 @@
-use Rattle.std.proofs.Common.{◌≡◌, ◌∷◌, ◌++◌, ◌∙◌, List, ℕ, ap, subst, sym, take}
+use Rattle.std.proofs.Common.{◌≡◌, ◌∷◌, ◌++◌, ◌∙◌, List, ℕ, ap, subst, take}
 use Rattle.plane_core.specs.Rules.{IsRule, digits, rule_text}
 use Rattle.plane_core.proofs.PlaintextWriting.{Writes_as}
 use Rattle.plane_core.proofs.rule.Rule.write_text.Goals as goal
