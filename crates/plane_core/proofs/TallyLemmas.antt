@@ -1,6 +1,6 @@
 -- A sorted list of cells, gone along run by run of equal ones.
 use Rattle.std.proofs.Common.{◌≡◌, ℕ, ◌+◌, ◌<◌, ◌≤◌, Bool, true, false, List, [], ◌∷◌, ◌++◌, arith, suc, cond, refl, ap, ◌∙◌, sym, subst}
-use Rattle.std.proofs.Common.{filter, get_or, length, drop, append-nil, append_assoc, add-zero, Fits, w8}
+use Rattle.std.proofs.Common.{filter, get_or, length, drop, append-nil, append_assoc, add-zero, Fits, w8, pos, set, take, length-set}
 use Rattle.std.specs.List.{AllByRecursion, dedup, dedup_from, flat_map, sum_by}
 use Rattle.std.specs.List.Sorted.{IsPermutation, IsSorted}
 use Rattle.std.specs.Cmp.{eq_by_cmp_equiv}
@@ -8,11 +8,11 @@ use Rattle.std.specs.Ordering.{is_eq, is_lt}
 use Rattle.std.specs.declared.cmp.Ordering.{Ordering}
 use Rattle.std.specs.declared.cmp.Ordering.TheVariants.{Less, Equal, Greater}
 use Rattle.std.proofs.lemmas.Bool.{false≢true}
-use Rattle.std.proofs.lemmas.List.{drop_more, drop_all}
+use Rattle.std.proofs.lemmas.List.{drop_more, drop_all, drop-set-lt, take_more_set}
 use Rattle.std.proofs.lemmas.List.Sorted.{sum_by-IsPermutation}
 use Rattle.std.proofs.lemmas.List.Sums.{sum_by-cons}
 use Rattle.plane_core.specs.declared.cell.Cell.{Cell}
-use Rattle.plane_core.specs.Cells.{cell_cmp, same_cell, has, InOrder}
+use Rattle.plane_core.specs.Cells.{cell_at, cell_cmp, same_cell, has, InOrder}
 use Rattle.plane_core.specs.Generations.{around, lives, lives_by, neighbourhood, next}
 use Rattle.plane_core.specs.Rules.{Numbers}
 use Rattle.plane_core.proofs.CellLemmas.{cell_cmp_total, same_cell-same, same_cell-itself}
@@ -102,47 +102,40 @@ pub record IsTallied (p : Cell → ℕ → Bool) (n : ℕ) (rest made all : List
   pub short : AreShort n rest
   pub told : made ++ picked p n rest ≡ all
 
--- a place of a list whose length was asked for, and one past its end
-pub inside_of : (near : List Cell) (i asked len : ℕ) → i < asked → asked ≡ len → len ≡ length near → i < length near
-inside_of near i asked len low is long = omega (arith, low, is, long)
+-- a place before the end of a whole list, and one past it
+pub inside : (i end len : ℕ) → i < end → len ≡ end → i < len
+inside i end len low whole = omega (arith, low, whole)
 
-pub past_of : (near : List Cell) (i asked len : ℕ) → asked ≤ i → asked ≡ len → len ≡ length near → length near ≤ i
-past_of near i asked len past is long = omega (arith, past, is, long)
+pub past : (i end len : ℕ) → end ≤ i → len ≡ end → len ≤ i
+past i end len high whole = omega (arith, high, whole)
 
 pub fits_one_more : (n : ℕ) → n < 9 → Fits w8 (n + 1)
 fits_one_more n low = record { fits = omega (arith, low) }
 
 -- a cell of the list, which stands first in what is left
-pub left_from : (near : List Cell) (i : ℕ) (d c : Cell) → i < length near → c ≡ get_or near i d → drop i near ≡ c ∷ drop (i + 1) near
+left_from : (near : List Cell) (i : ℕ) (d c : Cell) → i < length near → c ≡ get_or near i d → drop i near ≡ c ∷ drop (i + 1) near
 left_from near i d c low is = drop_more near i d low ∙ ap (λ (x : Cell). x ∷ drop (i + 1) near) (sym is)
 
-pub run_goes_on : (near : List Cell) (i : ℕ) (c d e : Cell) → i + 1 < length near → d ≡ get_or near (i + 1) e → same_cell d c ≡ true
-    → goes_on c (drop (i + 1) near) ≡ true
-run_goes_on near i c d e low is same = ap (goes_on c) (left_from near (i + 1) e d low is) ∙ same
-
-pub run_ends : (near : List Cell) (i : ℕ) (c d e : Cell) → i + 1 < length near → d ≡ get_or near (i + 1) e → same_cell d c ≡ false
-    → goes_on c (drop (i + 1) near) ≡ false
-run_ends near i c d e low is other = ap (goes_on c) (left_from near (i + 1) e d low is) ∙ other
+-- whether a run goes on is told by the next cell
+pub next_tells : (near : List Cell) (i : ℕ) (c d e : Cell) (b : Bool) → i + 1 < length near → d ≡ get_or near (i + 1) e → same_cell d c ≡ b
+    → goes_on c (drop (i + 1) near) ≡ b
+next_tells near i c d e b low is same = ap (goes_on c) (left_from near (i + 1) e d low is) ∙ same
 
 pub list_ends : (near : List Cell) (i : ℕ) (c : Cell) → length near ≤ i + 1 → goes_on c (drop (i + 1) near) ≡ false
 list_ends near i c all = ap (goes_on c) (drop_all (i + 1) near all)
 
-pub count_low : (p : Cell → ℕ → Bool) (n : ℕ) (near made all : List Cell) (i : ℕ) (d : Cell) → i < length near → IsTallied p n (drop i near) made all → n < 9
-count_low p n near made all i d low t = (subst (AreShort n) (drop_more near i d low) t.short).0
-
-pub tallied_further : (p : Cell → ℕ → Bool) (n : ℕ) (c : Cell) (cs left made all : List Cell) → left ≡ c ∷ cs → goes_on c cs ≡ true
+further : (p : Cell → ℕ → Bool) (n : ℕ) (c : Cell) (cs left made all : List Cell) → left ≡ c ∷ cs → goes_on c cs ≡ true
     → IsTallied p n left made all → IsTallied p (n + 1) cs made all
-tallied_further p n c cs left made all is on t =
+further p n c cs left made all is on t =
     let t : IsTallied p n (c ∷ cs) made all = subst (λ (xs : List Cell). IsTallied p n xs made all) is t in
     record {
       short = subst (λ b. AreShort (cond b (n + 1) 0) cs) on t.short.1;
       told = ap (λ b. made ++ cond b (picked p (n + 1) cs) (cond (p c (n + 1)) (c ∷ picked p 0 cs) (picked p 0 cs))) (sym on) ∙ t.told;
     }
 
--- at the end of its run a cell is tested
-pub tallied_cell : (p : Cell → ℕ → Bool) (n : ℕ) (c : Cell) (cs left made all : List Cell) → left ≡ c ∷ cs → goes_on c cs ≡ false
+tested : (p : Cell → ℕ → Bool) (n : ℕ) (c : Cell) (cs left made all : List Cell) → left ≡ c ∷ cs → goes_on c cs ≡ false
     → IsTallied p n left made all → IsTallied p 0 cs (made ++ cond (p c (n + 1)) (c ∷ []) []) all
-tallied_cell p n c cs left made all is off t =
+tested p n c cs left made all is off t =
     let t : IsTallied p n (c ∷ cs) made all = subst (λ (xs : List Cell). IsTallied p n xs made all) is t in
     record {
       short = subst (λ b. AreShort (cond b (n + 1) 0) cs) off t.short.1;
@@ -155,10 +148,56 @@ tallied_cell p n c cs left made all is off t =
     joined true = append_assoc made (c ∷ []) (picked p 0 cs)
     joined false = ap (λ (xs : List Cell). xs ++ picked p 0 cs) (append-nil made)
 
+-- The cells that passed were moved to the front of the list, of which the rest is as it was. So many are kept there.
+pub record IsKept (p : Cell → ℕ → Bool) (n kept place end : ℕ) (near all : List Cell) : Type 0 where
+  pub whole : length near ≡ end
+  pub front : kept ≤ place
+  pub tallied : IsTallied p n (drop place near) (take kept near) all
+
+pub count_low : (p : Cell → ℕ → Bool) (n kept place end : ℕ) (near all : List Cell) → place < end → IsKept p n kept place end near all → n < 9
+count_low p n kept place end near all low k =
+    (subst (AreShort n) (drop_more near place (cell_at (pos 0) (pos 0)) (omega (arith, low, k.whole))) k.tallied.short).0
+
+-- a run goes on
+pub kept_further : (p : Cell → ℕ → Bool) (n kept place end : ℕ) (near all : List Cell) (c d : Cell) → place < end → IsKept p n kept place end near all
+    → c ≡ get_or near place d → goes_on c (drop (place + 1) near) ≡ true → IsKept p (n + 1) kept (place + 1) end near all
+kept_further p n kept place end near all c d low k is on = record {
+  whole = k.whole;
+  front = omega (arith, k.front);
+  tallied = further p n c (drop (place + 1) near) (drop place near) (take kept near) all (left_from near place d c (omega (arith, low, k.whole)) is) on k.tallied;
+}
+
+-- a run ends: its cell is kept if it passes, else not
+pub kept_more : (p : Cell → ℕ → Bool) (n kept place end : ℕ) (near all : List Cell) (c d : Cell) → place < end → IsKept p n kept place end near all
+    → c ≡ get_or near place d → goes_on c (drop (place + 1) near) ≡ false → p c (n + 1) ≡ true
+    → IsKept p 0 (kept + 1) (place + 1) end (set near kept c) all
+kept_more p n kept place end near all c d low k is off passes =
+    let t = tested p n c (drop (place + 1) near) (drop place near) (take kept near) all (left_from near place d c (omega (arith, low, k.whole)) is) off k.tallied in
+    record {
+      whole = length-set near kept c ∙ k.whole;
+      front = omega (arith, k.front);
+      tallied = rw (
+        drop-set-lt (place + 1) near kept c (omega (arith, k.front)),
+        take_more_set near kept c (omega (arith, k.front, low, k.whole)),
+      ) (subst (λ b. IsTallied p 0 (drop (place + 1) near) (take kept near ++ cond b (c ∷ []) []) all) passes t);
+    }
+
+pub kept_same : (p : Cell → ℕ → Bool) (n kept place end : ℕ) (near all : List Cell) (c d : Cell) → place < end → IsKept p n kept place end near all
+    → c ≡ get_or near place d → goes_on c (drop (place + 1) near) ≡ false → p c (n + 1) ≡ false → IsKept p 0 kept (place + 1) end near all
+kept_same p n kept place end near all c d low k is off fails =
+    let t = tested p n c (drop (place + 1) near) (drop place near) (take kept near) all (left_from near place d c (omega (arith, low, k.whole)) is) off k.tallied in
+    record {
+      whole = k.whole;
+      front = omega (arith, k.front);
+      tallied = subst (λ (xs : List Cell). IsTallied p 0 (drop (place + 1) near) xs all) (append-nil (take kept near))
+          (subst (λ b. IsTallied p 0 (drop (place + 1) near) (take kept near ++ cond b (c ∷ []) []) all) fails t);
+    }
+
 -- at the end of the list
-pub tallied_all : (p : Cell → ℕ → Bool) (n : ℕ) (near made all : List Cell) (i : ℕ) → length near ≤ i → IsTallied p n (drop i near) made all → made ≡ all
-tallied_all p n near made all i end t =
-    sym (append-nil made) ∙ ap (λ (xs : List Cell). made ++ picked p n xs) (sym (drop_all i near end)) ∙ t.told
+pub kept_all : (p : Cell → ℕ → Bool) (n kept place end : ℕ) (near all : List Cell) → end ≤ place → IsKept p n kept place end near all → take kept near ≡ all
+kept_all p n kept place end near all past k =
+    sym (append-nil (take kept near))
+    ∙ ap (λ (xs : List Cell). take kept near ++ picked p n xs) (sym (drop_all place near (omega (arith, past, k.whole)))) ∙ k.tallied.told
 
 -- ---- a sorted list
 
@@ -273,9 +312,10 @@ short_runs S near o moved = go near (λ c. omega (arith, times-moved (flat_map n
     go (c ∷ cs) few = are_short 0 c cs (λ e. omega (arith, few e, none_on (same_cell e c) (times (c ∷ cs) e)))
 
 -- before the first cell of the list
-pub none_tallied : (rule : Numbers) (S near made : List Cell) → InOrder S → IsPermutation (flat_map neighbourhood S) near → IsSorted cell_cmp near → made ≡ []
-    → IsTallied (lives_in rule S) 0 near made (next rule S)
-none_tallied rule S near made o moved sorted none = record {
-  short = short_runs S near o moved;
-  told = ap (λ (xs : List Cell). xs ++ picked (lives_in rule S) 0 near) none ∙ picked-next rule S near o moved sorted;
+pub none_kept : (rule : Numbers) (S near : List Cell) (end : ℕ) → InOrder S → IsPermutation (flat_map neighbourhood S) near → IsSorted cell_cmp near
+    → length near ≡ end → IsKept (lives_in rule S) 0 0 0 end near (next rule S)
+none_kept rule S near end o moved sorted whole = record {
+  whole = whole;
+  front = omega arith;
+  tallied = record { short = short_runs S near o moved; told = picked-next rule S near o moved sorted };
 }

@@ -32,12 +32,14 @@ impl Pattern {
     {
         let mut near = neighbourhoods(alloc, self.cells())?;
         near.sort_unstable();
-        let mut cells = Vec::new(alloc);
+        // The cells that live are moved to the front of the list.
+        let mut kept = 0;
         let mut count = 0;
-        for place in 0..near.len() {
+        let end = near.len();
+        for place in 0..end {
             count += 1;
             let cell = near[place];
-            if place + 1 < near.len() && near[place + 1] == cell {
+            if place + 1 < end && near[place + 1] == cell {
                 continue;
             }
             // A live cell is no neighbour of its own.
@@ -47,11 +49,13 @@ impl Pattern {
                 rule.births(count)
             };
             if lives {
-                cells.push(cell)?;
+                near[kept] = cell;
+                kept += 1;
             }
             count = 0;
         }
-        Ok(Pattern::from_ordered(cells))
+        near.truncate(kept);
+        Ok(Pattern::from_ordered(near))
     }
 }
 
