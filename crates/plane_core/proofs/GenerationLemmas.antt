@@ -1,6 +1,6 @@
 -- The next generation, cell by cell.
 use Rattle.std.proofs.Common.{◌≡◌, ◌==◌, ℕ, ℤ, pos, negsuc, ◌+ℤ◌, ◌+◌, ◌<◌, ◌≤◌, zero, suc, Bool, true, false, ◌||◌, ◌&&◌, List, [], ◌∷◌, ◌++◌}
-use Rattle.std.proofs.Common.{arith, cond, refl, ap, ◌∙◌, sym, subst, inl, inr, ◌⊎◌, map, filter, add-zero, add-one, zero-add, unsigned_abs, leb, eqb}
+use Rattle.std.proofs.Common.{arith, cond, refl, ap, ◌∙◌, sym, subst, inl, inr, ◌⊎◌, add-zero, add-one, unsigned_abs, leb, eqb}
 use Rattle.std.specs.List.{flat_map}
 use Rattle.std.proofs.lemmas.Int.{ints}
 use Rattle.std.proofs.lemmas.Bool.{false≢true, eqb-true, eqb-false, leb-true, le-leb, and_parts, and_from}
@@ -10,8 +10,8 @@ use Rattle.plane_core.specs.Cells.{has, set_of, InOrder, on_plane, on_edge, IsPa
 use Rattle.plane_core.specs.Generations.{around, lives, lives_by, triple, neighbourhood, next, after, touches_edge}
 use Rattle.plane_core.specs.Rules.{Numbers, is_birth, is_survival}
 use Rattle.plane_core.proofs.CellLemmas.{same_cell-same}
-use Rattle.plane_core.proofs.SetLemmas.{IsBefore, has-head, has-append, has-filter, has-set_of, has-before, has-cases, in_order-head}
-use Rattle.plane_core.proofs.SetLemmas.{in_order-tail, in_order-cons, in_order-nil, in_order-filter, in_order-set_of, same_lists, or_right}
+use Rattle.plane_core.proofs.SetLemmas.{has-head, has-append, has-filter, has-set_of, has-before, has-cases, in_order-head}
+use Rattle.plane_core.proofs.SetLemmas.{in_order-tail, in_order-filter, in_order-set_of, or_right}
 use Rattle.plane_core.proofs.SearchLemmas.{list_all-has, has-list_all}
 use Rattle.plane_core.proofs.NeighbourhoodLemmas.{near, int_eq-true, still, around-cons, times}
 

@@ -16,7 +16,7 @@ use Rattle.plane_core.specs.Cells.{cell_at, cell_cmp, same_cell, has, InOrder}
 use Rattle.plane_core.specs.Generations.{around, lives, lives_by, neighbourhood, next}
 use Rattle.plane_core.specs.Rules.{Numbers}
 use Rattle.plane_core.proofs.CellLemmas.{cell_cmp_total, same_cell-same, same_cell-itself}
-use Rattle.plane_core.proofs.SetLemmas.{IsBefore, greater_turned, has-before}
+use Rattle.plane_core.proofs.SetLemmas.{IsBefore, greater_turned}
 use Rattle.plane_core.proofs.SearchLemmas.{deduped-set_of}
 use Rattle.plane_core.proofs.NeighbourhoodLemmas.{neighbourhood_total-around, times, times-neighbourhoods}
 use Rattle.plane_core.proofs.GenerationLemmas.{lives_by-around, times_once}

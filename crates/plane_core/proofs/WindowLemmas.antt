@@ -1,6 +1,6 @@
 -- A generation of a window is one of the cells that it shows.
 use Rattle.std.proofs.Common.{◌≡◌, ◌==◌, ◌+◌, ◌-◌, ◌*◌, ◌/◌, ◌%◌, ◌<◌, ◌≤◌, ℕ, ℤ, pos, negsuc, ◌+ℤ◌, zero, suc, Bool, true, false, cond, List, []}
-use Rattle.std.proofs.Common.{arith, refl, ap, ◌∙◌, sym, subst, slice_index, add-zero, length, get_or, set, inl, inr, ◌⊎◌}
+use Rattle.std.proofs.Common.{arith, refl, ap, ◌∙◌, sym, subst, slice_index, length, get_or, set, inl, inr, ◌⊎◌}
 use Rattle.std.specs.Int.{bit_at}
 use Rattle.std.proofs.lemmas.Bool.{eqb-true, eq-eqb, ne_eqb}
 use Rattle.std.proofs.lemmas.List.{get_or-set_same, get_or-set_other}
@@ -12,7 +12,7 @@ use Rattle.plane_core.specs.declared.lanes.Sum.{Sum}
 use Rattle.plane_core.specs.Cells.{InOrder, cell_at, has, moved_by}
 use Rattle.plane_core.specs.Generations.{around, lives_by, next, after}
 use Rattle.plane_core.specs.Lanes.{sum_of, row_sum, AnswersRows}
-use Rattle.plane_core.specs.Rules.{Numbers, is_birth, is_survival}
+use Rattle.plane_core.specs.Rules.{Numbers}
 use Rattle.plane_core.specs.Windows.{lane_at, row_at, row_above, row_below, IsNextRow, IsNextWindow, IsShownInside}
 use Rattle.plane_core.specs.Words.{one_if}
 use Rattle.plane_core.proofs.NeighbourhoodLemmas.{row_total, neighbourhood_total-around}

@@ -4,10 +4,10 @@ use Rattle.std.specs.List.{flat_map}
 use Rattle.std.specs.List.Sorted.{IsPermutation}
 use Rattle.plane_core.specs.declared.cell.Cell.{Cell}
 use Rattle.plane_core.specs.Cells.{cell_at, has}
-use Rattle.plane_core.specs.Generations.{lives_by, neighbourhood, next}
+use Rattle.plane_core.specs.Generations.{lives_by, neighbourhood}
 use Rattle.plane_core.proofs.CellLemmas.{same_cell-eq}
 use Rattle.plane_core.proofs.GenerationLemmas.{is_pattern-next}
-use Rattle.plane_core.proofs.TallyLemmas.{IsKept, count_low, fits_one_more, goes_on, inside, kept_all, kept_further, kept_more, kept_same, list_ends, lives_in, next_tells, none_kept, past}
+use Rattle.plane_core.proofs.TallyLemmas.{count_low, fits_one_more, goes_on, inside, kept_all, kept_further, kept_more, kept_same, list_ends, lives_in, next_tells, none_kept, past}
 use Rattle.plane_core.proofs.pattern.Pattern.counted.Goals.{else-lives, else-place-end-via-else-place-end, else-place-end-via-then-place-end+else-eq}
 use Rattle.plane_core.proofs.pattern.Pattern.counted.Goals.{else-has, then-has, then-lives}
 use Rattle.plane_core.proofs.pattern.Pattern.counted.Goals as goal
