@@ -1,6 +1,7 @@
 -- A sorted list of cells, gone along run by run of equal ones.
 use Rattle.std.proofs.Common.{◌≡◌, ℕ, ◌+◌, ◌<◌, ◌≤◌, Bool, true, false, List, [], ◌∷◌, ◌++◌, arith, suc, cond, refl, ap, ◌∙◌, sym, subst}
 use Rattle.std.proofs.Common.{filter, get_or, length, drop, append-nil, append_assoc, add-zero, Fits, w8, pos, set, take, length-set}
+use mathlib.Core.Bool.{beq}
 use Rattle.std.specs.List.{AllByRecursion, dedup, dedup_from, flat_map, sum_by}
 use Rattle.std.specs.List.Sorted.{IsPermutation, IsSorted}
 use Rattle.std.specs.Cmp.{eq_by_cmp_equiv}
@@ -286,6 +287,23 @@ picked-filter p n c (d ∷ ds) r = go (same_cell d c) refl (picked-filter p (n +
 -- whether a cell lives next that is so often in the list of the neighbourhoods
 abbrev pub lives_in : Numbers → List Cell → Cell → ℕ → Bool
 lives_in rule S c n = lives_by rule n (has S c)
+
+-- a live cell stays or a dead one is born: where both do or neither does, it is all one which the cell is
+pub all_one : (alive stays born : Bool) → beq stays born ≡ true → cond alive stays born ≡ born
+all_one false stays born e = refl
+all_one true true true e = refl
+all_one true true false e = absurd (false≢true e)
+all_one true false true e = absurd (false≢true e)
+all_one true false false e = refl
+
+-- and where just one does, it lives if it is what stays
+pub just_one : (alive stays born : Bool) → beq stays born ≡ false → cond alive stays born ≡ beq alive stays
+just_one true true born e = refl
+just_one true false born e = refl
+just_one false true true e = absurd (false≢true (sym e))
+just_one false true false e = refl
+just_one false false true e = refl
+just_one false false false e = absurd (false≢true (sym e))
 
 -- what is picked from the sorted list of the neighbourhoods is the next generation
 pub picked-next : (rule : Numbers) (S near : List Cell) → InOrder S → IsPermutation (flat_map neighbourhood S) near → IsSorted cell_cmp near

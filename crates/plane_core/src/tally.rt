@@ -42,11 +42,13 @@ impl Pattern {
             if place + 1 < end && near[place + 1] == cell {
                 continue;
             }
-            // A live cell is no neighbour of its own.
-            let lives = if self.has(cell.x, cell.y) {
-                rule.survives(count - 1)
+            // A live cell is no neighbour of its own. Whether it is one is looked up only where that decides.
+            let stays = rule.survives(count - 1);
+            let born = rule.births(count);
+            let lives = if stays == born {
+                born
             } else {
-                rule.births(count)
+                self.has(cell.x, cell.y) == stays
             };
             if lives {
                 near[kept] = cell;

@@ -1,15 +1,16 @@
-use Rattle.std.proofs.Common.{◌≡◌, ◌∙◌, ◌+◌, FitsSigned, ap, drop, false, rules, subst, sym, true, w32, List}
+use Rattle.std.proofs.Common.{◌≡◌, ◌∙◌, ◌+◌, Bool, FitsSigned, ap, cond, drop, false, of_z, rules, subst, sym, to_z, true, w32, List}
+use mathlib.Core.Bool.{beq}
 use Rattle.std.proofs.lemmas.Int.{to_z-of_z}
 use Rattle.std.specs.List.{flat_map}
 use Rattle.std.specs.List.Sorted.{IsPermutation}
 use Rattle.plane_core.specs.declared.cell.Cell.{Cell}
 use Rattle.plane_core.specs.Cells.{cell_at, has}
-use Rattle.plane_core.specs.Generations.{lives_by, neighbourhood}
+use Rattle.plane_core.specs.Generations.{neighbourhood}
 use Rattle.plane_core.proofs.CellLemmas.{same_cell-eq}
 use Rattle.plane_core.proofs.GenerationLemmas.{is_pattern-next}
-use Rattle.plane_core.proofs.TallyLemmas.{count_low, fits_one_more, goes_on, inside, kept_all, kept_further, kept_more, kept_same, list_ends, lives_in, next_tells, none_kept, past}
+use Rattle.plane_core.proofs.TallyLemmas.{all_one, count_low, fits_one_more, goes_on, inside, just_one, kept_all, kept_further, kept_more, kept_same, list_ends, lives_in, next_tells, none_kept, past}
 use Rattle.plane_core.proofs.pattern.Pattern.counted.Goals.{else-lives, else-place-end-via-else-place-end, else-place-end-via-then-place-end+else-eq}
-use Rattle.plane_core.proofs.pattern.Pattern.counted.Goals.{else-has, then-has, then-lives}
+use Rattle.plane_core.proofs.pattern.Pattern.counted.Goals.{else-stays-born, then-lives, then-stays-born}
 use Rattle.plane_core.proofs.pattern.Pattern.counted.Goals as goal
 
 pub loop-place-init : goal.loop-place-init
@@ -50,13 +51,19 @@ loop-place-preserved c =
           (sym (same_cell-eq next cell) ∙ sym w.eq.ensures ∙ w.if-eq.false)
       | else-place-end-via-else-place-end w ↦ list_ends near place cell (past _ _ _ w.if-place-end.false before.whole)
     ] in
-    let x : FitsSigned w32 cell.x = search rules in
-    let y : FitsSigned w32 cell.y = search rules in
-    let alive : has start cell ≡ c.has.result =
-    (λ i. has start (cell_at (sym (to_z-of_z w32 cell.x x) i) (sym (to_z-of_z w32 cell.y y) i))) ∙ sym c.has.ensures in
-    let lives : lives_in rule start cell (n + 1) ≡ c.if-has.lives = elim c.if-has.branch [
-      | then-has w ↦ ap (lives_by rule (n + 1)) (alive ∙ w.if-has.true) ∙ sym w.survives-lives.ensures.survival ∙ sym w.lives-is
-      | else-has w ↦ ap (lives_by rule (n + 1)) (alive ∙ w.if-has.false) ∙ sym w.births-lives.ensures.birth ∙ sym w.lives-is
+    let stays = c.survives-stays.result in
+    let born = c.births-born.result in
+    let now : lives_in rule start cell (n + 1) ≡ cond (has start cell) stays born =
+    λ i. cond (has start cell) (sym c.survives-stays.ensures.survival i) (sym c.births-born.ensures.birth i) in
+    let lives : lives_in rule start cell (n + 1) ≡ c.if-stays-born.lives = now ∙ elim c.if-stays-born.branch [
+      | then-stays-born w ↦ all_one (has start cell) stays born w.if-stays-born.true ∙ sym w.lives-is
+      | else-stays-born w ↦
+          let x : FitsSigned w32 cell.x = search rules in
+          let y : FitsSigned w32 cell.y = search rules in
+          let here : cell ≡ cell_at (to_z w32 (of_z w32 cell.x)) (to_z w32 (of_z w32 cell.y)) =
+          λ i. cell_at (sym (to_z-of_z w32 cell.x x) i) (sym (to_z-of_z w32 cell.y y) i) in
+          just_one (has start cell) stays born w.if-stays-born.false
+          ∙ ap (λ (alive : Bool). beq alive stays) (ap (has start) here ∙ sym w.has.ensures) ∙ sym w.lives-is
     ] in
     elim c.if-lives.branch [
       | then-lives w ↦ rw (ap (λ v. v.items) w.near-is, w.kept-is)
