@@ -75,8 +75,8 @@ impl<E: Into<OutOfMemory>> From<E> for StepError {
 impl Pattern {
     /// The next generation under the rule.
     ///
-    /// It takes time and memory in proportion to the population: in a window if the pattern fits one, on a board if
-    /// that has at most 32 words a cell, and else cell by cell.
+    /// It takes time and memory in proportion to the population: in a window if the pattern fits one, or on a board if
+    /// that has at most 32 words a cell. Else it is counted cell by cell, where a sort takes most of the time.
     ///
     /// # Errors
     ///

@@ -9,7 +9,11 @@
 //! ```
 //!
 //! Each live cell lists the nine cells of its neighbourhood. Sorted, equal cells stand side by side, so the length of a
-//! run tells how many live cells its cell has in its own neighbourhood.
+//! run tells how many live cells the neighbourhood of its cell has:
+//!
+//! ```text
+//! (0, 0)   (1, 0)   (2, 0)   (0, 1) (0, 1)   (1, 1) (1, 1) (1, 1)   (2, 1) (2, 1) (2, 1)   (3, 1)   ..
+//! ```
 //!
 //! A live cell is counted there itself. So the four cells with a 3 are alive next under Life: one is dead and has three
 //! neighbours, and the others are alive and have two.
