@@ -46,7 +46,7 @@ impl Pattern {
             if place + 1 < end && near[place + 1] == cell {
                 continue;
             }
-            // A live cell is no neighbour of its own. Whether it is one is looked up only where that decides.
+            // A live cell is no neighbour of its own. Whether this is a live one is looked up only where that decides.
             let stays = rule.survives(count - 1);
             let born = rule.births(count);
             let lives = if stays == born {
