@@ -7,7 +7,7 @@ use Rattle.std.proofs.lemmas.Nat.Bits.{bit_at_and, bit_at_or, bit_at_xor, bit_at
 use Rattle.std.proofs.lemmas.Simd.{get_or-replicate}
 use Rattle.plane_core.specs.Lanes.{bit_of, sum_of, total_of, AnswersTotal, AnswersRows, AnswersNeighbours, AreBeside}
 use Rattle.plane_core.specs.Rules.{Numbers, is_birth, is_survival}
-use Rattle.plane_core.specs.Tallies.{lives_by}
+use Rattle.plane_core.specs.Generations.{lives_by}
 use Rattle.plane_core.specs.Words.{one_if, life}
 use Rattle.plane_core.specs.declared.lanes.RowSums.{RowSums}
 use Rattle.plane_core.specs.declared.lanes.Sum.{Sum}

@@ -1,6 +1,6 @@
 -- The order of cells is total, only equal cells tie, and moving two cells keeps their order and their distance.
-use Rattle.std.proofs.Common.{◌≡◌, ◌&&◌, ◌≤◌, ℤ, ◌+◌, ◌+ℤ◌, FitsSigned, nat_le, of_z, to_z, true, unsigned_abs, w32, arith, refl, ap, ◌∙◌}
-use Rattle.std.proofs.lemmas.Bool.{and_parts, false≢true}
+use Rattle.std.proofs.Common.{◌≡◌, ◌&&◌, ◌≤◌, ℤ, ◌+◌, ◌+ℤ◌, FitsSigned, leb, nat_le, of_z, to_z, true, unsigned_abs, w32, arith, refl, ap, ◌∙◌}
+use Rattle.std.proofs.lemmas.Bool.{and_from, and_parts, false≢true, le-leb}
 use borrow.Author.Tests.{leb-true}
 use Rattle.std.proofs.lemmas.Int.{ints, to_z-of_z}
 use Rattle.std.proofs.lemmas.Cmp.{on_total, then_total, int_cmp_total}
@@ -87,3 +87,12 @@ near_x_passed c fits on = rw (to_z-of_z w32 c.x fits) (leb-true _ _ ((and_parts 
 pub near_y_passed : (c : Cell) → FitsSigned w32 c.y → near_plane c ≡ true → unsigned_abs (to_z w32 (of_z w32 c.y)) ≤ plane_bound + 1
 unfolding near_plane
 near_y_passed c fits on = rw (to_z-of_z w32 c.y fits) (leb-true _ _ ((and_parts (nat_le (unsigned_abs c.x) (plane_bound + 1)) _ on).1))
+
+-- a cell of the plane is at most a step off it
+pub on_then_near : (c : Cell) → on_plane c ≡ true → near_plane c ≡ true
+unfolding on_plane near_plane
+on_then_near c h =
+    let parts = and_parts (leb (unsigned_abs c.x) plane_bound) (leb (unsigned_abs c.y) plane_bound) h in
+    and_from (leb (unsigned_abs c.x) (plane_bound + 1)) (leb (unsigned_abs c.y) (plane_bound + 1))
+    (le-leb (unsigned_abs c.x) (plane_bound + 1) (let x = leb-true (unsigned_abs c.x) plane_bound parts.0 in omega arith))
+    (le-leb (unsigned_abs c.y) (plane_bound + 1) (let y = leb-true (unsigned_abs c.y) plane_bound parts.1 in omega arith))

@@ -10,11 +10,10 @@ use Rattle.plane_core.specs.Frontiers.{FrontiersAreSlow, FrontiersGoOn, LiesUpTo
 use Rattle.plane_core.specs.Generations.{after, around, next}
 use Rattle.plane_core.specs.Orientations.{image, turned_cell}
 use Rattle.plane_core.specs.Rules.{Numbers, is_birth, is_survival}
-use Rattle.plane_core.specs.Tallies.{counted_at, one_of}
 use Rattle.plane_core.proofs.CaseLemmas.{less_or_not}
 use Rattle.plane_core.proofs.CommuteLemmas.{next-image}
-use Rattle.plane_core.proofs.GenerationLemmas.{after-none, has-next, in_order-next, total-ones}
-use Rattle.plane_core.proofs.NeighbourhoodLemmas.{neighbourhood_total-around}
+use Rattle.plane_core.proofs.GenerationLemmas.{after-none, has-next, in_order-next, times_once}
+use Rattle.plane_core.proofs.NeighbourhoodLemmas.{neighbourhood_total-around, times}
 use Rattle.plane_core.proofs.OrientationLemmas.{has-map, has-map_from}
 use Rattle.plane_core.proofs.RunLemmas.{in_order-after}
 use Rattle.plane_core.proofs.SetLemmas.{has-set_of, in_order-set_of}
@@ -30,8 +29,8 @@ live_low : (S : List Cell) (x y : ℤ) → live S x y ≤ 1
 live_low S x y = elim (has S (cell_at x y)) as (λ b. cond {A = ℕ} b 1 0 ≤ 1) [ true ↦ omega arith | false ↦ omega arith ]
 
 -- what is counted at a moved cell
-one_live : (S : List Cell) (c : Cell) (x y : ℤ) → InOrder S → c.x ≡ x → c.y ≡ y → counted_at (map one_of S) c ≡ live S x y
-one_live S c x y o p q = total-ones S c o ∙ (λ i. cond (has S (cell_at (p i) (q i))) 1 0)
+one_live : (S : List Cell) (c : Cell) (x y : ℤ) → InOrder S → c.x ≡ x → c.y ≡ y → times S c ≡ live S x y
+one_live S c x y o p q = times_once S c o ∙ (λ i. cond (has S (cell_at (p i) (q i))) 1 0)
 
 -- the neighbours and the cell itself, by their columns a, x, b and rows d, y, e
 pub block : (S : List Cell) (x y a b d e : ℤ) → InOrder S → a ≡ x -ℤ pos 1 → b ≡ x +ℤ pos 1 → d ≡ y -ℤ pos 1 → e ≡ y +ℤ pos 1

@@ -1,21 +1,19 @@
 -- The next generation, cell by cell.
 use Rattle.std.proofs.Common.{◌≡◌, ◌==◌, ℕ, ℤ, pos, negsuc, ◌+ℤ◌, ◌+◌, ◌<◌, ◌≤◌, zero, suc, Bool, true, false, ◌||◌, ◌&&◌, List, [], ◌∷◌, ◌++◌}
-use Rattle.std.proofs.Common.{arith, cond, refl, ap, ◌∙◌, sym, subst, inl, inr, ◌⊎◌, map, filter, add-zero, add-one, zero-add, unsigned_abs, leb, eqb}
+use Rattle.std.proofs.Common.{arith, cond, refl, ap, ◌∙◌, sym, subst, inl, inr, ◌⊎◌, add-zero, add-one, unsigned_abs, leb, eqb}
 use Rattle.std.specs.List.{flat_map}
 use Rattle.std.proofs.lemmas.Int.{ints}
 use Rattle.std.proofs.lemmas.Bool.{false≢true, eqb-true, eqb-false, leb-true, le-leb, and_parts, and_from}
 use Rattle.plane_core.specs.declared.cell.Cell.{Cell}
-use Rattle.plane_core.specs.declared.tally.Tally.{Tally}
 use Rattle.plane_core.specs.Cells.{plane_bound, cell_at, same_cell, king_distance, distance, moved_by}
 use Rattle.plane_core.specs.Cells.{has, set_of, InOrder, on_plane, on_edge, IsPattern}
-use Rattle.plane_core.specs.Generations.{around, lives, triple, neighbourhood, next, after, touches_edge}
+use Rattle.plane_core.specs.Generations.{around, lives, lives_by, triple, neighbourhood, next, after, touches_edge}
 use Rattle.plane_core.specs.Rules.{Numbers, is_birth, is_survival}
-use Rattle.plane_core.specs.Tallies.{cells_of, counted_at, alive_at, one_of, lives_by, tally_lives, CountsNeighbourhoods}
 use Rattle.plane_core.proofs.CellLemmas.{same_cell-same}
-use Rattle.plane_core.proofs.SetLemmas.{IsBefore, has-head, has-append, has-filter, has-set_of, has-before, has-cases, in_order-head}
-use Rattle.plane_core.proofs.SetLemmas.{in_order-tail, in_order-cons, in_order-nil, in_order-filter, in_order-set_of, same_lists, or_right}
+use Rattle.plane_core.proofs.SetLemmas.{has-head, has-append, has-filter, has-set_of, has-before, has-cases, in_order-head}
+use Rattle.plane_core.proofs.SetLemmas.{in_order-tail, in_order-filter, in_order-set_of, or_right}
 use Rattle.plane_core.proofs.SearchLemmas.{list_all-has, has-list_all}
-use Rattle.plane_core.proofs.NeighbourhoodLemmas.{near, int_eq-true, still, around-cons}
+use Rattle.plane_core.proofs.NeighbourhoodLemmas.{near, int_eq-true, still, around-cons, times}
 
 -- ---- cells beside the pattern
 
@@ -133,137 +131,23 @@ in_order-next rule S = in_order-filter (lives rule S) (set_of (flat_map neighbou
 
 -- ---- counting
 
--- each live cell counts once at itself
-pub total-ones : (S : List Cell) (c : Cell) → InOrder S → counted_at (map one_of S) c ≡ cond (has S c) 1 0
-total-ones [] c o = refl
-total-ones (d ∷ ds) c o = go (same_cell c d) refl (total-ones ds c (in_order-tail d ds o))
+-- a list in order has a cell once or not at all
+pub times_once : (S : List Cell) (c : Cell) → InOrder S → times S c ≡ cond (has S c) 1 0
+times_once [] c o = refl
+times_once (d ∷ ds) c o = go (same_cell c d) refl (times_once ds c (in_order-tail d ds o))
   where
-    go : (b : Bool) → same_cell c d ≡ b → counted_at (map one_of ds) c ≡ cond (has ds c) 1 0 → cond b 1 0 + counted_at (map one_of ds) c ≡ cond (b || has ds c) 1 0
+    go : (b : Bool) → same_cell c d ≡ b → times ds c ≡ cond (has ds c) 1 0 → cond b 1 0 + times ds c ≡ cond (b || has ds c) 1 0
     go true is ih =
         let absent : has ds c ≡ false = subst (λ (e : Cell). has ds e ≡ false) (sym (same_cell-same c d is)) (has-before d ds (in_order-head d ds o)) in
         let none : cond {A = ℕ} (has ds c) 1 0 ≡ 0 = ap (λ (b : Bool). cond {A = ℕ} b 1 0) absent in
         omega arith
     go false is ih = omega arith
 
-pub alive_at-ones : (S : List Cell) (c : Cell) → alive_at (map one_of S) c ≡ has S c
-alive_at-ones [] c = refl
-alive_at-ones (d ∷ ds) c = one (same_cell c d) (alive_at-ones ds c)
-  where
-    one : (b : Bool) → alive_at (map one_of ds) c ≡ has ds c → ((b && true) || alive_at (map one_of ds) c) ≡ (b || has ds c)
-    one true ih = refl
-    one false ih = ih
-
-pub cells_of-ones : (S : List Cell) → cells_of (map one_of S) ≡ S
-cells_of-ones [] = refl
-cells_of-ones (c ∷ cs) = ap (λ (ds : List Cell). c ∷ ds) (cells_of-ones cs)
-
--- nothing is counted at a cell that no tally has
-total-absent : (ts : List Tally) (c : Cell) → has (cells_of ts) c ≡ false → counted_at ts c ≡ 0
-total-absent [] c h = refl
-total-absent (t ∷ ts) c h = go (same_cell c t.cell) h (total-absent ts c)
-  where
-    go : (b : Bool) → (b || has (cells_of ts) c) ≡ false → (has (cells_of ts) c ≡ false → counted_at ts c ≡ 0) → cond b t.count 0 + counted_at ts c ≡ 0
-    go true h ih = absurd (false≢true (sym h))
-    go false h ih = omega (arith, ih h)
-
-alive_at-absent : (ts : List Tally) (c : Cell) → has (cells_of ts) c ≡ false → alive_at ts c ≡ false
-alive_at-absent [] c h = refl
-alive_at-absent (t ∷ ts) c h = go (same_cell c t.cell) h (alive_at-absent ts c)
-  where
-    go : (b : Bool) → (b || has (cells_of ts) c) ≡ false → (has (cells_of ts) c ≡ false → alive_at ts c ≡ false) → ((b && t.alive) || alive_at ts c) ≡ false
-    go true h ih = absurd (false≢true (sym h))
-    go false h ih = ih h
-
-before-filter : (p : Tally → Bool) (c : Cell) (ts : List Tally) → IsBefore c (cells_of ts) → IsBefore c (cells_of (filter p ts))
-before-filter p c [] h = tt
-before-filter p c (t ∷ ts) h =
-    elim (p t) as (λ b. IsBefore c (cells_of (cond b (t ∷ filter p ts) (filter p ts)))) [
-      | true ↦ (
-        h.0,
-        before-filter p c ts h.1,
-      )
-      | false ↦ before-filter p c ts h.1
-    ]
-
-pub in_order-filter_tallies : (p : Tally → Bool) (ts : List Tally) → InOrder (cells_of ts) → InOrder (cells_of (filter p ts))
-in_order-filter_tallies p [] o = in_order-nil
-in_order-filter_tallies p (t ∷ ts) o = go (p t) (in_order-filter_tallies p ts (in_order-tail t.cell (cells_of ts) o))
-  where
-    go : (b : Bool) → InOrder (cells_of (filter p ts)) → InOrder (cells_of (cond b (t ∷ filter p ts) (filter p ts)))
-    go true ih = in_order-cons t.cell (cells_of (filter p ts)) (before-filter p t.cell ts (in_order-head t.cell (cells_of ts) o)) ih
-    go false ih = ih
-
--- which cells are selected, where each cell has one tally
-pub has-selected : (rule : Numbers) (ts : List Tally) (c : Cell) → InOrder (cells_of ts)
-    → has (cells_of (filter (tally_lives rule) ts)) c ≡ (has (cells_of ts) c && lives_by rule (counted_at ts c) (alive_at ts c))
-has-selected rule [] c o = refl
-has-selected rule (t ∷ ts) c o = go (same_cell c t.cell) refl (has-selected rule ts c (in_order-tail t.cell (cells_of ts) o))
-  where
-    before : IsBefore t.cell (cells_of ts)
-    before = in_order-head t.cell (cells_of ts) o
-
-    absent : c ≡ t.cell → has (cells_of ts) c ≡ false
-    absent same = subst (λ (e : Cell). has (cells_of ts) e ≡ false) (sym same) (has-before t.cell (cells_of ts) before)
-
-    unselected : c ≡ t.cell → has (cells_of (filter (tally_lives rule) ts)) c ≡ false
-    unselected same = subst (λ (e : Cell). has (cells_of (filter (tally_lives rule) ts)) e ≡ false) (sym same)
-        (has-before t.cell (cells_of (filter (tally_lives rule) ts)) (before-filter (tally_lives rule) t.cell ts before))
-
-    one : (r : Bool) → tally_lives rule t ≡ r → same_cell c t.cell ≡ true → c ≡ t.cell
-        → has (cells_of (cond r (t ∷ filter (tally_lives rule) ts) (filter (tally_lives rule) ts))) c
-        ≡ lives_by rule (t.count + counted_at ts c) ((true && t.alive) || alive_at ts c)
-    one r is here same =
-        let count : t.count + counted_at ts c ≡ t.count = omega (arith, total-absent ts c (absent same)) in
-        let alive : ((true && t.alive) || alive_at ts c) ≡ t.alive = ap (λ (b : Bool). t.alive || b) (alive_at-absent ts c (absent same)) ∙ or-false t.alive in
-        chosen r ∙ sym is ∙ (λ i. lives_by rule (sym count i) (sym alive i))
-      where
-        or-false : (a : Bool) → (a || false) ≡ a
-        or-false true = refl
-        or-false false = refl
-
-        chosen : (q : Bool) → has (cells_of (cond q (t ∷ filter (tally_lives rule) ts) (filter (tally_lives rule) ts))) c ≡ q
-        chosen true = or_left (same_cell c t.cell) (has (cells_of (filter (tally_lives rule) ts)) c) here
-        chosen false = unselected same
-
-    go : (b : Bool) → same_cell c t.cell ≡ b
-        → has (cells_of (filter (tally_lives rule) ts)) c ≡ (has (cells_of ts) c && lives_by rule (counted_at ts c) (alive_at ts c))
-        → has (cells_of (cond (tally_lives rule t) (t ∷ filter (tally_lives rule) ts) (filter (tally_lives rule) ts))) c
-        ≡ ((b || has (cells_of ts) c) && lives_by rule (cond b t.count 0 + counted_at ts c) ((b && t.alive) || alive_at ts c))
-    go true is ih = one (tally_lives rule t) refl is (same_cell-same c t.cell is)
-    go false is ih = skipped (tally_lives rule t) ∙ ih ∙ (λ i. has (cells_of ts) c && lives_by rule (sym (zero-add (counted_at ts c)) i) (alive_at ts c))
-      where
-        skipped : (q : Bool) → has (cells_of (cond q (t ∷ filter (tally_lives rule) ts) (filter (tally_lives rule) ts))) c
-            ≡ has (cells_of (filter (tally_lives rule) ts)) c
-        skipped true = ap (λ (b : Bool). b || has (cells_of (filter (tally_lives rule) ts)) c) is
-        skipped false = refl
-
--- what is selected by the counts is the next generation
-pub selected-next : (rule : Numbers) (S : List Cell) (ts : List Tally) → CountsNeighbourhoods S ts → cells_of (filter (tally_lives rule) ts) ≡ next rule S
-selected-next rule S ts counts =
-    same_lists (cells_of (filter (tally_lives rule) ts)) (next rule S) (in_order-filter_tallies (tally_lives rule) ts counts.in_order)
-    (in_order-next rule S) (λ c. has-selected rule ts c counts.in_order ∙ by_count c (has (cells_of ts) c) refl ∙ sym (has-next rule S c))
-  where
-    by_alive : (c : Cell) (b : Bool) → has S c ≡ b
-        → lives_by rule (around S c + cond b 1 0) b ≡ cond b (is_survival rule (around S c)) (is_birth rule (around S c))
-    by_alive c true is = ap (λ (n : ℕ). is_survival rule n) (omega arith)
-    by_alive c false is = ap (λ (n : ℕ). is_birth rule n) (add-zero (around S c))
-
-    by_total : (c : Cell) → lives_by rule (counted_at ts c) (alive_at ts c) ≡ lives rule S c
-    by_total c = (λ i. lives_by rule (counts.totals c i) (counts.alive c i)) ∙ by_alive c (has S c) refl
-
-    dead : (c : Cell) (b : Bool) → lives rule S c ≡ b → has (cells_of ts) c ≡ false → false ≡ b
-    dead c false is h = refl
-    dead c true is h =
-        let empty = total-absent ts c h in
-        let sum = counts.totals c in
-        elim (lives_cases rule S c is) [
-          | inl alive ↦ absurd (let one : cond {A = ℕ} (has S c) 1 0 ≡ 1 = ap (λ (b : Bool). cond {A = ℕ} b 1 0) alive in omega arith)
-          | inr beside ↦ absurd (omega arith)
-        ]
-
-    by_count : (c : Cell) (b : Bool) → has (cells_of ts) c ≡ b → (b && lives_by rule (counted_at ts c) (alive_at ts c)) ≡ lives rule S c
-    by_count c true is = by_total c
-    by_count c false is = dead c (lives rule S c) refl is
+-- the rule by the number of live cells of the neighbourhood, the cell itself among them
+pub lives_by-around : (rule : Numbers) (S : List Cell) (c : Cell) (b : Bool)
+    → lives_by rule (around S c + cond b 1 0) b ≡ cond b (is_survival rule (around S c)) (is_birth rule (around S c))
+lives_by-around rule S c true = ap (λ (n : ℕ). is_survival rule n) (omega arith)
+lives_by-around rule S c false = ap (λ (n : ℕ). is_birth rule n) (add-zero (around S c))
 
 -- ---- on the plane
 

@@ -30,8 +30,6 @@ pub mod LaneLemmas
 pub mod LeapLemmas
 pub mod ListingLemmas
 pub mod LocalityLemmas
-pub mod MergeLemmas
-pub mod NeighbourLemmas
 pub mod NeighbourhoodLemmas
 pub mod NeverBackLemmas
 pub mod OnBoardLemmas

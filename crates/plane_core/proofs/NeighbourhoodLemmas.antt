@@ -1,7 +1,8 @@
 -- The neighbourhood of a cell: the nine cells at king distance at most 1 from it, counted along rows and columns.
 use Rattle.std.proofs.Common.{◌≡◌, ◌==◌, ℕ, ℤ, pos, negsuc, ◌+ℤ◌, ◌<ℤ◌, ◌+◌, ◌≤◌, max, Bool, true, false, ◌&&◌}
-use Rattle.std.proofs.Common.{List, [], ◌∷◌, arith, cond, refl, ap, ◌∙◌, sym, inl, inr, ◌⊎◌, map, add-zero}
-use Rattle.std.specs.Cmp.{signed_Decides}
+use Rattle.std.proofs.Common.{List, [], ◌∷◌, arith, cond, refl, ap, ◌∙◌, sym, inl, inr, ◌⊎◌, ◌++◌, add-zero}
+use Rattle.std.specs.Cmp.{eq_by_cmp_equiv, signed_Decides}
+use Rattle.std.specs.List.{flat_map}
 use Rattle.std.proofs.lemmas.Cmp.{int_ranked}
 use Rattle.std.specs.declared.cmp.Ordering.{Ordering}
 use Rattle.std.specs.declared.cmp.Ordering.TheVariants.{Less, Equal, Greater}
@@ -10,11 +11,9 @@ use Rattle.std.proofs.lemmas.Int.{ints}
 use Rattle.std.proofs.lemmas.Bool.{false≢true, ne_eqb}
 use Rattle.std.proofs.lemmas.List.Sums.{sum_by-cons}
 use Rattle.plane_core.specs.declared.cell.Cell.{Cell}
-use Rattle.plane_core.specs.declared.tally.Tally.{Tally}
-use Rattle.plane_core.specs.Cells.{same_cell, king_distance, distance, moved_by}
-use Rattle.plane_core.specs.Generations.{around}
-use Rattle.plane_core.specs.Tallies.{counted_at, one_of}
-use Rattle.plane_core.proofs.CellLemmas.{same_cell-eq}
+use Rattle.plane_core.specs.Cells.{cell_at, same_cell, king_distance, distance, moved_by}
+use Rattle.plane_core.specs.Generations.{around, neighbourhood}
+use Rattle.plane_core.proofs.CellLemmas.{cell_cmp_total, same_cell-eq}
 
 -- ---- one coordinate
 
@@ -98,18 +97,23 @@ one_cell x0 x1 x2 y0 y1 y2 dx dy (inr (inr (inl (a, b, c, e)))) (inr (inr (inl (
 
 -- ---- the pattern
 
--- the live cells in the row of three cells round c, and in the three rows round c
-abbrev pub row_total : List Tally → Cell → ℕ
-row_total ts c = counted_at ts (moved_by (pos 1) (pos 0) c) + (counted_at ts c + counted_at ts (moved_by (negsuc 0) (pos 0) c))
+-- how often a list has a cell
+abbrev pub times : List Cell → Cell → ℕ
+times [] c = 0
+times (d ∷ ds) c = cond (same_cell c d) 1 0 + times ds c
 
-abbrev pub neighbourhood_total : List Tally → Cell → ℕ
-neighbourhood_total ts c = row_total ts (moved_by (pos 0) (pos 1) c) + (row_total ts c + row_total ts (moved_by (pos 0) (negsuc 0) c))
+-- the live cells in the row of three cells round c, and in the three rows round c
+abbrev pub row_total : List Cell → Cell → ℕ
+row_total cells c = times cells (moved_by (pos 1) (pos 0) c) + (times cells c + times cells (moved_by (negsuc 0) (pos 0) c))
+
+abbrev pub neighbourhood_total : List Cell → Cell → ℕ
+neighbourhood_total cells c = row_total cells (moved_by (pos 0) (pos 1) c) + (row_total cells c + row_total cells (moved_by (pos 0) (negsuc 0) c))
 
 pub still : (a : ℤ) → a +ℤ pos 0 ≡ a
 still a = omega (arith, ints)
 
 -- whether one live cell is counted at the cell in column x of row y
-hit : (c d : Cell) (x y : ℤ) → c.x ≡ x → c.y ≡ y → counted_at (one_of d ∷ []) c ≡ cond (int_eq y d.y && int_eq x d.x) 1 0
+hit : (c d : Cell) (x y : ℤ) → c.x ≡ x → c.y ≡ y → times (d ∷ []) c ≡ cond (int_eq y d.y && int_eq x d.x) 1 0
 hit c d x y p q = ap (λ b. cond b 1 0 + 0) (sym (same_cell-eq c d)) ∙ add-zero _ ∙ (λ i. cond (int_eq (q i) d.y && int_eq (p i) d.x) 1 0)
 
 still_moved : (a b : ℤ) → (a +ℤ b) +ℤ pos 0 ≡ a +ℤ b
@@ -119,14 +123,14 @@ moved_still : (a b : ℤ) → (a +ℤ pos 0) +ℤ b ≡ a +ℤ b
 moved_still a b = ap (λ (v : ℤ). v +ℤ b) (still a)
 
 -- the nine tests of one live cell
-hits_of : (c d : Cell) → neighbourhood_total (one_of d ∷ []) c ≡ cond (king_distance c d == 1) 1 0 + cond (same_cell c d) 1 0
+hits_of : (c d : Cell) → neighbourhood_total (d ∷ []) c ≡ cond (king_distance c d == 1) 1 0 + cond (same_cell c d) 1 0
 hits_of c d = sum_of_hits ∙ sym (one_cell _ _ _ _ _ _ _ _ (near c.x d.x) (near c.y d.y))
     ∙ ap (λ b. cond (king_distance c d == 1) 1 0 + cond b 1 0) (same_cell-eq c d)
   where
-    at : (e : Cell) (x y : ℤ) → e.x ≡ x → e.y ≡ y → counted_at (one_of d ∷ []) e ≡ cond (int_eq y d.y && int_eq x d.x) 1 0
+    at : (e : Cell) (x y : ℤ) → e.x ≡ x → e.y ≡ y → times (d ∷ []) e ≡ cond (int_eq y d.y && int_eq x d.x) 1 0
     at e x y p q = hit e d x y p q
 
-    sum_of_hits : neighbourhood_total (one_of d ∷ []) c
+    sum_of_hits : neighbourhood_total (d ∷ []) c
         ≡ hits (int_eq (c.y +ℤ pos 1) d.y) (int_eq (c.x +ℤ negsuc 0) d.x) (int_eq c.x d.x) (int_eq (c.x +ℤ pos 1) d.x)
         + (hits (int_eq c.y d.y) (int_eq (c.x +ℤ negsuc 0) d.x) (int_eq c.x d.x) (int_eq (c.x +ℤ pos 1) d.x)
         + hits (int_eq (c.y +ℤ negsuc 0) d.y) (int_eq (c.x +ℤ negsuc 0) d.x) (int_eq c.x d.x) (int_eq (c.x +ℤ pos 1) d.x))
@@ -152,14 +156,66 @@ regroup : (a1 a2 a3 a4 a5 a6 a7 a8 a9 b1 b2 b3 b4 b5 b6 b7 b8 b9 : ℕ)
     + ((b1 + (b2 + b3)) + ((b4 + (b5 + b6)) + (b7 + (b8 + b9))))
 regroup a1 a2 a3 a4 a5 a6 a7 a8 a9 b1 b2 b3 b4 b5 b6 b7 b8 b9 = omega arith
 
-neighbourhood_total-cons : (t : Tally) (ts : List Tally) (c : Cell) → neighbourhood_total (t ∷ ts) c ≡ neighbourhood_total (t ∷ []) c + neighbourhood_total ts c
-neighbourhood_total-cons t ts c = regroup _ _ _ _ _ _ _ _ _ _ _ _ _ _ _ _ _ _
+neighbourhood_total-cons : (d : Cell) (ds : List Cell) (c : Cell) → neighbourhood_total (d ∷ ds) c ≡ neighbourhood_total (d ∷ []) c + neighbourhood_total ds c
+neighbourhood_total-cons d ds c = regroup _ _ _ _ _ _ _ _ _ _ _ _ _ _ _ _ _ _
 
 pub around-cons : (d : Cell) (ds : List Cell) (c : Cell) → around (d ∷ ds) c ≡ cond (king_distance c d == 1) 1 0 + around ds c
 around-cons d ds c = sum_by-cons (λ d. cond (king_distance c d == 1) 1 0) d ds
 
 -- the live cells of the block are the neighbours and, where it is alive, the cell itself
-pub neighbourhood_total-around : (S : List Cell) (c : Cell) → neighbourhood_total (map one_of S) c ≡ around S c + counted_at (map one_of S) c
+pub neighbourhood_total-around : (S : List Cell) (c : Cell) → neighbourhood_total S c ≡ around S c + times S c
 neighbourhood_total-around [] c = refl
 neighbourhood_total-around (d ∷ ds) c =
-    omega (arith, neighbourhood_total-cons (one_of d) (map one_of ds) c, hits_of c d, neighbourhood_total-around ds c, around-cons d ds c)
+    omega (arith, neighbourhood_total-cons d ds c, hits_of c d, neighbourhood_total-around ds c, around-cons d ds c)
+
+-- ---- a list of neighbourhoods
+
+pub times-append : (cs ds : List Cell) (c : Cell) → times (cs ++ ds) c ≡ times cs c + times ds c
+times-append [] ds c = omega arith
+times-append (e ∷ es) ds c = omega (arith, times-append es ds c)
+
+-- a neighbourhood has each of its cells once
+times-neighbourhood : (d c : Cell) → times (neighbourhood d) c ≡ cond (king_distance c d == 1) 1 0 + cond (same_cell c d) 1 0
+times-neighbourhood d c =
+    turned _ _ _ _ _ _ _ _ _ _ _ _ _ _ _ _ _ _ (at _) (at _) (at _) (at _) (at _) (at _) (at _) (at _) (at _)
+    ∙ hits_of d c
+    ∙ (λ i. cond (max (distance_turned d.x c.x i) (distance_turned d.y c.y i) == 1) 1 0 + cond (same i) 1 0)
+  where
+    distance_turned : (a b : ℤ) → distance a b ≡ distance b a
+    distance_turned a b = omega (arith, ints)
+
+    same : same_cell d c ≡ same_cell c d
+    same = (eq_by_cmp_equiv cell_cmp_total).symm d c
+
+    at : (e : Cell) → cond {A = ℕ} (same_cell c e) 1 0 ≡ cond (same_cell e c) 1 0
+    at e = ap (λ (b : Bool). cond {A = ℕ} b 1 0) ((eq_by_cmp_equiv cell_cmp_total).symm c e)
+
+    turned : (a1 a2 a3 a4 a5 a6 a7 a8 a9 b1 b2 b3 b4 b5 b6 b7 b8 b9 : ℕ) → a1 ≡ b1 → a2 ≡ b2 → a3 ≡ b3 → a4 ≡ b4 → a5 ≡ b5 → a6 ≡ b6 → a7 ≡ b7
+        → a8 ≡ b8 → a9 ≡ b9 → a1 + (a2 + (a3 + (a4 + (a5 + (a6 + (a7 + (a8 + (a9 + 0))))))))
+        ≡ ((b9 + 0) + ((b8 + 0) + (b7 + 0))) + (((b6 + 0) + ((b5 + 0) + (b4 + 0))) + ((b3 + 0) + ((b2 + 0) + (b1 + 0))))
+    turned a1 a2 a3 a4 a5 a6 a7 a8 a9 b1 b2 b3 b4 b5 b6 b7 b8 b9 p1 p2 p3 p4 p5 p6 p7 p8 p9 =
+        omega (arith, p1, p2, p3, p4, p5, p6, p7, p8, p9)
+
+-- so a cell is listed by its live neighbours and, where it is alive, by itself
+pub times-neighbourhoods : (S : List Cell) (c : Cell) → times (flat_map neighbourhood S) c ≡ around S c + times S c
+times-neighbourhoods [] c = refl
+times-neighbourhoods (d ∷ ds) c =
+    let both : times (flat_map neighbourhood (d ∷ ds)) c ≡ times (neighbourhood d) c + times (flat_map neighbourhood ds) c =
+    times-append (neighbourhood d) (flat_map neighbourhood ds) c in
+    omega (arith, both, times-neighbourhood d c, times-neighbourhoods ds c, around-cons d ds c)
+
+-- the neighbourhood, its nine cells each by one move
+pub nine_cells : (c : Cell) → neighbourhood c
+    ≡ moved_by (negsuc 0) (negsuc 0) c ∷ moved_by (pos 0) (negsuc 0) c ∷ moved_by (pos 1) (negsuc 0) c ∷ moved_by (negsuc 0) (pos 0) c ∷ c
+    ∷ moved_by (pos 1) (pos 0) c ∷ moved_by (negsuc 0) (pos 1) c ∷ moved_by (pos 0) (pos 1) c ∷ moved_by (pos 1) (pos 1) c ∷ []
+nine_cells c = λ i.
+    cell_at (moved_still c.x (negsuc 0) i) (still_moved c.y (negsuc 0) i)
+    ∷ moved_by (pos 0) (negsuc 0) c
+    ∷ cell_at (moved_still c.x (pos 1) i) (still_moved c.y (negsuc 0) i)
+    ∷ moved_by (negsuc 0) (pos 0) c
+    ∷ c
+    ∷ moved_by (pos 1) (pos 0) c
+    ∷ cell_at (moved_still c.x (negsuc 0) i) (still_moved c.y (pos 1) i)
+    ∷ moved_by (pos 0) (pos 1) c
+    ∷ cell_at (moved_still c.x (pos 1) i) (still_moved c.y (pos 1) i)
+    ∷ []

@@ -1,7 +1,7 @@
 -- A pattern alone in a window: its generations, and what the window says of the start.
 use Rattle.std.proofs.Common.{◌≡◌, ◌≢◌, ◌==◌, ◌+◌, ◌-◌, ◌*◌, ◌/◌, ◌%◌, ◌^◌, ◌<◌, ◌≤◌, ℕ}
 use Rattle.std.proofs.Common.{ℤ, pos, negsuc, ◌+ℤ◌, ◌-ℤ◌, ◌≤ℤ◌, ◌<ℤ◌, zero, suc, Bool, true, false, cond}
-use Rattle.std.proofs.Common.{List, [], map, arith, refl, ap, ◌∙◌, sym, subst, inl, inr, ◌⊎◌, slice_index, slice_index_or, unsigned_abs, max, bit_or}
+use Rattle.std.proofs.Common.{List, [], arith, refl, ap, ◌∙◌, sym, subst, inl, inr, ◌⊎◌, slice_index, slice_index_or, unsigned_abs, max, bit_or}
 use Rattle.std.specs.Int.{bit_at}
 use Rattle.std.proofs.lemmas.Bool.{eqb-true}
 use Rattle.std.proofs.lemmas.Int.{ints}
@@ -11,17 +11,16 @@ use Rattle.std.proofs.lemmas.Nat.Bits.{bit_at-lt, bit_at-zero, bit_at_above, bit
 use Rattle.std.proofs.Math.Nat.{div-div-eq-div-mul, le-div_iff_mul-le}
 use Rattle.plane_core.specs.declared.cell.Cell.{Cell}
 use Rattle.plane_core.specs.Cells.{InOrder, cell_at, distance, has, king_distance, moved_by}
-use Rattle.plane_core.specs.Generations.{around, next}
+use Rattle.plane_core.specs.Generations.{around, lives_by, next}
 use Rattle.plane_core.specs.LonePatterns.{AreAlike, Holds, IsColumns, IsInWindow, IsRimClear, IsVector, AreVectors}
 use Rattle.plane_core.specs.Lanes.{bit_of, row_sum}
 use Rattle.plane_core.specs.Rules.{Numbers}
-use Rattle.plane_core.specs.Tallies.{counted_at, lives_by, one_of}
 use Rattle.plane_core.specs.Windows.{IsNextWindow, lane_at, row_above, row_at, row_below}
 use Rattle.plane_core.specs.Words.{west_of}
-use Rattle.plane_core.proofs.GenerationLemmas.{a_neighbour, has-next, in_order-next, lives_cases, total-ones}
-use Rattle.plane_core.proofs.NeighbourhoodLemmas.{neighbourhood_total-around, row_total}
+use Rattle.plane_core.proofs.GenerationLemmas.{a_neighbour, has-next, in_order-next, lives_by-around, lives_cases, times_once}
+use Rattle.plane_core.proofs.NeighbourhoodLemmas.{neighbourhood_total-around, row_total, times}
 use Rattle.plane_core.proofs.PartLemmas.{false_unless}
-use Rattle.plane_core.proofs.WindowLemmas.{in_window, lives_by-around, one_if-is, same_cell_at}
+use Rattle.plane_core.proofs.WindowLemmas.{in_window, one_if-is, same_cell_at}
 use Rattle.plane_core.proofs.CaseLemmas.{less_or_not, same_or_not}
 
 -- ---- rows
@@ -198,13 +197,13 @@ bit_if S m e c same small shown = ap (λ (d : Cell). cond {A = ℕ} (has S d) 1 
 
 -- the live cells of three in a row of the window
 row_seen : (S : List Cell) (n : ℕ) (left top : ℤ) (x : List (List ℕ)) → 0 < n → Holds n left top x S → AreVectors n x → (e : Cell) (r i : ℕ) → i < 64
-    → e ≡ in_window left top i r → row_total (map one_of S) e ≡ row_sum (row_at n x r) i
+    → e ≡ in_window left top i r → row_total S e ≡ row_sum (row_at n x r) i
 row_seen S n left top x some h whole e r i low is =
     omega (
       arith,
-      total-ones S (moved_by (pos 1) (pos 0) e) o,
-      total-ones S e o,
-      total-ones S (moved_by (negsuc 0)
+      times_once S (moved_by (pos 1) (pos 0) e) o,
+      times_once S e o,
+      times_once S (moved_by (negsuc 0)
           (pos 0) e) o,
       here,
       west i is,
@@ -246,7 +245,7 @@ row_seen S n left top x some h whole e r i low is =
 
 -- none in a row above the window
 row_over : (S : List Cell) (n : ℕ) (left top : ℤ) (x : List (List ℕ)) → Holds n left top x S → (e : Cell) (i : ℕ) → e.y ≡ top -ℤ pos 1
-    → row_total (map one_of S) e ≡ row_sum 0 i
+    → row_total S e ≡ row_sum 0 i
 row_over S n left top x h e i is =
     omega (
       arith,
@@ -258,8 +257,8 @@ row_over S n left top x h e i is =
       east (i == 63),
     )
   where
-    none : (d : Cell) → d.y ≡ top -ℤ pos 1 → counted_at (map one_of S) d ≡ 0
-    none d at = total-ones S d h.in_order
+    none : (d : Cell) → d.y ≡ top -ℤ pos 1 → times S d ≡ 0
+    none d at = times_once S d h.in_order
         ∙ ap (λ (b : Bool). cond {A = ℕ} b 1 0) (outside n left top x S d h (λ w. let k = w.north in absurd (omega (arith, ints))))
 
     west : (k : ℕ) → west_of 0 0 k ≡ 0
@@ -287,9 +286,9 @@ block_seen S n left top x some h whole r i low =
     let below = row_seen S n left top x some h whole (moved_by (pos 0) (pos 1) c) (r + 1) i low (same_cell_at _ _ _ _ (omega (arith, ints))
     (omega (arith, ints))) in
     let under : row_sum (row_below n x r) i ≡ row_sum (row_at n x (r + 1)) i = ap (λ (w : ℕ). row_sum w i) (row_next n x r some whole) in
-    omega (arith, neighbourhood_total-around S c, total-ones S c h.in_order, above r, here, below, under)
+    omega (arith, neighbourhood_total-around S c, times_once S c h.in_order, above r, here, below, under)
   where
-    above : (r : ℕ) → row_total (map one_of S) (moved_by (pos 0) (negsuc 0) (in_window left top i r)) ≡ row_sum (row_above n x r) i
+    above : (r : ℕ) → row_total S (moved_by (pos 0) (negsuc 0) (in_window left top i r)) ≡ row_sum (row_above n x r) i
     above zero = row_over S n left top x h (moved_by (pos 0) (negsuc 0) (in_window left top i 0)) i (omega (arith, ints))
     above (suc r) = row_seen S n left top x some h whole (moved_by (pos 0) (negsuc 0) (in_window left top i (suc r))) r i low
         (same_cell_at _ _ _ _ (omega (arith, ints)) (omega (arith, ints)))

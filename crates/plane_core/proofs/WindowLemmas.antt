@@ -1,6 +1,6 @@
 -- A generation of a window is one of the cells that it shows.
-use Rattle.std.proofs.Common.{◌≡◌, ◌==◌, ◌+◌, ◌-◌, ◌*◌, ◌/◌, ◌%◌, ◌<◌, ◌≤◌, ℕ, ℤ, pos, negsuc, ◌+ℤ◌, zero, suc, Bool, true, false, cond, List, [], map}
-use Rattle.std.proofs.Common.{arith, refl, ap, ◌∙◌, sym, subst, slice_index, add-zero, length, get_or, set, inl, inr, ◌⊎◌}
+use Rattle.std.proofs.Common.{◌≡◌, ◌==◌, ◌+◌, ◌-◌, ◌*◌, ◌/◌, ◌%◌, ◌<◌, ◌≤◌, ℕ, ℤ, pos, negsuc, ◌+ℤ◌, zero, suc, Bool, true, false, cond, List, []}
+use Rattle.std.proofs.Common.{arith, refl, ap, ◌∙◌, sym, subst, slice_index, length, get_or, set, inl, inr, ◌⊎◌}
 use Rattle.std.specs.Int.{bit_at}
 use Rattle.std.proofs.lemmas.Bool.{eqb-true, eq-eqb, ne_eqb}
 use Rattle.std.proofs.lemmas.List.{get_or-set_same, get_or-set_other}
@@ -10,15 +10,14 @@ use Rattle.std.proofs.lemmas.Nat.Bits.{bit_at-lt, bit_at-zero}
 use Rattle.plane_core.specs.declared.cell.Cell.{Cell}
 use Rattle.plane_core.specs.declared.lanes.Sum.{Sum}
 use Rattle.plane_core.specs.Cells.{InOrder, cell_at, has, moved_by}
-use Rattle.plane_core.specs.Generations.{around, next, after}
+use Rattle.plane_core.specs.Generations.{around, lives_by, next, after}
 use Rattle.plane_core.specs.Lanes.{sum_of, row_sum, AnswersRows}
-use Rattle.plane_core.specs.Rules.{Numbers, is_birth, is_survival}
-use Rattle.plane_core.specs.Tallies.{lives_by, one_of}
+use Rattle.plane_core.specs.Rules.{Numbers}
 use Rattle.plane_core.specs.Windows.{lane_at, row_at, row_above, row_below, IsNextRow, IsNextWindow, IsShownInside}
 use Rattle.plane_core.specs.Words.{one_if}
 use Rattle.plane_core.proofs.NeighbourhoodLemmas.{row_total, neighbourhood_total-around}
 use Rattle.plane_core.proofs.CaseLemmas.{less_or_not}
-use Rattle.plane_core.proofs.GenerationLemmas.{after-more, after-none, has-next, total-ones}
+use Rattle.plane_core.proofs.GenerationLemmas.{after-more, after-none, has-next, lives_by-around, times_once}
 use Rattle.plane_core.proofs.RunLemmas.{in_order-after}
 
 -- ---- rows and lanes
@@ -169,11 +168,6 @@ pub one_if-is : (b : Bool) → (one_if b == 1) ≡ b
 one_if-is true = refl
 one_if-is false = refl
 
-pub lives_by-around : (rule : Numbers) (S : List Cell) (c : Cell) (b : Bool)
-    → lives_by rule (around S c + cond b 1 0) b ≡ cond b (is_survival rule (around S c)) (is_birth rule (around S c))
-lives_by-around rule S c true = ap (λ (n : ℕ). is_survival rule n) (omega arith)
-lives_by-around rule S c false = ap (λ (n : ℕ). is_birth rule n) (add-zero (around S c))
-
 pub same_cell_at : (x y v w : ℤ) → x ≡ v → y ≡ w → cell_at x y ≡ cell_at v w
 same_cell_at x y v w p q t = cell_at (p t) (q t)
 
@@ -193,14 +187,14 @@ bit_if S word i e c same shown =
 -- the live cells of three in a row
 row_shown : (S : List Cell) (n : ℕ) (left top : ℤ) (depth : ℕ) (x : List (List ℕ)) → InOrder S → IsShownInside n left top depth x S → (e : Cell) (r i : ℕ)
     → depth ≤ r → r + depth < 4 * n → depth + 1 ≤ i → i + depth + 1 < 64 → e ≡ in_window left top i r
-    → row_total (map one_of S) e ≡ row_sum (row_at n x r) i
+    → row_total S e ≡ row_sum (row_at n x r) i
 row_shown S n left top depth x o shown e r zero h1 h2 h3 h4 is = absurd (omega arith)
 row_shown S n left top depth x o shown e r (suc i) h1 h2 h3 h4 is =
     omega (
       arith,
-      total-ones S (moved_by (pos 1) (pos 0) e) o,
-      total-ones S e o,
-      total-ones S (moved_by (negsuc 0) (pos 0) e) o,
+      times_once S (moved_by (pos 1) (pos 0) e) o,
+      times_once S e o,
+      times_once S (moved_by (negsuc 0) (pos 0) e) o,
       here,
       west,
       east (suc i == 63) refl,
@@ -240,7 +234,7 @@ block_shown S n left top depth x o shown (suc r) i h1 h2 h3 h4 =
     (same_cell_at _ _ _ _ (omega (arith, ints)) (omega (arith, ints))) in
     let under : row_sum (row_below n x (suc r)) i ≡ row_sum (row_at n x (suc r + 1)) i =
     ap (λ (w : ℕ). row_sum w i) (below_inner n x (suc r) (omega arith)) in
-    omega (arith, neighbourhood_total-around S c, total-ones S c o, above, here, below, under)
+    omega (arith, neighbourhood_total-around S c, times_once S c o, above, here, below, under)
 
 -- the next window shows the next generation, one cell further inside
 pub shown_next : (rule : Numbers) (S : List Cell) (n : ℕ) (left top : ℤ) (depth : ℕ) (x y : List (List ℕ)) → InOrder S → IsShownInside n left top depth x S

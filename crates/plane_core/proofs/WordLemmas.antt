@@ -6,7 +6,7 @@ use Rattle.std.proofs.lemmas.Bool.{eqb-true, eqb-false}
 use Rattle.std.proofs.lemmas.Bool.Decides.{nat_tests}
 use Rattle.std.proofs.lemmas.Nat.Bits.{bit_at_and, bit_at_or, bit_at_xor, bit_at-suc, bit_at_lowest}
 use Rattle.std.proofs.lemmas.Nat.Bits.{bit_at-lt, bit_at_above, bit_at_cat_low, bit_at_cat_high, bit_at-zero}
-use Rattle.plane_core.specs.Tallies.{lives_by}
+use Rattle.plane_core.specs.Generations.{lives_by}
 use Rattle.plane_core.specs.Words.{west_of, east_of, one_if, life}
 
 -- ---- moved by a place

@@ -1,5 +1,5 @@
 -- Generations under a rule (LifeWiki, "Life-like cellular automaton").
-use Rattle.std.specs.Prelude.{◌≡◌, ◌≢◌, ◌+◌, ◌≤◌, true, ◌==◌, ℕ, ℤ, zero, suc, pos, negsuc, Bool, List, [], ◌∷◌, All, count_by, filter, flat_map, if◌then◌else◌}
+use Rattle.std.specs.Prelude.{◌≡◌, ◌≢◌, ◌+◌, ◌-◌, ◌≤◌, true, ◌==◌, ℕ, ℤ, zero, suc, pos, negsuc, Bool, List, [], ◌∷◌, All, count_by, filter, flat_map, if◌then◌else◌}
 use Rattle.std.specs.List.{list_any, list_all}
 use Rattle.plane_core.specs.declared.cell.Cell.{Cell}
 use Rattle.plane_core.specs.Cells.{InOrder, king_distance, moved_by, has, set_of, on_edge, is_within}
@@ -16,6 +16,10 @@ around cells c = count_by (λ d. king_distance c d == 1) cells
 -- c is alive one generation after the pattern: it is alive and survives, or it is dead and is born
 abbrev pub lives : Numbers → List Cell → Cell → Bool
 lives rule cells c = if has cells c then is_survival rule (around cells c) else is_birth rule (around cells c)
+
+-- The same where count is the number of live cells of its neighbourhood, itself among them where it is alive.
+abbrev pub lives_by : Numbers → ℕ → Bool → Bool
+lives_by rule count alive = if alive then is_survival rule (count - 1) else is_birth rule count
 
 -- c with the cells to its left and right, and three such rows: the cells at king distance at most 1 from c
 abbrev pub triple : Cell → List Cell

@@ -5,7 +5,7 @@ use Rattle.plane_core.specs.declared.lanes.RowSums.{RowSums}
 use Rattle.plane_core.specs.declared.lanes.Sum.{Sum}
 use Rattle.plane_core.specs.declared.lanes.Total.{Total}
 use Rattle.plane_core.specs.Rules.{Numbers}
-use Rattle.plane_core.specs.Tallies.{lives_by}
+use Rattle.plane_core.specs.Generations.{lives_by}
 use Rattle.plane_core.specs.Words.{one_if, west_of, east_of}
 
 -- bit i of the word in lane j

@@ -32,7 +32,6 @@ pub mod Refusals
 pub mod Refusing
 pub mod Rules
 pub mod Spans
-pub mod Tallies
 pub mod Windows
 pub mod Without
 pub mod Words

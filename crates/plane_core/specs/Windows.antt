@@ -5,7 +5,7 @@ use Rattle.plane_core.specs.declared.cell.Cell.{Cell}
 use Rattle.plane_core.specs.Cells.{cell_at, has}
 use Rattle.plane_core.specs.Lanes.{row_sum}
 use Rattle.plane_core.specs.Rules.{Numbers}
-use Rattle.plane_core.specs.Tallies.{lives_by}
+use Rattle.plane_core.specs.Generations.{lives_by}
 use Rattle.plane_core.specs.Words.{one_if}
 
 -- lane j of vector k

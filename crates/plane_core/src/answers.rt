@@ -17,7 +17,7 @@ ghost use Rattle.std.specs.Prelude.{◌≡◌, ◌==◌, ◌+◌, ◌-◌, ◌*�
 ghost use Rattle.std.specs.Int.{bit_at};
 ghost use Rattle.plane_core.specs.Lanes.{AnswersRows, AreBeside, bit_of};
 ghost use Rattle.plane_core.specs.Rules.{Numbers, is_birth, is_survival};
-ghost use Rattle.plane_core.specs.Tallies.{lives_by};
+ghost use Rattle.plane_core.specs.Generations.{lives_by};
 ghost use Rattle.plane_core.specs.Words.{life, one_if};
 
 use crate::lanes::{RowSums, Sum, added, choice, only_one, summed};

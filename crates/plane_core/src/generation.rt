@@ -27,7 +27,6 @@ use crate::parts::Cut;
 use crate::pattern::Pattern;
 use crate::rule::Rule;
 use crate::small::next_in_window;
-use crate::tally;
 use memory::OutOfMemory;
 use std::alloc::Global;
 use std::fmt::{self, Display};
@@ -76,8 +75,8 @@ impl<E: Into<OutOfMemory>> From<E> for StepError {
 impl Pattern {
     /// The next generation under the rule.
     ///
-    /// It takes time and memory in proportion to the population: in a window if the pattern fits one, on a board if
-    /// that has at most 32 words a cell, and else cell by cell.
+    /// It takes time and memory in proportion to the population: in a window if the pattern fits one, or on a board if
+    /// that has at most 32 words a cell. Else it is counted cell by cell, where a sort takes most of the time.
     ///
     /// # Errors
     ///
@@ -113,16 +112,6 @@ impl Pattern {
             }
         }
         false
-    }
-
-    /// The next generation, counted cell by cell.
-    fn counted(&self, alloc: Global, rule: &Rule) -> Result<Pattern, OutOfMemory>
-        requires { touches_edge self.now ≡ false }
-        ensures { IfOk result (λ pattern. pattern ≡ next rule.now self.now) }
-    {
-        let counted = tally::neighbourhoods(alloc, self.cells())?;
-        let cells = tally::selected(alloc, rule, counted.as_slice())?;
-        Ok(Pattern::from_ordered(cells))
     }
 
     /// The pattern after so many generations under the rule. After 0 generations it is a copy.

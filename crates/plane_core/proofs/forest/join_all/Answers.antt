@@ -3,7 +3,7 @@ use Rattle.std.proofs.lemmas.Int.{ints}
 use Rattle.plane_core.specs.declared.cell.Cell.{Cell}
 use Rattle.plane_core.specs.Cells.{moved_by, on_plane}
 use Rattle.plane_core.specs.Forest.{cell_of, IsPassed}
-use Rattle.plane_core.proofs.NeighbourLemmas.{on_then_near}
+use Rattle.plane_core.proofs.CellLemmas.{on_then_near}
 use Rattle.plane_core.proofs.PlacementLemmas.{all_at}
 use Rattle.plane_core.proofs.ForestLemmas.{JoinsRow, all_behind, behind_next, joins_before, joins_more, joins_near, joins_rows, keeps-then}
 use Rattle.plane_core.proofs.forest.join_all.Goals as goal

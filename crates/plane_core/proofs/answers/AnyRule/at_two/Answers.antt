@@ -1,7 +1,7 @@
 use Rattle.std.proofs.Common.{ℕ, ◌==◌, slice_index}
 use Rattle.std.proofs.lemmas.Nat.Bits.{bit_at-lt}
 use Rattle.plane_core.specs.Lanes.{bit_of}
-use Rattle.plane_core.specs.Tallies.{lives_by}
+use Rattle.plane_core.specs.Generations.{lives_by}
 use Rattle.plane_core.specs.Words.{one_if}
 use Rattle.plane_core.proofs.WordLemmas.{by_ones}
 use Rattle.plane_core.proofs.answers.AnyRule.at_two.Goals as goal
