@@ -10,6 +10,7 @@ use Rattle.std.proofs.lemmas.Nat.Bits.{bit_at-lt, bit_at-zero}
 use Rattle.plane_core.specs.declared.cell.Cell.{Cell}
 use Rattle.plane_core.specs.declared.frame.Frame.{Frame}
 use Rattle.plane_core.specs.declared.place.Place.{Place}
+use Rattle.plane_core.specs.declared.spans.Hull.{Hull}
 use Rattle.plane_core.specs.declared.spans.Span.{Span}
 use Rattle.plane_core.specs.Boxes.{IsStillOutside}
 use Rattle.plane_core.specs.Cells.{has}
@@ -18,7 +19,7 @@ use Rattle.plane_core.specs.Generations.{after}
 use Rattle.plane_core.specs.OnBoard.{cells_on}
 use Rattle.plane_core.specs.Places.{IsInnerCell}
 use Rattle.plane_core.specs.Rules.{Numbers}
-use Rattle.plane_core.specs.Spans.{AreSpans, AreWidened, HoldCovered, HoldInner, HasRow, IsInSpan, LieInSpans, span_of}
+use Rattle.plane_core.specs.Spans.{AreSpans, AreWidened, HoldCovered, HoldInner, HoldsSpans, HasRow, IsInHull, IsInSpan, LieInSpans, span_of}
 use Rattle.plane_core.proofs.CaseLemmas.{less_or_not, same_or_not}
 use Rattle.plane_core.proofs.FrameLemmas.{one_spot, spot_of}
 use Rattle.plane_core.proofs.OnBoardLemmas.{shows_cells}
@@ -106,6 +107,16 @@ spans_after rule at places S n old new live wide covered still s r i hs hr hi e 
   | inr outside ↦
       absurd (outside (wide s r (live s r i hs hr hi
       (sym (still (board_cell at s r i) (λ under. outside (covered s r i hs hr hi under))) ∙ e))))
+]
+
+-- ---- the hull
+
+pub hull_more : (spans : List Span) (n : ℕ) (old new : Hull) → HoldsSpans spans n old → ((s r : ℕ) → IsInHull old s r → IsInHull new s r)
+    → ((r : ℕ) → HasRow (span_of spans n) r → IsInHull new n r) → HoldsSpans spans (n + 1) new
+hull_more spans n old new before kept held s r low inside = elim (same_or_not s n) [
+  | inl same ↦
+      subst (λ (t : ℕ). IsInHull new t r) (sym same) (held r (subst (λ (t : ℕ). IsInSpan spans t r) same inside))
+  | inr apart ↦ kept s r (before s r (omega (arith, apart, low)) inside)
 ]
 
 -- ---- emptying

@@ -1,5 +1,5 @@
 -- How the cells of a board are read into a list.
-use Rattle.std.specs.Prelude.{◌≡◌, ◌<◌, ◌≤◌, ℕ, ◌+ℤ◌, pos, List, slice_index, true}
+use Rattle.std.specs.Prelude.{◌≡◌, ◌+◌, ◌*◌, ◌<◌, ◌≤◌, ℕ, ◌+ℤ◌, pos, List, slice_index, true}
 use Rattle.std.specs.Int.{bit_at}
 use Rattle.plane_core.specs.declared.frame.Frame.{Frame}
 use Rattle.plane_core.specs.declared.cell.Cell.{Cell}
@@ -28,13 +28,25 @@ pub record HasRead (word : ℕ) (first : Cell) (old : List Cell) (n : ℕ) (new 
       → AreAmong others old → AreAmong others new
   pub complete : (i : ℕ) → i < n → bit_at word i ≡ 1 → has new (cell_at (first.x +ℤ pos i) first.y) ≡ true
 
--- the words of the first n rows in a lane have been read
-pub record HasReadLane (at : Frame) (words : List ℕ) (s : ℕ) (old : List Cell) (n : ℕ) (new : List Cell) : Type 0 where
+-- the words of the first n lanes in a row have been read
+pub record HasReadRow (at : Frame) (words : List ℕ) (r : ℕ) (old : List Cell) (n : ℕ) (new : List Cell) : Type 0 where
   pub grows : AreAmong new old
   pub sound : (others : List Cell) → Shows at words others → AreAmong others old → AreAmong others new
-  pub complete : (r i : ℕ) → r < n → i < 64 → bit_at (slice_index words (word_of at s r)) i ≡ 1 → has new (board_cell at s r i) ≡ true
+  pub complete : (s i : ℕ) → s < n → i < 64 → bit_at (slice_index words (word_of at s r)) i ≡ 1 → has new (board_cell at s r i) ≡ true
 
--- the first n lanes have been read
-pub record HasReadLanes (at : Frame) (words : List ℕ) (n : ℕ) (new : List Cell) : Type 0 where
+-- the first n rows have been read
+pub record HasReadRows (at : Frame) (words : List ℕ) (n : ℕ) (new : List Cell) : Type 0 where
   pub sound : (others : List Cell) → Shows at words others → AreAmong others new
-  pub complete : (s r i : ℕ) → s < n → r < at.rows → i < 64 → bit_at (slice_index words (word_of at s r)) i ≡ 1 → has new (board_cell at s r i) ≡ true
+  pub complete : (s r i : ℕ) → s < at.lanes → r < n → i < 64 → bit_at (slice_index words (word_of at s r)) i ≡ 1 → has new (board_cell at s r i) ≡ true
+
+-- no cell of a band of eight rows is alive in a lane
+abbrev pub IsLaneEmpty : Frame → List ℕ → ℕ → ℕ → Type 0
+IsLaneEmpty at words band s = (k b : ℕ) → k < 8 → b < 64 → bit_at (slice_index words (word_of at s (8 * band + k))) b ≡ 0
+
+-- nor of any lane from one to before another
+abbrev pub IsBandEmpty : Frame → List ℕ → ℕ → ℕ → ℕ → Type 0
+IsBandEmpty at words band from to = (s : ℕ) → from ≤ s → s < to → IsLaneEmpty at words band s
+
+-- no cell of a row is alive in these lanes
+abbrev pub IsRowEmpty : Frame → List ℕ → ℕ → ℕ → ℕ → Type 0
+IsRowEmpty at words r from to = (s b : ℕ) → from ≤ s → s < to → b < 64 → bit_at (slice_index words (word_of at s r)) b ≡ 0

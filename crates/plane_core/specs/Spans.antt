@@ -3,6 +3,7 @@ use Rattle.std.specs.Prelude.{◌≡◌, ◌<◌, ◌≤◌, ℕ, List, length, 
 use Rattle.plane_core.specs.declared.cell.Cell.{Cell}
 use Rattle.plane_core.specs.declared.frame.Frame.{Frame}
 use Rattle.plane_core.specs.declared.place.Place.{Place}
+use Rattle.plane_core.specs.declared.spans.Hull.{Hull}
 use Rattle.plane_core.specs.declared.spans.Span.{Span}
 use Rattle.plane_core.specs.Cells.{has}
 use Rattle.plane_core.specs.Frames.{board_cell}
@@ -41,3 +42,16 @@ AreWidened old new = (s r : ℕ) → IsInSpan old s r → IsInSpan new s r
 pub record AreSpans (at : Frame) (cells : List Cell) (spans : List Span) : Type 0 where
   pub lanes : length spans ≡ at.lanes
   pub live : LieInSpans at spans cells
+
+-- only these lanes have rows in their spans
+abbrev pub LieInLanes : Frame → List Span → Span → Type 0
+LieInLanes at spans lanes = (s r : ℕ) → s < at.lanes → IsInSpan spans s r → HasRow lanes s
+
+-- the lane is in the hull, and the row
+pub record IsInHull (hull : Hull) (s r : ℕ) : Type 0 where
+  pub lane : HasRow hull.lanes s
+  pub row : HasRow hull.rows r
+
+-- all that the first n spans have is in the hull
+abbrev pub HoldsSpans : List Span → ℕ → Hull → Type 0
+HoldsSpans spans n hull = (s r : ℕ) → s < n → IsInSpan spans s r → IsInHull hull s r

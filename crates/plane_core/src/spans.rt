@@ -12,7 +12,7 @@ ghost use Rattle.std.specs.Prelude.{◌≡◌, ◌+◌, ◌*◌, ◌/◌, ◌<�
 ghost use Rattle.std.specs.Prelude.{[], ℕ, length, slice_index};
 ghost use Rattle.plane_core.specs.Frames.{FillsFrame, IsFrame, word_of};
 ghost use Rattle.plane_core.specs.OnBoard.{cells_on};
-ghost use Rattle.plane_core.specs.Spans.{AreWidened};
+ghost use Rattle.plane_core.specs.Spans.{AreWidened, HoldsSpans};
 ghost use Rattle.plane_core.specs.Spans.{HasRow, IsInSpan, LieInSpans};
 
 use crate::frame::Frame;
@@ -67,6 +67,37 @@ pub(crate) fn widen(spans: &mut [Span], lane: usize, rows: Span)
     ensures held { (r : ℕ) → HasRow rows r → IsInSpan spans.new lane r }
 {
     spans[lane] = spans[lane].joined(rows);
+}
+
+/// The lanes from the first that has rows to the last, and the rows from the least to the greatest.
+#[derive(Clone, Copy)]
+pub(crate) struct Hull {
+    pub(crate) lanes: Span,
+    pub(crate) rows: Span,
+}
+
+/// The lanes and the rows in which spans lie.
+pub(crate) fn hull_of(at: Frame, spans: &[Span]) -> Hull
+    requires frame { IsFrame at }
+    requires long { length spans.now ≡ at.lanes }
+    ensures { HoldsSpans spans.now at.lanes result }
+{
+    let mut hull = Hull {
+        lanes: Span::empty(),
+        rows: Span::empty(),
+    };
+    for lane in 0..at.lanes {
+        let rows = spans[lane];
+        if rows.from < rows.end {
+            let here = Span {
+                from: lane,
+                end: lane + 1,
+            };
+            hull.lanes = hull.lanes.joined(here);
+            hull.rows = hull.rows.joined(rows);
+        }
+    }
+    hull
 }
 
 /// Empties a board of which all live cells lie in these spans.

@@ -1,5 +1,6 @@
-use Rattle.plane_core.specs.Listing.{HasReadLanes}
+use Rattle.std.proofs.Common.{◌*◌}
+use Rattle.plane_core.specs.Listing.{HasReadRows}
 use Rattle.plane_core.proofs.listing.list.Given as goal
 
-abbrev pub invariant-loop-lane : goal.invariant-loop-lane
-invariant-loop-lane l = HasReadLanes l.at l.words l.lane l.cells.items
+abbrev pub invariant-loop-band : goal.invariant-loop-band
+invariant-loop-band l = HasReadRows l.at l.words (8 * l.band) l.cells.items

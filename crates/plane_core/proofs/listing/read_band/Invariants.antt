@@ -1,0 +1,9 @@
+use Rattle.std.proofs.Common.{◌*◌}
+use Rattle.plane_core.specs.Listing.{HasReadRow, HasReadRows}
+use Rattle.plane_core.proofs.listing.read_band.Given as goal
+
+abbrev pub invariant-loop-row : goal.invariant-loop-row
+invariant-loop-row l = HasReadRows l.at l.words (8 * l.band) l.fn.cells.items → HasReadRows l.at l.words l.row l.cells.items
+
+abbrev pub invariant-loop-lane : goal.invariant-loop-lane
+invariant-loop-lane l = HasReadRow l.at l.words l.row l.initial.cells.items l.lane l.cells.items
