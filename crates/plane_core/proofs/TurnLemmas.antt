@@ -135,7 +135,7 @@ on_plane-turned o c h = go o (and_parts (leb (unsigned_abs c.x) plane_bound) (le
     go Diagonal (u, v) = both _ _ _ _ refl refl v u
     go AntiDiagonal (u, v) = both _ _ _ _ (neg_size c.y) (neg_size c.x) v u
 
-images_on_plane : (o : Orientation) (cs : List Cell) → list_all on_plane cs ≡ true → list_all on_plane (map (turned_cell o) cs) ≡ true
+pub images_on_plane : (o : Orientation) (cs : List Cell) → list_all on_plane cs ≡ true → list_all on_plane (map (turned_cell o) cs) ≡ true
 images_on_plane o [] h = refl
 images_on_plane o (c ∷ cs) h =
     let parts = and_parts (on_plane c) (list_all on_plane cs) h in

@@ -10,8 +10,9 @@ ghost use Rattle.std.specs.Prelude.{Some, None, IfOk, IfErr, OnOk, if◌then◌e
 ghost use Rattle.std.specs.List.{list_all};
 ghost use Rattle.memory.specs.Evidence.{out_of_memory};
 ghost use Rattle.plane_core.specs.Bounds.{box_of, shifted};
-ghost use Rattle.plane_core.specs.Orientations.{corner_placement, landed, turned, turned_cell};
-ghost use Rattle.plane_core.specs.Cells.{on_plane};
+ghost use Rattle.plane_core.specs.Orientations.{corner_placement, image, landed, turned, turned_cell};
+ghost use Rattle.plane_core.specs.declared.orientation.Orientation.TheVariants.{Diagonal};
+ghost use Rattle.plane_core.specs.Cells.{IsPattern, on_plane};
 ghost use Rattle.plane_core.specs.Refusals.{RefusesPlace};
 ghost use Rattle.plane_core.specs.declared.placement.PlaceError.TheVariants.{Memory};
 
@@ -101,6 +102,22 @@ impl Pattern {
             return Err(PlaceError::OutOfPlane);
         }
         let placed = placement.place_all(alloc, cells)?;
+        Ok(Pattern::from_ordered(in_order(placed)))
+    }
+}
+
+impl Pattern {
+    /// The pattern with its columns as rows, and its rows as columns.
+    pub(crate) fn transposed(&self, alloc: Global) -> Result<Pattern, OutOfMemory>
+        ensures turned { IfOk result (λ pattern. pattern ≡ image Diagonal self.now) }
+        ensures pattern { IsPattern self.now }
+    {
+        let placement = Placement {
+            orientation: Orientation::Diagonal,
+            dx: 0,
+            dy: 0,
+        };
+        let placed = placement.place_all(alloc, self.cells())?;
         Ok(Pattern::from_ordered(in_order(placed)))
     }
 }
