@@ -1,5 +1,5 @@
 -- A pattern that is cut in two between two of its rows, or of its columns.
-use Rattle.std.proofs.Common.{◌≡◌, ◌+◌, ◌-◌, ◌*◌, ◌<◌, ◌≤◌, ◌+ℤ◌, ◌-ℤ◌, ◌≤ℤ◌, ℕ, ℤ, pos, ◌++◌, zero, suc, Bool, true, false, ◌&&◌, List, [], ◌∷◌}
+use Rattle.std.proofs.Common.{◌≡◌, ◌-◌, ◌*◌, ◌<◌, ◌≤◌, ◌+ℤ◌, ◌-ℤ◌, ◌≤ℤ◌, ℕ, ℤ, pos, ◌++◌, zero, suc, Bool, true, false, ◌&&◌, List, [], ◌∷◌}
 use Rattle.std.proofs.Common.{take, drop, length, get_or, map, arith, refl, ap, ◌∙◌, sym, subst, inl, inr}
 use Rattle.std.proofs.Common.{unsigned_abs, leb}
 use Rattle.std.specs.List.{list_all}

@@ -6,7 +6,7 @@
 //! . O O        O O .
 //! ```
 ghost use Rattle.std.specs.Prelude.{◌≡◌, map, true, false};
-ghost use Rattle.std.specs.Prelude.{Some, None, IfOk, IfErr, OnOk, if◌then◌else◌};
+ghost use Rattle.std.specs.Prelude.{IfOk, IfErr, OnOk};
 ghost use Rattle.std.specs.List.{list_all};
 ghost use Rattle.memory.specs.Evidence.{out_of_memory};
 ghost use Rattle.plane_core.specs.Bounds.{box_of, shifted};
@@ -18,7 +18,7 @@ ghost use Rattle.plane_core.specs.declared.placement.PlaceError.TheVariants.{Mem
 
 use crate::bounds::grown;
 use crate::cell::Cell;
-use crate::coordinate::{negated, sum_on_plane};
+use crate::coordinate::negated;
 use crate::orientation::Orientation;
 use crate::pattern::{Pattern, in_order};
 use memory::OutOfMemory;
@@ -131,20 +131,17 @@ pub(crate) struct Placement {
 }
 
 impl Placement {
-    /// Where the cell lands, if that is on the plane.
-    #[tactic(auto, unfolding(crate::specs::Cells::on_plane))]
-    fn landing(self, cell: Cell) -> Option<Cell>
+    /// Where the cell lands, or some cell off the plane if it lands off it.
+    fn landing(self, cell: Cell) -> Cell
         requires { on_plane cell ≡ true }
-        ensures { result ≡ (if on_plane (landed self cell) then Some (landed self cell) else None) }
+        ensures plane { on_plane result ≡ on_plane (landed self cell) }
+        ensures landed { on_plane result ≡ true → result ≡ landed self cell }
     {
         let Cell { x, y } = self.orientation.image_of(cell);
-        let Some(x) = sum_on_plane(x, self.dx) else {
-            return None;
-        };
-        let Some(y) = sum_on_plane(y, self.dy) else {
-            return None;
-        };
-        Some(Cell { y, x })
+        Cell {
+            x: x.saturating_add(self.dx),
+            y: y.saturating_add(self.dy),
+        }
     }
 
     /// Whether all cells land on the plane.
@@ -153,7 +150,7 @@ impl Placement {
         ensures { result ≡ list_all on_plane (map (landed self) cells.now) }
     {
         for cell in cells {
-            if self.landing(*cell).is_none() {
+            if !self.landing(*cell).is_on_plane() {
                 return false;
             }
         }
@@ -166,9 +163,9 @@ impl Placement {
         requires landed { list_all on_plane (map (landed self) cells.now) ≡ true }
         ensures { IfOk result (λ placed. placed.items ≡ map (landed self) cells.now) }
     {
-        let mut placed = Vec::with_capacity(alloc, cells.len())?;
-        for cell in cells {
-            placed.push(self.landing(*cell).unwrap())?;
+        let mut placed = Vec::from_slice(alloc, cells)?;
+        for cell in placed.iter_mut() {
+            *cell = self.landing(*cell);
         }
         Ok(placed)
     }

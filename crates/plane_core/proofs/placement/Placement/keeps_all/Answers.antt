@@ -1,4 +1,4 @@
-use Rattle.std.proofs.Common.{◌≡◌, ◌∙◌, Bool, false, true, List, Some, None, ap, cond, is_some, map, refl, sym}
+use Rattle.std.proofs.Common.{◌∙◌, List, ap, map, sym}
 use Rattle.std.proofs.lemmas.List.{take_all}
 use Rattle.std.specs.List.{list_all}
 use Rattle.plane_core.specs.declared.cell.Cell.{Cell}
@@ -7,21 +7,16 @@ use Rattle.plane_core.specs.Orientations.{landed}
 use Rattle.plane_core.proofs.PlacementLemmas.{one_image_fails, one_image_passes, all_at}
 use Rattle.plane_core.proofs.placement.Placement.keeps_all.Goals as goal
 
--- where a cell lands says whether that is on the plane
-lands : (b : Bool) (x : Cell) → is_some (cond b (Some x) None) ≡ b
-lands true x = refl
-lands false x = refl
-
 pub landing-requires : goal.landing-requires
 landing-requires c = all_at on_plane c.args.cells.now c.loop-cell.cell-index _ c.loop-cell-test.true c.requires
 
-pub returns-then-is_none : goal.returns-then-is_none
-returns-then-is_none c = one_image_fails on_plane (landed c.args.self) c.args.cells.now c.loop-cell.cell-index _ c.loop-cell-test.true
-    (sym (lands _ _) ∙ ap is_some (sym c.landing.ensures) ∙ c.if-is_none.ensures)
+pub returns-then-not-is_on_plane : goal.returns-then-not-is_on_plane
+returns-then-not-is_on_plane c = one_image_fails on_plane (landed c.args.self) c.args.cells.now c.loop-cell.cell-index _ c.loop-cell-test.true
+    (sym c.landing.ensures.plane ∙ sym c.if-not-is_on_plane.ensures)
 
 pub loop-cell-preserved : goal.loop-cell-preserved
 loop-cell-preserved c = one_image_passes on_plane (landed c.args.self) c.args.cells.now c.loop-cell.cell-index _ c.loop-cell-test.true
-    c.loop-cell.invariant (sym (lands _ _) ∙ ap is_some (sym c.landing.ensures) ∙ c.if-is_none.ensures)
+    c.loop-cell.invariant (sym c.landing.ensures.plane ∙ sym c.if-not-is_on_plane.ensures)
 
 pub returns : goal.returns
 returns c =
