@@ -1,6 +1,6 @@
 -- Patterns moved on the plane.
 use Rattle.std.proofs.Common.{◌≡◌, ℕ, ℤ, zero, suc, ◌<◌, ◌+ℤ◌, Bool, true, false, ◌&&◌, List, [], ◌∷◌, arith, refl, ap}
-use Rattle.std.proofs.Common.{◌∙◌, sym, subst, length, map, get_or, take, drop, set, append_assoc, leb, min, negsuc, unsigned_abs, ◌-ℤ◌, ◌+◌, ◌≤◌, ◌++◌, ◌↔◌, not, IsTrue, Some, None, pos}
+use Rattle.std.proofs.Common.{◌∙◌, sym, subst, length, map, get_or, take, drop, set, append_assoc, leb, min, negsuc, unsigned_abs, ◌-ℤ◌, ◌+◌, ◌≤◌, ◌++◌, ◌↔◌, not, IsTrue, Some, pos}
 use Rattle.std.specs.Bool.{then_some}
 use Rattle.std.specs.Cmp.{both_ways as both_true}
 use Rattle.std.specs.Int.{saturate_to_bits}
@@ -92,25 +92,6 @@ shift_is_step : (dx dy : ℤ) (c : Cell) (cs : List Cell) (d : Cell) (ds : List 
 shift_is_step dx dy c cs d ds e =
     let first : moved_by dx dy c ≡ d = cc in
     λ k. (step_of c.x d.x dx (ap (λ (a : Cell). a.x) first) k, step_of c.y d.y dy (ap (λ (a : Cell). a.y) first) k)
-
--- lists of two lengths are no shift of one another, and two empty ones are
-pub tells_none : (S T : List Cell) → (length S ≡ length T → ⊥) → TellsShift S T None
-tells_none S T differ = record {
-  some = tt;
-  none = λ dx dy same. differ (sym (length-map S (moved_by dx dy)) ∙ ap length same);
-  only = λ dx dy some same. absurd (differ (sym (length-map S (moved_by dx dy)) ∙ ap length same));
-  empty = λ s t. absurd (differ (ap length s ∙ sym (ap length t)));
-}
-
-pub tells_empty : (S T : List Cell) → length S < 1 → length S ≡ length T → TellsShift S T (Some (pos 0, pos 0))
-tells_empty [] [] low same = record {
-  some = refl;
-  none = tt;
-  only = λ dx dy some e. absurd (some refl);
-  empty = λ s t. refl;
-}
-tells_empty [] (d ∷ ds) low same = absurd (omega arith)
-tells_empty (c ∷ cs) T low same = absurd (omega arith)
 
 -- the step between the first cells is the answer if it is that between all
 pub tells_shift : (S T : List Cell) (z : Cell) (s : ℤ × ℤ) (b : Bool) → 1 ≤ length S → length S ≡ length T

@@ -104,9 +104,7 @@ impl Pattern {
         let placed = placement.place_all(alloc, cells)?;
         Ok(Pattern::from_ordered(in_order(placed)))
     }
-}
 
-impl Pattern {
     /// The pattern with its columns as rows, and its rows as columns.
     pub(crate) fn transposed(&self, alloc: Global) -> Result<Pattern, OutOfMemory>
         ensures turned { IfOk result (λ pattern. pattern ≡ image Diagonal self.now) }
