@@ -6,7 +6,7 @@
 //! . O O        O O .
 //! ```
 ghost use Rattle.std.specs.Prelude.{◌≡◌, map, true, false};
-ghost use Rattle.std.specs.Prelude.{IfOk, IfErr, OnOk};
+ghost use Rattle.std.specs.Prelude.{IfOk, IfErr, IfSome, OnOk, is_some};
 ghost use Rattle.std.specs.List.{list_all};
 ghost use Rattle.memory.specs.Evidence.{out_of_memory};
 ghost use Rattle.plane_core.specs.Bounds.{box_of, shifted};
@@ -17,7 +17,7 @@ ghost use Rattle.plane_core.specs.Refusals.{RefusesPlace};
 ghost use Rattle.plane_core.specs.declared.placement.PlaceError.TheVariants.{Memory};
 
 use crate::bounds::grown;
-use crate::cell::Cell;
+use crate::cell::{BOUND, Cell};
 use crate::coordinate::negated;
 use crate::orientation::Orientation;
 use crate::pattern::{Pattern, in_order};
@@ -77,8 +77,10 @@ impl Pattern {
             dy,
         };
         let cells = self.cells();
-        if !placement.keeps_all(cells) {
-            return Err(PlaceError::OutOfPlane);
+        for cell in cells {
+            if !placement.landing(*cell).is_on_plane() {
+                return Err(PlaceError::OutOfPlane);
+            }
         }
         let placed = placement.place_all(alloc, cells)?;
         Ok(Pattern::from_ordered(placed))
@@ -97,10 +99,9 @@ impl Pattern {
         ensures refused { IfErr result (RefusesPlace (turned orientation self.now)) }
     {
         let cells = self.cells();
-        let placement = to_corner(cells, orientation);
-        if !placement.keeps_all(cells) {
+        let Some(placement) = to_corner(cells, orientation) else {
             return Err(PlaceError::OutOfPlane);
-        }
+        };
         let placed = placement.place_all(alloc, cells)?;
         Ok(Pattern::from_ordered(in_order(placed)))
     }
@@ -142,19 +143,6 @@ impl Placement {
         }
     }
 
-    /// Whether all cells land on the plane.
-    fn keeps_all(self, cells: &[Cell]) -> bool
-        requires { list_all on_plane cells.now ≡ true }
-        ensures { result ≡ list_all on_plane (map (landed self) cells.now) }
-    {
-        for cell in cells {
-            if !self.landing(*cell).is_on_plane() {
-                return false;
-            }
-        }
-        true
-    }
-
     /// Where the cells land.
     fn place_all(self, alloc: Global, cells: &[Cell]) -> Result<Vec<Cell>, OutOfMemory>
         requires cells { list_all on_plane cells.now ≡ true }
@@ -169,25 +157,30 @@ impl Placement {
     }
 }
 
-/// How cells are to lie so that their image is at the corner.
-fn to_corner(cells: &[Cell], orientation: Orientation) -> Placement
+/// How cells are to lie so that their image is at the corner, if it lies on the plane there.
+fn to_corner(cells: &[Cell], orientation: Orientation) -> Option<Placement>
     requires { list_all on_plane cells.now ≡ true }
-    ensures { result ≡ corner_placement orientation (box_of (map (turned_cell orientation) cells.now)) }
+    ensures placement { IfSome result
+        (λ placement. placement ≡ corner_placement orientation (box_of (map (turned_cell orientation) cells.now))) }
+    ensures plane { is_some result ≡ list_all on_plane (turned orientation cells.now) }
 {
     let mut bounds = None;
     for cell in cells {
         bounds = Some(grown(bounds, orientation.image_of(*cell)));
     }
-    match bounds {
-        None => Placement {
+    let Some(bounds) = bounds else {
+        return Some(Placement {
             orientation,
             dx: 0,
             dy: 0,
-        },
-        Some(bounds) => Placement {
-            orientation,
-            dx: negated(bounds.left),
-            dy: negated(bounds.top),
-        },
-    }
+        });
+    };
+    let across = bounds.right.abs_diff(bounds.left);
+    let down = bounds.bottom.abs_diff(bounds.top);
+    let placement = Placement {
+        orientation,
+        dx: negated(bounds.left),
+        dy: negated(bounds.top),
+    };
+    (across.max(down) <= BOUND).then_some(placement)
 }
