@@ -51,9 +51,9 @@ pub(crate) fn put_in_box(part: Bounds, boxes: &mut Vec<Bounds>) -> Result<(), Ou
     let earliest = i.saturating_sub(LAST_BOXES);
     while i > earliest {
         i -= 1;
-        if is_near(boxes[i], part) {
-            let wide = boxes[i].joined(part);
-            boxes[i] = wide;
+        let bounds = boxes[i];
+        if is_near(bounds, part) {
+            boxes[i] = bounds.joined(part);
             return Ok(());
         }
     }
