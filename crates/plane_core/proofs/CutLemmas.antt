@@ -62,7 +62,8 @@ pub is_cut : (S : List Cell) (i far : ℕ) (z : Cell) → InOrder S → 1 ≤ i 
     → IsCut far S i
 is_cut S zero far z o some low h = absurd (omega arith)
 is_cut S (suc i) far z o some low h = record {
-  within = omega arith;
+  some = some;
+  within = low;
   apart = λ c d p q. apart c d p q;
 }
   where

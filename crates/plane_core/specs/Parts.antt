@@ -18,9 +18,10 @@ pub record HasRun (rule : Numbers) (cells : List Cell) (n : ℕ) (later : List C
 abbrev pub LieFurther : ℕ → List Cell → List Cell → Type 0
 LieFurther far one other = (c d : Cell) → has one c ≡ true → has other d ≡ true → far < king_distance c d
 
--- so many cells of the list are further than so far from the others
+-- so many cells of the list, and not all, are further than so far from the others
 pub record IsCut (far : ℕ) (cells : List Cell) (cut : ℕ) : Type 0 where
-  pub within : cut ≤ length cells
+  pub some : 1 ≤ cut
+  pub within : cut < length cells
   pub apart : LieFurther far (take cut cells) (drop cut cells)
 
 -- Two patterns that lie further than 2g apart run for g generations as if each were alone.

@@ -8,7 +8,8 @@
 //!
 //! step:  in a window, or on a board, or counted cell by cell
 //! ```
-ghost use Rattle.std.specs.Prelude.{◌≡◌, ◌≢◌, ℕ, ◌+◌, ◌-◌, ◌*◌, ◌<◌, ◌≤◌, true, false, IfOk, IfErr, IfSome, OnOk, OnSome, IsErrOf};
+ghost use Rattle.std.specs.Prelude.{◌≡◌, ◌≢◌, ℕ, ◌+◌, ◌-◌, ◌*◌, ◌<◌, ◌≤◌, true, false};
+ghost use Rattle.std.specs.Prelude.{IfOk, IfErr, IfSome, OnOk, OnSome, IsErrOf};
 ghost use Rattle.memory.specs.Evidence.{out_of_memory};
 ghost use Rattle.plane_core.specs.Cells.{IsPattern, has, plane_bound};
 ghost use Rattle.plane_core.specs.Generations.{next, after, lives, touches_edge, lies_within, NextMoved, NextTurned};

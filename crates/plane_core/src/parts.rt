@@ -1,9 +1,10 @@
 //! A pattern in two parts that lie so far apart that they don't meet for some generations: each runs as if it were
 //! alone.
 //!
-//! Cells stand row by row, so a cut between two rows is a place in their list, and there is one wherever a cell lies far
-//! enough below the cell that stands before it. A pattern whose rows are too near one another is turned, and cut between
-//! two of its columns. Each part is cut again. So a spaceship that has left costs no more than a board of its own.
+//! Cells stand row by row, so a cut between two rows is a place in their list: there is one wherever a cell lies far
+//! enough below the one that stands before it. A pattern whose rows are too near one another is turned, and cut
+//! between two of its columns. Each part is cut again. So a spaceship that has left costs no more than a board of its
+//! own.
 ghost use Rattle.std.specs.Prelude.{◌<◌, IfSome, OnSome};
 ghost use Rattle.plane_core.specs.Parts.{IsCut};
 
