@@ -243,7 +243,7 @@ ends_by rule m S n x y o slow ends e = within (n / 2) (halves (n / 2) refl)
 
 -- ---- all orientations
 
-after-image : (rule : Numbers) (o : Orientation) (S : List Cell) (n : ℕ) → InOrder S → after rule (image o S) n ≡ image o (after rule S n)
+pub after-image : (rule : Numbers) (o : Orientation) (S : List Cell) (n : ℕ) → InOrder S → after rule (image o S) n ≡ image o (after rule S n)
 after-image rule o S zero order = after-none rule (image o S) ∙ ap (image o) (sym (after-none rule S))
 after-image rule o S (suc n) order =
     after-suc rule (image o S) n ∙ ap (next rule) (after-image rule o S n order)

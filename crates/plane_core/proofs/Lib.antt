@@ -13,6 +13,7 @@ pub mod ClusterLemmas
 pub mod CommuteLemmas
 pub mod CoordinateLemmas
 pub mod CoverLemmas
+pub mod CutLemmas
 pub mod DifferenceLemmas
 pub mod DirectionLemmas
 pub mod ExcerptLemmas

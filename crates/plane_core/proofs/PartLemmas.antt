@@ -1,20 +1,14 @@
 -- A pattern in two parts that don't meet: each runs as if it were alone.
-use Rattle.std.proofs.Common.{◌≡◌, ◌==◌, ◌+◌, ◌-◌, ◌*◌, ◌<◌, ◌≤◌, ◌+ℤ◌, ◌<ℤ◌, ◌≤ℤ◌, ℕ, ℤ, pos, int_lt, ◌++◌, zero, suc, Bool, true, false, cond, not}
-use Rattle.std.proofs.Common.{◌&&◌, ◌||◌, List, [], ◌∷◌, filter, max, min, length, take, get_or, Option, Some, None, Result, Ok, Err}
+use Rattle.std.proofs.Common.{◌≡◌, ◌==◌, ◌+◌, ◌-◌, ◌*◌, ◌<◌, ◌≤◌, ℕ, ℤ, ◌++◌, zero, suc, Bool, true, false, cond, not}
+use Rattle.std.proofs.Common.{◌&&◌, ◌||◌, List, [], ◌∷◌, filter, max, min, Option, Some, None, Result, Ok, Err}
 use Rattle.std.specs.Prelude.{IfOk, IfSome}
 use Rattle.std.proofs.Common.{arith, refl, ap, ◌∙◌, sym, subst, inl, inr, ◌⊎◌, nat_lt}
-use mathlib.Core.Bool.{beq}
 use Rattle.std.proofs.lemmas.Int.{ints}
-use Rattle.std.specs.List.{list_all, list_any}
-use Rattle.std.proofs.lemmas.List.Folds.{list_all_more, list_any_at}
-use Rattle.std.proofs.lemmas.Bool.{false≢true, eqb-true, ltb-true, ltb-false, and_parts, or_cases}
+use Rattle.std.proofs.lemmas.Bool.{false≢true, eqb-true, ltb-true, ltb-false, and_parts}
 use Rattle.plane_core.specs.declared.cell.Cell.{Cell}
-use Rattle.plane_core.specs.declared.parts.Axis.{Axis}
-use Rattle.plane_core.specs.declared.parts.Axis.TheVariants.{Columns, Rows}
-use Rattle.plane_core.specs.declared.parts.Cut.{Cut}
-use Rattle.plane_core.specs.Cells.{has, same_cell, set_of, king_distance, distance, on_plane, plane_bound, is_within, InOrder, IsPattern}
+use Rattle.plane_core.specs.Cells.{has, same_cell, set_of, king_distance, distance, on_plane, plane_bound, InOrder, IsPattern}
 use Rattle.plane_core.specs.Generations.{around, lives, next, after, lies_within, touches_edge}
-use Rattle.plane_core.specs.Parts.{AreApart, FarPatternsRunAlone, HasRun, HasSides, IsCut, is_before, is_on_side, leaves_band, place_on, side}
+use Rattle.plane_core.specs.Parts.{AreApart, FarPatternsRunAlone, HasRun}
 use Rattle.plane_core.specs.Rules.{Numbers, is_birth, is_survival}
 use Rattle.plane_core.proofs.NeighbourhoodLemmas.{around-cons}
 use Rattle.plane_core.proofs.GenerationLemmas.{a_neighbour, after-none, after-one, distance_itself, has-next, lives_cases}
@@ -203,43 +197,7 @@ parts-after rule S test n (suc g) o apart low c =
         not_false true h = absurd (false≢true h)
         not_false false h = refl
 
--- ---- a cut with an empty band before it
-
-less : (a b : ℤ) → int_lt a b ≡ true → a <ℤ b
-less a b h = grind (arith, ints)
-
-not_less : (a b : ℤ) → int_lt a b ≡ false → b ≤ℤ a
-not_less a b h = grind (arith, ints)
-
-apart_at_cut : (a b at : ℤ) (band : ℕ) → (a +ℤ pos band) <ℤ at → at ≤ℤ b → band < distance a b
-apart_at_cut a b at band l h = omega (arith, ints)
-
-apart_by_place : (axis : Axis) (c d : Cell) → distance (place_on axis c) (place_on axis d) ≤ king_distance c d
-apart_by_place Columns c d = omega arith
-apart_by_place Rows c d = omega arith
-
-pub apart_by_cut : (cut : Cut) (band : ℕ) (S : List Cell) → list_all (leaves_band cut band) S ≡ true → AreApart band (is_before cut) S
-apart_by_cut cut band S all c d in_c in_d before past =
-    omega (
-      arith,
-      apart_by_place cut.axis c d,
-      apart_at_cut (place_on cut.axis c) (place_on cut.axis d) cut.at band
-          (less _ _ (low (is_before cut c) before (list_all-has (leaves_band cut band) S all c in_c))) (not_less _ _ past),
-    )
-  where
-    low : (b : Bool) → b ≡ true → (not b || int_lt (place_on cut.axis c +ℤ pos band) cut.at) ≡ true
-        → int_lt (place_on cut.axis c +ℤ pos band) cut.at ≡ true
-    low true e h = h
-    low false e h = absurd (false≢true e)
-
 -- ---- patterns
-
-pub is_pattern-filter : (test : Cell → Bool) (S : List Cell) → IsPattern S → IsPattern (filter test S)
-is_pattern-filter test S p = record {
-  in_order = in_order-filter test S p.in_order;
-  on_plane = has-list_all on_plane (filter test S)
-      (λ c e. list_all-has on_plane S p.on_plane c ((and_parts (has S c) (test c) (sym (has-filter test S c) ∙ e)).0));
-}
 
 pub is_pattern-union : (S T : List Cell) → IsPattern S → IsPattern T → IsPattern (set_of (S ++ T))
 is_pattern-union S T p q = record {
@@ -250,26 +208,6 @@ is_pattern-union S T p q = record {
     either : (c : Cell) (b : Bool) → has S c ≡ b → (has S c || has T c) ≡ true → on_plane c ≡ true
     either c true is e = list_all-has on_plane S p.on_plane c is
     either c false is e = list_all-has on_plane T q.on_plane c (sym (ap (λ (a : Bool). a || has T c) is) ∙ e)
-
--- ---- a pattern that was cut
-
-pub run_from_parts : (rule : Numbers) (S : List Cell) (cut : Cut) (n : ℕ) (before past whole : List Cell) → IsCut (2 * n) S cut
-    → HasRun rule (side cut true S) n before → HasRun rule (side cut false S) n past
-    → whole ≡ set_of (before ++ past) → HasRun rule S n whole
-run_from_parts rule S cut n before past whole p one other both = record {
-  after = both
-      ∙ same_lists (set_of (before ++ past)) (after rule S n) (in_order-set_of (before ++ past)) (in_order-after rule S n p.in_order)
-      (λ c. has-set_of (before ++ past) c ∙ has-append before past c ∙ (λ i. has (one.after i) c || has (other.after i) c)
-      ∙ sym (parts-after rule S (is_before cut) n n p.in_order p.apart (omega arith) c));
-  inside = has-list_all (is_within (plane_bound - n)) S (λ c h. either c (has (filter (is_before cut) S) c) refl (sym (has-parts (is_before cut) S c) ∙ h));
-}
-  where
-    either : (c : Cell) (b : Bool) → has (filter (is_before cut) S) c ≡ b
-        → (has (filter (is_before cut) S) c || has (filter (others (is_before cut)) S) c) ≡ true → is_within (plane_bound - n) c ≡ true
-    either c true is e = list_all-has (is_within (plane_bound - n)) (filter (is_before cut) S) one.inside c is
-    either c false is e =
-        list_all-has (is_within (plane_bound - n)) (filter (others (is_before cut)) S) other.inside c
-        (sym (ap (λ (a : Bool). a || has (filter (others (is_before cut)) S) c) is) ∙ e)
 
 -- ---- two patterns that lie far apart
 
@@ -316,23 +254,7 @@ far_patterns rule one other g o u far =
         (λ c. has-filter (others (has one)) (set_of (one ++ other)) c ∙ ap (λ (a : Bool). a && not (has one c)) (has-both c)
         ∙ take_second (has one c) (has other c) (absent c))
 
--- ---- the test of a cut
-
-pub is_cut : (cut : Cut) (band : ℕ) (S cells : List Cell) → cells ≡ S → InOrder S → HasSides cut band cells → IsCut band S cut
-is_cut cut band S cells same order sides = record {
-  in_order = order;
-  before = ap (list_any (is_on_side cut true)) (sym same) ∙ sides.before;
-  past = ap (list_any (is_on_side cut false)) (sym same) ∙ sides.past;
-  apart = apart_by_cut cut band S (ap (list_all (leaves_band cut band)) (sym same) ∙ sides.leaves);
-}
-
--- a side that had a cell still has one, and so has the side of the cell that was met
-pub side_met : (cut : Cut) (before had b : Bool) (cells : List Cell) (i : ℕ) (d : Cell) → i < length cells → b ≡ is_on_side cut before (get_or cells i d)
-    → (had ≡ true → list_any (is_on_side cut before) cells ≡ true) → (had || b) ≡ true → list_any (is_on_side cut before) cells ≡ true
-side_met cut before had b cells i d low is earlier e = elim (or_cases had b e) [
-  | inl there ↦ earlier there
-  | inr here ↦ list_any_at (is_on_side cut before) cells i d low (sym is ∙ here)
-]
+-- ---- a run on a board
 
 -- what a board showed, as a run of the pattern that was laid on it
 pub ran_on_board : {E : Type 0} (ran : Result (Option (List Cell)) E) (laid rule : Numbers) (T S : List Cell) (n : ℕ) → laid ≡ rule → T ≡ S
@@ -341,10 +263,6 @@ pub ran_on_board : {E : Type 0} (ran : Result (Option (List Cell)) E) (laid rule
 ran_on_board (Ok (Some later)) laid rule T S n p q inside h = record { after = h ∙ (λ i. after (p i) (q i) n); inside = inside }
 ran_on_board (Ok None) laid rule T S n p q inside h = tt
 ran_on_board (Err e) laid rule T S n p q inside h = tt
-
-pub all_more : (test : Cell → Bool) (S : List Cell) (i : ℕ) (d : Cell) → i < length S → list_all test (take i S) ≡ true → test (get_or S i d) ≡ true
-    → list_all test (take (i + 1) S) ≡ true
-all_more test S i d l before here = list_all_more test S i d l ∙ (λ k. before k && here k)
 
 -- ---- a stretch of generations
 
@@ -372,18 +290,3 @@ stretch_of_step rule S most later some is off = record {
   after = is ∙ sym (after-one rule S);
   inside = λ g low. let first : g ≡ 0 = omega arith in ap (λ (n : ℕ). touches_edge (after rule S n)) first ∙ ap touches_edge (after-none rule S) ∙ off;
 }
-
--- ---- the sides of a cut
-
--- what the test of a side says, which compares two answers
-pub on_side : (cut : Cut) (before b : Bool) (c : Cell) → b ≡ is_before cut c → beq b before ≡ true → is_on_side cut before c ≡ true
-on_side cut true true c p q = sym p
-on_side cut true false c p q = absurd (false≢true q)
-on_side cut false true c p q = absurd (false≢true q)
-on_side cut false false c p q = ap not (sym p)
-
-pub off_side : (cut : Cut) (before b : Bool) (c : Cell) → b ≡ is_before cut c → beq b before ≡ false → is_on_side cut before c ≡ false
-off_side cut true true c p q = absurd (false≢true (sym q))
-off_side cut true false c p q = sym p
-off_side cut false true c p q = ap not (sym p)
-off_side cut false false c p q = absurd (false≢true (sym q))

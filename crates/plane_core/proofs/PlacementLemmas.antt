@@ -1,16 +1,18 @@
 -- Patterns moved on the plane.
 use Rattle.std.proofs.Common.{◌≡◌, ℕ, ℤ, zero, suc, ◌<◌, ◌+ℤ◌, Bool, true, false, ◌&&◌, List, [], ◌∷◌, arith, refl, ap}
-use Rattle.std.proofs.Common.{◌∙◌, sym, subst, length, map, get_or, take, ◌-ℤ◌, ◌+◌, ◌≤◌, ◌++◌, ◌↔◌, not, IsTrue, Some, None, pos}
+use Rattle.std.proofs.Common.{◌∙◌, sym, subst, length, map, get_or, take, drop, set, append_assoc, leb, min, negsuc, unsigned_abs, ◌-ℤ◌, ◌+◌, ◌≤◌, ◌++◌, ◌↔◌, not, IsTrue, Some, pos}
 use Rattle.std.specs.Bool.{then_some}
+use Rattle.std.specs.Cmp.{both_ways as both_true}
+use Rattle.std.specs.Int.{saturate_to_bits}
 use Rattle.std.specs.List.{list_all}
 use Rattle.std.specs.Ordering.{int_eq}
 use Rattle.std.proofs.lemmas.Int.{ints}
-use Rattle.std.proofs.lemmas.List.{get_or-map, length-map, map_more, take_more, map-append}
+use Rattle.std.proofs.lemmas.List.{append-nil, drop_all, drop_more, get_or-map, get_or_at, length-map, length-take-le, map_more, set_at, take_all, take_more, map-append}
 use Rattle.std.proofs.lemmas.List.Folds.{list_all-append}
-use Rattle.std.proofs.lemmas.Bool.{false≢true, and_parts, not-false}
+use Rattle.std.proofs.lemmas.Bool.{false≢true, and_parts, le-leb, leb-true, not-false}
 use Rattle.plane_core.specs.declared.cell.Cell.{Cell}
 use Rattle.plane_core.specs.Bounds.{shifted, TellsShift}
-use Rattle.plane_core.specs.Cells.{cell_at, moved_by, InOrder, on_plane, IsPattern}
+use Rattle.plane_core.specs.Cells.{cell_at, moved_by, InOrder, on_plane, plane_bound, IsPattern}
 use Rattle.plane_core.proofs.NeighbourhoodLemmas.{int_eq-same, int_eq-true}
 use Rattle.plane_core.proofs.CellLemmas.{cell_cmp-moved}
 use Rattle.plane_core.proofs.SetLemmas.{IsBefore, in_order-head, in_order-tail, in_order-cons, in_order-nil}
@@ -91,25 +93,6 @@ shift_is_step dx dy c cs d ds e =
     let first : moved_by dx dy c ≡ d = cc in
     λ k. (step_of c.x d.x dx (ap (λ (a : Cell). a.x) first) k, step_of c.y d.y dy (ap (λ (a : Cell). a.y) first) k)
 
--- lists of two lengths are no shift of one another, and two empty ones are
-pub tells_none : (S T : List Cell) → (length S ≡ length T → ⊥) → TellsShift S T None
-tells_none S T differ = record {
-  some = tt;
-  none = λ dx dy same. differ (sym (length-map S (moved_by dx dy)) ∙ ap length same);
-  only = λ dx dy some same. absurd (differ (sym (length-map S (moved_by dx dy)) ∙ ap length same));
-  empty = λ s t. absurd (differ (ap length s ∙ sym (ap length t)));
-}
-
-pub tells_empty : (S T : List Cell) → length S < 1 → length S ≡ length T → TellsShift S T (Some (pos 0, pos 0))
-tells_empty [] [] low same = record {
-  some = refl;
-  none = tt;
-  only = λ dx dy some e. absurd (some refl);
-  empty = λ s t. refl;
-}
-tells_empty [] (d ∷ ds) low same = absurd (omega arith)
-tells_empty (c ∷ cs) T low same = absurd (omega arith)
-
 -- the step between the first cells is the answer if it is that between all
 pub tells_shift : (S T : List Cell) (z : Cell) (s : ℤ × ℤ) (b : Bool) → 1 ≤ length S → length S ≡ length T
     → s ≡ ((get_or T 0 z).x -ℤ (get_or S 0 z).x, (get_or T 0 z).y -ℤ (get_or S 0 z).y)
@@ -141,3 +124,57 @@ pub one_image_passes : (p : Cell → Bool) (f : Cell → Cell) (cs : List Cell) 
 one_image_passes p f cs i d low so_far passes =
     ap (list_all p) (map_more f cs i d low) ∙ list_all-append p (map f (take i cs)) (f (get_or cs i d) ∷ [])
     ∙ (λ k. so_far k && (passes k && true))
+
+-- ---- sums that stop at the ends of 32 bits
+
+clamped_size : (z : ℤ) → leb (unsigned_abs (saturate_to_bits 31 z)) plane_bound ≡ leb (unsigned_abs z) plane_bound
+clamped_size (pos n) = both_true (leb (min n 2147483647) plane_bound) (leb n plane_bound)
+    (λ h. let low = leb-true (min n 2147483647) plane_bound h in le-leb n plane_bound (omega arith))
+    (λ h. let low = leb-true n plane_bound h in le-leb (min n 2147483647) plane_bound (omega arith))
+clamped_size (negsuc n) = both_true (leb (suc (min n 2147483647)) plane_bound) (leb (suc n) plane_bound)
+    (λ h. let low = leb-true (suc (min n 2147483647)) plane_bound h in le-leb (suc n) plane_bound (omega arith))
+    (λ h. let low = leb-true (suc n) plane_bound h in le-leb (suc (min n 2147483647)) plane_bound (omega arith))
+
+clamped_same : (z : ℤ) → leb (unsigned_abs (saturate_to_bits 31 z)) plane_bound ≡ true → saturate_to_bits 31 z ≡ z
+clamped_same (pos n) h = let low = leb-true (min n 2147483647) plane_bound h in ap pos (omega arith)
+clamped_same (negsuc n) h = let low = leb-true (suc (min n 2147483647)) plane_bound h in ap negsuc (omega arith)
+
+-- a cell so moved is off the plane exactly if it lands there, and else it is where it lands
+pub lands_plane : (dx dy : ℤ) (c d : Cell) → d.x ≡ saturate_to_bits 31 (c.x +ℤ dx) → d.y ≡ saturate_to_bits 31 (c.y +ℤ dy)
+    → on_plane d ≡ on_plane (moved_by dx dy c)
+unfolding on_plane
+lands_plane dx dy c d across down =
+    λ k. (ap (λ (z : ℤ). leb (unsigned_abs z) plane_bound) across ∙ clamped_size (c.x +ℤ dx)) k
+    && (ap (λ (z : ℤ). leb (unsigned_abs z) plane_bound) down ∙ clamped_size (c.y +ℤ dy)) k
+
+pub lands_there : (dx dy : ℤ) (c d : Cell) → d.x ≡ saturate_to_bits 31 (c.x +ℤ dx) → d.y ≡ saturate_to_bits 31 (c.y +ℤ dy)
+    → on_plane d ≡ true → d ≡ moved_by dx dy c
+unfolding on_plane
+lands_there dx dy c d across down on =
+    let sides = and_parts (leb (unsigned_abs d.x) plane_bound) (leb (unsigned_abs d.y) plane_bound) on in
+    λ k. cell_at
+    ((across ∙ clamped_same (c.x +ℤ dx) (sym (ap (λ (z : ℤ). leb (unsigned_abs z) plane_bound) across) ∙ sides.0)) k)
+    ((down ∙ clamped_same (c.y +ℤ dy) (sym (ap (λ (z : ℤ). leb (unsigned_abs z) plane_bound) down) ∙ sides.1)) k)
+
+-- ---- a list whose cells are changed one after another
+
+-- the next cell is as it was
+pub as_it_was : (f : Cell → Cell) (cs now : List Cell) (i : ℕ) (d : Cell) → i < length cs → now ≡ map f (take i cs) ++ drop i cs
+    → get_or now i d ≡ get_or cs i d
+as_it_was f cs now i d low is =
+    ap (λ (all : List Cell). get_or all i d) (is ∙ ap (λ (more : List Cell). map f (take i cs) ++ more) (drop_more cs i d low))
+    ∙ get_or_at (map f (take i cs)) (get_or cs i d) (drop (i + 1) cs) d i (length-map _ _ ∙ length-take-le i cs (omega arith))
+
+-- and then it is changed
+pub change_more : (f : Cell → Cell) (cs now : List Cell) (i : ℕ) (d new : Cell) → i < length cs → now ≡ map f (take i cs) ++ drop i cs
+    → new ≡ f (get_or cs i d) → set now i new ≡ map f (take (i + 1) cs) ++ drop (i + 1) cs
+change_more f cs now i d new low is one =
+    (λ j. set (is j) i (one j))
+    ∙ ap (λ (more : List Cell). set (map f (take i cs) ++ more) i (f (get_or cs i d))) (drop_more cs i d low)
+    ∙ set_at (map f (take i cs)) (get_or cs i d) (drop (i + 1) cs) (f (get_or cs i d)) i (length-map _ _ ∙ length-take-le i cs (omega arith))
+    ∙ sym (append_assoc (map f (take i cs)) (f (get_or cs i d) ∷ []) (drop (i + 1) cs))
+    ∙ ap (λ (all : List Cell). all ++ drop (i + 1) cs) (sym (map_more f cs i d low))
+
+-- at the end all are
+pub all_changed : (f : Cell → Cell) (cs now : List Cell) (i : ℕ) → length cs ≤ i → now ≡ map f (take i cs) ++ drop i cs → now ≡ map f cs
+all_changed f cs now i end is = is ∙ (λ j. map f (take_all i cs end j) ++ drop_all i cs end j) ∙ append-nil (map f cs)

@@ -71,13 +71,13 @@ AllByRecursion-drop P zero xs h = h
 AllByRecursion-drop P (suc n) [] h = tt
 AllByRecursion-drop P (suc n) (x ∷ xs) h = AllByRecursion-drop P n xs h.1
 
-in_order-take : (n : ℕ) (cs : List Cell) → InOrder cs → InOrder (take n cs)
+pub in_order-take : (n : ℕ) (cs : List Cell) → InOrder cs → InOrder (take n cs)
 in_order-take zero cs o = in_order-nil
 in_order-take (suc n) [] o = in_order-nil
 in_order-take (suc n) (c ∷ cs) o =
     in_order-cons c (take n cs) (AllByRecursion-take (λ d. cell_cmp c d ≡ Less) n cs (in_order-head c cs o)) (in_order-take n cs (in_order-tail c cs o))
 
-in_order-drop : (n : ℕ) (cs : List Cell) → InOrder cs → InOrder (drop n cs)
+pub in_order-drop : (n : ℕ) (cs : List Cell) → InOrder cs → InOrder (drop n cs)
 in_order-drop zero cs o = o
 in_order-drop (suc n) [] o = in_order-nil
 in_order-drop (suc n) (c ∷ cs) o = in_order-drop n cs (in_order-tail c cs o)

@@ -1,5 +1,5 @@
 -- Images of patterns in the eight orientations, at the corner.
-use Rattle.std.proofs.Common.{◌≡◌, ℕ, ℤ, ◌≤◌, neg_ℤ, unsigned_abs, Bool, true, ◌&&◌, List, [], ◌∷◌}
+use Rattle.std.proofs.Common.{◌≡◌, ℕ, ℤ, suc, ◌<◌, ◌≤◌, ◌+ℤ◌, ◌-ℤ◌, ◌≤ℤ◌, get_or, length, max, neg_ℤ, unsigned_abs, Bool, true, ◌&&◌, List, [], ◌∷◌}
 use Rattle.std.proofs.Common.{arith, refl, ap, ◌∙◌, sym, subst, map, Option, Some, None, Any, leb}
 use Rattle.std.specs.List.{list_all}
 use Rattle.std.specs.Ordering.{match_ordering}
@@ -7,17 +7,17 @@ use Rattle.std.specs.declared.cmp.Ordering.{Ordering}
 use Rattle.std.specs.declared.cmp.Ordering.TheVariants.{Less, Equal, Greater}
 use Rattle.std.specs.Cmp.{both_ways as both_true}
 use Rattle.std.proofs.lemmas.Int.{ints}
-use Rattle.std.proofs.lemmas.Bool.{and_parts, and_from, leb-true}
+use Rattle.std.proofs.lemmas.Bool.{and_parts, and_from, le-leb, leb-true}
 use Rattle.plane_core.specs.declared.bounds.Bounds.{Bounds}
 use Rattle.plane_core.specs.declared.cell.Cell.{Cell}
 use Rattle.plane_core.specs.declared.orientation.Orientation.{Orientation}
 use Rattle.plane_core.specs.declared.orientation.Orientation.TheVariants.{Same, Quarter, Half, ThreeQuarter, Mirror, Flip, Diagonal, AntiDiagonal}
-use Rattle.plane_core.specs.Bounds.{box_of, grown, shifted, cornered, IsLeastBox}
+use Rattle.plane_core.specs.Bounds.{box_of, grown, shifted, cornered, IsLeastBox, IsWithin}
 use Rattle.plane_core.specs.Cells.{plane_bound, cell_cmp, moved_by, put, set_of, InOrder, on_plane, IsPattern}
 use Rattle.plane_core.specs.Orientations.{turned_cell, landed, corner_placement, image, turned}
 use Rattle.plane_core.proofs.BoundsLemmas.{box_of-least, widened-swap, widened-pair, min_same, max_same, min_again, max_again}
 use Rattle.plane_core.proofs.CellLemmas.{cell_cmp-same, cell_cmp-moved}
-use Rattle.plane_core.proofs.PlacementLemmas.{in_order-shifted, all_at}
+use Rattle.plane_core.proofs.PlacementLemmas.{in_order-shifted, all_at, all_images_at}
 use Rattle.plane_core.proofs.SearchLemmas.{list_all-has, has-list_all}
 use Rattle.plane_core.proofs.SetLemmas.{has-set_of, in_order-set_of, in_order-nil}
 
@@ -135,7 +135,7 @@ on_plane-turned o c h = go o (and_parts (leb (unsigned_abs c.x) plane_bound) (le
     go Diagonal (u, v) = both _ _ _ _ refl refl v u
     go AntiDiagonal (u, v) = both _ _ _ _ (neg_size c.y) (neg_size c.x) v u
 
-images_on_plane : (o : Orientation) (cs : List Cell) → list_all on_plane cs ≡ true → list_all on_plane (map (turned_cell o) cs) ≡ true
+pub images_on_plane : (o : Orientation) (cs : List Cell) → list_all on_plane cs ≡ true → list_all on_plane (map (turned_cell o) cs) ≡ true
 images_on_plane o [] h = refl
 images_on_plane o (c ∷ cs) h =
     let parts = and_parts (on_plane c) (list_all on_plane cs) h in
@@ -183,3 +183,66 @@ placed-plane o cs = go (box_of (map (turned_cell o) cs)) refl
     go None e = ap (λ (ds : List Cell). list_all on_plane (map (landed (corner_placement o None)) ds)) (no_cells o cs e)
         ∙ ap (list_all on_plane) (sym (turned-empty o cs e))
     go (Some b) e = landed-plane o cs b e
+
+-- ---- whether the image lies on the plane
+
+all_images : (p : Cell → Bool) (f : Cell → Cell) (cs : List Cell) → ((i : ℕ) (d : Cell) → i < length cs → p (f (get_or cs i d)) ≡ true)
+    → list_all p (map f cs) ≡ true
+all_images p f [] h = refl
+all_images p f (c ∷ cs) h =
+    and_from (p (f c)) (list_all p (map f cs)) (h 0 c (omega arith)) (all_images p f cs (λ i d low. h (suc i) d (omega arith)))
+
+moved_to : (a left right : ℤ) (n : ℕ) → left ≤ℤ a → a ≤ℤ right → unsigned_abs (right -ℤ left) ≤ n → unsigned_abs (a +ℤ neg_ℤ left) ≤ n
+moved_to a left right n low high h = omega (arith, ints)
+
+moved_from : (right left : ℤ) (n : ℕ) → unsigned_abs (right +ℤ neg_ℤ left) ≤ n → unsigned_abs (right -ℤ left) ≤ n
+moved_from right left n h = omega (arith, ints)
+
+-- cells are on the plane, moved to the corner, exactly if their box is no larger than the bound
+box_on_plane : (cs : List Cell) (b : Bounds) → IsLeastBox cs b
+    → leb (max (unsigned_abs (b.right -ℤ b.left)) (unsigned_abs (b.bottom -ℤ b.top))) plane_bound
+    ≡ list_all on_plane (shifted (neg_ℤ b.left) (neg_ℤ b.top) cs)
+unfolding on_plane
+box_on_plane cs b least = both_true
+    (leb (max (unsigned_abs (b.right -ℤ b.left)) (unsigned_abs (b.bottom -ℤ b.top))) plane_bound)
+    (list_all on_plane (shifted (neg_ℤ b.left) (neg_ℤ b.top) cs))
+    (λ h. all_images on_plane (moved_by (neg_ℤ b.left) (neg_ℤ b.top)) cs (λ i d low. inside h (get_or cs i d) (least.within i d low)))
+    (λ h. le-leb _ plane_bound (both (moved_from b.right b.left plane_bound (across h least.right)) (moved_from b.bottom b.top plane_bound (down h least.bottom))))
+  where
+    both : {m n : ℕ} → m ≤ plane_bound → n ≤ plane_bound → max m n ≤ plane_bound
+    both p q = omega (arith, p, q)
+
+    inside : leb (max (unsigned_abs (b.right -ℤ b.left)) (unsigned_abs (b.bottom -ℤ b.top))) plane_bound ≡ true → (c : Cell) → IsWithin b c
+        → on_plane (moved_by (neg_ℤ b.left) (neg_ℤ b.top) c) ≡ true
+    inside h c w =
+        let most = leb-true (max (unsigned_abs (b.right -ℤ b.left)) (unsigned_abs (b.bottom -ℤ b.top))) plane_bound h in
+        and_from (leb (unsigned_abs (c.x +ℤ neg_ℤ b.left)) plane_bound) (leb (unsigned_abs (c.y +ℤ neg_ℤ b.top)) plane_bound)
+        (le-leb (unsigned_abs (c.x +ℤ neg_ℤ b.left)) plane_bound (moved_to c.x b.left b.right plane_bound w.left w.right (omega arith)))
+        (le-leb (unsigned_abs (c.y +ℤ neg_ℤ b.top)) plane_bound (moved_to c.y b.top b.bottom plane_bound w.top w.bottom (omega arith)))
+
+    parts : (c : Cell) → on_plane (moved_by (neg_ℤ b.left) (neg_ℤ b.top) c) ≡ true
+        → (leb (unsigned_abs (c.x +ℤ neg_ℤ b.left)) plane_bound ≡ true) × (leb (unsigned_abs (c.y +ℤ neg_ℤ b.top)) plane_bound ≡ true)
+    parts c e = and_parts (leb (unsigned_abs (c.x +ℤ neg_ℤ b.left)) plane_bound) (leb (unsigned_abs (c.y +ℤ neg_ℤ b.top)) plane_bound) e
+
+    across : list_all on_plane (shifted (neg_ℤ b.left) (neg_ℤ b.top) cs) ≡ true → Any (λ c. c.x ≡ b.right) cs
+        → unsigned_abs (b.right +ℤ neg_ℤ b.left) ≤ plane_bound
+    across h (k, x, low, at, is) =
+        let on = subst (λ (c : Cell). on_plane (moved_by (neg_ℤ b.left) (neg_ℤ b.top) c) ≡ true) at
+        (all_images_at on_plane (moved_by (neg_ℤ b.left) (neg_ℤ b.top)) cs k x low h) in
+        subst (λ (a : ℤ). unsigned_abs (a +ℤ neg_ℤ b.left) ≤ plane_bound) is (leb-true (unsigned_abs (x.x +ℤ neg_ℤ b.left)) plane_bound (parts x on).0)
+
+    down : list_all on_plane (shifted (neg_ℤ b.left) (neg_ℤ b.top) cs) ≡ true → Any (λ c. c.y ≡ b.bottom) cs
+        → unsigned_abs (b.bottom +ℤ neg_ℤ b.top) ≤ plane_bound
+    down h (k, x, low, at, is) =
+        let on = subst (λ (c : Cell). on_plane (moved_by (neg_ℤ b.left) (neg_ℤ b.top) c) ≡ true) at
+        (all_images_at on_plane (moved_by (neg_ℤ b.left) (neg_ℤ b.top)) cs k x low h) in
+        subst (λ (a : ℤ). unsigned_abs (a +ℤ neg_ℤ b.top) ≤ plane_bound) is (leb-true (unsigned_abs (x.y +ℤ neg_ℤ b.top)) plane_bound (parts x on).1)
+
+pub turned_on_plane : (o : Orientation) (cs : List Cell) (b : Bounds) → box_of (map (turned_cell o) cs) ≡ Some b
+    → leb (max (unsigned_abs (b.right -ℤ b.left)) (unsigned_abs (b.bottom -ℤ b.top))) plane_bound ≡ list_all on_plane (turned o cs)
+turned_on_plane o cs b e =
+    let least : IsLeastBox (map (turned_cell o) cs) b = rw e at (box_of-least (map (turned_cell o) cs)) in
+    box_on_plane (map (turned_cell o) cs) b least ∙ ap (list_all on_plane) (sym (landed-map o b cs)) ∙ landed-plane o cs b e
+
+pub nothing_on_plane : (o : Orientation) (cs : List Cell) → box_of (map (turned_cell o) cs) ≡ None → true ≡ list_all on_plane (turned o cs)
+nothing_on_plane o cs e = sym (ap (list_all on_plane) (turned-empty o cs e))

@@ -8,14 +8,15 @@
 //!
 //! step:  in a window, or on a board, or counted cell by cell
 //! ```
-ghost use Rattle.std.specs.Prelude.{◌≡◌, ◌≢◌, ℕ, ◌+◌, ◌-◌, ◌<◌, ◌≤◌, true, false, IfOk, IfErr, IfSome, OnOk, OnSome, IsErrOf};
+ghost use Rattle.std.specs.Prelude.{◌≡◌, ◌≢◌, ℕ, ◌+◌, ◌-◌, ◌*◌, ◌<◌, ◌≤◌, true, false};
+ghost use Rattle.std.specs.Prelude.{IfOk, IfErr, IfSome, OnOk, OnSome, IsErrOf};
 ghost use Rattle.memory.specs.Evidence.{out_of_memory};
-ghost use Rattle.plane_core.specs.Cells.{has, plane_bound};
+ghost use Rattle.plane_core.specs.Cells.{IsPattern, has, plane_bound};
 ghost use Rattle.plane_core.specs.Generations.{next, after, lives, touches_edge, lies_within, NextMoved, NextTurned};
 ghost use Rattle.plane_core.specs.Generations.{SpeedFromOrigin, SpeedOfCells, SpeedOfLight};
 ghost use Rattle.plane_core.specs.Bounds.{AreSidesWithin};
 ghost use Rattle.plane_core.specs.Frames.{HasFewWords, IsFrame, LieOn, bounds_of};
-ghost use Rattle.plane_core.specs.Parts.{FarPatternsRunAlone, HasRun, side};
+ghost use Rattle.plane_core.specs.Parts.{FarPatternsRunAlone, HasRun, IsCut};
 ghost use Rattle.plane_core.specs.Refusals.{RefusesStep};
 ghost use Rattle.plane_core.specs.declared.cell.Cell.{Cell};
 ghost use Rattle.plane_core.specs.declared.generation.StepError.TheVariants.{Memory};
@@ -23,7 +24,6 @@ ghost use Rattle.plane_core.specs.declared.generation.StepError.TheVariants.{Mem
 use crate::board::Board;
 use crate::cell::Cell;
 use crate::frame::Frame;
-use crate::parts::Cut;
 use crate::pattern::Pattern;
 use crate::rule::Rule;
 use crate::small::next_in_window;
@@ -169,34 +169,59 @@ impl Pattern {
         requires cuts { cuts ≤ 40 }
         ensures { IfOk result (λ ran. IfSome ran (HasRun rule.now self.now generations)) }
     {
-        let Some(cut) = Cut::find(alloc, self, 2 * generations, cuts)? else {
+        if let Some(cut) = self.cut(2 * generations, cuts) {
+            return self.run_sides(alloc, rule, generations, cuts - 1, cut);
+        }
+        let turned = self.transposed(alloc)?;
+        let Some(cut) = turned.cut(2 * generations, cuts) else {
             return self.run_on(alloc, rule, Frame::round(self, generations), generations);
         };
-        let Some(before) = self.run_side(alloc, rule, generations, cuts - 1, cut, true)? else {
+        let Some(later) = turned.run_sides(alloc, rule, generations, cuts - 1, cut)? else {
             return Ok(None);
         };
-        let Some(past) = self.run_side(alloc, rule, generations, cuts - 1, cut, false)? else {
-            return Ok(None);
-        };
-        before.united(&past).map(Some)
+        later.transposed(alloc).map(Some)
     }
 
-    /// What becomes of the cells before a cut, or of those past it.
+    /// What becomes of the cells above a cut and of those below it, together.
     #[cycle(run_in_parts)]
-    fn run_side(
+    fn run_sides(
         &self,
         alloc: Global,
         rule: &Rule,
         generations: u32,
         cuts: u32,
-        cut: Cut,
-        before: bool,
+        cut: usize,
     ) -> Result<Option<Pattern>, OutOfMemory>
         requires generations { generations ≤ 1000 }
         requires cuts { cuts ≤ 40 }
-        ensures { IfOk result (λ ran. IfSome ran (HasRun rule.now (side cut before self.now) generations)) }
+        requires cut { IsCut (2 * generations) self.now cut }
+        ensures { IfOk result (λ ran. IfSome ran (HasRun rule.now self.now generations)) }
     {
-        let side = cut.side(alloc, self, before)?;
+        let (above, below) = self.cells().split_at(cut);
+        let Some(above) = Pattern::run_side(alloc, rule, generations, cuts, above)? else {
+            return Ok(None);
+        };
+        let Some(below) = Pattern::run_side(alloc, rule, generations, cuts, below)? else {
+            return Ok(None);
+        };
+        above.united(&below).map(Some)
+    }
+
+    /// What becomes of the cells on one side of a cut.
+    #[cycle(run_in_parts)]
+    fn run_side(
+        alloc: Global,
+        rule: &Rule,
+        generations: u32,
+        cuts: u32,
+        cells: &[Cell],
+    ) -> Result<Option<Pattern>, OutOfMemory>
+        requires generations { generations ≤ 1000 }
+        requires cuts { cuts ≤ 40 }
+        requires cells { IsPattern cells.now }
+        ensures { IfOk result (λ ran. IfSome ran (HasRun rule.now cells.now generations)) }
+    {
+        let side = Pattern::from_ordered(Vec::from_slice(alloc, cells)?);
         side.run_in_parts(alloc, rule, generations, cuts)
     }
 

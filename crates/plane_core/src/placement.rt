@@ -6,18 +6,19 @@
 //! . O O        O O .
 //! ```
 ghost use Rattle.std.specs.Prelude.{◌≡◌, map, true, false};
-ghost use Rattle.std.specs.Prelude.{Some, None, IfOk, IfErr, OnOk, if◌then◌else◌};
+ghost use Rattle.std.specs.Prelude.{IfOk, IfErr, IfSome, OnOk, is_some};
 ghost use Rattle.std.specs.List.{list_all};
 ghost use Rattle.memory.specs.Evidence.{out_of_memory};
 ghost use Rattle.plane_core.specs.Bounds.{box_of, shifted};
-ghost use Rattle.plane_core.specs.Orientations.{corner_placement, landed, turned, turned_cell};
-ghost use Rattle.plane_core.specs.Cells.{on_plane};
+ghost use Rattle.plane_core.specs.Orientations.{corner_placement, image, landed, turned, turned_cell};
+ghost use Rattle.plane_core.specs.declared.orientation.Orientation.TheVariants.{Diagonal};
+ghost use Rattle.plane_core.specs.Cells.{IsPattern, on_plane};
 ghost use Rattle.plane_core.specs.Refusals.{RefusesPlace};
 ghost use Rattle.plane_core.specs.declared.placement.PlaceError.TheVariants.{Memory};
 
 use crate::bounds::grown;
-use crate::cell::Cell;
-use crate::coordinate::{negated, sum_on_plane};
+use crate::cell::{BOUND, Cell};
+use crate::coordinate::negated;
 use crate::orientation::Orientation;
 use crate::pattern::{Pattern, in_order};
 use memory::OutOfMemory;
@@ -76,8 +77,10 @@ impl Pattern {
             dy,
         };
         let cells = self.cells();
-        if !placement.keeps_all(cells) {
-            return Err(PlaceError::OutOfPlane);
+        for cell in cells {
+            if !placement.landing(*cell).is_on_plane() {
+                return Err(PlaceError::OutOfPlane);
+            }
         }
         let placed = placement.place_all(alloc, cells)?;
         Ok(Pattern::from_ordered(placed))
@@ -96,11 +99,24 @@ impl Pattern {
         ensures refused { IfErr result (RefusesPlace (turned orientation self.now)) }
     {
         let cells = self.cells();
-        let placement = to_corner(cells, orientation);
-        if !placement.keeps_all(cells) {
+        let Some(placement) = to_corner(cells, orientation) else {
             return Err(PlaceError::OutOfPlane);
-        }
+        };
         let placed = placement.place_all(alloc, cells)?;
+        Ok(Pattern::from_ordered(in_order(placed)))
+    }
+
+    /// The pattern with its columns as rows, and its rows as columns.
+    pub(crate) fn transposed(&self, alloc: Global) -> Result<Pattern, OutOfMemory>
+        ensures turned { IfOk result (λ pattern. pattern ≡ image Diagonal self.now) }
+        ensures pattern { IsPattern self.now }
+    {
+        let placement = Placement {
+            orientation: Orientation::Diagonal,
+            dx: 0,
+            dy: 0,
+        };
+        let placed = placement.place_all(alloc, self.cells())?;
         Ok(Pattern::from_ordered(in_order(placed)))
     }
 }
@@ -114,33 +130,17 @@ pub(crate) struct Placement {
 }
 
 impl Placement {
-    /// Where the cell lands, if that is on the plane.
-    #[tactic(auto, unfolding(crate::specs::Cells::on_plane))]
-    fn landing(self, cell: Cell) -> Option<Cell>
+    /// Where the cell lands, or some cell off the plane if it lands off it.
+    fn landing(self, cell: Cell) -> Cell
         requires { on_plane cell ≡ true }
-        ensures { result ≡ (if on_plane (landed self cell) then Some (landed self cell) else None) }
+        ensures plane { on_plane result ≡ on_plane (landed self cell) }
+        ensures landed { on_plane result ≡ true → result ≡ landed self cell }
     {
         let Cell { x, y } = self.orientation.image_of(cell);
-        let Some(x) = sum_on_plane(x, self.dx) else {
-            return None;
-        };
-        let Some(y) = sum_on_plane(y, self.dy) else {
-            return None;
-        };
-        Some(Cell { y, x })
-    }
-
-    /// Whether all cells land on the plane.
-    fn keeps_all(self, cells: &[Cell]) -> bool
-        requires { list_all on_plane cells.now ≡ true }
-        ensures { result ≡ list_all on_plane (map (landed self) cells.now) }
-    {
-        for cell in cells {
-            if self.landing(*cell).is_none() {
-                return false;
-            }
+        Cell {
+            x: x.saturating_add(self.dx),
+            y: y.saturating_add(self.dy),
         }
-        true
     }
 
     /// Where the cells land.
@@ -149,33 +149,38 @@ impl Placement {
         requires landed { list_all on_plane (map (landed self) cells.now) ≡ true }
         ensures { IfOk result (λ placed. placed.items ≡ map (landed self) cells.now) }
     {
-        let mut placed = Vec::with_capacity(alloc, cells.len())?;
-        for cell in cells {
-            placed.push(self.landing(*cell).unwrap())?;
+        let mut placed = Vec::from_slice(alloc, cells)?;
+        for cell in placed.iter_mut() {
+            *cell = self.landing(*cell);
         }
         Ok(placed)
     }
 }
 
-/// How cells are to lie so that their image is at the corner.
-fn to_corner(cells: &[Cell], orientation: Orientation) -> Placement
+/// How cells are to lie so that their image is at the corner, if it lies on the plane there.
+fn to_corner(cells: &[Cell], orientation: Orientation) -> Option<Placement>
     requires { list_all on_plane cells.now ≡ true }
-    ensures { result ≡ corner_placement orientation (box_of (map (turned_cell orientation) cells.now)) }
+    ensures placement { IfSome result
+        (λ placement. placement ≡ corner_placement orientation (box_of (map (turned_cell orientation) cells.now))) }
+    ensures plane { is_some result ≡ list_all on_plane (turned orientation cells.now) }
 {
     let mut bounds = None;
     for cell in cells {
         bounds = Some(grown(bounds, orientation.image_of(*cell)));
     }
-    match bounds {
-        None => Placement {
+    let Some(bounds) = bounds else {
+        return Some(Placement {
             orientation,
             dx: 0,
             dy: 0,
-        },
-        Some(bounds) => Placement {
-            orientation,
-            dx: negated(bounds.left),
-            dy: negated(bounds.top),
-        },
-    }
+        });
+    };
+    let across = bounds.right.abs_diff(bounds.left);
+    let down = bounds.bottom.abs_diff(bounds.top);
+    let placement = Placement {
+        orientation,
+        dx: negated(bounds.left),
+        dy: negated(bounds.top),
+    };
+    (across.max(down) <= BOUND).then_some(placement)
 }

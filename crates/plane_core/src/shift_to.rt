@@ -5,9 +5,8 @@
 //! . O . . .      . . . O O      The second is the first, moved by (3, 1).
 //! . . . . .      . . . . O
 //! ```
-ghost use Rattle.std.specs.Prelude.{◌≡◌, ◌-ℤ◌, ◌↔◌, true, length, IsTrue};
-ghost use Rattle.std.specs.List.{list_all};
-ghost use Rattle.plane_core.specs.Bounds.{shifted, TellsShift};
+ghost use Rattle.std.specs.Prelude.{◌≡◌, ◌-ℤ◌, true};
+ghost use Rattle.plane_core.specs.Bounds.{TellsShift};
 ghost use Rattle.plane_core.specs.Cells.{on_plane};
 
 use crate::cell::Cell;
@@ -24,29 +23,17 @@ impl Pattern {
         if cells.len() != others.len() {
             return None;
         }
-        match cells {
-            [] => Some((0, 0)),
-            [first, ..] => {
-                let (dx, dy) = step_between(*first, others[0]);
-                all_stepped(cells, others, dx, dy).then_some((dx, dy))
+        let [first, ..] = cells else {
+            return Some((0, 0));
+        };
+        let step = step_between(*first, others[0]);
+        for (i, cell) in cells.iter().enumerate() {
+            if step_between(*cell, others[i]) != step {
+                return None;
             }
         }
+        Some(step)
     }
-}
-
-/// Whether each cell is a step (dx, dy) from the other in its place.
-fn all_stepped(cells: &[Cell], others: &[Cell], dx: i32, dy: i32) -> bool
-    requires lengths { length cells.now ≡ length others.now }
-    requires cells { list_all on_plane cells.now ≡ true }
-    requires others { list_all on_plane others.now ≡ true }
-    ensures { IsTrue result ↔ (shifted dx dy cells.now ≡ others.now) }
-{
-    for (i, cell) in cells.iter().enumerate() {
-        if step_between(*cell, others[i]) != (dx, dy) {
-            return false;
-        }
-    }
-    true
 }
 
 /// The step from one cell of the plane to another.

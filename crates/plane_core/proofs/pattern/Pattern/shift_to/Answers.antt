@@ -1,50 +1,40 @@
-use Rattle.std.proofs.Common.{◌≡◌, ◌∙◌, ◌<◌, ◌≤◌, List, ap, arith, length, true, w32, FitsSigned, rules, subst, sym}
-use Rattle.std.specs.List.{list_all}
-use Rattle.std.proofs.lemmas.Int.{to_z-of_z}
-use Rattle.plane_core.specs.declared.cell.Cell.{Cell}
-use Rattle.plane_core.specs.Cells.{IsPattern, on_plane}
-use Rattle.plane_core.proofs.PlacementLemmas.{all_at, tells_empty, tells_none, tells_shift}
+use Rattle.std.proofs.Common.{◌≡◌, ◌∙◌, ◌≤◌, ℕ, Option, None, Some, ℤ, ap, false, refl, subst, sym, true}
+use Rattle.std.proofs.lemmas.Bool.{false≢true}
+use Rattle.std.proofs.lemmas.List.{take_all}
+use Rattle.plane_core.specs.Bounds.{TellsShift, shifted}
+use Rattle.plane_core.proofs.PlacementLemmas.{stepped_more, stepped_not, tells_shift}
+use Rattle.plane_core.proofs.pattern.Pattern.shift_to.Goals.{After-step_between-step}
 use Rattle.plane_core.proofs.pattern.Pattern.shift_to.Goals as goal
 
--- the cells of a pattern, as they are lent, lie on the plane
-on : (cells S : List Cell) → cells ≡ S → IsPattern S → list_all on_plane cells ≡ true
-on cells S lent pattern = subst (λ T. list_all on_plane T ≡ true) (sym lent) pattern.on_plane
+-- what is known of the lists is known of the patterns
+tells : (c : After-step_between-step) (told : Option (ℤ × ℤ)) → TellsShift c.cells-cells.result.now c.cells-others.result.now told
+    → TellsShift c.args.self.now c.args.other.now told
+tells c told = λ t. rw (c.cells-cells.ensures.cells, c.cells-others.ensures.cells) at t
 
-pub returns-in-len1-up : goal.returns-in-len1-up
-returns-in-len1-up c =
-    let fits_x : FitsSigned w32 c.step_between-dx.result.0 = search rules in
-    let fits_y : FitsSigned w32 c.step_between-dx.result.1 = search rules in
-    let tells = tells_shift c.cells-cells.result.now c.cells-others.result.now _ c.step_between-dx.result c.all_stepped.result c.in-len1-up.len_at_least
-    (omega arith) c.step_between-dx.ensures (simp to_z-of_z at c.all_stepped.ensures) in
-    rw (simp to_z-of_z at c.then_some.ensures) (rw (c.cells-cells.ensures.cells, c.cells-others.ensures.cells) at tells)
+pub loop-i-preserved : goal.loop-i-preserved
+loop-i-preserved c =
+    stepped_more c.step_between-step.result.0 c.step_between-step.result.1 c.cells-cells.result.now c.cells-others.result.now c.loop-i.i _
+    c.step_between.result c.loop-i-test.true c.if-cells-others.false c.loop-i.invariant c.step_between.ensures (sym c.if-ne.ensures)
 
-pub step_between-dx-requires-clause-from : goal.step_between-dx-requires-clause-from
-step_between-dx-requires-clause-from c =
-    all_at on_plane c.cells-cells.result.now 0 _ c.in-len1-up.len_at_least (on _ _ c.cells-cells.ensures.cells c.cells-cells.ensures.pattern)
+pub returns-then-ne : goal.returns-then-ne
+returns-then-ne c =
+    let cells = c.cells-cells.result.now in
+    let others = c.cells-others.result.now in
+    let step = c.step_between-step.result in
+    tells (goal.at.returns-then-ne c).After-step_between-step None (tells_shift cells others _ step false c.in-len1-up.len_at_least c.if-cells-others.false
+    c.step_between-step.ensures (
+      λ no. absurd (false≢true no),
+      λ same. absurd (stepped_not step.0 step.1 cells others c.loop-i.i _ c.step_between.result c.loop-i-test.true same c.step_between.ensures
+          (sym c.if-ne.ensures)),
+    ))
 
-pub step_between-dx-requires-clause-to : goal.step_between-dx-requires-clause-to
-step_between-dx-requires-clause-to c =
-    all_at on_plane c.cells-others.result.now 0 _ (subst (λ n. 1 ≤ n) c.if-cells-others.false c.in-len1-up.len_at_least)
-    (on _ _ c.cells-others.ensures.cells c.cells-others.ensures.pattern)
-
-pub all_stepped-requires-clause-cells : goal.all_stepped-requires-clause-cells
-all_stepped-requires-clause-cells c = on _ _ c.cells-cells.ensures.cells c.cells-cells.ensures.pattern
-
-pub all_stepped-requires-clause-others : goal.all_stepped-requires-clause-others
-all_stepped-requires-clause-others c = on _ _ c.cells-others.ensures.cells c.cells-others.ensures.pattern
-
-pub bounds-others-0 : goal.bounds-others-0
-bounds-others-0 c = subst (λ n. 1 ≤ n) c.if-cells-others.false c.in-len1-up.len_at_least
-
-pub all_stepped-requires-clause-lengths : goal.all_stepped-requires-clause-lengths
-all_stepped-requires-clause-lengths c = c.if-cells-others.false
-
-pub returns-then-cells-others : goal.returns-then-cells-others
-returns-then-cells-others c =
-    tells_none c.args.self.now c.args.other.now
-    (λ same. c.if-cells-others.true (ap length c.cells-cells.ensures.cells ∙ same ∙ sym (ap length c.cells-others.ensures.cells)))
-
-pub returns-in-empty : goal.returns-in-empty
-returns-in-empty c =
-    tells_empty c.args.self.now c.args.other.now (subst (λ n. n < 1) (ap length c.cells-cells.ensures.cells) c.in-empty.len_below)
-    (sym (ap length c.cells-cells.ensures.cells) ∙ c.if-cells-others.false ∙ ap length c.cells-others.ensures.cells)
+pub returns : goal.returns
+returns c =
+    let cells = c.cells-cells.result.now in
+    let others = c.cells-others.result.now in
+    let step = c.step_between-step.result in
+    let end = take_all c.loop-i.i cells c.loop-i-test.false in
+    let other_end = take_all c.loop-i.i others (subst (λ (n : ℕ). n ≤ c.loop-i.i) c.if-cells-others.false c.loop-i-test.false) in
+    let all : shifted step.0 step.1 cells ≡ others = sym (ap (shifted step.0 step.1) end) ∙ c.loop-i.invariant ∙ other_end in
+    tells (goal.at.returns c).After-step_between-step (Some step) (tells_shift cells others _ step true c.in-len1-up.len_at_least c.if-cells-others.false
+    c.step_between-step.ensures (λ yes. all, λ same. refl))

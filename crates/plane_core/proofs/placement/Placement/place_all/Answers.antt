@@ -1,32 +1,37 @@
-use Rattle.std.proofs.Common.{◌≡◌, ◌∙◌, Some, ap, get_or, map, pos, refl, subst, sym}
-use Rattle.std.specs.Prelude.{IsSome}
-use Rattle.std.proofs.lemmas.List.{map_more, take_all}
+use Rattle.std.proofs.Common.{◌≡◌, ◌∙◌, ◌<◌, ◌≤◌, ℕ, ap, get_or, length, pos, subst, sym, true}
+use Rattle.std.proofs.lemmas.List.{with_items_is}
+use Rattle.plane_core.specs.declared.cell.Cell.{Cell}
 use Rattle.plane_core.specs.Cells.{on_plane}
 use Rattle.plane_core.specs.Orientations.{landed}
-use Rattle.plane_core.proofs.PlacementLemmas.{all_images_at, all_at}
-use Rattle.plane_core.specs.declared.cell.Cell.{Cell}
-use Rattle.plane_core.proofs.placement.Placement.place_all.Goals.{After-landing}
+use Rattle.plane_core.proofs.PlacementLemmas.{all_at, all_changed, all_images_at, as_it_was, change_more}
+use Rattle.plane_core.proofs.placement.Placement.place_all.Goals.{In-loop-cell}
 use Rattle.plane_core.proofs.placement.Placement.place_all.Goals as goal
 
+low : (c : In-loop-cell) → c.loop-cell.cell-index < length c.args.cells.now
+low c = subst (λ (n : ℕ). c.loop-cell.cell-index < n) (ap length (c.deref_mut-cell-items.ensures.value ∙ c.in_ok-placed.ensures.items)) c.loop-cell-test.true
+
+-- the next cell is as it was
+same : (c : In-loop-cell) → get_or c.loop-cell.cell-items c.loop-cell.cell-index (record { y = pos 0; x = pos 0 })
+    ≡ get_or c.args.cells.now c.loop-cell.cell-index (record { y = pos 0; x = pos 0 })
+same c = as_it_was (landed c.args.self) c.args.cells.now c.loop-cell.cell-items c.loop-cell.cell-index _ (low c) c.loop-cell.invariant
+
 pub landing-requires : goal.landing-requires
-landing-requires c = all_at on_plane c.args.cells.now c.loop-cell.cell-index _ c.loop-cell-test.true c.requires.cells
-
--- each cell lands on the plane
-lands : (c : After-landing) → c.landing.result ≡ Some (landed c.args.self (get_or c.args.cells.now c.loop-cell.cell-index (record { y = pos 0; x = pos 0 })))
-lands c = rw (all_images_at on_plane (landed c.args.self) c.args.cells.now c.loop-cell.cell-index (record { y = pos 0; x = pos 0 })
-    c.loop-cell-test.true c.requires.landed) at c.landing.ensures
-
-same_cells : (a b : Cell) → Some a ≡ Some b → a ≡ b
-same_cells a b same = cc
-
-pub unwrap-requires : goal.unwrap-requires
-unwrap-requires c = subst IsSome (sym (lands c)) refl
+landing-requires c =
+    let at = (goal.at.landing-requires c).In-loop-cell in
+    subst (λ (cell : Cell). on_plane cell ≡ true) (sym (same at)) (all_at on_plane c.args.cells.now c.loop-cell.cell-index _ (low at) c.requires.cells)
 
 pub loop-cell-preserved : goal.loop-cell-preserved
 loop-cell-preserved c =
-    let is = same_cells _ _ (sym c.unwrap.ensures ∙ lands (goal.at.loop-cell-preserved c).After-landing) in
-    rw (c.in_ok-push.ensures.items, c.loop-cell.invariant, is)
-    (sym (map_more (landed c.args.self) c.args.cells.now c.loop-cell.cell-index _ c.loop-cell-test.true))
+    let at = (goal.at.loop-cell-preserved c).In-loop-cell in
+    let plane = rw (same at) at c.landing.ensures.plane in
+    let there = rw (same at) at c.landing.ensures.landed in
+    let on = plane ∙ all_images_at on_plane (landed c.args.self) c.args.cells.now c.loop-cell.cell-index _ (low at) c.requires.landed in
+    change_more (landed c.args.self) c.args.cells.now c.loop-cell.cell-items c.loop-cell.cell-index _ c.landing.result (low at) c.loop-cell.invariant
+    (there on)
 
 pub returns : goal.returns
-returns c = c.loop-cell.invariant ∙ ap (map (landed c.args.self)) (take_all c.loop-cell.cell-index c.args.cells.now c.loop-cell-test.false)
+returns c =
+    let end : length c.args.cells.now ≤ c.loop-cell.cell-index =
+    subst (λ (n : ℕ). n ≤ c.loop-cell.cell-index) (ap length (c.deref_mut-cell-items.ensures.value ∙ c.in_ok-placed.ensures.items)) c.loop-cell-test.false in
+    with_items_is c.in_ok-placed.placed c.loop-cell.cell-items (c.loop-cell.auto.cell-items ∙ c.deref_mut-cell-items.ensures.len)
+    ∙ all_changed (landed c.args.self) c.args.cells.now c.loop-cell.cell-items c.loop-cell.cell-index end c.loop-cell.invariant

@@ -2,7 +2,7 @@ use Rattle.std.proofs.Common.{◌≡◌, true, map, take}
 use Rattle.std.specs.List.{list_all}
 use Rattle.plane_core.specs.Cells.{on_plane}
 use Rattle.plane_core.specs.Orientations.{landed}
-use Rattle.plane_core.proofs.placement.Placement.keeps_all.Given as goal
+use Rattle.plane_core.proofs.pattern.Pattern.shift.Given as goal
 
 abbrev pub invariant-loop-cell : goal.invariant-loop-cell
-invariant-loop-cell l = list_all on_plane (map (landed l.self) (take l.cell-index l.cells)) ≡ true
+invariant-loop-cell l = list_all on_plane (map (landed l.placement) (take l.cell-index l.cells)) ≡ true
