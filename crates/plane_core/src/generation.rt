@@ -172,6 +172,9 @@ impl Pattern {
         if let Some(cut) = self.cut(2 * generations, cuts) {
             return self.run_sides(alloc, rule, generations, cuts - 1, cut);
         }
+        if !self.has_empty_stripe(2 * generations) {
+            return self.run_on(alloc, rule, Frame::round(self, generations), generations);
+        }
         let turned = self.transposed(alloc)?;
         let Some(cut) = turned.cut(2 * generations, cuts) else {
             return self.run_on(alloc, rule, Frame::round(self, generations), generations);

@@ -32,4 +32,23 @@ impl Pattern {
         }
         cut
     }
+
+    /// Whether there may be a cut between two columns that are further apart than so far. The columns are seen as at
+    /// most 64 stripes: where each has a cell, there is no wide gap. To turn a pattern takes a sort, which isn't made for
+    /// nothing.
+    pub(crate) fn has_empty_stripe(&self, far: u32) -> bool {
+        let Some(bounds) = self.bounds() else {
+            return false;
+        };
+        let last = bounds.left.abs_diff(bounds.right);
+        if last <= far {
+            return false;
+        }
+        let width = last / 64 + 1;
+        let mut stripes = 0u64;
+        for cell in self.cells() {
+            stripes |= 1 << (cell.x.abs_diff(bounds.left) / width % 64);
+        }
+        stripes.count_ones() <= last / width
+    }
 }
