@@ -104,10 +104,8 @@ pub(crate) fn joined(alloc: Global, clusters: &[Alone]) -> Result<Option<Pattern
         cells.extend_from_slice(alone.latest.cells())?;
     }
     let union = pattern_of(alloc, cells.as_slice())?;
-    if union.population() != cells.len() {
-        return Ok(None);
-    }
-    Ok(Some(union))
+    let apart = union.population() == cells.len();
+    Ok(apart.then_some(union))
 }
 
 /// Whether the two lists are the same.

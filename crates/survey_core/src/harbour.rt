@@ -289,6 +289,7 @@ fn whole(
         return Ok(pattern);
     }
     let mut cells = Vec::from_slice(alloc, pattern.cells())?;
+    drop(pattern);
     for ship in ships {
         let ship = at_time(alloc, rule, ship, time)?;
         cells.extend_from_slice(ship.cells())?;
