@@ -2,6 +2,7 @@ use Rattle.std.proofs.Common.{◌≡◌, ◌∙◌, IfOk, ap, subst, sym, List, 
 use Rattle.plane_core.specs.declared.cell.Cell.{Cell}
 use Rattle.plane_core.specs.Cells.{InOrder}
 use Rattle.plane_core.specs.Generations.{after, lies_within}
+use Rattle.survey_core.specs.Courses.{kept}
 use Rattle.survey_core.specs.UnderWay.{StaysNear, survey_reach}
 use Rattle.survey_core.proofs.CourseLemmas.{near_now}
 use Rattle.survey_core.proofs.course.from_list.Goals as goal
@@ -12,14 +13,8 @@ run_on-requires-clause-near c = near_now c.args.rule.now c.args.pattern c.args.g
 pub run_on-requires-clause-few : goal.run_on-requires-clause-few
 run_on-requires-clause-few c = c.requires.few
 
-pub start-requires : goal.start-requires
-start-requires c = ap (lies_within survey_reach) c.in_ok-later.ensures ∙ c.requires.near c.args.generations (omega arith)
-
-pub returns-in_default-clause-rule : goal.returns-in_default-clause-rule
-returns-in_default-clause-rule c = c.start.ensures.rule
-
-pub returns-in_default-clause-cells : goal.returns-in_default-clause-cells
-returns-in_default-clause-cells c = c.start.ensures.cells ∙ c.in_ok-later.ensures
+pub returns-in_default-clause-kept : goal.returns-in_default-clause-kept
+returns-in_default-clause-kept c = ap (lies_within survey_reach) c.in_ok-later.ensures ∙ c.requires.near c.args.generations (omega arith)
 
 -- it is on a board
 pub new-harbour-requires : goal.new-harbour-requires
@@ -40,7 +35,7 @@ on_board-requires-clause-near c =
 pub returns-clause-cells : goal.returns-clause-cells
 returns-clause-cells c =
     let cells : c.new-harbour.result.cells ≡ c.args.pattern = c.new-harbour.ensures.cells ∙ (rw c.in-Some.is at c.in_ok-board.ensures.cells) in
-    subst (λ (S : List Cell). IfOk c.on_board.result (λ course. course.cells ≡ after c.args.rule.now S c.args.generations)) cells c.on_board.ensures.cells
+    subst (λ (S : List Cell). IfOk c.on_board.result (λ course. kept course ≡ after c.args.rule.now S c.args.generations)) cells c.on_board.ensures.cells
 
-pub returns-clause-rule : goal.returns-clause-rule
-returns-clause-rule c = c.on_board.ensures.rule
+pub returns-clause-kept : goal.returns-clause-kept
+returns-clause-kept c = c.on_board.ensures.kept

@@ -38,8 +38,8 @@ returns-in-Ok-clause-cells c =
     let cells : c.in-Ok.harbour.cells ≡ after c.args.rule.now c.args.harbour.cells (n - n % 2) = rw c.in-Ok.is at c.in_ok-harbour.ensures.cells in
     (λ i. after (rule i) (cells i) (n % 2)) ∙ in_parts c.args.rule.now c.args.harbour.cells (n - n % 2) (n % 2) n (both_parts n)
 
-pub start-requires : goal.start-requires
-start-requires c =
+pub returns-in_ok-later-in-Err-clause-kept : goal.returns-in_ok-later-in-Err-clause-kept
+returns-in_ok-later-in-Err-clause-kept c =
     let n = c.args.generations in
     let stop = c.in-Err.stop in
     let made : stop.made ≤ n - n % 2 = rw c.in-Err.is at c.in_ok-harbour.ensures.made in
@@ -54,11 +54,8 @@ returns-in_ok-later-in-Err-clause-cells c =
     let stop = c.in-Err.stop in
     let made : stop.made ≤ n - n % 2 = rw c.in-Err.is at c.in_ok-harbour.ensures.made in
     let cells : stop.pattern ≡ after c.args.rule.now c.args.harbour.cells stop.made = rw c.in-Err.is at c.in_ok-harbour.ensures.stopped in
-    c.start.ensures.cells ∙ c.in_ok-later-in-Err.ensures ∙ ap (λ (S : List Cell). after c.args.rule.now S (n - stop.made)) cells
+    c.in_ok-later-in-Err.ensures ∙ ap (λ (S : List Cell). after c.args.rule.now S (n - stop.made)) cells
     ∙ in_parts c.args.rule.now c.args.harbour.cells stop.made (n - stop.made) n (rest_made stop.made n made)
-
-pub returns-in_ok-later-in-Err-clause-rule : goal.returns-in_ok-later-in-Err-clause-rule
-returns-in_ok-later-in-Err-clause-rule c = c.start.ensures.rule
 
 pub advance-requires-clause-even : goal.advance-requires-clause-even
 advance-requires-clause-even c = is_even c.args.generations
@@ -82,8 +79,8 @@ run_on-requires-clause-near c =
 pub run_on-requires-clause-few : goal.run_on-requires-clause-few
 run_on-requires-clause-few c = rest_few c.args.generations c.in-Err.stop.made c.requires.few
 
-pub invariant_of-result : goal.invariant_of-result
-invariant_of-result c =
+pub returns-in-Ok-clause-kept : goal.returns-in-Ok-clause-kept
+returns-in-Ok-clause-kept c =
     let n = c.args.generations in (
       rw c.in-Ok.is at c.in_ok-harbour.ensures.rule,
       at_most_one n,
