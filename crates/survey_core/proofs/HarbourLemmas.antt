@@ -114,6 +114,13 @@ whole-empty rule t board [] is_empty is empty order = whole-none rule t board or
 whole-empty rule t board (ship ∷ ships) is_empty is empty order =
     let none : length (ship ∷ ships) ≡ 0 = eqb-true (length (ship ∷ ships)) 0 (sym is ∙ empty) in absurd (omega (arith, none))
 
+-- and then it is still where the board is
+pub still_whole : (rule : Numbers) (t n : ℕ) (board : List Cell) (ships : List Ship) (is_empty : Bool) → is_empty ≡ (length ships == 0)
+    → is_empty ≡ true → InOrder board → after rule board n ≡ board → after rule (whole_at rule t board ships) n ≡ whole_at rule t board ships
+still_whole rule t n board ships is_empty is empty order still =
+    let all = whole-empty rule t board ships is_empty is empty order in
+    ap (λ (S : List Cell). after rule S n) all ∙ still ∙ sym all
+
 -- an even number of generations later
 pub harbour_later : (rule r : Numbers) (t n most : ℕ) (board b : List Cell) (ships : List Ship) → IsHarbour rule t board ships → most % 2 ≡ 0
     → n ≡ most

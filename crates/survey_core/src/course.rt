@@ -17,10 +17,11 @@ ghost use Rattle.std.specs.Prelude.{◌≡◌, ◌+◌, ◌%◌, ◌<◌, ◌≤
 ghost use Rattle.plane_core.specs.Generations.{after, lies_within};
 ghost use Rattle.plane_core.specs.Rules.{Numbers};
 ghost use Rattle.survey_core.specs.Courses.{IsKept, kept};
+ghost use Rattle.survey_core.specs.Harbours.{IsMoored, whole_of};
 ghost use Rattle.survey_core.specs.Rest.{IsAtRest};
 ghost use Rattle.survey_core.specs.UnderWay.{StaysNear, survey_reach};
 
-use crate::harbour::Harbour;
+use crate::harbour::{Harbour, whole};
 use crate::later::{next, run_on};
 use crate::memo::Memo;
 use crate::profile::Profile;
@@ -42,12 +43,13 @@ impl Course {
     /// The pattern as it is now.
     pub(crate) fn look(&self, alloc: Global, rule: &Rule) -> Result<Pattern, OutOfMemory>
         requires { IsKept rule.now self.now }
-        ensures { IfOk result (λ pattern. pattern ≡ kept self.now) }
+        ensures { IfOk result (λ pattern. pattern ≡ kept rule.now self.now) }
     {
         match self {
             Course::Listed(pattern) => pattern.copy(alloc),
             Course::Shown(harbour, ahead) => {
-                let pattern = harbour.pattern(alloc, rule)?;
+                let ships = harbour.ships.as_slice();
+                let pattern = whole(alloc, rule, harbour.time, &harbour.board, ships)?;
                 if *ahead == 0 {
                     return Ok(pattern);
                 }
@@ -59,24 +61,24 @@ impl Course {
     /// Whether the pattern is seen at a glance not to be at rest. `false` says nothing.
     pub(crate) fn is_seen_to_move(&self, rule: &Rule, profile: &Profile) -> bool
         requires { IsKept rule.now self.now }
-        ensures { IsTrue result → ¬ IsAtRest rule.now profile.now (kept self.now) }
+        ensures { IsTrue result → ¬ IsAtRest rule.now profile.now (kept rule.now self.now) }
     {
         let horizon = profile.horizon();
         let period = profile.period();
         match self {
             Course::Listed(pattern) => pattern.refuses(rule, horizon, period),
-            Course::Shown(harbour, ahead) => harbour.refuses(*ahead, horizon, period),
+            Course::Shown(harbour, ahead) => harbour.board.refuses(*ahead, horizon, period),
         }
     }
 
     /// Whether it is seen that no even number of generations changes anything. `false` says nothing.
     pub(crate) fn is_still(&self) -> bool
         ensures { IsTrue result → (rule : Numbers) → IsKept rule self.now
-            → (n : ℕ) → n % 2 ≡ 0 → after rule (kept self.now) n ≡ kept self.now }
+            → (n : ℕ) → n % 2 ≡ 0 → after rule (kept rule self.now) n ≡ kept rule self.now }
     {
         match self {
             Course::Listed(_) => false,
-            Course::Shown(harbour, _) => harbour.is_still(),
+            Course::Shown(harbour, _) => harbour.ships.is_empty() && harbour.board.is_still(),
         }
     }
 
@@ -89,9 +91,9 @@ impl Course {
         memo: &mut Memo,
     ) -> Result<Course, OutOfMemory>
         requires kept { IsKept rule.now self }
-        requires near { StaysNear rule.now (kept self) profile.now.stride }
+        requires near { StaysNear rule.now (kept rule.now self) profile.now.stride }
         ensures kept { IfOk result (IsKept rule.now) }
-        ensures cells { IfOk result (λ course. kept course ≡ after rule.now (kept self) profile.now.stride) }
+        ensures cells { IfOk result (λ course. kept rule.now course ≡ after rule.now (kept rule.now self) profile.now.stride) }
     {
         let generations = profile.stride();
         match self {
@@ -107,7 +109,7 @@ impl Course {
     /// Gives the board back on which the pattern was, for the next one.
     pub(crate) fn end(self, memo: &mut Memo) {
         if let Course::Shown(harbour, _) = self {
-            memo.board = Some(harbour.into_board());
+            memo.board = Some(harbour.board);
         }
     }
 }
@@ -123,7 +125,7 @@ fn from_list(
     requires few { generations ≤ 10001 }
     requires near { StaysNear rule.now pattern generations }
     ensures kept { IfOk result (IsKept rule.now) }
-    ensures cells { IfOk result (λ course. kept course ≡ after rule.now pattern generations) }
+    ensures cells { IfOk result (λ course. kept rule.now course ≡ after rule.now pattern generations) }
 {
     // That a pattern's cells stand in order is known of them where they are asked for.
     let _in_order = pattern.cells();
@@ -131,7 +133,11 @@ fn from_list(
         let later = run_on(alloc, rule, generations, &pattern)?;
         return Ok(Course::Listed(later));
     };
-    let harbour = Harbour::new(alloc, board);
+    let harbour = Harbour {
+        board,
+        ships: Vec::new(alloc),
+        time: 0,
+    };
     on_board(alloc, rule, harbour, generations, memo)
 }
 
@@ -144,11 +150,11 @@ fn on_board(
     generations: u32,
     memo: &mut Memo,
 ) -> Result<Course, OutOfMemory>
-    requires rule { harbour.rule ≡ rule.now }
+    requires moored { IsMoored rule.now harbour }
     requires few { generations ≤ 10001 }
-    requires near { StaysNear rule.now harbour.cells generations }
+    requires near { StaysNear rule.now (whole_of rule.now harbour) generations }
     ensures kept { IfOk result (IsKept rule.now) }
-    ensures cells { IfOk result (λ course. kept course ≡ after rule.now harbour.cells generations) }
+    ensures cells { IfOk result (λ course. kept rule.now course ≡ after rule.now (whole_of rule.now harbour) generations) }
 {
     let ahead = generations % 2;
     match harbour.advance(alloc, rule, generations - ahead)? {

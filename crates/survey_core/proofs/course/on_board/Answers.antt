@@ -1,7 +1,7 @@
 use Rattle.std.proofs.Common.{◌≡◌, ◌∙◌, ◌+◌, ◌-◌, ◌%◌, ◌≤◌, ℕ, List, ap, arith}
 use Rattle.plane_core.specs.declared.cell.Cell.{Cell}
 use Rattle.plane_core.specs.Generations.{after, lies_within}
-use Rattle.plane_core.specs.Rules.{Numbers}
+use Rattle.survey_core.specs.Harbours.{whole_of}
 use Rattle.survey_core.specs.UnderWay.{survey_reach}
 use Rattle.survey_core.proofs.CourseLemmas.{in_parts}
 use Rattle.survey_core.proofs.course.on_board.Goals as goal
@@ -34,18 +34,18 @@ at_most_one n = omega arith
 pub returns-in-Ok-clause-cells : goal.returns-in-Ok-clause-cells
 returns-in-Ok-clause-cells c =
     let n = c.args.generations in
-    let rule : c.in-Ok.harbour.rule ≡ c.args.rule.now = rw c.in-Ok.is at c.in_ok-harbour.ensures.rule in
-    let cells : c.in-Ok.harbour.cells ≡ after c.args.rule.now c.args.harbour.cells (n - n % 2) = rw c.in-Ok.is at c.in_ok-harbour.ensures.cells in
-    (λ i. after (rule i) (cells i) (n % 2)) ∙ in_parts c.args.rule.now c.args.harbour.cells (n - n % 2) (n % 2) n (both_parts n)
+    let rule = c.args.rule.now in
+    let cells : whole_of rule c.in-Ok.harbour ≡ after rule (whole_of rule c.args.harbour) (n - n % 2) = rw c.in-Ok.is at c.in_ok-harbour.ensures.cells in
+    ap (λ (S : List Cell). after rule S (n % 2)) cells ∙ in_parts rule (whole_of rule c.args.harbour) (n - n % 2) (n % 2) n (both_parts n)
 
 pub returns-in_ok-later-in-Err-clause-kept : goal.returns-in_ok-later-in-Err-clause-kept
 returns-in_ok-later-in-Err-clause-kept c =
     let n = c.args.generations in
     let stop = c.in-Err.stop in
     let made : stop.made ≤ n - n % 2 = rw c.in-Err.is at c.in_ok-harbour.ensures.made in
-    let cells : stop.pattern ≡ after c.args.rule.now c.args.harbour.cells stop.made = rw c.in-Err.is at c.in_ok-harbour.ensures.stopped in
+    let cells : stop.pattern ≡ after c.args.rule.now (whole_of c.args.rule.now c.args.harbour) stop.made = rw c.in-Err.is at c.in_ok-harbour.ensures.stopped in
     ap (lies_within survey_reach) (c.in_ok-later-in-Err.ensures ∙ ap (λ (S : List Cell). after c.args.rule.now S (n - stop.made)) cells
-    ∙ in_parts c.args.rule.now c.args.harbour.cells stop.made (n - stop.made) n (rest_made stop.made n made))
+    ∙ in_parts c.args.rule.now (whole_of c.args.rule.now c.args.harbour) stop.made (n - stop.made) n (rest_made stop.made n made))
     ∙ c.requires.near n (omega arith)
 
 pub returns-in_ok-later-in-Err-clause-cells : goal.returns-in_ok-later-in-Err-clause-cells
@@ -53,9 +53,9 @@ returns-in_ok-later-in-Err-clause-cells c =
     let n = c.args.generations in
     let stop = c.in-Err.stop in
     let made : stop.made ≤ n - n % 2 = rw c.in-Err.is at c.in_ok-harbour.ensures.made in
-    let cells : stop.pattern ≡ after c.args.rule.now c.args.harbour.cells stop.made = rw c.in-Err.is at c.in_ok-harbour.ensures.stopped in
+    let cells : stop.pattern ≡ after c.args.rule.now (whole_of c.args.rule.now c.args.harbour) stop.made = rw c.in-Err.is at c.in_ok-harbour.ensures.stopped in
     c.in_ok-later-in-Err.ensures ∙ ap (λ (S : List Cell). after c.args.rule.now S (n - stop.made)) cells
-    ∙ in_parts c.args.rule.now c.args.harbour.cells stop.made (n - stop.made) n (rest_made stop.made n made)
+    ∙ in_parts c.args.rule.now (whole_of c.args.rule.now c.args.harbour) stop.made (n - stop.made) n (rest_made stop.made n made)
 
 pub advance-requires-clause-even : goal.advance-requires-clause-even
 advance-requires-clause-even c = is_even c.args.generations
@@ -65,8 +65,7 @@ advance-requires-clause-few c = part_few c.args.generations c.requires.few
 
 pub advance-requires-clause-near : goal.advance-requires-clause-near
 advance-requires-clause-near c g low =
-    ap (λ (r : Numbers). lies_within survey_reach (after r c.args.harbour.cells g)) c.requires.rule
-    ∙ c.requires.near g (part_within c.args.generations g low)
+    c.requires.near g (part_within c.args.generations g low)
 
 pub overflow_sub-generations-in-Err : goal.overflow_sub-generations-in-Err
 overflow_sub-generations-in-Err c = part_within c.args.generations c.in-Err.stop.made (rw c.in-Err.is at c.in_ok-harbour.ensures.made)
@@ -82,7 +81,7 @@ run_on-requires-clause-few c = rest_few c.args.generations c.in-Err.stop.made c.
 pub returns-in-Ok-clause-kept : goal.returns-in-Ok-clause-kept
 returns-in-Ok-clause-kept c =
     let n = c.args.generations in (
-      rw c.in-Ok.is at c.in_ok-harbour.ensures.rule,
+      rw c.in-Ok.is at c.in_ok-harbour.ensures.moored,
       at_most_one n,
       ap (lies_within survey_reach) (rw c.in-Ok.is at c.in_ok-harbour.ensures.cells) ∙ c.requires.near (n - n % 2) (part_low n),
     )

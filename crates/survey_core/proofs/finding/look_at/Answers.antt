@@ -13,7 +13,7 @@ use Rattle.survey_core.proofs.finding.look_at.Goals.{then-is_still, else-is_stil
 
 pub returns-then-noes-parity-clause-moves : goal.returns-then-noes-parity-clause-moves
 returns-then-noes-parity-clause-moves c =
-    known_now c.args.rule.now c.args.profile.now (kept c.args.course.now) c.args.checkpoint c.args.noes.now c.requires.noes c.if-noes-parity.true
+    known_now c.args.rule.now c.args.profile.now (kept c.args.rule.now c.args.course.now) c.args.checkpoint c.args.noes.now c.requires.noes c.if-noes-parity.true
 
 pub returns-then-is_seen_to_move-clause-moves : goal.returns-then-is_seen_to_move-clause-moves
 returns-then-is_seen_to_move-clause-moves c =
@@ -29,12 +29,12 @@ returns-in_default-clause-moves c =
 
 pub returns-in_default-clause-noes : goal.returns-in_default-clause-noes
 returns-in_default-clause-noes c = elim c.if-is_still.branch [
-  | then-is_still w ↦ let moves : ¬ IsAtRest c.args.rule.now c.args.profile.now (kept c.args.course.now) =
+  | then-is_still w ↦ let moves : ¬ IsAtRest c.args.rule.now c.args.profile.now (kept c.args.rule.now c.args.course.now) =
       subst (λ (S : List Cell). ¬ IsAtRest c.args.rule.now c.args.profile.now S) c.in_ok-latest.ensures (rw c.in_default.is at c.in_ok-clusters.ensures.moves) in
-      subst (AreNoes c.args.rule.now c.args.profile.now (kept c.args.course.now) c.args.checkpoint) (sym w.noes-is)
-      (known_more c.args.rule.now c.args.profile.now (kept c.args.course.now) c.args.checkpoint c.args.noes.now c.requires.noes moves
+      subst (AreNoes c.args.rule.now c.args.profile.now (kept c.args.rule.now c.args.course.now) c.args.checkpoint) (sym w.noes-is)
+      (known_more c.args.rule.now c.args.profile.now (kept c.args.rule.now c.args.course.now) c.args.checkpoint c.args.noes.now c.requires.noes moves
       (c.is_still.ensures w.if-is_still.true c.args.rule.now c.requires.kept))
-  | else-is_still w ↦ subst (AreNoes c.args.rule.now c.args.profile.now (kept c.args.course.now) c.args.checkpoint) (sym w.noes-is) c.requires.noes
+  | else-is_still w ↦ subst (AreNoes c.args.rule.now c.args.profile.now (kept c.args.rule.now c.args.course.now) c.args.checkpoint) (sym w.noes-is) c.requires.noes
 ]
 
 -- or is, with these clusters

@@ -39,7 +39,7 @@ look_at-requires-clause-noes c = c.loop-course.invariant.noes
 -- at rest for the first time
 pub returns-in-Some-clause-finding : goal.returns-in-Some-clause-finding
 returns-in-Some-clause-finding c =
-    finding_from c.args.rule.now c.args.profile.now c.args.pattern (kept c.loop-course.course) c.loop-course.checkpoint c.in-Some.finding
+    finding_from c.args.rule.now c.args.profile.now c.args.pattern (kept c.args.rule.now c.loop-course.course) c.loop-course.checkpoint c.in-Some.finding
     (rw c.in-Some.is at c.in_ok-found.ensures.settled) c.loop-course.invariant.latest c.loop-course.invariant.here c.loop-course.invariant.before
 
 pub returns-in-Some-clause-few : goal.returns-in-Some-clause-few
@@ -51,7 +51,7 @@ overflow_sub-limit c = subst (λ (n : ℕ). c.loop-course.checkpoint ≤ n) (sym
 -- no look is left
 pub returns-then-limit-checkpoint-clause-finding : goal.returns-then-limit-checkpoint-clause-finding
 returns-then-limit-checkpoint-clause-finding c =
-    none_at_last c.args.rule.now c.args.profile.now c.args.pattern (kept c.loop-course.course) c.loop-course.checkpoint
+    none_at_last c.args.rule.now c.args.profile.now c.args.pattern (kept c.args.rule.now c.loop-course.course) c.loop-course.checkpoint
     (rw c.in_default.is at c.in_ok-found.ensures.moves) c.loop-course.invariant.latest c.stride-stride.ensures.profile.onward
     c.loop-course.invariant.here
     (no_room c.args.profile.now.limit c.args.profile.now.stride c.limit-limit.result c.stride-stride.result c.loop-course.checkpoint
@@ -67,7 +67,7 @@ go_on-requires-clause-near c =
     let room = room_for_more c.args.profile.now.limit c.args.profile.now.stride c.limit-limit.result c.stride-stride.result c.loop-course.checkpoint
     c.limit-limit.ensures.limit c.stride-stride.ensures.stride c.loop-course.invariant.here.within c.if-limit-checkpoint.false in
     let most : c.args.profile.now.limit ≤ 100000 = c.stride-stride.ensures.profile.limit in
-    stays_near c.args.rule.now c.args.pattern (kept c.loop-course.course) c.loop-course.checkpoint c.args.profile.now.stride
+    stays_near c.args.rule.now c.args.pattern (kept c.args.rule.now c.loop-course.course) c.loop-course.checkpoint c.args.profile.now.stride
     c.loop-course.invariant.latest c.requires (omega (arith, room, most))
 
 pub overflow_add-checkpoint : goal.overflow_add-checkpoint
@@ -82,7 +82,7 @@ loop-course-preserved c =
     let profile = c.args.profile.now in
     let t = c.loop-course.checkpoint in
     let at : t + c.stride-stride.result ≡ t + profile.stride = ap (λ (s : ℕ). t + s) c.stride-stride.ensures.stride in
-    let cells : kept c.in_ok-course.course ≡ after c.args.rule.now (kept c.loop-course.course) profile.stride =
+    let cells : kept c.args.rule.now c.in_ok-course.course ≡ after c.args.rule.now (kept c.args.rule.now c.loop-course.course) profile.stride =
     c.in_ok-course.ensures.cells in
     record {
       by_rule = c.in_ok-course.ensures.kept;
@@ -92,9 +92,9 @@ loop-course-preserved c =
       latest = cells ∙ ap (λ (S : List Cell). after c.args.rule.now S profile.stride) c.loop-course.invariant.latest
           ∙ after-then c.args.rule.now c.args.pattern t profile.stride ∙ ap (after c.args.rule.now c.args.pattern) (sym at);
       noes = subst₂ (λ (S : List Cell) (u : ℕ). AreNoes c.args.rule.now profile S u c.look_at.new.noes) (sym cells) (sym at)
-          (known_later c.args.rule.now profile (kept c.loop-course.course) t profile.stride c.look_at.new.noes c.in_ok-found.ensures.noes);
+          (known_later c.args.rule.now profile (kept c.args.rule.now c.loop-course.course) t profile.stride c.look_at.new.noes c.in_ok-found.ensures.noes);
       before = subst (NoRestBefore c.args.rule.now profile c.args.pattern) (sym at)
-          (no_rest_more c.args.rule.now profile c.args.pattern (kept c.loop-course.course) t c.stride-stride.ensures.profile.onward
+          (no_rest_more c.args.rule.now profile c.args.pattern (kept c.args.rule.now c.loop-course.course) t c.stride-stride.ensures.profile.onward
           c.loop-course.invariant.here c.loop-course.invariant.latest c.loop-course.invariant.before (rw c.in_default.is at c.in_ok-found.ensures.moves));
     }
 

@@ -13,7 +13,7 @@ abbrev pub invariant-loop-course : goal.invariant-loop-course
 invariant-loop-course l = record {
   by_rule : IsKept l.rule l.course;
   here : IsCheckpoint l.profile l.checkpoint;
-  latest : kept l.course ≡ after l.rule l.fn.pattern l.checkpoint;
-  noes : AreNoes l.rule l.profile (kept l.course) l.checkpoint l.noes;
+  latest : kept l.rule l.course ≡ after l.rule l.fn.pattern l.checkpoint;
+  noes : AreNoes l.rule l.profile (kept l.rule l.course) l.checkpoint l.noes;
   before : NoRestBefore l.rule l.profile l.fn.pattern l.checkpoint;
 }

@@ -3,6 +3,7 @@ use Rattle.plane_core.specs.declared.cell.Cell.{Cell}
 use Rattle.plane_core.specs.Generations.{after, lies_within}
 use Rattle.plane_core.specs.Rules.{Numbers}
 use Rattle.survey_core.specs.Courses.{kept}
+use Rattle.survey_core.specs.Harbours.{whole_of}
 use Rattle.survey_core.specs.UnderWay.{StaysNear, survey_reach}
 use Rattle.survey_core.proofs.CourseLemmas.{in_parts, near_ahead}
 use Rattle.survey_core.proofs.course.Course.go_on.Goals as goal
@@ -15,21 +16,21 @@ near_here rule cells latest m n is same near g low =
 -- it is in a list
 pub from_list-requires-clause-near : goal.from_list-requires-clause-near
 from_list-requires-clause-near c =
-    near_here c.args.rule.now c.in-Listed.pattern (kept c.args.self) c.stride-generations.result c.args.profile.now.stride
-    (sym (ap kept c.in-Listed.is)) c.stride-generations.ensures.stride c.requires.near
+    near_here c.args.rule.now c.in-Listed.pattern (kept c.args.rule.now c.args.self) c.stride-generations.result c.args.profile.now.stride
+    (sym (ap (kept c.args.rule.now) c.in-Listed.is)) c.stride-generations.ensures.stride c.requires.near
 
 pub returns-in-Listed-clause-kept : goal.returns-in-Listed-clause-kept
 returns-in-Listed-clause-kept c = c.from_list.ensures.kept
 
 pub returns-in-Listed-clause-cells : goal.returns-in-Listed-clause-cells
 returns-in-Listed-clause-cells c =
-    let cells = sym (ap kept c.in-Listed.is) in
-    subst (λ (T : List Cell). IfOk c.from_list.result (λ course. kept course ≡ T))
+    let cells = sym (ap (kept c.args.rule.now) c.in-Listed.is) in
+    subst (λ (T : List Cell). IfOk c.from_list.result (λ course. kept c.args.rule.now course ≡ T))
     (λ i. after c.args.rule.now (cells i) (c.stride-generations.ensures.stride i)) c.from_list.ensures.cells
 
 -- or on a board
-pub send_off-requires-clause-rule : goal.send_off-requires-clause-rule
-send_off-requires-clause-rule c = (rw c.in-Shown.is at c.requires.kept).0
+pub send_off-requires-clause-moored : goal.send_off-requires-clause-moored
+send_off-requires-clause-moored c = (rw c.in-Shown.is at c.requires.kept).0
 
 pub send_off-requires-clause-near : goal.send_off-requires-clause-near
 send_off-requires-clause-near c = (rw c.in-Shown.is at c.requires.kept).2
@@ -40,8 +41,8 @@ send_off-requires-clause-least c = subst (λ (n : ℕ). 1 ≤ n) (sym c.period.e
 pub send_off-requires-clause-most : goal.send_off-requires-clause-most
 send_off-requires-clause-most c = subst (λ (n : ℕ). n ≤ 64) (sym c.period.ensures.period) c.period.ensures.profile.period
 
-pub on_board-requires-clause-rule : goal.on_board-requires-clause-rule
-on_board-requires-clause-rule c = c.in_ok-harbour-in-Shown.ensures.rule ∙ (rw c.in-Shown.is at c.requires.kept).0
+pub on_board-requires-clause-moored : goal.on_board-requires-clause-moored
+on_board-requires-clause-moored c = c.in_ok-harbour-in-Shown.ensures.moored
 
 pub on_board-requires-clause-near : goal.on_board-requires-clause-near
 on_board-requires-clause-near c g low =
@@ -49,11 +50,11 @@ on_board-requires-clause-near c g low =
     let own = c.args.rule.now in
     let harbour = c.in-Shown.harbour in
     let ahead = c.in-Shown.ahead in
-    let cells = (λ i. after (sym is.0 i) harbour.cells ahead) ∙ sym (ap kept c.in-Shown.is) in
+    let cells = sym (ap (kept own) c.in-Shown.is) in
     let early : g ≤ ahead + c.args.profile.now.stride = subst (λ (n : ℕ). g ≤ ahead + n) c.stride-generations.ensures.stride low in
     ap (λ (S : List Cell). lies_within survey_reach (after own S g)) c.in_ok-harbour-in-Shown.ensures.cells
-    ∙ near_ahead own harbour.cells ahead c.args.profile.now.stride is.1 is.2
-    (near_here own (after own harbour.cells ahead) (kept c.args.self) _ _ cells refl c.requires.near)
+    ∙ near_ahead own (whole_of own harbour) ahead c.args.profile.now.stride is.1 is.2
+    (near_here own (after own (whole_of own harbour) ahead) (kept c.args.rule.now c.args.self) _ _ cells refl c.requires.near)
     g early
 
 pub returns-in_ok-harbour-in-Shown-clause-kept : goal.returns-in_ok-harbour-in-Shown-clause-kept
@@ -66,8 +67,8 @@ returns-in_ok-harbour-in-Shown-clause-cells c =
     let harbour = c.in-Shown.harbour in
     let ahead = c.in-Shown.ahead in
     let stride = c.args.profile.now.stride in
-    let cells = (λ i. after (sym is.0 i) harbour.cells ahead) ∙ sym (ap kept c.in-Shown.is) in
-    let same : after own c.in_ok-harbour-in-Shown.harbour.cells (ahead + c.stride-generations.result) ≡ after own (kept c.args.self) stride =
+    let cells = sym (ap (kept own) c.in-Shown.is) in
+    let same : after own (whole_of own c.in_ok-harbour-in-Shown.harbour) (ahead + c.stride-generations.result) ≡ after own (kept c.args.rule.now c.args.self) stride =
     (λ i. after own (c.in_ok-harbour-in-Shown.ensures.cells i) (ahead + c.stride-generations.ensures.stride i))
-    ∙ sym (in_parts own harbour.cells ahead stride (ahead + stride) refl) ∙ (λ i. after own (cells i) stride) in
-    subst (λ (T : List Cell). IfOk c.on_board.result (λ course. kept course ≡ T)) same c.on_board.ensures.cells
+    ∙ sym (in_parts own (whole_of own harbour) ahead stride (ahead + stride) refl) ∙ (λ i. after own (cells i) stride) in
+    subst (λ (T : List Cell). IfOk c.on_board.result (λ course. kept c.args.rule.now course ≡ T)) same c.on_board.ensures.cells
