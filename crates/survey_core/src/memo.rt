@@ -143,7 +143,12 @@ impl Memo {
         ensures rule { IfOk result (λ shown. IfSome shown (λ board. board.rule ≡ rule.now)) }
         ensures cells { IfOk result (λ shown. IfSome shown (λ board. board.cells ≡ pattern.now)) }
     {
-        let Some(mut board) = self.take_board(alloc, rule) else {
+        let kept = match (self.board.take(), self.size) {
+            (Some(board), _) => Some(board),
+            (None, Size::Small) => Board::small(alloc, rule).ok(),
+            (None, Size::Large) => Board::new(alloc, rule).ok(),
+        };
+        let Some(mut board) = kept else {
             return Ok(None);
         };
         let has_room = board.show(rule, pattern)?;
@@ -152,18 +157,6 @@ impl Memo {
         }
         self.outgrow(board);
         Ok(None)
-    }
-
-    /// The board that is kept, or else a new one, if there is memory for it.
-    fn take_board(&mut self, alloc: Global, rule: &Rule) -> Option<Board> {
-        if self.board.is_some() {
-            return self.board.take();
-        }
-        let made = match self.size {
-            Size::Small => Board::small(alloc, rule),
-            Size::Large => Board::new(alloc, rule),
-        };
-        made.ok()
     }
 
     /// Takes a board back on which a pattern had no room. If it was a small one, the next that is made is large.
