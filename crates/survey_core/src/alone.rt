@@ -13,9 +13,8 @@ ghost use Rattle.plane_core.specs.Cells.{InOrder};
 ghost use Rattle.plane_core.specs.Clusters.{Partition};
 ghost use Rattle.plane_core.specs.Generations.{lies_within, next};
 ghost use Rattle.plane_core.specs.declared.cell.Cell.{Cell};
-ghost use Rattle.survey_core.specs.Alone.{alone_at, clusters_of, latest_of, stepped};
+ghost use Rattle.survey_core.specs.Alone.{clusters_of, latest_of, stepped};
 ghost use Rattle.survey_core.specs.Groups.{union_of};
-ghost use Rattle.survey_core.specs.UnderWay.{survey_reach};
 
 use crate::later::{next, pattern_of};
 use memory::OutOfMemory;
@@ -27,26 +26,14 @@ use std::alloc::Global;
 /// A cluster that is run alone.
 #[derive(Drop)]
 pub(crate) struct Alone {
-    cluster: Pattern,
+    pub(crate) cluster: Pattern,
     /// Its next generation.
-    first: Pattern,
+    pub(crate) first: Pattern,
     /// The cluster so many generations later.
-    latest: Pattern,
+    pub(crate) latest: Pattern,
 }
 
 impl Alone {
-    /// A cluster that hasn't been run yet.
-    pub(crate) fn start(alloc: Global, rule: &Rule, cluster: &Pattern) -> Result<Alone, OutOfMemory>
-        requires { lies_within survey_reach cluster.now ≡ true }
-        ensures { IfOk result (λ alone. alone ≡ alone_at rule.now 0 cluster.now) }
-    {
-        Ok(Alone {
-            cluster: cluster.copy(alloc)?,
-            first: next(alloc, rule, cluster)?,
-            latest: cluster.copy(alloc)?,
-        })
-    }
-
     /// The next generation, which is known if the cluster is itself again. A still life always is.
     fn next(&self, alloc: Global, rule: &Rule) -> Result<Pattern, OutOfMemory>
         requires first { self.now.first ≡ next rule.now self.now.cluster }

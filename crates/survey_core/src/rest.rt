@@ -129,7 +129,11 @@ fn members(
         if groups[place] != number {
             continue;
         }
-        members.push(Alone::start(alloc, rule, cluster)?)?;
+        members.push(Alone {
+            cluster: cluster.copy(alloc)?,
+            first: next(alloc, rule, cluster)?,
+            latest: cluster.copy(alloc)?,
+        })?;
     }
     Ok(members)
 }
