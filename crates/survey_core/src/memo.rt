@@ -132,8 +132,9 @@ impl Memo {
         }
     }
 
-    /// A board that shows the pattern, which leaves the memo until `Course::end` or `outgrow` gives it back. It is
-    /// `None` where there is no memory for a board, or the board has no room for the pattern.
+    /// A board that shows the pattern: the one that is kept, or a new one. It leaves the memo until `Course::end` or
+    /// `outgrow` gives it back. It is `None` where there is no memory for a board, or the board has no room for the
+    /// pattern.
     pub(crate) fn board_with(
         &mut self,
         alloc: Global,
