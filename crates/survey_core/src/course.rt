@@ -21,7 +21,7 @@ ghost use Rattle.survey_core.specs.Harbours.{IsMoored, whole_of};
 ghost use Rattle.survey_core.specs.Rest.{IsAtRest};
 ghost use Rattle.survey_core.specs.UnderWay.{StaysNear, survey_reach};
 
-use crate::harbour::{Harbour, whole};
+use crate::harbour::{Harbour, LATEST_TIME, whole};
 use crate::later::{next, run_on};
 use crate::memo::Memo;
 use crate::profile::Profile;
@@ -146,7 +146,7 @@ fn from_list(
 fn on_board(
     alloc: Global,
     rule: &Rule,
-    harbour: Harbour,
+    mut harbour: Harbour,
     generations: u32,
     memo: &mut Memo,
 ) -> Result<Course, OutOfMemory>
@@ -157,12 +157,15 @@ fn on_board(
     ensures cells { IfOk result (λ course. kept rule.now course ≡ after rule.now (whole_of rule.now harbour) generations) }
 {
     let ahead = generations % 2;
-    match harbour.advance(alloc, rule, generations - ahead)? {
-        Ok(harbour) => Ok(Course::Shown(harbour, ahead)),
-        Err(stop) => {
-            let later = run_on(alloc, rule, generations - stop.made, &stop.pattern)?;
-            memo.outgrow(stop.board);
-            Ok(Course::Listed(later))
-        }
+    let most = generations - ahead;
+    let made = harbour.board.advance(most)?;
+    let time = harbour.time + made;
+    if made == most && time <= LATEST_TIME {
+        harbour.time = time;
+        return Ok(Course::Shown(harbour, ahead));
     }
+    let pattern = whole(alloc, rule, time, &harbour.board, harbour.ships.as_slice())?;
+    let later = run_on(alloc, rule, generations - made, &pattern)?;
+    memo.outgrow(harbour.board);
+    Ok(Course::Listed(later))
 }

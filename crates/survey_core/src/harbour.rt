@@ -9,13 +9,13 @@
 //! A board with ships off goes on by even numbers of generations: an odd number, again and again, could bring the rest
 //! nearer to a ship than half of their sum.
 
-ghost use Rattle.std.specs.Prelude.{◌≡◌, ◌+◌, ◌%◌, ◌≤◌, All, IfErr, IfOk, OnOk, false, true};
+ghost use Rattle.std.specs.Prelude.{◌≡◌, ◌+◌, ◌≤◌, All, IfOk, OnOk, false, true};
 ghost use Rattle.plane_core.specs.Cells.{InOrder};
 ghost use Rattle.plane_core.specs.Frontiers.{is_slow};
-ghost use Rattle.plane_core.specs.Generations.{after, lies_within};
+ghost use Rattle.plane_core.specs.Generations.{lies_within};
 ghost use Rattle.survey_core.specs.Harbours.{AreCandidates, IsHarbour, IsMoored, IsNoneOf, IsTraced, latest_time};
 ghost use Rattle.survey_core.specs.Harbours.{whole_at, whole_of};
-ghost use Rattle.survey_core.specs.UnderWay.{StaysNear, survey_reach};
+ghost use Rattle.survey_core.specs.UnderWay.{survey_reach};
 
 use crate::alone::are_same;
 use crate::later::pattern_of;
@@ -30,7 +30,7 @@ use std::alloc::Global;
 
 /// Until when ships are kept off a board. No survey goes on so long, and until then no ship has come near the edge of
 /// the plane.
-const LATEST_TIME: u32 = 800_000;
+pub(crate) const LATEST_TIME: u32 = 800_000;
 
 /// Ships are looked for about once in so many generations: a look for them costs as much as a leap or two, and until
 /// it is found a ship costs a window in each leap.
@@ -46,14 +46,6 @@ pub(crate) struct Harbour {
     pub(crate) ships: Vec<Ship>,
     /// How many generations were made on the board.
     pub(crate) time: u32,
-}
-
-/// The pattern after so many generations, as a list, and the board, which has had no room for more.
-#[derive(Drop)]
-pub(crate) struct Stop {
-    pub(crate) pattern: Pattern,
-    pub(crate) made: u32,
-    pub(crate) board: Board,
 }
 
 impl Harbour {
@@ -99,46 +91,6 @@ impl Harbour {
             }
         }
         Ok(Harbour { board, ships, time })
-    }
-
-    /// Goes on by so many generations, an even number, if the board has room for all of them.
-    pub(crate) fn advance(
-        self,
-        alloc: Global,
-        rule: &Rule,
-        most: u32,
-    ) -> Result<Result<Harbour, Stop>, OutOfMemory>
-        requires moored { IsMoored rule.now self }
-        requires even { most % 2 ≡ 0 }
-        requires few { most ≤ 10001 }
-        requires near { StaysNear rule.now (whole_of rule.now self) most }
-        ensures moored { IfOk result (λ reached. IfOk reached (IsMoored rule.now)) }
-        ensures cells { IfOk result (λ reached. IfOk reached
-            (λ harbour. whole_of rule.now harbour ≡ after rule.now (whole_of rule.now self) most)) }
-        ensures made { IfOk result (λ reached. IfErr reached (λ stop. stop.made ≤ most)) }
-        ensures stopped { IfOk result (λ reached. IfErr reached
-            (λ stop. stop.pattern ≡ after rule.now (whole_of rule.now self) stop.made)) }
-    {
-        let Harbour {
-            mut board,
-            ships,
-            time,
-        } = self;
-        let made = board.advance(most)?;
-        let later = time + made;
-        if made == most && later <= LATEST_TIME {
-            return Ok(Ok(Harbour {
-                board,
-                ships,
-                time: later,
-            }));
-        }
-        let pattern = whole(alloc, rule, later, &board, ships.as_slice())?;
-        Ok(Err(Stop {
-            pattern,
-            made,
-            board,
-        }))
     }
 }
 
