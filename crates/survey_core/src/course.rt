@@ -98,9 +98,9 @@ impl Course {
         let generations = profile.stride();
         match self {
             Course::Listed(pattern) => from_list(alloc, rule, pattern, generations, memo),
-            Course::Shown(harbour, ahead) => {
+            Course::Shown(mut harbour, ahead) => {
                 let total = ahead + generations;
-                let harbour = harbour.send_off(alloc, rule, profile.period(), total, memo)?;
+                harbour.send_off(alloc, rule, profile.period(), total, memo)?;
                 on_board(alloc, rule, harbour, total, memo)
             }
         }

@@ -53,44 +53,46 @@ impl Harbour {
     /// looked for only before the board comes past a multiple of `EVERY`. Ships whose period is over the limit, 1 to
     /// 64, stay.
     pub(crate) fn send_off(
-        self,
+        &mut self,
         alloc: Global,
         rule: &Rule,
         limit: u32,
         generations: u32,
         memo: &mut Memo,
-    ) -> Result<Harbour, OutOfMemory>
-        requires moored { IsMoored rule.now self }
+    ) -> Result<(), OutOfMemory>
+        requires moored { IsMoored rule.now self.old }
         requires least { 1 ≤ limit }
         requires most { limit ≤ 64 }
-        requires near { lies_within survey_reach (whole_of rule.now self) ≡ true }
-        ensures moored { IfOk result (IsMoored rule.now) }
-        ensures cells { IfOk result (λ harbour. whole_of rule.now harbour ≡ whole_of rule.now self) }
+        requires near { lies_within survey_reach (whole_of rule.now self.old) ≡ true }
+        ensures moored { OnOk result (IsMoored rule.now self.new) }
+        ensures cells { OnOk result (whole_of rule.now self.new ≡ whole_of rule.now self.old) }
     {
         let slow = is_slow(rule);
         if !slow || limit < SHORTEST_PERIOD {
-            return Ok(self);
+            return Ok(());
         }
         if self.time % EVERY + generations.min(EVERY) + 1 < EVERY {
-            return Ok(self);
+            return Ok(());
         }
-        let Harbour {
-            mut board,
-            mut ships,
-            time,
-        } = self;
-        let clusters = board.small_clusters(alloc)?;
+        let clusters = self.board.small_clusters(alloc)?;
         let clusters = clusters.as_slice();
         for _ in 0..clusters.len() {
-            let count = ships.len();
+            let count = self.ships.len();
             leave(
-                alloc, rule, limit, clusters, time, &mut board, &mut ships, memo,
+                alloc,
+                rule,
+                limit,
+                clusters,
+                self.time,
+                &mut self.board,
+                &mut self.ships,
+                memo,
             )?;
-            if ships.len() == count {
-                return Ok(Harbour { board, ships, time });
+            if self.ships.len() == count {
+                return Ok(());
             }
         }
-        Ok(Harbour { board, ships, time })
+        Ok(())
     }
 }
 

@@ -42,7 +42,7 @@ pub send_off-requires-clause-most : goal.send_off-requires-clause-most
 send_off-requires-clause-most c = subst (λ (n : ℕ). n ≤ 64) (sym c.period.ensures.period) c.period.ensures.profile.period
 
 pub on_board-requires-clause-moored : goal.on_board-requires-clause-moored
-on_board-requires-clause-moored c = c.in_ok-harbour-in-Shown.ensures.moored
+on_board-requires-clause-moored c = c.in_ok-send_off-in-Shown.ensures.moored
 
 pub on_board-requires-clause-near : goal.on_board-requires-clause-near
 on_board-requires-clause-near c g low =
@@ -52,23 +52,23 @@ on_board-requires-clause-near c g low =
     let ahead = c.in-Shown.ahead in
     let cells = sym (ap (kept own) c.in-Shown.is) in
     let early : g ≤ ahead + c.args.profile.now.stride = subst (λ (n : ℕ). g ≤ ahead + n) c.stride-generations.ensures.stride low in
-    ap (λ (S : List Cell). lies_within survey_reach (after own S g)) c.in_ok-harbour-in-Shown.ensures.cells
+    ap (λ (S : List Cell). lies_within survey_reach (after own S g)) c.in_ok-send_off-in-Shown.ensures.cells
     ∙ near_ahead own (whole_of own harbour) ahead c.args.profile.now.stride is.1 is.2
     (near_here own (after own (whole_of own harbour) ahead) (kept c.args.rule.now c.args.self) _ _ cells refl c.requires.near)
     g early
 
-pub returns-in_ok-harbour-in-Shown-clause-kept : goal.returns-in_ok-harbour-in-Shown-clause-kept
-returns-in_ok-harbour-in-Shown-clause-kept c = c.on_board.ensures.kept
+pub returns-in_ok-send_off-in-Shown-clause-kept : goal.returns-in_ok-send_off-in-Shown-clause-kept
+returns-in_ok-send_off-in-Shown-clause-kept c = c.on_board.ensures.kept
 
-pub returns-in_ok-harbour-in-Shown-clause-cells : goal.returns-in_ok-harbour-in-Shown-clause-cells
-returns-in_ok-harbour-in-Shown-clause-cells c =
+pub returns-in_ok-send_off-in-Shown-clause-cells : goal.returns-in_ok-send_off-in-Shown-clause-cells
+returns-in_ok-send_off-in-Shown-clause-cells c =
     let is = rw c.in-Shown.is at c.requires.kept in
     let own = c.args.rule.now in
     let harbour = c.in-Shown.harbour in
     let ahead = c.in-Shown.ahead in
     let stride = c.args.profile.now.stride in
     let cells = sym (ap (kept own) c.in-Shown.is) in
-    let same : after own (whole_of own c.in_ok-harbour-in-Shown.harbour) (ahead + c.stride-generations.result) ≡ after own (kept c.args.rule.now c.args.self) stride =
-    (λ i. after own (c.in_ok-harbour-in-Shown.ensures.cells i) (ahead + c.stride-generations.ensures.stride i))
+    let same : after own (whole_of own c.send_off.new.self) (ahead + c.stride-generations.result) ≡ after own (kept c.args.rule.now c.args.self) stride =
+    (λ i. after own (c.in_ok-send_off-in-Shown.ensures.cells i) (ahead + c.stride-generations.ensures.stride i))
     ∙ sym (in_parts own (whole_of own harbour) ahead stride (ahead + stride) refl) ∙ (λ i. after own (cells i) stride) in
     subst (λ (T : List Cell). IfOk c.on_board.result (λ course. kept c.args.rule.now course ≡ T)) same c.on_board.ensures.cells
