@@ -97,7 +97,7 @@ impl Course {
     {
         let generations = profile.stride();
         match self {
-            Course::Listed(pattern) => from_list(alloc, rule, pattern, generations, memo),
+            Course::Listed(pattern) => from_list(alloc, rule, &pattern, generations, memo),
             Course::Shown(mut harbour, ahead) => {
                 let total = ahead + generations;
                 harbour.send_off(alloc, rule, profile.period(), total, memo)?;
@@ -118,19 +118,19 @@ impl Course {
 fn from_list(
     alloc: Global,
     rule: &Rule,
-    pattern: Pattern,
+    pattern: &Pattern,
     generations: u32,
     memo: &mut Memo,
 ) -> Result<Course, OutOfMemory>
     requires few { generations ≤ 10001 }
-    requires near { StaysNear rule.now pattern generations }
+    requires near { StaysNear rule.now pattern.now generations }
     ensures kept { IfOk result (IsKept rule.now) }
-    ensures cells { IfOk result (λ course. kept rule.now course ≡ after rule.now pattern generations) }
+    ensures cells { IfOk result (λ course. kept rule.now course ≡ after rule.now pattern.now generations) }
 {
     // That a pattern's cells stand in order is known of them where they are asked for.
     let _in_order = pattern.cells();
-    let Some(board) = memo.board_with(alloc, rule, &pattern)? else {
-        let later = run_on(alloc, rule, generations, &pattern)?;
+    let Some(board) = memo.board_with(alloc, rule, pattern)? else {
+        let later = run_on(alloc, rule, generations, pattern)?;
         return Ok(Course::Listed(later));
     };
     let harbour = Harbour {

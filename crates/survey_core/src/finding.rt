@@ -197,7 +197,9 @@ fn look_at(
         return Ok(None);
     }
     let latest = course.look(alloc, rule)?;
-    let Some(clusters) = clusters_at_rest(alloc, profile, rule, &latest, memo)? else {
+    let found = clusters_at_rest(alloc, profile, rule, &latest, memo)?;
+    drop(latest);
+    let Some(clusters) = found else {
         if course.is_still() {
             noes[parity] = true;
         }

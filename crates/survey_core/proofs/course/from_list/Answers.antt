@@ -13,7 +13,7 @@ use Rattle.survey_core.proofs.CourseLemmas.{near_now}
 use Rattle.survey_core.proofs.course.from_list.Goals as goal
 
 pub run_on-requires-clause-near : goal.run_on-requires-clause-near
-run_on-requires-clause-near c = near_now c.args.rule.now c.args.pattern c.args.generations c.requires.near
+run_on-requires-clause-near c = near_now c.args.rule.now c.args.pattern.now c.args.generations c.requires.near
 
 pub run_on-requires-clause-few : goal.run_on-requires-clause-few
 run_on-requires-clause-few c = c.requires.few
@@ -35,7 +35,7 @@ whole_is rule harbour pattern shows none order =
 
 pub on_board-requires-clause-moored : goal.on_board-requires-clause-moored
 on_board-requires-clause-moored c =
-    moored c.args.rule.now (record { board = c.in-Some.board; ships = c.new.result; time = 0 }) c.args.pattern (rw c.in-Some.is at c.in_ok-board.ensures.rule) (rw c.in-Some.is at c.in_ok-board.ensures.cells)
+    moored c.args.rule.now (record { board = c.in-Some.board; ships = c.new.result; time = 0 }) c.args.pattern.now (rw c.in-Some.is at c.in_ok-board.ensures.rule) (rw c.in-Some.is at c.in_ok-board.ensures.cells)
     c.new.ensures.items refl c.cells-in_order.ensures.pattern.in_order
 
 pub on_board-requires-clause-few : goal.on_board-requires-clause-few
@@ -44,13 +44,13 @@ on_board-requires-clause-few c = c.requires.few
 pub on_board-requires-clause-near : goal.on_board-requires-clause-near
 on_board-requires-clause-near c =
     subst (λ (S : List Cell). StaysNear c.args.rule.now S c.args.generations)
-    (sym (whole_is c.args.rule.now (record { board = c.in-Some.board; ships = c.new.result; time = 0 }) c.args.pattern
+    (sym (whole_is c.args.rule.now (record { board = c.in-Some.board; ships = c.new.result; time = 0 }) c.args.pattern.now
     (rw c.in-Some.is at c.in_ok-board.ensures.cells) c.new.ensures.items c.cells-in_order.ensures.pattern.in_order)) c.requires.near
 
 pub returns-clause-cells : goal.returns-clause-cells
 returns-clause-cells c =
     subst (λ (S : List Cell). IfOk c.on_board.result (λ course. kept c.args.rule.now course ≡ after c.args.rule.now S c.args.generations))
-    (whole_is c.args.rule.now (record { board = c.in-Some.board; ships = c.new.result; time = 0 }) c.args.pattern
+    (whole_is c.args.rule.now (record { board = c.in-Some.board; ships = c.new.result; time = 0 }) c.args.pattern.now
     (rw c.in-Some.is at c.in_ok-board.ensures.cells) c.new.ensures.items c.cells-in_order.ensures.pattern.in_order) c.on_board.ensures.cells
 
 pub returns-clause-kept : goal.returns-clause-kept
