@@ -1,6 +1,6 @@
 use Rattle.std.proofs.Common.{◌≡◌, ◌≢◌, ◌∙◌, ◌≤◌, ◌↔◌, IsTrue, List, [], All, ℕ, ap, refl, subst, sym, true}
 use Rattle.plane_core.specs.declared.cell.Cell.{Cell}
-use Rattle.plane_core.specs.Generations.{after, lies_within}
+use Rattle.plane_core.specs.Generations.{lies_within}
 use Rattle.survey_core.specs.Courses.{kept}
 use Rattle.survey_core.specs.Noes.{AreNoes}
 use Rattle.survey_core.specs.Objects.{AreObjectsOf, StayForGood}

@@ -3,7 +3,6 @@ use Rattle.plane_core.specs.declared.cell.Cell.{Cell}
 use Rattle.plane_core.specs.Generations.{after, lies_within, next}
 use Rattle.plane_core.proofs.GenerationLemmas.{after-none}
 use Rattle.plane_core.proofs.SpeedLemmas.{after-suc}
-use Rattle.survey_core.specs.declared.course.Course.{Course}
 use Rattle.survey_core.specs.declared.course.Course.TheVariants.{Shown}
 use Rattle.survey_core.specs.Courses.{IsKept, kept}
 use Rattle.survey_core.specs.Harbours.{whole_at, whole_of}
