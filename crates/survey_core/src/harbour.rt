@@ -114,7 +114,7 @@ fn leave(
     requires harbour { IsHarbour rule.now time board.old.cells ships.old.items }
     requires near { lies_within survey_reach (whole_at rule.now time board.old.cells ships.old.items) ≡ true }
     requires clusters { AreCandidates board.old.cells ships.old.items clusters.now }
-    ensures rule { board.new.rule ≡ board.old.rule }
+    ensures rule { OnOk result (board.new.rule ≡ board.old.rule) }
     ensures harbour { OnOk result (IsHarbour rule.now time board.new.cells ships.new.items) }
     ensures whole { OnOk result (whole_at rule.now time board.new.cells ships.new.items
         ≡ whole_at rule.now time board.old.cells ships.old.items) }

@@ -24,9 +24,11 @@ returns-in_default-clause-kept c = ap (lies_within survey_reach) c.in_ok-later.e
 -- it is on a board, which no ship has left
 moored : (rule : Numbers) (harbour : Harbour) (pattern : List Cell) → harbour.board.rule ≡ rule → harbour.board.cells ≡ pattern
     → harbour.ships.items ≡ [] → harbour.time ≡ 0 → InOrder pattern → IsMoored rule harbour
-moored rule harbour pattern goes shows none early order =
-    (goes, subst (λ (t : ℕ). IsHarbour rule t harbour.board.cells harbour.ships.items) (sym early)
-    (new_harbour rule harbour.board.cells harbour.ships.items (subst InOrder (sym shows) order) none))
+moored rule harbour pattern goes shows none early order = (
+  goes,
+  subst (λ (t : ℕ). IsHarbour rule t harbour.board.cells harbour.ships.items) (sym early)
+      (new_harbour rule harbour.board.cells harbour.ships.items (subst InOrder (sym shows) order) none),
+)
 
 whole_is : (rule : Numbers) (harbour : Harbour) (pattern : List Cell) → harbour.board.cells ≡ pattern → harbour.ships.items ≡ [] → InOrder pattern
     → whole_of rule harbour ≡ pattern
