@@ -13,13 +13,13 @@
 //! Where the board has no room for the next leap, the pattern goes on from that generation as a list. Ships that are
 //! ahead of all the rest leave the board before it goes on, and are put back into the pattern where that is listed.
 
-ghost use Rattle.std.specs.Prelude.{◌≡◌, ◌+◌, ◌%◌, ◌<◌, ◌≤◌, ℕ, IfOk, IsTrue, true};
-ghost use Rattle.plane_core.specs.Generations.{after, lies_within};
+ghost use Rattle.std.specs.Prelude.{◌≡◌, ◌+◌, ◌%◌, ◌<◌, ◌≤◌, ℕ, IfOk, IsTrue};
+ghost use Rattle.plane_core.specs.Generations.{after};
 ghost use Rattle.plane_core.specs.Rules.{Numbers};
 ghost use Rattle.survey_core.specs.Courses.{IsKept, kept};
 ghost use Rattle.survey_core.specs.Harbours.{IsMoored, whole_of};
 ghost use Rattle.survey_core.specs.Rest.{IsAtRest};
-ghost use Rattle.survey_core.specs.UnderWay.{StaysNear, survey_reach};
+ghost use Rattle.survey_core.specs.UnderWay.{StaysNear};
 
 use crate::harbour::{Harbour, LATEST_TIME, whole};
 use crate::later::{next, run_on};
@@ -93,7 +93,8 @@ impl Course {
         requires kept { IsKept rule.now self }
         requires near { StaysNear rule.now (kept rule.now self) profile.now.stride }
         ensures kept { IfOk result (IsKept rule.now) }
-        ensures cells { IfOk result (λ course. kept rule.now course ≡ after rule.now (kept rule.now self) profile.now.stride) }
+        ensures cells { IfOk result
+            (λ course. kept rule.now course ≡ after rule.now (kept rule.now self) profile.now.stride) }
     {
         let generations = profile.stride();
         match self {
@@ -154,7 +155,8 @@ fn on_board(
     requires few { generations ≤ 10001 }
     requires near { StaysNear rule.now (whole_of rule.now harbour) generations }
     ensures kept { IfOk result (IsKept rule.now) }
-    ensures cells { IfOk result (λ course. kept rule.now course ≡ after rule.now (whole_of rule.now harbour) generations) }
+    ensures cells { IfOk result
+        (λ course. kept rule.now course ≡ after rule.now (whole_of rule.now harbour) generations) }
 {
     let ahead = generations % 2;
     let most = generations - ahead;

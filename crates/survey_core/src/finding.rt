@@ -184,7 +184,8 @@ fn look_at(
     requires kept { IsKept rule.now course.now }
     requires near { lies_within survey_reach (kept rule.now course.now) ≡ true }
     requires noes { AreNoes rule.now profile.now (kept rule.now course.now) checkpoint noes.old }
-    ensures settled { IfOk result (λ found. IfSome found (SettlesAt rule.now profile.now (kept rule.now course.now) checkpoint)) }
+    ensures settled { IfOk result
+        (λ found. IfSome found (SettlesAt rule.now profile.now (kept rule.now course.now) checkpoint)) }
     ensures moves { IfOk result (λ found. IfNone found (¬ IsAtRest rule.now profile.now (kept rule.now course.now))) }
     ensures few { IfOk result (λ found. IfSome found (λ finding. objects_in finding < 2 ^ 64)) }
     ensures noes { OnOk result (AreNoes rule.now profile.now (kept rule.now course.now) checkpoint noes.new) }
