@@ -13,7 +13,7 @@
 //! Where the board has no room for the next leap, the pattern goes on from that generation as a list. Ships that are
 //! ahead of all the rest leave the board before it goes on, and are put back into the pattern where that is listed.
 
-ghost use Rattle.std.specs.Prelude.{◌≡◌, ◌+◌, ◌%◌, ◌<◌, ◌≤◌, ℕ, IfOk, IsTrue};
+ghost use Rattle.std.specs.Prelude.{◌≡◌, ◌%◌, ◌≤◌, ℕ, IfOk, IsTrue};
 ghost use Rattle.plane_core.specs.Generations.{after};
 ghost use Rattle.plane_core.specs.Rules.{Numbers};
 ghost use Rattle.survey_core.specs.Courses.{IsKept, kept};
