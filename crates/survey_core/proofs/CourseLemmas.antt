@@ -30,10 +30,10 @@ near_ahead rule cells ahead n few here near g low = go (less_or_not g ahead)
         ap (lies_within survey_reach) (sym (in_parts rule cells ahead (g - ahead) g (omega arith))) ∙ near (g - ahead) (omega arith)
 
 -- up to the next checkpoint a pattern stays near
-pub stays_near : (rule run : Numbers) (cells latest : List Cell) (t n : ℕ) → run ≡ rule → latest ≡ after rule cells t
-    → lies_within 1000 cells ≡ true → t + n ≤ 100000 → StaysNear run latest n
-stays_near rule run cells latest t n same is near most g few =
-    (λ i. lies_within survey_reach (after (same i) (is i) g)) ∙ ap (lies_within survey_reach) (after-then rule cells t g)
+pub stays_near : (rule : Numbers) (cells latest : List Cell) (t n : ℕ) → latest ≡ after rule cells t
+    → lies_within 1000 cells ≡ true → t + n ≤ 100000 → StaysNear rule latest n
+stays_near rule cells latest t n is near most g few =
+    (λ i. lies_within survey_reach (after rule (is i) g)) ∙ ap (lies_within survey_reach) (after-then rule cells t g)
     ∙ within_later 1000 survey_reach rule cells (t + g) (omega arith) near
 
 -- what n generations don't change, they don't change later

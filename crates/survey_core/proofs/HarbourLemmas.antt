@@ -19,9 +19,11 @@ use Rattle.plane_core.proofs.ClusterLemmas.{linked-sym, linked-trans}
 use Rattle.plane_core.proofs.SearchLemmas.{has-list_all, list_all-has}
 use Rattle.plane_core.proofs.SetLemmas.{has-filter, same_lists}
 use Rattle.code_core.specs.declared.recurrence.Recurrence.{Recurrence}
+use Rattle.survey_core.specs.declared.harbour.Harbour.{Harbour}
 use Rattle.survey_core.specs.declared.ships.Ship.{Ship}
 use Rattle.survey_core.specs.declared.sweep.Sweep.{Sweep}
-use Rattle.survey_core.specs.Harbours.{AreCandidates, AreOff, HasSmallNumbers, IsHarbour, IsNoneOf, IsOff, IsTraced, latest_time, ship_at, whole_at}
+use Rattle.survey_core.specs.Harbours.{AreCandidates, AreOff, HasSmallNumbers, IsHarbour, IsMoored, IsNoneOf, IsOff, IsTraced, latest_time, ship_at}
+use Rattle.survey_core.specs.Harbours.{whole_at, whole_of}
 use Rattle.survey_core.specs.Ships.{IsForemost, IsPartOf}
 use Rattle.survey_core.specs.Sweeps.{IsSweep}
 use Rattle.survey_core.specs.UnderWay.{survey_reach}
@@ -114,6 +116,13 @@ whole-empty rule t board [] is_empty is empty order = whole-none rule t board or
 whole-empty rule t board (ship ∷ ships) is_empty is empty order =
     let none : length (ship ∷ ships) ≡ 0 = eqb-true (length (ship ∷ ships)) 0 (sym is ∙ empty) in absurd (omega (arith, none))
 
+-- and then it is still where the board is
+pub still_whole : (rule : Numbers) (t n : ℕ) (board : List Cell) (ships : List Ship) (is_empty : Bool) → is_empty ≡ (length ships == 0)
+    → is_empty ≡ true → InOrder board → after rule board n ≡ board → after rule (whole_at rule t board ships) n ≡ whole_at rule t board ships
+still_whole rule t n board ships is_empty is empty order still =
+    let all = whole-empty rule t board ships is_empty is empty order in
+    ap (λ (S : List Cell). after rule S n) all ∙ still ∙ sym all
+
 -- an even number of generations later
 pub harbour_later : (rule r : Numbers) (t n most : ℕ) (board b : List Cell) (ships : List Ship) → IsHarbour rule t board ships → most % 2 ≡ 0
     → n ≡ most
@@ -147,6 +156,19 @@ pub whole_gone_on : (rule : Numbers) (t n : ℕ) (board b whole : List Cell) (sh
     → b ≡ after rule board n → whole_at rule (t + n) b ships ≡ after rule whole n
 whole_gone_on rule t n board b whole ships is all at =
     ap (λ (S : List Cell). whole_at rule (t + n) S ships) at ∙ sym (is.off.alone n) ∙ ap (λ (S : List Cell). after rule S n) all
+
+-- ---- a harbour that goes on
+
+-- the board goes on by the rule
+pub board_later : (rule : Numbers) (harbour : Harbour) (n : ℕ) (b : List Cell) → IsMoored rule harbour → b ≡ after harbour.board.rule harbour.board.cells n
+    → b ≡ after rule harbour.board.cells n
+board_later rule harbour n b is at = at ∙ ap (λ (r : Numbers). after r harbour.board.cells n) is.0
+
+-- and so does the whole
+pub whole_later : (rule : Numbers) (harbour : Harbour) (n : ℕ) (b : List Cell) → IsMoored rule harbour → b ≡ after harbour.board.rule harbour.board.cells n
+    → whole_at rule (harbour.time + n) b harbour.ships.items ≡ after rule (whole_of rule harbour) n
+whole_later rule harbour n b is at =
+    whole_gone_on rule harbour.time n harbour.board.cells b (whole_of rule harbour) harbour.ships.items is.1 refl (board_later rule harbour n b is at)
 
 -- ---- candidates
 

@@ -1,5 +1,5 @@
 -- What is known of a shape holds of each pattern that it is about.
-use Rattle.std.proofs.Common.{◌≡◌, ◌∙◌, refl, sym, subst, ℕ, ℤ, Bool, false, not, true, List, All, arith}
+use Rattle.std.proofs.Common.{◌≡◌, ◌∙◌, ◌+ℤ◌, refl, sym, subst, ℕ, ℤ, Bool, false, not, true, List, All, arith}
 use Rattle.std.proofs.lemmas.Int.{ints}
 use Rattle.std.proofs.lemmas.List.Elements.{All-map}
 use Rattle.plane_core.specs.declared.bounds.Bounds.{Bounds}
@@ -13,10 +13,23 @@ use Rattle.code_core.specs.Names.{IsCode}
 use Rattle.code_core.proofs.MovedCodes.{after-shifted, codes_moved, recurs-shifted}
 use Rattle.survey_core.specs.declared.sweep.Sweep.{Sweep}
 use Rattle.survey_core.specs.Jobs.{same_rule}
-use Rattle.survey_core.specs.Memos.{Fact, IsAbout, IsKnown, moved_bounds, moved_sweep}
+use Rattle.survey_core.specs.Memos.{Fact, IsAbout, IsKnown}
 use Rattle.survey_core.specs.Rest.{ComesBack}
 use Rattle.survey_core.specs.Sweeps.{IsSweep}
 use Rattle.survey_core.proofs.JobLemmas.{rules_decide}
+
+-- a box, moved
+abbrev moved_bounds : ℤ × ℤ → Bounds → Bounds
+moved_bounds shift b = record {
+  left = b.left +ℤ shift.0;
+  top = b.top +ℤ shift.1;
+  right = b.right +ℤ shift.0;
+  bottom = b.bottom +ℤ shift.1;
+}
+
+-- the sweep of a moved pattern: it comes back as before, in the moved box
+abbrev pub moved_sweep : ℤ × ℤ → Sweep → Sweep
+moved_sweep shift sweep = record { recurrence = sweep.recurrence; bounds = moved_bounds shift sweep.bounds }
 
 -- what is never itself again doesn't come back
 pub never_back : (rule : Numbers) (limit : ℕ) (cells : List Cell) → NeverBack rule cells limit → ¬ ComesBack rule limit cells

@@ -21,7 +21,7 @@ use Rattle.std.proofs.Math.Nat.{div-add-mod, mul-mod_left}
 use Rattle.plane_core.specs.declared.cell.Cell.{Cell}
 use Rattle.plane_core.specs.Rules.{Numbers}
 use Rattle.code_core.specs.Names.{IsCode}
-use Rattle.survey_core.specs.Objects.{AreObjects, CountsAreSome, IsMultiple, count_of, is_code}
+use Rattle.survey_core.specs.Objects.{AreObjects, IsMultiple, count_of, is_code}
 
 -- a multiple of n is what n divides without a rest
 pub multiple_then : (m n : ℕ) → IsTrue (nat_eq (m % n) 0) ↔ IsMultiple m n
@@ -38,6 +38,10 @@ never_of_none m n some none (k, is) = none_left k m n some none is
     none_left k m n some none is = grind (arith, some, none, is)
 
 -- ---- codes
+
+-- no code has a count of 0
+abbrev pub CountsAreSome : List (List ℕ × ℕ) → Type 0
+CountsAreSome objects = (code : List ℕ) → IfSome (lookup (is_code code) objects) (λ n. 1 ≤ n)
 
 -- two texts that compare as equal are one
 pub same_code : (a b : List ℕ) → slice_cmp nat_cmp a b ≡ Equal → a ≡ b

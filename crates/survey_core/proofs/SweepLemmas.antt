@@ -15,11 +15,20 @@ use Rattle.plane_core.specs.Rules.{Numbers}
 use Rattle.plane_core.proofs.SetLemmas.{has-all}
 use Rattle.code_core.proofs.MovedCodes.{after-shifted}
 use Rattle.survey_core.specs.declared.sweep.Sweep.{Sweep}
-use Rattle.survey_core.specs.Sweeps.{AreSweeps, IsSweep, Serves, ShipsMoveByTurns, StayApart, StayClear, carried, is_clear, is_parting, is_past, times}
+use Rattle.survey_core.specs.Sweeps.{AreSweeps, IsSweep, Serves, ShipsMoveByTurns, StayApart, StayClear, gap_stays, gaps_of, is_clear, is_past, times}
 use Rattle.survey_core.proofs.FindingLemmas.{after-then}
 use Rattle.survey_core.proofs.ForGoodLemmas.{after_remainder, shifted-none}
 
 -- ---- turns
+
+-- the box of turn n
+abbrev carried : ℕ → Sweep → Bounds
+carried n sweep = record {
+  left = sweep.bounds.left +ℤ times n sweep.recurrence.dx;
+  top = sweep.bounds.top +ℤ times n sweep.recurrence.dy;
+  right = sweep.bounds.right +ℤ times n sweep.recurrence.dx;
+  bottom = sweep.bounds.bottom +ℤ times n sweep.recurrence.dy;
+}
 
 one_more : (a s t : ℤ) → (a +ℤ s) +ℤ t ≡ a +ℤ (s +ℤ t)
 one_more a s t = omega (arith, ints)
@@ -232,6 +241,10 @@ ahead_later end begin d n m low h =
 
 either : {a b c d : Bool} → (a ≡ true → c ≡ true) → (b ≡ true → d ≡ true) → (a || b) ≡ true → (c || d) ≡ true
 either {a} {b} {c} {d} one other some = elim (or_cases a b some) [ inl e ↦ or_left c d (one e) | inr e ↦ or_right c d (other e) ]
+
+-- the boxes are clear of each other, and stay so, if the other goes on by (dx, dy) in each turn
+abbrev is_parting : Bounds → Bounds → ℤ → ℤ → ℤ → ℤ → Bool
+is_parting one other x y dx dy = gap_stays (gaps_of one other x y) dx dy
 
 -- boxes that part are clear in all later turns
 parting_clear : (one other : Bounds) (dx dy : ℤ) (n m : ℕ) → n ≤ m → is_parting one other (times n dx) (times n dy) dx dy ≡ true

@@ -3,16 +3,17 @@ use Rattle.std.specs.Prelude.{◌≡◌, ◌≤◌, List, true}
 use Rattle.plane_core.specs.declared.cell.Cell.{Cell}
 use Rattle.plane_core.specs.Generations.{after, lies_within}
 use Rattle.plane_core.specs.Rules.{Numbers}
+use Rattle.survey_core.specs.Harbours.{IsMoored, whole_of}
 use Rattle.survey_core.specs.UnderWay.{survey_reach}
-use Rattle.survey_core.specs.declared.course.Kept.{Kept}
-use Rattle.survey_core.specs.declared.course.Kept.TheVariants.{Listed, Shown}
+use Rattle.survey_core.specs.declared.course.Course.{Course}
+use Rattle.survey_core.specs.declared.course.Course.TheVariants.{Listed, Shown}
 
 -- the pattern, wherever it is kept
-abbrev pub kept : Kept → List Cell
-kept (Listed cells) = cells
-kept (Shown harbour ahead) = after harbour.rule harbour.cells ahead
+abbrev pub kept : Numbers → Course → List Cell
+kept rule (Listed cells) = cells
+kept rule (Shown harbour ahead) = after rule (whole_of rule harbour) ahead
 
--- a harbour goes by the rule of the course, and is at most a generation behind
-abbrev pub IsKept : Numbers → Kept → Type 0
+-- it lies near the origin; a harbour goes by the rule, and is at most a generation behind
+abbrev pub IsKept : Numbers → Course → Type 0
 IsKept rule (Listed cells) = lies_within survey_reach cells ≡ true
-IsKept rule (Shown harbour ahead) = (harbour.rule ≡ rule) × (ahead ≤ 1) × (lies_within survey_reach harbour.cells ≡ true)
+IsKept rule (Shown harbour ahead) = IsMoored rule harbour × (ahead ≤ 1) × (lies_within survey_reach (whole_of rule harbour) ≡ true)

@@ -7,6 +7,7 @@ use Rattle.plane_core.specs.Clusters.{IsCluster}
 use Rattle.plane_core.specs.Frontiers.{LiesUpTo, is_slow}
 use Rattle.plane_core.specs.Generations.{after, lies_within}
 use Rattle.plane_core.specs.Rules.{Numbers}
+use Rattle.survey_core.specs.declared.harbour.Harbour.{Harbour}
 use Rattle.survey_core.specs.declared.ships.Ship.{Ship}
 use Rattle.survey_core.specs.Groups.{union_of}
 use Rattle.survey_core.specs.UnderWay.{survey_reach}
@@ -69,3 +70,11 @@ pub record IsHarbour (rule : Numbers) (t : ℕ) (board : List Cell) (ships : Lis
   pub off : AreOff rule t board ships
   pub small : All HasSmallNumbers ships
   pub early : t ≤ latest_time
+
+-- a board that goes by the rule, and the ships that have left it
+abbrev pub IsMoored : Numbers → Harbour → Type 0
+IsMoored rule harbour = (harbour.board.rule ≡ rule) × IsHarbour rule harbour.time harbour.board.cells harbour.ships.items
+
+-- the whole pattern
+abbrev pub whole_of : Numbers → Harbour → List Cell
+whole_of rule harbour = whole_at rule harbour.time harbour.board.cells harbour.ships.items

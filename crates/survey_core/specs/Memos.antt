@@ -1,6 +1,5 @@
 -- What a memo knows of a shape, and of which clusters that is true.
-use Rattle.std.specs.Prelude.{◌≡◌, ◌+ℤ◌, ℕ, ℤ, List}
-use Rattle.plane_core.specs.declared.bounds.Bounds.{Bounds}
+use Rattle.std.specs.Prelude.{◌≡◌, ℕ, ℤ, List}
 use Rattle.plane_core.specs.declared.cell.Cell.{Cell}
 use Rattle.plane_core.specs.Bounds.{shifted}
 use Rattle.plane_core.specs.Rules.{Numbers}
@@ -26,16 +25,3 @@ pub record IsAbout (rule : Numbers) (limit : ℕ) (cells : List Cell) (shift : �
   pub rule_is : fact.rule ≡ rule
   pub limit_is : fact.limit ≡ limit
   pub shape_is : shifted shift.0 shift.1 fact.shape ≡ cells
-
--- a box, moved
-abbrev pub moved_bounds : ℤ × ℤ → Bounds → Bounds
-moved_bounds shift b = record {
-  left = b.left +ℤ shift.0;
-  top = b.top +ℤ shift.1;
-  right = b.right +ℤ shift.0;
-  bottom = b.bottom +ℤ shift.1;
-}
-
--- the sweep of a moved pattern: it comes back as before, in the moved box
-abbrev pub moved_sweep : ℤ × ℤ → Sweep → Sweep
-moved_sweep shift sweep = record { recurrence = sweep.recurrence; bounds = moved_bounds shift sweep.bounds }

@@ -1,5 +1,5 @@
 -- Objects by their codes, with how many there are of each, and whether they stay for good.
-use Rattle.std.specs.Prelude.{◌≡◌, ◌≢◌, ◌*◌, ◌≤◌, ℕ, Bool, List, All, IfSome, count_by, unwrap_or}
+use Rattle.std.specs.Prelude.{◌≡◌, ◌≢◌, ◌*◌, ◌≤◌, ℕ, Bool, List, All, count_by, unwrap_or}
 use Rattle.std.specs.Cmp.Lexicographic.{slice_cmp}
 use Rattle.std.specs.List.{AllZip}
 use Rattle.std.specs.List.Sorted.{IsStrictlySortedBy}
@@ -19,10 +19,6 @@ is_code a b = is_eq (slice_cmp nat_cmp a b)
 -- how many objects a list has of a code: what stands beside it, or 0
 abbrev pub count_of : List (List ℕ × ℕ) → List ℕ → ℕ
 count_of objects code = unwrap_or (lookup (is_code code) objects) 0
-
--- no code has a count of 0
-abbrev pub CountsAreSome : List (List ℕ × ℕ) → Type 0
-CountsAreSome objects = (code : List ℕ) → IfSome (lookup (is_code code) objects) (λ n. 1 ≤ n)
 
 -- a list of objects: codes in ASCII order, each once, and each with a count of at least 1
 pub record AreObjects (objects : List (List ℕ × ℕ)) : Type 0 where

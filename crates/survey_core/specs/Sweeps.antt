@@ -32,15 +32,6 @@ pub record AreSweeps (rule : Numbers) (limit : ℕ) (parts : List (List Cell)) (
 abbrev pub Serves : ℕ → Sweep → Type 0
 Serves period sweep = (period ≡ sweep.recurrence.period) ⊎ ((sweep.recurrence.dx ≡ pos 0) × (sweep.recurrence.dy ≡ pos 0))
 
--- the box of turn n
-abbrev pub carried : ℕ → Sweep → Bounds
-carried n sweep = record {
-  left = sweep.bounds.left +ℤ times n sweep.recurrence.dx;
-  top = sweep.bounds.top +ℤ times n sweep.recurrence.dy;
-  right = sweep.bounds.right +ℤ times n sweep.recurrence.dx;
-  bottom = sweep.bounds.bottom +ℤ times n sweep.recurrence.dy;
-}
-
 -- what begins here, moved by s, begins more than two past the end, moved by t
 abbrev pub is_past : ℤ → ℤ → ℤ → ℤ → Bool
 is_past end t begin s = int_lt ((end +ℤ t) +ℤ pos 2) (begin +ℤ s)
@@ -65,10 +56,6 @@ gap_stays gaps dx dy = gaps.right && int_le (pos 0) dx || gaps.left && int_le dx
 -- the box and the other, moved by (x, y), are clear of each other
 abbrev pub is_clear : Bounds → Bounds → ℤ → ℤ → Bool
 is_clear one other x y = is_gap (gaps_of one other x y)
-
--- and stay clear, if the other goes on by (dx, dy) in each turn
-abbrev pub is_parting : Bounds → Bounds → ℤ → ℤ → ℤ → ℤ → Bool
-is_parting one other x y dx dy = gap_stays (gaps_of one other x y) dx dy
 
 -- so many turns the boxes are clear of each other
 abbrev pub StayClear : ℕ → Sweep → Sweep → Type 0

@@ -4,11 +4,6 @@ use Rattle.plane_core.specs.declared.cell.Cell.{Cell}
 use Rattle.plane_core.specs.Generations.{after, lies_within}
 use Rattle.plane_core.specs.Rules.{Numbers}
 
--- a pattern under a rule
-pub record UnderWay : Type 0 where
-  pub rule : Numbers
-  pub cells : List Cell
-
 -- how far from the origin a survey comes: it begins within 1,000, and goes on for up to 100,000 generations at a cell each
 abbrev pub survey_reach : ℕ
 survey_reach = 101000

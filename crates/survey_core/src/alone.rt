@@ -8,12 +8,15 @@
 //!            .O.      .O.           .O.
 //!            .O.      .O.           .O.
 //! ```
-ghost use Rattle.std.specs.Prelude.{◌≡◌, ◌↔◌, All, IfOk, IsTrue, OnOk, flat_map, map, true};
+ghost use Rattle.std.specs.Prelude.{◌≡◌, ◌↔◌, All, IfNone, IfOk, IfSome, IsTrue, List, OnOk, map, true};
+ghost use Rattle.plane_core.specs.Cells.{InOrder};
+ghost use Rattle.plane_core.specs.Clusters.{Partition};
 ghost use Rattle.plane_core.specs.Generations.{lies_within, next};
-ghost use Rattle.survey_core.specs.Alone.{alone_at, clusters_of, latest_of, stepped};
-ghost use Rattle.survey_core.specs.UnderWay.{survey_reach};
+ghost use Rattle.plane_core.specs.declared.cell.Cell.{Cell};
+ghost use Rattle.survey_core.specs.Alone.{clusters_of, latest_of, stepped};
+ghost use Rattle.survey_core.specs.Groups.{union_of};
 
-use crate::later::next;
+use crate::later::{next, pattern_of};
 use memory::OutOfMemory;
 use plane_core::cell::Cell;
 use plane_core::pattern::Pattern;
@@ -23,26 +26,14 @@ use std::alloc::Global;
 /// A cluster that is run alone.
 #[derive(Drop)]
 pub(crate) struct Alone {
-    cluster: Pattern,
+    pub(crate) cluster: Pattern,
     /// Its next generation.
-    first: Pattern,
+    pub(crate) first: Pattern,
     /// The cluster so many generations later.
-    latest: Pattern,
+    pub(crate) latest: Pattern,
 }
 
 impl Alone {
-    /// A cluster that hasn't been run yet.
-    pub(crate) fn start(alloc: Global, rule: &Rule, cluster: &Pattern) -> Result<Alone, OutOfMemory>
-        requires { lies_within survey_reach cluster.now ≡ true }
-        ensures { IfOk result (λ alone. alone ≡ alone_at rule.now 0 cluster.now) }
-    {
-        Ok(Alone {
-            cluster: cluster.copy(alloc)?,
-            first: next(alloc, rule, cluster)?,
-            latest: cluster.copy(alloc)?,
-        })
-    }
-
     /// The next generation, which is known if the cluster is itself again. A still life always is.
     fn next(&self, alloc: Global, rule: &Rule) -> Result<Pattern, OutOfMemory>
         requires first { self.now.first ≡ next rule.now self.now.cluster }
@@ -86,15 +77,22 @@ pub(crate) fn are_back(clusters: &[Alone]) -> bool
     true
 }
 
-/// The cells of all the clusters as they are now, those of the first cluster first.
-pub(crate) fn all_cells(alloc: Global, clusters: &[Alone]) -> Result<Vec<Cell>, OutOfMemory>
-    ensures { IfOk result (λ cells. cells.items ≡ flat_map (λ cells. cells) (latest_of clusters.now)) }
+/// What the clusters are together as they are now, or `None` if two of them share a cell.
+pub(crate) fn joined(alloc: Global, clusters: &[Alone]) -> Result<Option<Pattern>, OutOfMemory>
+    requires order { All InOrder (latest_of clusters.now) }
+    requires near { All (λ part. lies_within 999999 part ≡ true) (latest_of clusters.now) }
+    ensures union { IfOk result (λ found. IfSome found (λ whole. whole ≡ union_of (latest_of clusters.now))) }
+    ensures off { IfOk result (λ found. IfSome found (λ whole. Partition whole (latest_of clusters.now))) }
+    ensures shared { IfOk result (λ found. IfNone found ((whole : List Cell) → InOrder whole
+        → ¬ Partition whole (latest_of clusters.now))) }
 {
     let mut cells = Vec::new(alloc);
     for alone in clusters {
         cells.extend_from_slice(alone.latest.cells())?;
     }
-    Ok(cells)
+    let union = pattern_of(alloc, cells.as_slice())?;
+    let apart = union.population() == cells.len();
+    Ok(apart.then_some(union))
 }
 
 /// Whether the two lists are the same.

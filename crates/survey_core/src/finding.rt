@@ -6,6 +6,7 @@
 //! ```
 ghost use Rattle.std.specs.Prelude.{◌≡◌, ◌<◌, ◌≤◌, ◌^◌, IfOk, IfNone, IfSome, OnOk, true};
 ghost use Rattle.plane_core.specs.Generations.{lies_within};
+ghost use Rattle.survey_core.specs.Courses.{IsKept, kept};
 ghost use Rattle.survey_core.specs.UnderWay.{survey_reach};
 ghost use Rattle.survey_core.specs.FindingLaws.{CountsAddUp, FindingsAreDetermined, FindingsForGood, FindingsMoved};
 ghost use Rattle.survey_core.specs.FindingLaws.{FindingsOfImages, FindingsTurned};
@@ -120,7 +121,7 @@ pub fn survey_pattern_with(
 {
     let limit = profile.limit();
     let stride = profile.stride();
-    let mut course = Course::start(rule, pattern);
+    let mut course = Course::Listed(pattern);
     let mut noes = [false; 2];
     let mut checkpoint = 0;
     loop {
@@ -133,7 +134,7 @@ pub fn survey_pattern_with(
             course.end(memo);
             return Ok(Finding::Unsettled);
         }
-        course = course.go_on(alloc, profile, memo)?;
+        course = course.go_on(alloc, rule, profile, memo)?;
         checkpoint += stride;
     }
 }
@@ -180,23 +181,26 @@ fn look_at(
     noes: &mut [bool; 2],
     memo: &mut Memo,
 ) -> Result<Option<Finding>, OutOfMemory>
-    requires rule { course.now.rule ≡ rule.now }
-    requires near { lies_within survey_reach course.now.cells ≡ true }
-    requires noes { AreNoes rule.now profile.now course.now.cells checkpoint noes.old }
-    ensures settled { IfOk result (λ found. IfSome found (SettlesAt rule.now profile.now course.now.cells checkpoint)) }
-    ensures moves { IfOk result (λ found. IfNone found (¬ IsAtRest rule.now profile.now course.now.cells)) }
+    requires kept { IsKept rule.now course.now }
+    requires near { lies_within survey_reach (kept rule.now course.now) ≡ true }
+    requires noes { AreNoes rule.now profile.now (kept rule.now course.now) checkpoint noes.old }
+    ensures settled { IfOk result
+        (λ found. IfSome found (SettlesAt rule.now profile.now (kept rule.now course.now) checkpoint)) }
+    ensures moves { IfOk result (λ found. IfNone found (¬ IsAtRest rule.now profile.now (kept rule.now course.now))) }
     ensures few { IfOk result (λ found. IfSome found (λ finding. objects_in finding < 2 ^ 64)) }
-    ensures noes { OnOk result (AreNoes rule.now profile.now course.now.cells checkpoint noes.new) }
+    ensures noes { OnOk result (AreNoes rule.now profile.now (kept rule.now course.now) checkpoint noes.new) }
 {
     let parity = (checkpoint % 2) as usize;
     if noes[parity] {
         return Ok(None);
     }
-    if course.is_seen_to_move(profile) {
+    if course.is_seen_to_move(rule, profile) {
         return Ok(None);
     }
-    let latest = course.look(alloc)?;
-    let Some(clusters) = clusters_at_rest(alloc, profile, rule, &latest, memo)? else {
+    let latest = course.look(alloc, rule)?;
+    let found = clusters_at_rest(alloc, profile, rule, &latest, memo)?;
+    drop(latest);
+    let Some(clusters) = found else {
         if course.is_still() {
             noes[parity] = true;
         }

@@ -9,14 +9,13 @@
 //! A board with ships off goes on by even numbers of generations: an odd number, again and again, could bring the rest
 //! nearer to a ship than half of their sum.
 
-ghost use Rattle.std.specs.Prelude.{◌≡◌, ◌+◌, ◌%◌, ◌≤◌, ◌∷◌, ℕ, All, IfErr, IfOk, IsTrue, OnOk, false, map, true};
+ghost use Rattle.std.specs.Prelude.{◌≡◌, ◌+◌, ◌≤◌, All, IfOk, OnOk, false, true};
 ghost use Rattle.plane_core.specs.Cells.{InOrder};
 ghost use Rattle.plane_core.specs.Frontiers.{is_slow};
-ghost use Rattle.plane_core.specs.Generations.{after, lies_within};
-ghost use Rattle.plane_core.specs.Refusing.{HasRestlessCluster};
-ghost use Rattle.survey_core.specs.Harbours.{AreCandidates, IsHarbour, IsNoneOf, IsTraced, latest_time, ship_at};
-ghost use Rattle.survey_core.specs.Harbours.{whole_at};
-ghost use Rattle.survey_core.specs.UnderWay.{StaysNear, survey_reach};
+ghost use Rattle.plane_core.specs.Generations.{lies_within};
+ghost use Rattle.survey_core.specs.Harbours.{AreCandidates, IsHarbour, IsMoored, IsNoneOf, IsTraced, latest_time};
+ghost use Rattle.survey_core.specs.Harbours.{whole_at, whole_of};
+ghost use Rattle.survey_core.specs.UnderWay.{survey_reach};
 
 use crate::alone::are_same;
 use crate::later::pattern_of;
@@ -28,11 +27,10 @@ use plane_core::frontier::is_slow;
 use plane_core::pattern::Pattern;
 use plane_core::rule::Rule;
 use std::alloc::Global;
-use std::marker::Model;
 
 /// Until when ships are kept off a board. No survey goes on so long, and until then no ship has come near the edge of
 /// the plane.
-const LATEST_TIME: u32 = 800_000;
+pub(crate) const LATEST_TIME: u32 = 800_000;
 
 /// Ships are looked for about once in so many generations: a look for them costs as much as a leap or two, and until
 /// it is found a ship costs a window in each leap.
@@ -42,180 +40,59 @@ const EVERY: u32 = 64;
 const SHORTEST_PERIOD: u32 = 4;
 
 /// A board, and the ships that have left it.
-pub(crate) struct Harbour {
-    board: Board,
-    ships: Vec<Ship>,
-    /// How many generations were made on the board.
-    time: u32,
-}
-
-/// The pattern after so many generations, as a list, and the board, which has had no room for more.
 #[derive(Drop)]
-pub(crate) struct Stop {
-    pub(crate) pattern: Pattern,
-    pub(crate) made: u32,
+pub(crate) struct Harbour {
     pub(crate) board: Board,
-}
-
-impl Model for Harbour {
-    ghost use Rattle.survey_core.specs.Harbours.{IsHarbour, whole_at};
-    ghost use Rattle.survey_core.specs.UnderWay.{UnderWay};
-
-    ghost Value = { UnderWay };
-
-    ghost view = { λ h. record {
-      rule = h.board.rule;
-      cells = whole_at h.board.rule h.time h.board.cells h.ships.items;
-    } };
-
-    ghost invariant = { λ h. IsHarbour h.board.rule h.time h.board.cells h.ships.items };
-}
-
-// Written out, since a derived drop is proved anew wherever a harbour is given up.
-impl Drop for Harbour {
-    fn drop(self) {
-        let Harbour {
-            board,
-            ships,
-            time: _,
-        } = self;
-        drop(board);
-        drop(ships);
-    }
+    pub(crate) ships: Vec<Ship>,
+    /// How many generations were made on the board.
+    pub(crate) time: u32,
 }
 
 impl Harbour {
-    /// A board that no ship has left.
-    pub(crate) fn new(alloc: Global, board: Board) -> Harbour
-        requires { InOrder board.cells }
-        ensures rule { result.rule ≡ board.rule }
-        ensures cells { result.cells ≡ board.cells }
-    {
-        Harbour {
-            board,
-            ships: Vec::new(alloc),
-            time: 0,
-        }
-    }
-
-    /// The board alone, for another pattern.
-    pub(crate) fn into_board(self) -> Board {
-        let Harbour {
-            board,
-            ships: _,
-            time: _,
-        } = self;
-        board
-    }
-
-    /// The whole pattern.
-    pub(crate) fn pattern(&self, alloc: Global, rule: &Rule) -> Result<Pattern, OutOfMemory>
-        requires rule { self.now.rule ≡ rule.now }
-        requires near { lies_within survey_reach self.now.cells ≡ true }
-        ensures { IfOk result (λ pattern. pattern ≡ self.now.cells) }
-    {
-        whole(alloc, rule, self.time, &self.board, self.ships.as_slice())
-    }
-
-    /// Whether it is seen that so many generations ahead, at most 1, the pattern is not at rest: one of its clusters
-    /// strays from it within the horizon, or is never itself again within the period. `false` says nothing.
-    pub(crate) fn refuses(&self, ahead: u32, horizon: u32, period: u32) -> bool
-        requires { ahead ≤ 1 }
-        ensures { IsTrue result
-            → HasRestlessCluster self.now.rule (after self.now.rule self.now.cells ahead) horizon period }
-    {
-        self.board.refuses(ahead, horizon, period)
-    }
-
-    /// Whether it is seen that no even number of generations changes anything. `false` says nothing.
-    pub(crate) fn is_still(&self) -> bool
-        ensures { IsTrue result → (n : ℕ) → n % 2 ≡ 0 → after self.now.rule self.now.cells n ≡ self.now.cells }
-    {
-        self.ships.is_empty() && self.board.is_still()
-    }
-
     /// Takes ships off the board that are ahead of all the rest, before it goes on by so many generations. They are
     /// looked for only before the board comes past a multiple of `EVERY`. Ships whose period is over the limit, 1 to
     /// 64, stay.
     pub(crate) fn send_off(
-        self,
+        &mut self,
         alloc: Global,
         rule: &Rule,
         limit: u32,
         generations: u32,
         memo: &mut Memo,
-    ) -> Result<Harbour, OutOfMemory>
-        requires rule { self.rule ≡ rule.now }
+    ) -> Result<(), OutOfMemory>
+        requires moored { IsMoored rule.now self.old }
         requires least { 1 ≤ limit }
         requires most { limit ≤ 64 }
-        requires near { lies_within survey_reach self.cells ≡ true }
-        ensures rule { IfOk result (λ harbour. harbour.rule ≡ self.rule) }
-        ensures cells { IfOk result (λ harbour. harbour.cells ≡ self.cells) }
+        requires near { lies_within survey_reach (whole_of rule.now self.old) ≡ true }
+        ensures moored { OnOk result (IsMoored rule.now self.new) }
+        ensures cells { OnOk result (whole_of rule.now self.new ≡ whole_of rule.now self.old) }
     {
         let slow = is_slow(rule);
         if !slow || limit < SHORTEST_PERIOD {
-            return Ok(self);
+            return Ok(());
         }
         if self.time % EVERY + generations.min(EVERY) + 1 < EVERY {
-            return Ok(self);
+            return Ok(());
         }
-        let Harbour {
-            mut board,
-            mut ships,
-            time,
-        } = self;
-        let clusters = board.small_clusters(alloc)?;
+        let clusters = self.board.small_clusters(alloc)?;
         let clusters = clusters.as_slice();
         for _ in 0..clusters.len() {
-            let count = ships.len();
+            let count = self.ships.len();
             leave(
-                alloc, rule, limit, clusters, time, &mut board, &mut ships, memo,
+                alloc,
+                rule,
+                limit,
+                clusters,
+                self.time,
+                &mut self.board,
+                &mut self.ships,
+                memo,
             )?;
-            if ships.len() == count {
-                return Ok(Harbour { board, ships, time });
+            if self.ships.len() == count {
+                return Ok(());
             }
         }
-        Ok(Harbour { board, ships, time })
-    }
-
-    /// Goes on by so many generations, an even number, if the board has room for all of them.
-    pub(crate) fn advance(
-        self,
-        alloc: Global,
-        rule: &Rule,
-        most: u32,
-    ) -> Result<Result<Harbour, Stop>, OutOfMemory>
-        requires rule { self.rule ≡ rule.now }
-        requires even { most % 2 ≡ 0 }
-        requires few { most ≤ 10001 }
-        requires near { StaysNear self.rule self.cells most }
-        ensures rule { IfOk result (λ reached. IfOk reached (λ harbour. harbour.rule ≡ rule.now)) }
-        ensures cells { IfOk result
-            (λ reached. IfOk reached (λ harbour. harbour.cells ≡ after rule.now self.cells most)) }
-        ensures made { IfOk result (λ reached. IfErr reached (λ stop. stop.made ≤ most)) }
-        ensures stopped { IfOk result
-            (λ reached. IfErr reached (λ stop. stop.pattern ≡ after rule.now self.cells stop.made)) }
-    {
-        let Harbour {
-            mut board,
-            ships,
-            time,
-        } = self;
-        let made = board.advance(most)?;
-        let later = time + made;
-        if made == most && later <= LATEST_TIME {
-            return Ok(Ok(Harbour {
-                board,
-                ships,
-                time: later,
-            }));
-        }
-        let pattern = whole(alloc, rule, later, &board, ships.as_slice())?;
-        Ok(Err(Stop {
-            pattern,
-            made,
-            board,
-        }))
+        Ok(())
     }
 }
 
@@ -237,7 +114,7 @@ fn leave(
     requires harbour { IsHarbour rule.now time board.old.cells ships.old.items }
     requires near { lies_within survey_reach (whole_at rule.now time board.old.cells ships.old.items) ≡ true }
     requires clusters { AreCandidates board.old.cells ships.old.items clusters.now }
-    ensures rule { board.new.rule ≡ board.old.rule }
+    ensures rule { OnOk result (board.new.rule ≡ board.old.rule) }
     ensures harbour { OnOk result (IsHarbour rule.now time board.new.cells ships.new.items) }
     ensures whole { OnOk result (whole_at rule.now time board.new.cells ships.new.items
         ≡ whole_at rule.now time board.old.cells ships.old.items) }
@@ -271,7 +148,7 @@ fn has_left(ships: &[Ship], cells: &Pattern) -> bool
 }
 
 /// The pattern that a board and some ships are together.
-fn whole(
+pub(crate) fn whole(
     alloc: Global,
     rule: &Rule,
     time: u32,
@@ -289,6 +166,7 @@ fn whole(
         return Ok(pattern);
     }
     let mut cells = Vec::from_slice(alloc, pattern.cells())?;
+    drop(pattern);
     for ship in ships {
         let ship = at_time(alloc, rule, ship, time)?;
         cells.extend_from_slice(ship.cells())?;

@@ -52,8 +52,6 @@ pub struct Memo {
     pub(crate) board: Option<Board>,
     /// How large a board is that is made.
     size: Size,
-    /// Whether there was no memory for a board.
-    lacks_board: bool,
 }
 
 /// How large a board is.
@@ -92,7 +90,6 @@ impl Drop for Memo {
             slots,
             board,
             size: _,
-            lacks_board: _,
         } = self;
         drop(slots);
         drop(board);
@@ -117,20 +114,13 @@ impl Memo {
     /// A memo that knows nothing yet, with room for 4,096 shapes: half a megabyte, and some three if all of them are
     /// large. If there is no memory for it, it has no room.
     pub fn new(alloc: Global) -> Memo {
-        let Ok(mut slots) = Vec::with_capacity(alloc, SLOTS) else {
-            return Memo::without_room(alloc);
-        };
+        let mut memo = Memo::without_room(alloc);
         for _ in 0..SLOTS {
-            let Ok(()) = slots.push(None) else {
+            let Ok(()) = memo.slots.push(None) else {
                 return Memo::without_room(alloc);
             };
         }
-        Memo {
-            slots,
-            board: None,
-            size: Size::Small,
-            lacks_board: false,
-        }
+        memo
     }
 
     /// A memo without room, which remembers no shape. It takes no memory.
@@ -139,12 +129,12 @@ impl Memo {
             slots: Vec::new(alloc),
             board: None,
             size: Size::Small,
-            lacks_board: false,
         }
     }
 
-    /// A board that shows the pattern, which leaves the memo until `Course::end` or `outgrow` gives it back. It is
-    /// `None` where there is no memory for a board, or the board has no room for the pattern.
+    /// A board that shows the pattern: the one that is kept, or a new one. It leaves the memo until `Course::end` or
+    /// `outgrow` gives it back. It is `None` where there is no memory for a board, or the board has no room for the
+    /// pattern.
     pub(crate) fn board_with(
         &mut self,
         alloc: Global,
@@ -154,8 +144,12 @@ impl Memo {
         ensures rule { IfOk result (λ shown. IfSome shown (λ board. board.rule ≡ rule.now)) }
         ensures cells { IfOk result (λ shown. IfSome shown (λ board. board.cells ≡ pattern.now)) }
     {
-        self.make_board(alloc, rule);
-        let Some(mut board) = self.board.take() else {
+        let kept = match (self.board.take(), self.size) {
+            (Some(board), _) => Some(board),
+            (None, Size::Small) => Board::small(alloc, rule).ok(),
+            (None, Size::Large) => Board::new(alloc, rule).ok(),
+        };
+        let Some(mut board) = kept else {
             return Ok(None);
         };
         let has_room = board.show(rule, pattern)?;
@@ -164,21 +158,6 @@ impl Memo {
         }
         self.outgrow(board);
         Ok(None)
-    }
-
-    /// Makes a board, if there is none and there is memory for it.
-    fn make_board(&mut self, alloc: Global, rule: &Rule) {
-        if self.board.is_some() || self.lacks_board {
-            return;
-        }
-        let made = match self.size {
-            Size::Small => Board::small(alloc, rule),
-            Size::Large => Board::new(alloc, rule),
-        };
-        match made {
-            Ok(board) => self.board = Some(board),
-            Err(_) => self.lacks_board = true,
-        }
     }
 
     /// Takes a board back on which a pattern had no room. If it was a small one, the next that is made is large.
@@ -212,10 +191,10 @@ impl Memo {
         }
         let mut sweeps = Vec::new(alloc);
         for pattern in patterns {
-            match self.sweep(alloc, rule, limit, pattern)? {
-                Some(sweep) => sweeps.push(sweep)?,
-                None => return Ok(None),
-            }
+            let Some(sweep) = self.sweep(alloc, rule, limit, pattern)? else {
+                return Ok(None);
+            };
+            sweeps.push(sweep)?;
         }
         Ok(Some(sweeps))
     }

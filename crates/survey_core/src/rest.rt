@@ -23,17 +23,16 @@
 ghost use Rattle.std.specs.Prelude.{◌≡◌, ◌<◌, ◌≤◌, ◌↔◌, ℕ, All, IfNone, IfOk, IfSome, IsTrue, length, map};
 ghost use Rattle.std.specs.Prelude.{◌==◌, filter, true};
 ghost use Rattle.plane_core.specs.Cells.{InOrder};
-ghost use Rattle.plane_core.specs.Clusters.{Partition};
 ghost use Rattle.plane_core.specs.Generations.{lies_within};
-ghost use Rattle.survey_core.specs.Alone.{alone_at, clusters_of, latest_of};
+ghost use Rattle.survey_core.specs.Alone.{alone_at, clusters_of};
 ghost use Rattle.survey_core.specs.Groups.{GroupKeeps, ShareNoCell, members, union_of};
 ghost use Rattle.survey_core.specs.Rest.{IsAtRest, KeepApart, RestsAs};
 ghost use Rattle.survey_core.specs.RestLaws.{AtRestForGood, EmptyIsAtRest, GroupsRunAlone, PartsRunAlone};
 ghost use Rattle.survey_core.specs.UnderWay.{survey_reach};
 
-use crate::alone::{Alone, all_cells, are_back, are_same, step_each};
+use crate::alone::{Alone, are_back, are_same, joined, step_each};
 use crate::groups::groups;
-use crate::later::{next, pattern_of};
+use crate::later::next;
 use crate::memo::Memo;
 use crate::profile::Profile;
 use memory::OutOfMemory;
@@ -130,7 +129,11 @@ fn members(
         if groups[place] != number {
             continue;
         }
-        members.push(Alone::start(alloc, rule, cluster)?)?;
+        members.push(Alone {
+            cluster: cluster.copy(alloc)?,
+            first: next(alloc, rule, cluster)?,
+            latest: cluster.copy(alloc)?,
+        })?;
     }
     Ok(members)
 }
@@ -153,13 +156,17 @@ fn keep_apart(
         ↔ ((g : ℕ) → g ≤ horizon
         → KeepApart rule.now (union_of (clusters_of clusters.old)) (clusters_of clusters.old) g)) }
 {
-    let cells = all_cells(alloc, clusters)?;
-    let mut whole = pattern_of(alloc, cells.as_slice())?;
-    drop(cells);
+    let Some(mut whole) = joined(alloc, clusters)? else {
+        return Ok(false);
+    };
     for _ in 0..horizon {
         whole = next(alloc, rule, &whole)?;
         step_each(alloc, rule, clusters)?;
-        let same = make_up(alloc, clusters, &whole)?;
+        let Some(together) = joined(alloc, clusters)? else {
+            return Ok(false);
+        };
+        let same = are_same(together.cells(), whole.cells());
+        drop(together);
         if !same {
             return Ok(false);
         }
@@ -168,21 +175,6 @@ fn keep_apart(
         }
     }
     Ok(true)
-}
-
-/// Whether the clusters as they are now share no cell, and are the whole together.
-fn make_up(alloc: Global, clusters: &[Alone], whole: &Pattern) -> Result<bool, OutOfMemory>
-    requires in_order { All InOrder (latest_of clusters.now) }
-    requires near { All (λ part. lies_within 999999 part ≡ true) (latest_of clusters.now) }
-    ensures { IfOk result (λ same. IsTrue same ↔ Partition whole.now (latest_of clusters.now)) }
-{
-    let cells = all_cells(alloc, clusters)?;
-    let all = whole.cells();
-    if cells.len() != all.len() {
-        return Ok(false);
-    }
-    let union = pattern_of(alloc, cells.as_slice())?;
-    Ok(are_same(union.cells(), all))
 }
 
 /// The laws of patterns at rest: the empty pattern is at rest, and a pattern whose objects stay for good keeps them

@@ -1,46 +1,59 @@
-use Rattle.std.proofs.Common.{◌≡◌, ◌∙◌, IfOk, ap, subst, sym, List, arith}
+use Rattle.std.proofs.Common.{◌≡◌, ◌∙◌, ℕ, [], IfOk, ap, refl, subst, sym, List, arith}
 use Rattle.plane_core.specs.declared.cell.Cell.{Cell}
 use Rattle.plane_core.specs.Cells.{InOrder}
 use Rattle.plane_core.specs.Generations.{after, lies_within}
+use Rattle.survey_core.specs.Courses.{kept}
+use Rattle.plane_core.specs.Rules.{Numbers}
+use Rattle.survey_core.specs.declared.harbour.Harbour.{Harbour}
+use Rattle.survey_core.specs.Harbours.{IsHarbour, IsMoored, whole_at, whole_of}
+use Rattle.survey_core.proofs.HarbourLemmas.{new_harbour}
+use Rattle.survey_core.proofs.OffLemmas.{whole-none}
 use Rattle.survey_core.specs.UnderWay.{StaysNear, survey_reach}
 use Rattle.survey_core.proofs.CourseLemmas.{near_now}
 use Rattle.survey_core.proofs.course.from_list.Goals as goal
 
 pub run_on-requires-clause-near : goal.run_on-requires-clause-near
-run_on-requires-clause-near c = near_now c.args.rule.now c.args.pattern c.args.generations c.requires.near
+run_on-requires-clause-near c = near_now c.args.rule.now c.args.pattern.now c.args.generations c.requires.near
 
 pub run_on-requires-clause-few : goal.run_on-requires-clause-few
 run_on-requires-clause-few c = c.requires.few
 
-pub start-requires : goal.start-requires
-start-requires c = ap (lies_within survey_reach) c.in_ok-later.ensures ∙ c.requires.near c.args.generations (omega arith)
+pub returns-in_default-clause-kept : goal.returns-in_default-clause-kept
+returns-in_default-clause-kept c = ap (lies_within survey_reach) c.in_ok-later.ensures ∙ c.requires.near c.args.generations (omega arith)
 
-pub returns-in_default-clause-rule : goal.returns-in_default-clause-rule
-returns-in_default-clause-rule c = c.start.ensures.rule
+-- it is on a board, which no ship has left
+moored : (rule : Numbers) (harbour : Harbour) (pattern : List Cell) → harbour.board.rule ≡ rule → harbour.board.cells ≡ pattern
+    → harbour.ships.items ≡ [] → harbour.time ≡ 0 → InOrder pattern → IsMoored rule harbour
+moored rule harbour pattern goes shows none early order = (
+  goes,
+  subst (λ (t : ℕ). IsHarbour rule t harbour.board.cells harbour.ships.items) (sym early)
+      (new_harbour rule harbour.board.cells harbour.ships.items (subst InOrder (sym shows) order) none),
+)
 
-pub returns-in_default-clause-cells : goal.returns-in_default-clause-cells
-returns-in_default-clause-cells c = c.start.ensures.cells ∙ c.in_ok-later.ensures
+whole_is : (rule : Numbers) (harbour : Harbour) (pattern : List Cell) → harbour.board.cells ≡ pattern → harbour.ships.items ≡ [] → InOrder pattern
+    → whole_of rule harbour ≡ pattern
+whole_is rule harbour pattern shows none order =
+    (λ i. whole_at rule harbour.time (shows i) (none i)) ∙ whole-none rule harbour.time pattern order
 
--- it is on a board
-pub new-harbour-requires : goal.new-harbour-requires
-new-harbour-requires c =
-    subst InOrder (sym (rw c.in-Some.is at c.in_ok-board.ensures.cells)) c.cells-in_order.ensures.pattern.in_order
-
-pub on_board-requires-clause-rule : goal.on_board-requires-clause-rule
-on_board-requires-clause-rule c = c.new-harbour.ensures.rule ∙ (rw c.in-Some.is at c.in_ok-board.ensures.rule)
+pub on_board-requires-clause-moored : goal.on_board-requires-clause-moored
+on_board-requires-clause-moored c =
+    moored c.args.rule.now (record { board = c.in-Some.board; ships = c.new.result; time = 0 }) c.args.pattern.now (rw c.in-Some.is at c.in_ok-board.ensures.rule) (rw c.in-Some.is at c.in_ok-board.ensures.cells)
+    c.new.ensures.items refl c.cells-in_order.ensures.pattern.in_order
 
 pub on_board-requires-clause-few : goal.on_board-requires-clause-few
 on_board-requires-clause-few c = c.requires.few
 
 pub on_board-requires-clause-near : goal.on_board-requires-clause-near
 on_board-requires-clause-near c =
-    let cells : c.new-harbour.result.cells ≡ c.args.pattern = c.new-harbour.ensures.cells ∙ (rw c.in-Some.is at c.in_ok-board.ensures.cells) in
-    subst (λ (S : List Cell). StaysNear c.args.rule.now S c.args.generations) (sym cells) c.requires.near
+    subst (λ (S : List Cell). StaysNear c.args.rule.now S c.args.generations)
+    (sym (whole_is c.args.rule.now (record { board = c.in-Some.board; ships = c.new.result; time = 0 }) c.args.pattern.now
+    (rw c.in-Some.is at c.in_ok-board.ensures.cells) c.new.ensures.items c.cells-in_order.ensures.pattern.in_order)) c.requires.near
 
 pub returns-clause-cells : goal.returns-clause-cells
 returns-clause-cells c =
-    let cells : c.new-harbour.result.cells ≡ c.args.pattern = c.new-harbour.ensures.cells ∙ (rw c.in-Some.is at c.in_ok-board.ensures.cells) in
-    subst (λ (S : List Cell). IfOk c.on_board.result (λ course. course.cells ≡ after c.args.rule.now S c.args.generations)) cells c.on_board.ensures.cells
+    subst (λ (S : List Cell). IfOk c.on_board.result (λ course. kept c.args.rule.now course ≡ after c.args.rule.now S c.args.generations))
+    (whole_is c.args.rule.now (record { board = c.in-Some.board; ships = c.new.result; time = 0 }) c.args.pattern.now
+    (rw c.in-Some.is at c.in_ok-board.ensures.cells) c.new.ensures.items c.cells-in_order.ensures.pattern.in_order) c.on_board.ensures.cells
 
-pub returns-clause-rule : goal.returns-clause-rule
-returns-clause-rule c = c.on_board.ensures.rule
+pub returns-clause-kept : goal.returns-clause-kept
+returns-clause-kept c = c.on_board.ensures.kept

@@ -1,7 +1,11 @@
-use Rattle.std.proofs.Common.{◌≡◌, ◌∙◌, ◌+◌, ◌-◌, ◌%◌, ◌≤◌, ℕ, List, ap, arith}
+use Rattle.std.proofs.Common.{◌≡◌, ◌∙◌, ◌+◌, ◌-◌, ◌%◌, ◌≤◌, ℕ, All, List, ap, arith, refl, subst, sym}
 use Rattle.plane_core.specs.declared.cell.Cell.{Cell}
 use Rattle.plane_core.specs.Generations.{after, lies_within}
-use Rattle.plane_core.specs.Rules.{Numbers}
+use Rattle.plane_core.specs.Cells.{InOrder}
+use Rattle.plane_core.proofs.RunLemmas.{in_order-after}
+use Rattle.survey_core.specs.declared.ships.Ship.{Ship}
+use Rattle.survey_core.specs.Harbours.{IsTraced, whole_at, whole_of}
+use Rattle.survey_core.proofs.HarbourLemmas.{board_later, harbour_later, traced_later, whole_later}
 use Rattle.survey_core.specs.UnderWay.{survey_reach}
 use Rattle.survey_core.proofs.CourseLemmas.{in_parts}
 use Rattle.survey_core.proofs.course.on_board.Goals as goal
@@ -16,12 +20,6 @@ rest_made made n low = omega arith
 is_even : (n : ℕ) → (n - n % 2) % 2 ≡ 0
 is_even n = omega arith
 
-part_low : (n : ℕ) → n - n % 2 ≤ n
-part_low n = omega arith
-
-part_few : (n : ℕ) → n ≤ 10001 → n - n % 2 ≤ 10001
-part_few n few = omega arith
-
 part_within : (n g : ℕ) → g ≤ n - n % 2 → g ≤ n
 part_within n g low = omega arith
 
@@ -31,61 +29,91 @@ rest_few n made few = omega arith
 at_most_one : (n : ℕ) → n % 2 ≤ 1
 at_most_one n = omega arith
 
-pub returns-in-Ok-clause-cells : goal.returns-in-Ok-clause-cells
-returns-in-Ok-clause-cells c =
+-- all of the even part was made
+pub returns-then-time-le-LATEST_TIME-clause-kept : goal.returns-then-time-le-LATEST_TIME-clause-kept
+returns-then-time-le-LATEST_TIME-clause-kept c =
     let n = c.args.generations in
-    let rule : c.in-Ok.harbour.rule ≡ c.args.rule.now = rw c.in-Ok.is at c.in_ok-harbour.ensures.rule in
-    let cells : c.in-Ok.harbour.cells ≡ after c.args.rule.now c.args.harbour.cells (n - n % 2) = rw c.in-Ok.is at c.in_ok-harbour.ensures.cells in
-    (λ i. after (rule i) (cells i) (n % 2)) ∙ in_parts c.args.rule.now c.args.harbour.cells (n - n % 2) (n % 2) n (both_parts n)
+    let rule = c.args.rule.now in
+    let h = c.args.harbour in
+    let made = c.in_ok-made.made in
+    let board = c.advance.new.self.cells in (
+      (
+        c.in_ok-made.ensures.rule ∙ c.requires.moored.0,
+        harbour_later rule rule h.time made (n - n % 2) h.board.cells board h.ships.items c.requires.moored.1 (is_even n) c.if-made-most.true refl
+            (board_later rule h made board c.requires.moored c.in_ok-made.ensures.after) c.if-time-le-LATEST_TIME.true,
+      ),
+      at_most_one n,
+      ap (lies_within survey_reach) (whole_later rule h made board c.requires.moored c.in_ok-made.ensures.after)
+          ∙ c.requires.near made (part_within n made c.in_ok-made.ensures.most),
+    )
 
-pub start-requires : goal.start-requires
-start-requires c =
+pub returns-then-time-le-LATEST_TIME-clause-cells : goal.returns-then-time-le-LATEST_TIME-clause-cells
+returns-then-time-le-LATEST_TIME-clause-cells c =
     let n = c.args.generations in
-    let stop = c.in-Err.stop in
-    let made : stop.made ≤ n - n % 2 = rw c.in-Err.is at c.in_ok-harbour.ensures.made in
-    let cells : stop.pattern ≡ after c.args.rule.now c.args.harbour.cells stop.made = rw c.in-Err.is at c.in_ok-harbour.ensures.stopped in
-    ap (lies_within survey_reach) (c.in_ok-later-in-Err.ensures ∙ ap (λ (S : List Cell). after c.args.rule.now S (n - stop.made)) cells
-    ∙ in_parts c.args.rule.now c.args.harbour.cells stop.made (n - stop.made) n (rest_made stop.made n made))
-    ∙ c.requires.near n (omega arith)
+    let rule = c.args.rule.now in
+    let h = c.args.harbour in
+    ap (λ (S : List Cell). after rule S (n % 2)) (whole_later rule h c.in_ok-made.made c.advance.new.self.cells c.requires.moored c.in_ok-made.ensures.after
+    ∙ ap (after rule (whole_of rule h)) c.if-made-most.true)
+    ∙ in_parts rule (whole_of rule h) (n - n % 2) (n % 2) n (both_parts n)
 
-pub returns-in_ok-later-in-Err-clause-cells : goal.returns-in_ok-later-in-Err-clause-cells
-returns-in_ok-later-in-Err-clause-cells c =
-    let n = c.args.generations in
-    let stop = c.in-Err.stop in
-    let made : stop.made ≤ n - n % 2 = rw c.in-Err.is at c.in_ok-harbour.ensures.made in
-    let cells : stop.pattern ≡ after c.args.rule.now c.args.harbour.cells stop.made = rw c.in-Err.is at c.in_ok-harbour.ensures.stopped in
-    c.start.ensures.cells ∙ c.in_ok-later-in-Err.ensures ∙ ap (λ (S : List Cell). after c.args.rule.now S (n - stop.made)) cells
-    ∙ in_parts c.args.rule.now c.args.harbour.cells stop.made (n - stop.made) n (rest_made stop.made n made)
+-- or the pattern goes on as a list
+pub overflow_add-time : goal.overflow_add-time
+overflow_add-time c = omega (arith, c.requires.moored.1.early, c.in_ok-made.ensures.most, c.requires.few)
 
-pub returns-in_ok-later-in-Err-clause-rule : goal.returns-in_ok-later-in-Err-clause-rule
-returns-in_ok-later-in-Err-clause-rule c = c.start.ensures.rule
+pub overflow_sub-generations : goal.overflow_sub-generations
+overflow_sub-generations c = part_within c.args.generations c.in_ok-made.made c.in_ok-made.ensures.most
 
-pub advance-requires-clause-even : goal.advance-requires-clause-even
-advance-requires-clause-even c = is_even c.args.generations
+pub whole-requires-clause-order : goal.whole-requires-clause-order
+whole-requires-clause-order c =
+    let h = c.args.harbour in
+    subst InOrder (sym c.in_ok-made.ensures.after) (in_order-after h.board.rule h.board.cells c.in_ok-made.made c.requires.moored.1.off.in_order)
 
-pub advance-requires-clause-few : goal.advance-requires-clause-few
-advance-requires-clause-few c = part_few c.args.generations c.requires.few
+pub whole-requires-clause-traced : goal.whole-requires-clause-traced
+whole-requires-clause-traced c =
+    let h = c.args.harbour in
+    let rule = c.args.rule.now in
+    subst (λ (ships : List Ship). All (IsTraced rule (h.time + c.in_ok-made.made)) ships) (sym c.as_slice.ensures.value)
+    (traced_later rule h.time c.in_ok-made.made h.board.cells h.ships.items c.requires.moored.1)
 
-pub advance-requires-clause-near : goal.advance-requires-clause-near
-advance-requires-clause-near c g low =
-    ap (λ (r : Numbers). lies_within survey_reach (after r c.args.harbour.cells g)) c.requires.rule
-    ∙ c.requires.near g (part_within c.args.generations g low)
+pub whole-requires-clause-near : goal.whole-requires-clause-near
+whole-requires-clause-near c =
+    let h = c.args.harbour in
+    let rule = c.args.rule.now in
+    let made = c.in_ok-made.made in
+    (λ i. lies_within survey_reach (whole_at rule (h.time + made) c.advance.new.self.cells (c.as_slice.ensures.value i)))
+    ∙ ap (lies_within survey_reach) (whole_later rule h made c.advance.new.self.cells c.requires.moored c.in_ok-made.ensures.after)
+    ∙ c.requires.near made (part_within c.args.generations made c.in_ok-made.ensures.most)
 
-pub overflow_sub-generations-in-Err : goal.overflow_sub-generations-in-Err
-overflow_sub-generations-in-Err c = part_within c.args.generations c.in-Err.stop.made (rw c.in-Err.is at c.in_ok-harbour.ensures.made)
+pub whole-requires-clause-early : goal.whole-requires-clause-early
+whole-requires-clause-early c = omega (arith, c.requires.moored.1.early, c.in_ok-made.ensures.most, c.requires.few)
 
 pub run_on-requires-clause-near : goal.run_on-requires-clause-near
 run_on-requires-clause-near c =
-    ap (lies_within survey_reach) (rw c.in-Err.is at c.in_ok-harbour.ensures.stopped)
-    ∙ c.requires.near c.in-Err.stop.made (part_within c.args.generations c.in-Err.stop.made (rw c.in-Err.is at c.in_ok-harbour.ensures.made))
+    ap (lies_within survey_reach) (c.in_ok-pattern.ensures
+    ∙ ap (whole_at c.args.rule.now (c.args.harbour.time + c.in_ok-made.made) c.advance.new.self.cells) c.as_slice.ensures.value
+    ∙ whole_later c.args.rule.now c.args.harbour c.in_ok-made.made c.advance.new.self.cells c.requires.moored c.in_ok-made.ensures.after)
+    ∙ c.requires.near c.in_ok-made.made (part_within c.args.generations c.in_ok-made.made c.in_ok-made.ensures.most)
 
 pub run_on-requires-clause-few : goal.run_on-requires-clause-few
-run_on-requires-clause-few c = rest_few c.args.generations c.in-Err.stop.made c.requires.few
+run_on-requires-clause-few c = rest_few c.args.generations c.in_ok-made.made c.requires.few
 
-pub invariant_of-result : goal.invariant_of-result
-invariant_of-result c =
-    let n = c.args.generations in (
-      rw c.in-Ok.is at c.in_ok-harbour.ensures.rule,
-      at_most_one n,
-      ap (lies_within survey_reach) (rw c.in-Ok.is at c.in_ok-harbour.ensures.cells) ∙ c.requires.near (n - n % 2) (part_low n),
-    )
+pub returns-clause-kept : goal.returns-clause-kept
+returns-clause-kept c =
+    let n = c.args.generations in
+    let rule = c.args.rule.now in
+    let made = c.in_ok-made.made in
+    ap (lies_within survey_reach) (c.in_ok-later.ensures ∙ ap (λ (S : List Cell). after rule S (n - made)) (c.in_ok-pattern.ensures
+    ∙ ap (whole_at c.args.rule.now (c.args.harbour.time + c.in_ok-made.made) c.advance.new.self.cells) c.as_slice.ensures.value
+    ∙ whole_later c.args.rule.now c.args.harbour c.in_ok-made.made c.advance.new.self.cells c.requires.moored c.in_ok-made.ensures.after)
+    ∙ in_parts rule (whole_of rule c.args.harbour) made (n - made) n (rest_made made n c.in_ok-made.ensures.most))
+    ∙ c.requires.near n (omega arith)
+
+pub returns-clause-cells : goal.returns-clause-cells
+returns-clause-cells c =
+    let n = c.args.generations in
+    let rule = c.args.rule.now in
+    let made = c.in_ok-made.made in
+    c.in_ok-later.ensures ∙ ap (λ (S : List Cell). after rule S (n - made)) (c.in_ok-pattern.ensures
+    ∙ ap (whole_at c.args.rule.now (c.args.harbour.time + c.in_ok-made.made) c.advance.new.self.cells) c.as_slice.ensures.value
+    ∙ whole_later c.args.rule.now c.args.harbour c.in_ok-made.made c.advance.new.self.cells c.requires.moored c.in_ok-made.ensures.after)
+    ∙ in_parts rule (whole_of rule c.args.harbour) made (n - made) n (rest_made made n c.in_ok-made.ensures.most)

@@ -3,6 +3,7 @@ use Rattle.std.proofs.lemmas.Result.{IfOk-from_err}
 use Rattle.plane_core.specs.declared.cell.Cell.{Cell}
 use Rattle.plane_core.specs.Generations.{after, lies_within}
 use Rattle.plane_core.proofs.GenerationLemmas.{after-none}
+use Rattle.survey_core.specs.Courses.{kept}
 use Rattle.survey_core.specs.Findings.{NoRestBefore}
 use Rattle.survey_core.specs.Noes.{AreNoes}
 use Rattle.survey_core.specs.Profiles.{IsCheckpoint}
@@ -13,20 +14,17 @@ use Rattle.survey_core.proofs.NoesLemmas.{known_later, none_known}
 use Rattle.survey_core.proofs.PlaneLemmas.{within_later, within_more}
 use Rattle.survey_core.proofs.finding.survey_pattern_with.Goals as goal
 
-pub start-course-requires : goal.start-course-requires
-start-course-requires c = within_more 1000 survey_reach c.args.pattern (omega arith) c.requires
-
 pub loop-course-init : goal.loop-course-init
 loop-course-init c = record {
-  rule = c.start-course.ensures.rule;
+  by_rule = within_more 1000 survey_reach c.args.pattern (omega arith) c.requires;
   here = first_checkpoint c.args.profile.now;
-  latest = c.start-course.ensures.cells ∙ sym (after-none c.args.rule.now c.args.pattern);
-  noes = none_known c.args.rule.now c.args.profile.now c.start-course.result.cells 0;
+  latest = sym (after-none c.args.rule.now c.args.pattern);
+  noes = none_known c.args.rule.now c.args.profile.now c.args.pattern 0;
   before = λ u check low rest. absurd (omega (arith, low));
 }
 
-pub look_at-requires-clause-rule : goal.look_at-requires-clause-rule
-look_at-requires-clause-rule c = c.loop-course.invariant.rule
+pub look_at-requires-clause-kept : goal.look_at-requires-clause-kept
+look_at-requires-clause-kept c = c.loop-course.invariant.by_rule
 
 pub look_at-requires-clause-near : goal.look_at-requires-clause-near
 look_at-requires-clause-near c =
@@ -41,7 +39,7 @@ look_at-requires-clause-noes c = c.loop-course.invariant.noes
 -- at rest for the first time
 pub returns-in-Some-clause-finding : goal.returns-in-Some-clause-finding
 returns-in-Some-clause-finding c =
-    finding_from c.args.rule.now c.args.profile.now c.args.pattern c.loop-course.course.cells c.loop-course.checkpoint c.in-Some.finding
+    finding_from c.args.rule.now c.args.profile.now c.args.pattern (kept c.args.rule.now c.loop-course.course) c.loop-course.checkpoint c.in-Some.finding
     (rw c.in-Some.is at c.in_ok-found.ensures.settled) c.loop-course.invariant.latest c.loop-course.invariant.here c.loop-course.invariant.before
 
 pub returns-in-Some-clause-few : goal.returns-in-Some-clause-few
@@ -53,7 +51,7 @@ overflow_sub-limit c = subst (λ (n : ℕ). c.loop-course.checkpoint ≤ n) (sym
 -- no look is left
 pub returns-then-limit-checkpoint-clause-finding : goal.returns-then-limit-checkpoint-clause-finding
 returns-then-limit-checkpoint-clause-finding c =
-    none_at_last c.args.rule.now c.args.profile.now c.args.pattern c.loop-course.course.cells c.loop-course.checkpoint
+    none_at_last c.args.rule.now c.args.profile.now c.args.pattern (kept c.args.rule.now c.loop-course.course) c.loop-course.checkpoint
     (rw c.in_default.is at c.in_ok-found.ensures.moves) c.loop-course.invariant.latest c.stride-stride.ensures.profile.onward
     c.loop-course.invariant.here
     (no_room c.args.profile.now.limit c.args.profile.now.stride c.limit-limit.result c.stride-stride.result c.loop-course.checkpoint
@@ -61,13 +59,16 @@ returns-then-limit-checkpoint-clause-finding c =
     c.loop-course.invariant.before
 
 -- not yet
-pub go_on-requires : goal.go_on-requires
-go_on-requires c =
+pub go_on-requires-clause-kept : goal.go_on-requires-clause-kept
+go_on-requires-clause-kept c = c.loop-course.invariant.by_rule
+
+pub go_on-requires-clause-near : goal.go_on-requires-clause-near
+go_on-requires-clause-near c =
     let room = room_for_more c.args.profile.now.limit c.args.profile.now.stride c.limit-limit.result c.stride-stride.result c.loop-course.checkpoint
     c.limit-limit.ensures.limit c.stride-stride.ensures.stride c.loop-course.invariant.here.within c.if-limit-checkpoint.false in
     let most : c.args.profile.now.limit ≤ 100000 = c.stride-stride.ensures.profile.limit in
-    stays_near c.args.rule.now c.loop-course.course.rule c.args.pattern c.loop-course.course.cells c.loop-course.checkpoint c.args.profile.now.stride
-    c.loop-course.invariant.rule c.loop-course.invariant.latest c.requires (omega (arith, room, most))
+    stays_near c.args.rule.now c.args.pattern (kept c.args.rule.now c.loop-course.course) c.loop-course.checkpoint c.args.profile.now.stride
+    c.loop-course.invariant.latest c.requires (omega (arith, room, most))
 
 pub overflow_add-checkpoint : goal.overflow_add-checkpoint
 overflow_add-checkpoint c =
@@ -81,19 +82,19 @@ loop-course-preserved c =
     let profile = c.args.profile.now in
     let t = c.loop-course.checkpoint in
     let at : t + c.stride-stride.result ≡ t + profile.stride = ap (λ (s : ℕ). t + s) c.stride-stride.ensures.stride in
-    let cells : c.in_ok-course.course.cells ≡ after c.args.rule.now c.loop-course.course.cells profile.stride = c.in_ok-course.ensures.cells
-    ∙ (λ i. after (c.loop-course.invariant.rule i) c.loop-course.course.cells profile.stride) in
+    let cells : kept c.args.rule.now c.in_ok-course.course ≡ after c.args.rule.now (kept c.args.rule.now c.loop-course.course) profile.stride =
+    c.in_ok-course.ensures.cells in
     record {
-      rule = c.in_ok-course.ensures.rule ∙ c.loop-course.invariant.rule;
+      by_rule = c.in_ok-course.ensures.kept;
       here = subst (IsCheckpoint profile) (sym at) (next_checkpoint profile t c.loop-course.invariant.here
           (room_for_more profile.limit profile.stride c.limit-limit.result c.stride-stride.result t c.limit-limit.ensures.limit
           c.stride-stride.ensures.stride c.loop-course.invariant.here.within c.if-limit-checkpoint.false));
       latest = cells ∙ ap (λ (S : List Cell). after c.args.rule.now S profile.stride) c.loop-course.invariant.latest
           ∙ after-then c.args.rule.now c.args.pattern t profile.stride ∙ ap (after c.args.rule.now c.args.pattern) (sym at);
       noes = subst₂ (λ (S : List Cell) (u : ℕ). AreNoes c.args.rule.now profile S u c.look_at.new.noes) (sym cells) (sym at)
-          (known_later c.args.rule.now profile c.loop-course.course.cells t profile.stride c.look_at.new.noes c.in_ok-found.ensures.noes);
+          (known_later c.args.rule.now profile (kept c.args.rule.now c.loop-course.course) t profile.stride c.look_at.new.noes c.in_ok-found.ensures.noes);
       before = subst (NoRestBefore c.args.rule.now profile c.args.pattern) (sym at)
-          (no_rest_more c.args.rule.now profile c.args.pattern c.loop-course.course.cells t c.stride-stride.ensures.profile.onward
+          (no_rest_more c.args.rule.now profile c.args.pattern (kept c.args.rule.now c.loop-course.course) t c.stride-stride.ensures.profile.onward
           c.loop-course.invariant.here c.loop-course.invariant.latest c.loop-course.invariant.before (rw c.in_default.is at c.in_ok-found.ensures.moves));
     }
 

@@ -1,5 +1,6 @@
 use Rattle.std.proofs.Common.{◌≡◌, ◌-◌}
 use Rattle.plane_core.specs.Generations.{after}
+use Rattle.survey_core.specs.Courses.{IsKept, kept}
 use Rattle.survey_core.specs.Findings.{NoRestBefore}
 use Rattle.survey_core.specs.Noes.{AreNoes}
 use Rattle.survey_core.specs.Profiles.{IsCheckpoint}
@@ -10,9 +11,9 @@ decreases-loop-course l = l.limit - l.checkpoint
 
 abbrev pub invariant-loop-course : goal.invariant-loop-course
 invariant-loop-course l = record {
-  rule : l.course.rule ≡ l.rule;
+  by_rule : IsKept l.rule l.course;
   here : IsCheckpoint l.profile l.checkpoint;
-  latest : l.course.cells ≡ after l.rule l.fn.pattern l.checkpoint;
-  noes : AreNoes l.rule l.profile l.course.cells l.checkpoint l.noes;
+  latest : kept l.rule l.course ≡ after l.rule l.fn.pattern l.checkpoint;
+  noes : AreNoes l.rule l.profile (kept l.rule l.course) l.checkpoint l.noes;
   before : NoRestBefore l.rule l.profile l.fn.pattern l.checkpoint;
 }

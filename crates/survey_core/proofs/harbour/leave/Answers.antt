@@ -83,12 +83,3 @@ returns-clause-rule c = c.loop-cluster.invariant.rule
 
 pub returns-clause-whole : goal.returns-clause-whole
 returns-clause-whole c = c.loop-cluster.invariant.whole
-
-pub returns-in_err-ship-clause-rule : goal.returns-in_err-ship-clause-rule
-returns-in_err-ship-clause-rule c = c.loop-cluster.invariant.rule
-
-pub returns-in_err-take_out-clause-rule : goal.returns-in_err-take_out-clause-rule
-returns-in_err-take_out-clause-rule c = c.take_out.ensures.rule ∙ c.loop-cluster.invariant.rule
-
-pub returns-in_err-push-clause-rule : goal.returns-in_err-push-clause-rule
-returns-in_err-push-clause-rule c = c.in_ok-take_out.ensures.rule ∙ c.loop-cluster.invariant.rule

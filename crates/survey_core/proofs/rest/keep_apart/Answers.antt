@@ -1,35 +1,55 @@
-use Rattle.std.proofs.Common.{◌≡◌, ◌∙◌, ◌+◌, ◌<◌, ◌≤◌, ap, sym, refl, subst, ℕ, All, true, arith, flat_map, get_or, List}
+use Rattle.std.proofs.Common.{◌≡◌, ◌∙◌, ◌+◌, ◌<◌, ◌≤◌, ap, sym, refl, subst, ℕ, All, true, arith, flat_map, get_or, map, List}
 use Rattle.std.proofs.lemmas.Bool.{false≢true}
-use Rattle.std.proofs.lemmas.Result.{IfOk-from_err}
 use Rattle.plane_core.specs.declared.cell.Cell.{Cell}
-use Rattle.plane_core.specs.Cells.{InOrder, set_of}
+use Rattle.plane_core.specs.Cells.{InOrder}
+use Rattle.plane_core.specs.Clusters.{Partition}
 use Rattle.plane_core.specs.Generations.{after, lies_within, next}
+use Rattle.plane_core.specs.Rules.{Numbers}
 use Rattle.plane_core.proofs.GenerationLemmas.{after-none, after-more}
 use Rattle.plane_core.proofs.SetLemmas.{in_order-set_of}
-use Rattle.survey_core.specs.Alone.{clusters_of, latest_of}
+use Rattle.plane_core.proofs.RunLemmas.{in_order-after}
+use Rattle.survey_core.specs.declared.alone.Alone.{Alone}
+use Rattle.survey_core.specs.Alone.{alone_at, clusters_of, latest_of}
 use Rattle.survey_core.specs.Groups.{union_of}
 use Rattle.survey_core.specs.Rest.{KeepApart}
 use Rattle.survey_core.specs.UnderWay.{survey_reach}
 use Rattle.survey_core.proofs.ForGoodLemmas.{apart_once_back}
 use Rattle.survey_core.proofs.GroupLemmas.{union_partition}
-use Rattle.survey_core.proofs.PlaneLemmas.{within_all, within_later, within_more}
+use Rattle.survey_core.proofs.PartitionLemmas.{set_of-joined}
+use Rattle.survey_core.proofs.PlaneLemmas.{within_later, within_more}
 use Rattle.survey_core.proofs.RestLemmas.{alone_in_order, alone_near, apart_at_once, apart_more, apart_now, union_near}
 use Rattle.survey_core.proofs.RunLemmas.{clusters_are, first_known, later_is, latest_at_once, latest_is, latest_near}
 use Rattle.survey_core.proofs.rest.keep_apart.Goals as goal
 
-pub pattern_of-requires : goal.pattern_of-requires
-pattern_of-requires c =
-    ap (lies_within 999999) (c.as_slice.ensures.value ∙ c.in_ok-cells.ensures)
-    ∙ within_all 999999 (latest_of c.args.clusters.now) (subst (All (λ part. lies_within 999999 part ≡ true))
-    (sym (latest_at_once c.args.rule.now (clusters_of c.args.clusters.now) c.args.clusters.now c.requires.start))
-    (λ k d low. within_more survey_reach 999999 (get_or (clusters_of c.args.clusters.now) k d) (omega arith) (c.requires.near k d low)))
+whole_in_order : (rule : Numbers) (clusters : List (List Cell)) (g : ℕ) (whole : List Cell) → whole ≡ after rule (union_of clusters) g → InOrder whole
+whole_in_order rule clusters g whole is =
+    subst InOrder (sym is) (in_order-after rule (union_of clusters) g (in_order-set_of (flat_map (λ (part : List Cell). part) clusters)))
+
+-- what the clusters are at the start
+start_is : (rule : Numbers) (list : List Alone) → list ≡ map (alone_at rule 0) (clusters_of list) → latest_of list ≡ clusters_of list
+start_is rule list start = latest_at_once rule (clusters_of list) list start
+
+pub joined-requires-clause-order : goal.joined-requires-clause-order
+joined-requires-clause-order c = subst (All InOrder) (sym (start_is c.args.rule.now c.args.clusters.now c.requires.start)) c.requires.order
+
+pub joined-requires-clause-near : goal.joined-requires-clause-near
+joined-requires-clause-near c =
+    subst (All (λ part. lies_within 999999 part ≡ true)) (sym (start_is c.args.rule.now c.args.clusters.now c.requires.start))
+    (λ k d low. within_more survey_reach 999999 (get_or (clusters_of c.args.clusters.now) k d) (omega arith) (c.requires.near k d low))
+
+-- at the start they share no cell
+pub returns-in_default : goal.returns-in_default
+returns-in_default c =
+    let clusters = clusters_of c.args.clusters.now in
+    absurd (rw c.in_default.is at c.in_ok-whole.ensures.shared (union_of clusters) (in_order-set_of (flat_map (λ (part : List Cell). part) clusters))
+    (subst (Partition (union_of clusters)) (sym (start_is c.args.rule.now c.args.clusters.now c.requires.start)) (union_partition clusters c.requires.off)))
 
 pub loop-init : goal.loop-init
 loop-init c =
     let clusters = clusters_of c.args.clusters.now in
     record {
-      whole = c.in_ok-whole.ensures ∙ ap set_of (c.as_slice.ensures.value ∙ c.in_ok-cells.ensures)
-          ∙ ap union_of (latest_at_once c.args.rule.now clusters c.args.clusters.now c.requires.start)
+      whole = (rw c.in-Some.is at c.in_ok-whole.ensures.union)
+          ∙ ap union_of (start_is c.args.rule.now c.args.clusters.now c.requires.start)
           ∙ sym (after-none c.args.rule.now (union_of clusters));
       alone = c.requires.start;
       apart = λ k low. subst (λ (h : ℕ). KeepApart c.args.rule.now (union_of clusters) clusters h) (omega arith)
@@ -54,15 +74,15 @@ step_each-requires-clause-near c =
     let most : c.args.horizon ≤ 4096 = c.requires.horizon in
     latest_near c.args.rule.now c.loop.counter (clusters_of c.args.clusters.now) c.loop.clusters c.loop.invariant.alone (omega arith) c.requires.near
 
-pub make_up-requires-clause-in_order : goal.make_up-requires-clause-in_order
-make_up-requires-clause-in_order c =
+pub joined-requires-in-loop-clause-order : goal.joined-requires-in-loop-clause-order
+joined-requires-in-loop-clause-order c =
     let clusters = clusters_of c.args.clusters.now in
     let alone = later_is c.args.rule.now c.loop.counter clusters c.loop.clusters c.step_each.new.clusters c.loop.invariant.alone c.in_ok-step_each.ensures in
     subst (All InOrder) (sym (latest_is c.args.rule.now (c.loop.counter + 1) clusters c.step_each.new.clusters alone))
     (alone_in_order c.args.rule.now clusters (c.loop.counter + 1) c.requires.order)
 
-pub make_up-requires-clause-near : goal.make_up-requires-clause-near
-make_up-requires-clause-near c =
+pub joined-requires-in-loop-clause-near : goal.joined-requires-in-loop-clause-near
+joined-requires-in-loop-clause-near c =
     let low : c.loop.counter < c.args.horizon = c.loop-test.true in
     let most : c.args.horizon ≤ 4096 = c.requires.horizon in
     let clusters = clusters_of c.args.clusters.now in
@@ -70,18 +90,39 @@ make_up-requires-clause-near c =
     subst (All (λ part. lies_within 999999 part ≡ true)) (sym (latest_is c.args.rule.now (c.loop.counter + 1) clusters c.step_each.new.clusters alone))
     (alone_near c.args.rule.now clusters (c.loop.counter + 1) c.requires.near (omega arith))
 
--- a generation in which they don't keep apart
+-- a generation in which they don't keep apart: two of them share a cell
+pub returns-in_default-2 : goal.returns-in_default-2
+returns-in_default-2 c =
+    let low : c.loop.counter + 1 ≤ c.args.horizon = omega (arith, c.loop-test.true) in
+    let rule = c.args.rule.now in
+    let clusters = clusters_of c.args.clusters.now in
+    let whole : c.in_ok-whole-2.whole ≡ after rule (union_of clusters) (c.loop.counter + 1) =
+    c.in_ok-whole-2.ensures ∙ ap (next rule) c.loop.invariant.whole ∙ sym (after-more rule (union_of clusters) c.loop.counter) in
+    let alone = later_is rule c.loop.counter clusters c.loop.clusters c.step_each.new.clusters c.loop.invariant.alone c.in_ok-step_each.ensures in
+    let shared : (w : List Cell) → InOrder w → ¬ Partition w (latest_of c.step_each.new.clusters) = rw c.in_default-2.is at c.in_ok-together.ensures.shared in (
+      λ e. absurd (false≢true e),
+      λ apart. absurd (shared c.in_ok-whole-2.whole (whole_in_order rule clusters (c.loop.counter + 1) c.in_ok-whole-2.whole whole)
+          (apart_now rule (union_of clusters) clusters (c.loop.counter + 1) c.in_ok-whole-2.whole (latest_of c.step_each.new.clusters) whole
+          (latest_is rule (c.loop.counter + 1) clusters c.step_each.new.clusters alone) (apart (c.loop.counter + 1) low))),
+    )
+
+-- or together they are another pattern
 pub returns-then-not-same : goal.returns-then-not-same
 returns-then-not-same c =
     let low : c.loop.counter + 1 ≤ c.args.horizon = omega (arith, c.loop-test.true) in
+    let rule = c.args.rule.now in
     let clusters = clusters_of c.args.clusters.now in
-    let whole : c.in_ok-whole-2.whole ≡ after c.args.rule.now (union_of clusters) (c.loop.counter + 1) =
-    c.in_ok-whole-2.ensures ∙ ap (next c.args.rule.now) c.loop.invariant.whole ∙ sym (after-more c.args.rule.now (union_of clusters) c.loop.counter) in
-    let alone = later_is c.args.rule.now c.loop.counter clusters c.loop.clusters c.step_each.new.clusters c.loop.invariant.alone c.in_ok-step_each.ensures in (
+    let whole : c.in_ok-whole-2.whole ≡ after rule (union_of clusters) (c.loop.counter + 1) =
+    c.in_ok-whole-2.ensures ∙ ap (next rule) c.loop.invariant.whole ∙ sym (after-more rule (union_of clusters) c.loop.counter) in
+    let alone = later_is rule c.loop.counter clusters c.loop.clusters c.step_each.new.clusters c.loop.invariant.alone c.in_ok-step_each.ensures in
+    let latest = latest_of c.step_each.new.clusters in
+    let union : c.in-Some-2.together ≡ union_of latest = rw c.in-Some-2.is at c.in_ok-together.ensures.union in (
       λ e. absurd (false≢true e),
-      λ apart. absurd (false≢true (sym c.if-not-same.true ∙ c.in_ok-same.ensures.1
-          (apart_now c.args.rule.now (union_of clusters) clusters (c.loop.counter + 1) c.in_ok-whole-2.whole (latest_of c.step_each.new.clusters) whole
-          (latest_is c.args.rule.now (c.loop.counter + 1) clusters c.step_each.new.clusters alone) (apart (c.loop.counter + 1) low)))),
+      λ apart. absurd (false≢true (sym c.if-not-same.true ∙ c.are_same-same.ensures.1 (c.cells.ensures.cells ∙ union
+          ∙ set_of-joined c.in_ok-whole-2.whole latest (whole_in_order rule clusters (c.loop.counter + 1) c.in_ok-whole-2.whole whole)
+          (apart_now rule (union_of clusters) clusters (c.loop.counter + 1) c.in_ok-whole-2.whole latest whole
+          (latest_is rule (c.loop.counter + 1) clusters c.step_each.new.clusters alone) (apart (c.loop.counter + 1) low))
+          ∙ sym c.cells-in-loop.ensures.cells))),
     )
 
 -- each cluster is itself again, so what follows has been seen
@@ -97,7 +138,9 @@ returns-then-are_back c =
       λ e g low. apart_once_back c.args.rule.now (union_of clusters) clusters (latest_of c.step_each.new.clusters) (c.loop.counter + 1) (omega arith)
           (in_order-set_of (flat_map (λ (part : List Cell). part) clusters)) (union_partition clusters c.requires.off) run back
           (apart_more c.args.rule.now (union_of clusters) clusters c.loop.counter c.in_ok-whole-2.whole (latest_of c.step_each.new.clusters) whole
-          run c.loop.invariant.apart (c.in_ok-same.ensures.0 c.if-not-same.false)) g,
+          run c.loop.invariant.apart (subst (λ (w : List Cell). Partition w (latest_of c.step_each.new.clusters))
+          (sym c.cells.ensures.cells ∙ c.are_same-same.ensures.0 c.if-not-same.false ∙ c.cells-in-loop.ensures.cells)
+          (rw c.in-Some-2.is at c.in_ok-together.ensures.off))) g,
       λ apart. refl,
     )
 
@@ -112,24 +155,11 @@ loop-preserved c =
       alone = alone;
       apart = apart_more c.args.rule.now (union_of clusters) clusters c.loop.counter c.in_ok-whole-2.whole (latest_of c.step_each.new.clusters) whole
           (latest_is c.args.rule.now (c.loop.counter + 1) clusters c.step_each.new.clusters alone) c.loop.invariant.apart
-          (c.in_ok-same.ensures.0 c.if-not-same.false);
+          (subst (λ (w : List Cell). Partition w (latest_of c.step_each.new.clusters))
+          (sym c.cells.ensures.cells ∙ c.are_same-same.ensures.0 c.if-not-same.false ∙ c.cells-in-loop.ensures.cells)
+          (rw c.in-Some-2.is at c.in_ok-together.ensures.off));
     }
 
 -- no generation is left
 pub returns : goal.returns
 returns c = (λ e g low. c.loop.invariant.apart g (omega arith), λ apart. refl)
-
-pub returns-in_err-whole : goal.returns-in_err-whole
-returns-in_err-whole c = IfOk-from_err _ _ c.from_residual-in_err-whole.ensures.0
-
-pub returns-in_err-cells : goal.returns-in_err-cells
-returns-in_err-cells c = IfOk-from_err _ _ c.from_residual.ensures.0
-
-pub returns-in_err-whole-2 : goal.returns-in_err-whole-2
-returns-in_err-whole-2 c = IfOk-from_err _ _ c.from_residual-in_err-whole-2.ensures.0
-
-pub returns-in_err-step_each : goal.returns-in_err-step_each
-returns-in_err-step_each c = IfOk-from_err _ _ c.from_residual-in_err-step_each.ensures.0
-
-pub returns-in_err-same : goal.returns-in_err-same
-returns-in_err-same c = IfOk-from_err _ _ c.from_residual-in_err-same.ensures.0

@@ -1,9 +1,9 @@
 use Rattle.std.proofs.Common.{◌≡◌, ◌∙◌, ◌+ℤ◌, ℤ, FitsSigned, ap, of_z, rules, subst, sym, to_z, w32}
 use Rattle.std.proofs.lemmas.Int.{to_z-of_z}
 use Rattle.survey_core.specs.declared.sweep.Sweep.{Sweep}
-use Rattle.survey_core.specs.Memos.{Fact, IsKnown, moved_sweep}
+use Rattle.survey_core.specs.Memos.{Fact, IsKnown}
 use Rattle.survey_core.specs.Sweeps.{IsSweep}
-use Rattle.survey_core.proofs.MemoLemmas.{sweep_known}
+use Rattle.survey_core.proofs.MemoLemmas.{moved_sweep, sweep_known}
 use Rattle.survey_core.proofs.memo.Memo.recalled_sweep.Goals as goal
 
 -- a side of the box, where the numbers fit 32 bits

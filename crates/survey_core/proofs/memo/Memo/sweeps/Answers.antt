@@ -11,9 +11,9 @@ use Rattle.survey_core.proofs.SweepLemmas.{sweeps_more}
 use Rattle.survey_core.proofs.memo.Memo.sweeps.Goals as goal
 
 -- one that doesn't come back
-pub returns-in-None-clause-never : goal.returns-in-None-clause-never
-returns-in-None-clause-never c = λ all.
-    let never : ¬ ComesBack c.args.rule.now c.args.limit c.pattern-item.result = rw c.in-None.is at c.in_ok-sweep.ensures.never in
+pub returns-in_default-clause-never : goal.returns-in_default-clause-never
+returns-in_default-clause-never c = λ all.
+    let never : ¬ ComesBack c.args.rule.now c.args.limit c.pattern-item.result = rw c.in_default.is at c.in_ok-sweep.ensures.never in
     never (subst (ComesBack c.args.rule.now c.args.limit) (sym c.pattern-item.is)
     (all c.loop-pattern.pattern-index c.pattern-item.result c.loop-pattern-test.true))
 
@@ -22,7 +22,7 @@ pub loop-pattern-preserved : goal.loop-pattern-preserved
 loop-pattern-preserved c =
     let found : IsSweep c.args.rule.now c.args.limit c.pattern-item.result c.in-Some.sweep = rw c.in-Some.is at c.in_ok-sweep.ensures.sweep in
     sweeps_more c.args.rule.now c.args.limit c.args.patterns.now c.loop-pattern.pattern-index c.pattern-item.result c.loop-pattern.sweeps.items
-    c.in-Some.sweep c.push.new.self.items c.loop-pattern-test.true c.pattern-item.is c.loop-pattern.invariant found c.in_ok-push-in-Some.ensures.items
+    c.in-Some.sweep c.push.new.self.items c.loop-pattern-test.true c.pattern-item.is c.loop-pattern.invariant found c.in_ok-push.ensures.items
 
 pub returns-then-sees_change-clause-never : goal.returns-then-sees_change-clause-never
 returns-then-sees_change-clause-never c = c.if-sees_change.ensures refl
@@ -59,11 +59,11 @@ returns-in_err-sweep-clause-sweeps c = IfOk-from_err _ _ c.from_residual.ensures
 pub returns-in_err-sweep-clause-never : goal.returns-in_err-sweep-clause-never
 returns-in_err-sweep-clause-never c = IfOk-from_err _ _ c.from_residual.ensures.0
 
-pub returns-in_err-push-in-Some-clause-sweeps : goal.returns-in_err-push-in-Some-clause-sweeps
-returns-in_err-push-in-Some-clause-sweeps c = IfOk-from_err _ _ c.from_residual-in_err-push-in-Some.ensures.0
+pub returns-in_err-push-clause-sweeps : goal.returns-in_err-push-clause-sweeps
+returns-in_err-push-clause-sweeps c = IfOk-from_err _ _ c.from_residual-in_err-push.ensures.0
 
-pub returns-in_err-push-in-Some-clause-never : goal.returns-in_err-push-in-Some-clause-never
-returns-in_err-push-in-Some-clause-never c = IfOk-from_err _ _ c.from_residual-in_err-push-in-Some.ensures.0
+pub returns-in_err-push-clause-never : goal.returns-in_err-push-clause-never
+returns-in_err-push-clause-never c = IfOk-from_err _ _ c.from_residual-in_err-push.ensures.0
 
 pub sweep-requires-clause-least : goal.sweep-requires-clause-least
 sweep-requires-clause-least c = c.requires.least

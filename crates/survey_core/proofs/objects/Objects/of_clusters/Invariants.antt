@@ -2,7 +2,8 @@ use Rattle.std.proofs.Common.{◌≡◌, ℕ, List, length, sum, take}
 use Rattle.std.specs.List.{AllZip, count_by}
 use Rattle.std.specs.Map.{values_of}
 use Rattle.code_core.specs.Names.{IsCode}
-use Rattle.survey_core.specs.Objects.{CountsAreSome, count_of, is_code}
+use Rattle.survey_core.specs.Objects.{count_of, is_code}
+use Rattle.survey_core.proofs.ObjectLemmas.{CountsAreSome}
 use Rattle.survey_core.proofs.objects.Objects.of_clusters.Given as goal
 
 abbrev pub invariant-loop-cluster : goal.invariant-loop-cluster
