@@ -11,12 +11,11 @@ use Rattle.plane_core.specs.declared.frame.Frame.{Frame}
 use Rattle.plane_core.specs.declared.place.Place.{Place}
 use Rattle.plane_core.specs.declared.spans.Span.{Span}
 use Rattle.plane_core.specs.Bounds.{IsWithin}
-use Rattle.plane_core.specs.Boxes.{AreCovered, HoldAll, HoldDifferences, IsNearOne, IsQuiet, IsStillOutside, box_bound}
+use Rattle.plane_core.specs.Boxes.{AreCovered, HoldAll, HoldDifferences, IsNearOne, IsQuiet, box_bound}
 use Rattle.plane_core.specs.Cells.{InOrder, IsPattern, on_plane, plane_bound}
 use Rattle.plane_core.specs.Frames.{FillsFrame, IsFrame, LieOn, Shows, bounds_of}
 use Rattle.plane_core.specs.Generations.{after, lies_within}
-use Rattle.plane_core.specs.Boards.{AreRightFor, HasGoneOn, IsBoard, IsReady, IsSpannedBoard}
-use Rattle.plane_core.specs.Leaps.{HasLeapt}
+use Rattle.plane_core.specs.Boards.{IsBoard, IsSpannedBoard}
 use Rattle.plane_core.specs.OnBoard.{cells_on}
 use Rattle.plane_core.specs.Places.{IsCovered, IsInnerCell, IsOnBoard, compared_with}
 use Rattle.plane_core.specs.Bounds.{AreSidesWithin}
@@ -30,6 +29,7 @@ use Rattle.plane_core.proofs.QuietLemmas.{boxed-next, quiet-next, quiet-start, s
 use Rattle.plane_core.proofs.RunLemmas.{after-plus, in_order-after}
 use Rattle.plane_core.proofs.SetLemmas.{same_lists}
 use Rattle.plane_core.proofs.SpanLemmas.{spans_after}
+use Rattle.plane_core.proofs.Between.{AreRightFor, HasGoneOn, HasLeapt, IsReady, IsStillOutside}
 
 -- ---- the cells stay on the board
 

@@ -10,7 +10,7 @@ use Rattle.plane_core.specs.declared.cell.Cell.{Cell}
 use Rattle.plane_core.specs.Bounds.{shifted}
 use Rattle.plane_core.specs.Cells.{has, moved_by}
 use Rattle.plane_core.specs.Generations.{after, next}
-use Rattle.plane_core.specs.LonePatterns.{AreAlike, HasChanged, Holds, IsColumns, IsCorner, IsFirstRow, IsInWindow, IsRimClear, AreVectors}
+use Rattle.plane_core.specs.LonePatterns.{AreAlike, HasChanged, Holds, IsColumns, IsFirstRow, IsInWindow, IsRimClear, AreVectors}
 use Rattle.plane_core.specs.Rules.{Numbers}
 use Rattle.plane_core.specs.Windows.{IsNextWindow, row_at}
 use Rattle.plane_core.proofs.CaseLemmas.{less_or_not, same_or_not}
@@ -20,6 +20,7 @@ use Rattle.plane_core.proofs.OrientationLemmas.{has-map, has-map_from}
 use Rattle.plane_core.proofs.SetLemmas.{same_lists}
 use Rattle.plane_core.proofs.SpeedLemmas.{after-suc}
 use Rattle.plane_core.proofs.WindowLemmas.{in_window, same_cell_at}
+use Rattle.plane_core.proofs.Between.{IsCorner}
 
 -- ---- where a pattern begins
 

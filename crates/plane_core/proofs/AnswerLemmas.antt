@@ -5,7 +5,7 @@ use Rattle.std.proofs.Common.{arith, refl, ap, ◌∙◌, sym, bit_and, bit_or, 
 use Rattle.std.specs.Int.{bit_at}
 use Rattle.std.proofs.lemmas.Nat.Bits.{bit_at_and, bit_at_or, bit_at_xor, bit_at-lt}
 use Rattle.std.proofs.lemmas.Simd.{get_or-replicate}
-use Rattle.plane_core.specs.Lanes.{bit_of, sum_of, total_of, AnswersTotal, AnswersRows, AnswersNeighbours, AreBeside}
+use Rattle.plane_core.specs.Lanes.{bit_of, sum_of, total_of, AnswersRows, AreBeside}
 use Rattle.plane_core.specs.Rules.{Numbers, is_birth, is_survival}
 use Rattle.plane_core.specs.Generations.{lives_by}
 use Rattle.plane_core.specs.Words.{one_if, life}
@@ -16,6 +16,7 @@ use Rattle.plane_core.proofs.CaseLemmas.{same_or_not}
 use Rattle.plane_core.proofs.LaneLemmas.{lane_of, four_lanes}
 use Rattle.plane_core.proofs.WordLemmas.{life_digits, one_of_four}
 use lib.Lanes.{zip2}
+use Rattle.plane_core.proofs.Between.{AnswersNeighbours, AnswersTotal}
 
 -- three sums of two digits are at most nine
 pub sums_small : (up here down : Sum) (j i : ℕ) → sum_of up j i + sum_of here j i + sum_of down j i ≤ 9

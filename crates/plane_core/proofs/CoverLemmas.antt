@@ -12,10 +12,11 @@ use Rattle.plane_core.specs.declared.place.Place.{Place}
 use Rattle.plane_core.specs.Bounds.{IsRoundBoth, IsWithin, enlarged}
 use Rattle.plane_core.specs.Boxes.{IsInOne, box_bound, rectangle_bound}
 use Rattle.plane_core.specs.Cells.{distance}
-use Rattle.plane_core.specs.Covers.{AreSideBySide, BeginsAt, IsInRow}
+use Rattle.plane_core.specs.Covers.{AreSideBySide, IsInRow}
 use Rattle.plane_core.specs.Bounds.{AreSidesWithin}
 use Rattle.plane_core.specs.Places.{IsCovered, IsInnerCell}
 use Rattle.plane_core.proofs.BoxLemmas.{any_swap_remove}
+use Rattle.plane_core.proofs.Between.{BeginsAt}
 
 -- ---- the union of two boxes
 

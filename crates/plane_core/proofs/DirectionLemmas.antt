@@ -19,7 +19,7 @@ use Rattle.plane_core.specs.declared.frame.Frame.{Frame}
 use Rattle.plane_core.specs.declared.spans.Span.{Span}
 use Rattle.plane_core.specs.Bounds.{AreSidesWithin}
 use Rattle.plane_core.specs.Cells.{cell_at, has, is_within, on_plane, plane_bound, same_cell}
-use Rattle.plane_core.specs.Directions.{GoesDeeper, HasDepth, IsGreater, IsReached, IsSeen, NoDeeper, counted, depth_in, inner_row, outer_column}
+use Rattle.plane_core.specs.Directions.{GoesDeeper, HasDepth, IsReached, IsSeen, NoDeeper, counted, depth_in, inner_row, outer_column}
 use Rattle.plane_core.specs.Frames.{board_cell, bounds_of, word_of}
 use Rattle.plane_core.specs.Frontiers.{LiesUpTo, depth}
 use Rattle.plane_core.specs.OnBoard.{cells_on}
@@ -34,6 +34,7 @@ use Rattle.plane_core.proofs.ListingLemmas.{along_cell}
 use Rattle.plane_core.proofs.OnBoardLemmas.{bit_of_cell, placed, shows_cells, spot_within}
 use Rattle.plane_core.proofs.RemovalLemmas.{has-without, without-has}
 use Rattle.plane_core.proofs.SetLemmas.{has-append}
+use Rattle.plane_core.proofs.Between.{IsGreater}
 
 -- ---- the farthest bit of a word
 

@@ -13,7 +13,6 @@ use Rattle.plane_core.specs.Floods.{AreNear, IsFlooded, ShowsInRows, bit_in}
 use Rattle.plane_core.specs.Frames.{board_cell, word_of}
 use Rattle.plane_core.specs.LonePatterns.{Holds, IsInWindow}
 use Rattle.plane_core.specs.OnBoard.{cells_on}
-use Rattle.plane_core.specs.Refusing.{HoldsCluster}
 use Rattle.plane_core.specs.Windows.{IsShownInside, row_at}
 use Rattle.plane_core.proofs.CaseLemmas.{same_or_not}
 use Rattle.plane_core.proofs.CellLemmas.{same_cell-itself, same_cell-same, same_cells}
@@ -21,6 +20,7 @@ use Rattle.plane_core.proofs.ClusterLemmas.{linked-has}
 use Rattle.plane_core.proofs.OnBoardLemmas.{bit_of_cell, cells_in_order, placed, shows_cells}
 use Rattle.plane_core.proofs.SetLemmas.{has-filter, in_order-filter, same_lists}
 use Rattle.plane_core.proofs.WindowLemmas.{in_window}
+use Rattle.plane_core.proofs.Between.{HoldsCluster}
 
 -- ---- the cluster
 

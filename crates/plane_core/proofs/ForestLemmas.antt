@@ -13,11 +13,12 @@ use borrow.Author.Count.{below_more}
 use Rattle.plane_core.specs.declared.cell.Cell.{Cell}
 use Rattle.plane_core.specs.Cells.{cell_at, cell_cmp, distance, king_distance, moved_by, has, InOrder}
 use Rattle.plane_core.specs.Clusters.{Linked}
-use Rattle.plane_core.specs.Forest.{cell_of, parent_of, LeadsBack, IsForest, Labels, Joined, Keeps, JoinsLinked, JoinsAll, IsBridged, NeedsJoin, IsPassed, IsBehind, AreBehind}
+use Rattle.plane_core.specs.Forest.{cell_of, parent_of, LeadsBack, IsForest, Labels, Joined, Keeps, JoinsAll, IsBridged, NeedsJoin, IsPassed}
 use Rattle.plane_core.specs.declared.forest.Cursors.{Cursors}
 use Rattle.plane_core.proofs.CellLemmas.{cell_cmp_total, cell_cmp-moved}
 use Rattle.plane_core.proofs.SetLemmas.{Contains-has, greater_turned}
 use Rattle.plane_core.proofs.ClusterLemmas.{linked-itself, linked-near, linked-trans, linked-sym}
+use Rattle.plane_core.proofs.Between.{AreBehind, IsBehind, JoinsLinked}
 
 pub has-cell_of : (cells : List Cell) (k : ℕ) → k < length cells → has cells (cell_of cells k) ≡ true
 has-cell_of cells k low = Contains-has cells (cell_of cells k) (Contains-get_or cells k _ low)

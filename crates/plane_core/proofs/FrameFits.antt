@@ -8,8 +8,9 @@ use Rattle.plane_core.specs.declared.cell.Cell.{Cell}
 use Rattle.plane_core.specs.declared.frame.Frame.{Frame}
 use Rattle.plane_core.specs.Bounds.{AreSidesWithin, IsWithin}
 use Rattle.plane_core.specs.Cells.{distance, plane_bound}
-use Rattle.plane_core.specs.Frames.{HasRoom, IsFrame, bounds_of}
+use Rattle.plane_core.specs.Frames.{IsFrame, bounds_of}
 use Rattle.plane_core.proofs.BoxRoundLemmas.{fewer_sides}
+use Rattle.plane_core.proofs.Between.{HasRoom}
 
 -- ---- columns and rows
 

@@ -8,11 +8,12 @@ use Rattle.plane_core.specs.declared.bounds.Bounds.{Bounds}
 use Rattle.plane_core.specs.declared.cell.Cell.{Cell}
 use Rattle.plane_core.specs.Bounds.{IsWithin, IsLeastBox}
 use Rattle.plane_core.specs.Cells.{plane_bound, distance}
-use Rattle.plane_core.specs.Frames.{HasRoom, IsFrame, LieOn, bounds_of, board_cell, word_of}
+use Rattle.plane_core.specs.Frames.{IsFrame, LieOn, bounds_of, board_cell, word_of}
 use Rattle.plane_core.specs.Bounds.{AreSidesWithin}
 use Rattle.plane_core.proofs.CaseLemmas.{less_or_not, same_or_not}
 use Rattle.plane_core.proofs.BoxRoundLemmas.{fewer_sides, in_box}
 use Rattle.plane_core.proofs.CellLemmas.{same_cells}
+use Rattle.plane_core.proofs.Between.{HasRoom}
 
 -- ---- places in the list
 

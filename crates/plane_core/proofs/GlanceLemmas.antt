@@ -16,7 +16,7 @@ use Rattle.plane_core.specs.declared.place.Place.{Place}
 use Rattle.plane_core.specs.Bounds.{AreSidesWithin, IsLeastBox, IsWithin}
 use Rattle.plane_core.specs.Cells.{InOrder, cell_at, distance, has, is_within, plane_bound, same_cell}
 use Rattle.plane_core.specs.Generations.{touches_edge}
-use Rattle.plane_core.specs.Glances.{IsInland, IsSpot, ShowsRows}
+use Rattle.plane_core.specs.Glances.{IsInland}
 use Rattle.plane_core.specs.LonePatterns.{Holds, IsInWindow}
 use Rattle.plane_core.specs.Windows.{IsShownInside, row_at}
 use Rattle.plane_core.proofs.CaseLemmas.{same_or_not}
@@ -25,6 +25,7 @@ use Rattle.plane_core.proofs.SearchLemmas.{has-list_all}
 use Rattle.plane_core.proofs.SetLemmas.{has-all, has-append, has-head}
 use Rattle.plane_core.proofs.SpeedLemmas.{inside_edge}
 use Rattle.plane_core.proofs.WindowLemmas.{same_cell_at}
+use Rattle.plane_core.proofs.Between.{IsSpot, ShowsRows}
 
 -- ---- a window round a box
 

@@ -20,14 +20,15 @@ use Rattle.plane_core.specs.Differences.{DiffersOnlyIn}
 use Rattle.plane_core.specs.Floods.{ShowsInAllRows}
 use Rattle.plane_core.specs.Frames.{Shows, board_cell, word_of}
 use Rattle.plane_core.specs.Generations.{after}
-use Rattle.plane_core.specs.Leaps.{ArePutBack, AreRun, HasLeapt, IsRun, IsRunAt, ShowsInner}
-use Rattle.plane_core.specs.Placed.{AreRowsRead, IsInner, IsPutBack, IsReadAt, bit_on, cell_on}
+use Rattle.plane_core.specs.Leaps.{ArePutBack, AreRun, IsRun, ShowsInner}
+use Rattle.plane_core.specs.Placed.{AreRowsRead, IsInner, IsPutBack, bit_on, cell_on}
 use Rattle.plane_core.specs.Places.{HoldsChange, IsInnerCell, compared_with}
 use Rattle.plane_core.specs.Rules.{Numbers}
 use Rattle.plane_core.specs.Windows.{IsShownInside, row_at}
 use Rattle.plane_core.proofs.BoxLemmas.{HoldFirst, hold_more}
 use Rattle.plane_core.proofs.RunLemmas.{after-plus, in_order-after}
 use Rattle.plane_core.proofs.WindowLemmas.{HasMade, same_cell_at}
+use Rattle.plane_core.proofs.Between.{HasLeapt, IsReadAt, IsRunAt}
 
 -- ---- what has changed in a window
 

@@ -1,6 +1,7 @@
 pub mod AdvanceLemmas
 pub mod AgainLemmas
 pub mod AnswerLemmas
+pub mod Between
 pub mod BoardLemmas
 pub mod BoundsLemmas
 pub mod BoxLemmas

@@ -13,7 +13,7 @@ use Rattle.plane_core.specs.declared.frame.Frame.{Frame}
 use Rattle.plane_core.specs.declared.cell.Cell.{Cell}
 use Rattle.plane_core.specs.Cells.{InOrder, cell_at, has, set_of}
 use Rattle.plane_core.specs.Frames.{IsFrame, LieOn, Shows, board_cell, word_of}
-use Rattle.plane_core.specs.Listing.{AreAmong, AreDead, HasRead, HasReadRow, HasReadRows, IsBandEmpty, IsLaneEmpty, IsNextAlive, IsRowEmpty}
+use Rattle.plane_core.specs.Listing.{AreAmong, HasRead, HasReadRows, IsBandEmpty, IsLaneEmpty}
 use Rattle.plane_core.specs.OnBoard.{cells_on}
 use Rattle.plane_core.specs.Spans.{HasRow, IsInSpan, LieInLanes, LieInSpans}
 use Rattle.plane_core.specs.declared.spans.Span.{Span}
@@ -23,6 +23,7 @@ use Rattle.plane_core.proofs.FrameLemmas.{spot_inside, spot_of}
 use Rattle.plane_core.proofs.OnBoardLemmas.{cells_in_order, cells_lie_on, shows_cells}
 use Rattle.plane_core.proofs.CellLemmas.{same_cells}
 use Rattle.plane_core.proofs.SetLemmas.{has-append, has-cases, has-head, is_set_of, or_right}
+use Rattle.plane_core.proofs.Between.{AreDead, HasReadRow, IsNextAlive, IsRowEmpty}
 
 or_left : (a b : Bool) → a ≡ true → (a || b) ≡ true
 or_left true b e = refl

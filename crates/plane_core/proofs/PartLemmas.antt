@@ -8,7 +8,7 @@ use Rattle.std.proofs.lemmas.Bool.{false≢true, eqb-true, ltb-true, ltb-false, 
 use Rattle.plane_core.specs.declared.cell.Cell.{Cell}
 use Rattle.plane_core.specs.Cells.{has, same_cell, set_of, king_distance, distance, on_plane, plane_bound, InOrder, IsPattern}
 use Rattle.plane_core.specs.Generations.{around, lives, next, after, lies_within, touches_edge}
-use Rattle.plane_core.specs.Parts.{AreApart, FarPatternsRunAlone, HasRun}
+use Rattle.plane_core.specs.Parts.{FarPatternsRunAlone, HasRun}
 use Rattle.plane_core.specs.Rules.{Numbers, is_birth, is_survival}
 use Rattle.plane_core.proofs.NeighbourhoodLemmas.{around-cons}
 use Rattle.plane_core.proofs.GenerationLemmas.{a_neighbour, after-none, after-one, distance_itself, has-next, lives_cases}
@@ -16,6 +16,7 @@ use Rattle.plane_core.proofs.RunLemmas.{in_order-after}
 use Rattle.plane_core.proofs.SearchLemmas.{has-list_all, list_all-has}
 use Rattle.plane_core.proofs.SetLemmas.{has-append, has-cases, has-filter, has-head, has-set_of, in_order-filter, in_order-set_of, or_right, same_lists}
 use Rattle.plane_core.proofs.SpeedLemmas.{after-suc, run_inside}
+use Rattle.plane_core.proofs.Between.{AreApart}
 
 -- ---- what a cell sees
 

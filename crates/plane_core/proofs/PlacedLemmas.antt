@@ -7,9 +7,10 @@ use Rattle.std.proofs.lemmas.List.{get_or-set_same, get_or-set_other}
 use Rattle.std.proofs.lemmas.Nat.Bits.{bit_at_mask_above, bit_at_mask_below, bit_at_mask_inside}
 use Rattle.plane_core.specs.declared.frame.Frame.{Frame}
 use Rattle.plane_core.specs.Frames.{FillsFrame, word_of}
-use Rattle.plane_core.specs.Placed.{bit_on, inner_mask, AreRowsRead, IsReadAt, IsInnerColumn, IsInner, IsRowPut, IsPutBack}
+use Rattle.plane_core.specs.Placed.{bit_on, inner_mask, AreRowsRead, IsInnerColumn, IsInner, IsRowPut, IsPutBack}
 use Rattle.plane_core.specs.Windows.{row_at}
 use Rattle.plane_core.proofs.FrameLemmas.{one_word as same_spot, word-inside}
+use Rattle.plane_core.proofs.Between.{IsReadAt}
 
 -- ---- reading
 

@@ -5,7 +5,7 @@ use Rattle.std.proofs.lemmas.Bool.{eq-eqb, false≢true, ne_eqb}
 use Rattle.plane_core.specs.declared.bounds.Bounds.{Bounds}
 use Rattle.plane_core.specs.declared.cell.Cell.{Cell}
 use Rattle.plane_core.specs.declared.place.Place.{Place}
-use Rattle.plane_core.specs.Boxes.{AreCovered, HoldAll, HoldDifferences, IsInOne, IsNearOne, IsQuiet, IsStillOutside}
+use Rattle.plane_core.specs.Boxes.{AreCovered, HoldAll, HoldDifferences, IsInOne, IsNearOne, IsQuiet}
 use Rattle.plane_core.specs.Cells.{InOrder, has, king_distance}
 use Rattle.plane_core.specs.Generations.{after}
 use Rattle.plane_core.specs.Places.{compared_with}
@@ -16,6 +16,7 @@ use Rattle.plane_core.proofs.GenerationLemmas.{after-none, distance_itself, has-
 use Rattle.plane_core.proofs.PartLemmas.{false_unless, lives-local, near-after, triangle}
 use Rattle.plane_core.proofs.RunLemmas.{after-plus, in_order-after}
 use Rattle.plane_core.proofs.SpeedLemmas.{after-suc}
+use Rattle.plane_core.proofs.Between.{IsStillOutside}
 
 -- what a cell is after n generations is decided by what lies within n of it
 pub after-local : (rule : Numbers) (S T : List Cell) (n : ℕ) (c : Cell) → InOrder S → InOrder T

@@ -2,9 +2,10 @@
 use Rattle.std.proofs.Common.{ℕ, ℤ, ◌+ℤ◌, pos, List, arith, inl, inr}
 use Rattle.plane_core.specs.declared.cell.Cell.{Cell}
 use Rattle.plane_core.specs.LonePatterns.{HasChanged, Holds}
-use Rattle.plane_core.specs.Refusing.{HoldsCluster, IsExcerpt, LiesInExcerpt, RefusesAll, ShowsStray}
+use Rattle.plane_core.specs.Refusing.{IsExcerpt, LiesInExcerpt, RefusesAll, ShowsStray}
 use Rattle.plane_core.specs.Rules.{Numbers}
 use Rattle.plane_core.proofs.ExcerptLemmas.{excerpt_held, excerpt_shown}
+use Rattle.plane_core.proofs.Between.{HoldsCluster}
 
 pub refused_by_stray : (rule : Numbers) (window alone : List (List ℕ)) (depth horizon period : ℕ) → HoldsCluster 16 window alone depth
     → ShowsStray rule 16 window alone depth horizon → RefusesAll rule 16 window depth horizon period

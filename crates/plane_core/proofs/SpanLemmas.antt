@@ -12,18 +12,18 @@ use Rattle.plane_core.specs.declared.frame.Frame.{Frame}
 use Rattle.plane_core.specs.declared.place.Place.{Place}
 use Rattle.plane_core.specs.declared.spans.Hull.{Hull}
 use Rattle.plane_core.specs.declared.spans.Span.{Span}
-use Rattle.plane_core.specs.Boxes.{IsStillOutside}
 use Rattle.plane_core.specs.Cells.{has}
 use Rattle.plane_core.specs.Frames.{Shows, board_cell, word_of}
 use Rattle.plane_core.specs.Generations.{after}
 use Rattle.plane_core.specs.OnBoard.{cells_on}
 use Rattle.plane_core.specs.Places.{IsInnerCell}
 use Rattle.plane_core.specs.Rules.{Numbers}
-use Rattle.plane_core.specs.Spans.{AreSpans, AreWidened, HoldCovered, HoldInner, HoldsSpans, HasRow, IsInHull, IsInSpan, LieInSpans, span_of}
+use Rattle.plane_core.specs.Spans.{AreSpans, AreWidened, HoldCovered, HoldsSpans, HasRow, IsInHull, IsInSpan, LieInSpans, span_of}
 use Rattle.plane_core.proofs.CaseLemmas.{less_or_not, same_or_not}
 use Rattle.plane_core.proofs.FrameLemmas.{one_spot, spot_of}
 use Rattle.plane_core.proofs.OnBoardLemmas.{shows_cells}
 use Rattle.plane_core.proofs.SetLemmas.{has-append, has-cases}
+use Rattle.plane_core.proofs.Between.{HoldInner, IsStillOutside}
 
 -- ---- numbers in a span
 

@@ -1,5 +1,5 @@
 -- A board that goes on by leaps.
-use Rattle.std.specs.Prelude.{◌≡◌, ◌%◌, ℕ, Bool, true, All, List}
+use Rattle.std.specs.Prelude.{◌≡◌, ℕ, Bool, true, All, List}
 use Rattle.plane_core.specs.declared.bounds.Bounds.{Bounds}
 use Rattle.plane_core.specs.declared.cell.Cell.{Cell}
 use Rattle.plane_core.specs.declared.frame.Frame.{Frame}
@@ -7,21 +7,15 @@ use Rattle.plane_core.specs.declared.spans.Span.{Span}
 use Rattle.plane_core.specs.Boxes.{HoldAll, IsQuiet, box_bound}
 use Rattle.plane_core.specs.Cells.{plane_bound}
 use Rattle.plane_core.specs.Frames.{FillsFrame, IsFrame, bounds_of}
-use Rattle.plane_core.specs.Generations.{after}
 use Rattle.plane_core.specs.Bounds.{AreSidesWithin}
 use Rattle.plane_core.specs.OnBoard.{cells_on}
 use Rattle.plane_core.specs.Rules.{Numbers}
-use Rattle.plane_core.specs.Spans.{AreSpans, LieInSpans}
+use Rattle.plane_core.specs.Spans.{AreSpans}
 
 -- a pattern under a rule
 pub record Running : Type 0 where
   pub rule : Numbers
   pub cells : List Cell
-
--- what the boxes have to say before a leap of n generations
-pub record AreRightFor (rule : Numbers) (cells : List Cell) (boxes : List Bounds) (n : ℕ) : Type 0 where
-  pub even : n % 2 ≡ 0 → IsQuiet rule cells boxes
-  pub odd : n % 2 ≡ 1 → HoldAll boxes cells
 
 -- a board's words and boxes
 pub record IsBoard (at : Frame) (rule : Numbers) (words : List ℕ) (boxes : List Bounds) (holds_all : Bool) : Type 0 where
@@ -37,18 +31,3 @@ pub record IsSpannedBoard (at : Frame) (rule : Numbers) (words : List ℕ) (boxe
   pub board : IsBoard at rule words boxes holds_all
   pub spanned : AreSpans at (cells_on at words) spans
   pub plane : AreSidesWithin plane_bound (bounds_of at)
-
--- a board that is ready for a leap of n generations
-pub record IsReady (rule : Numbers) (at : Frame) (n : ℕ) (words : List ℕ) (boxes : List Bounds) (spans : List Span) : Type 0 where
-  pub frame : IsFrame at
-  pub long : FillsFrame at words
-  pub sides : All (AreSidesWithin box_bound) boxes
-  pub right : AreRightFor rule (cells_on at words) boxes n
-  pub spanned : AreSpans at (cells_on at words) spans
-
--- a board that was led on by n generations, with its boxes and spans
-pub record HasGoneOn (rule : Numbers) (at : Frame) (n : ℕ) (old new : List ℕ) (boxes : List Bounds) (spans : List Span) : Type 0 where
-  pub cells : cells_on at new ≡ after rule (cells_on at old) n
-  pub sides : All (AreSidesWithin box_bound) boxes
-  pub right : AreRightFor rule (cells_on at new) boxes n
-  pub live : LieInSpans at spans (cells_on at new)

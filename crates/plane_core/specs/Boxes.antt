@@ -47,10 +47,6 @@ HoldAll boxes cells = (c : Cell) → has cells c ≡ true → IsInOne boxes c
 abbrev pub AreCovered : List Place → List Bounds → Type 0
 AreCovered places boxes = (c : Cell) → IsNearOne 4 boxes c → IsCovered places c
 
--- each cell that lies in no inner part is n generations on what it is
-abbrev pub IsStillOutside : Numbers → List Place → List Cell → ℕ → Type 0
-IsStillOutside rule places cells n = (c : Cell) → ¬ IsCovered places c → has (after rule cells n) c ≡ has cells c
-
 -- each bit that is 1 lies between the first and the last, which are below 64
 pub record HasBits (word : ℕ) (span : Span) : Type 0 where
   pub first : (i : ℕ) → bit_at word i ≡ 1 → span.first ≤ i

@@ -1,8 +1,7 @@
 -- Windows side by side over a rectangle.
-use Rattle.std.specs.Prelude.{◌≡◌, ◌+◌, ◌*◌, ◌≤◌, ℕ, ℤ, pos, ◌+ℤ◌, ◌-ℤ◌, ◌≤ℤ◌, ◌<ℤ◌}
+use Rattle.std.specs.Prelude.{◌+◌, ◌*◌, ◌≤◌, ℕ, ℤ, pos, ◌+ℤ◌, ◌≤ℤ◌, ◌<ℤ◌}
 use Rattle.plane_core.specs.declared.cell.Cell.{Cell}
 use Rattle.plane_core.specs.declared.cover.Spans.{Spans}
-use Rattle.plane_core.specs.declared.place.Place.{Place}
 use Rattle.plane_core.specs.Cells.{distance}
 
 -- spans of this size reach from the first number, or one at most so much before it, to past the last
@@ -18,8 +17,3 @@ pub record IsInRow (spans : Spans) (row : ℤ) (c : Cell) : Type 0 where
   pub right : c.x <ℤ (spans.first +ℤ pos (56 * spans.count))
   pub top : row ≤ℤ c.y
   pub bottom : c.y <ℤ (row +ℤ pos 32)
-
--- the inner part of a window begins in this column and this row
-pub record BeginsAt (p : Place) (column row : ℤ) : Type 0 where
-  pub left : p.left ≡ column -ℤ pos 4
-  pub top : p.top ≡ row -ℤ pos 4

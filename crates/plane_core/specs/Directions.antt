@@ -1,5 +1,5 @@
 -- Diagonal directions, and how deep a pattern lies in one: how far it reaches, where the column and the row of a cell count alike.
-use Rattle.std.specs.Prelude.{◌≡◌, ◌+◌, ◌-◌, ◌<◌, ◌≤◌, ℕ, ℤ, ◌+ℤ◌, ◌≤ℤ◌, neg_ℤ, Bool, true, false, List, Option, IfSome, IsSomeAnd, Some, ◌⊎◌}
+use Rattle.std.specs.Prelude.{◌≡◌, ◌+◌, ◌-◌, ◌<◌, ◌≤◌, ℕ, ℤ, ◌+ℤ◌, ◌≤ℤ◌, neg_ℤ, Bool, true, false, List, Option, IfSome, IsSomeAnd}
 use Rattle.plane_core.specs.declared.cell.Cell.{Cell}
 use Rattle.plane_core.specs.declared.direction.Direction.{Direction}
 use Rattle.plane_core.specs.declared.frame.Frame.{Frame}
@@ -19,12 +19,6 @@ depth_in way c = counted way.right c.x +ℤ counted way.down c.y
 -- something was found, and it is at least so deep
 abbrev pub IsReached : Option ℤ → ℤ → Type 0
 IsReached found z = IsSomeAnd found (λ m. z ≤ℤ m)
-
--- the greater one of what was found and another depth
-pub record IsGreater (found : Option ℤ) (depth greater : ℤ) : Type 0 where
-  pub kept : (z : ℤ) → IsReached found z → z ≤ℤ greater
-  pub least : depth ≤ℤ greater
-  pub either : greater ≡ depth ⊎ found ≡ Some greater
 
 -- a cell of the pattern lies just so deep
 pub record HasDepth (way : Direction) (cells : List Cell) (z : ℤ) : Type 0 where

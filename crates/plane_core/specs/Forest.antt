@@ -1,10 +1,9 @@
 -- How clusters are found: the places of a pattern's list become a forest. Each leads to an earlier place or is a root.
-use Rattle.std.specs.Prelude.{◌≡◌, ◌+◌, ◌-◌, ◌<◌, ◌≤◌, ◌==◌, ℕ, ℤ, pos, negsuc, List, [], ◌∷◌, cond, drop, get_or, length, take}
+use Rattle.std.specs.Prelude.{◌≡◌, ◌+◌, ◌-◌, ◌<◌, ◌≤◌, ◌==◌, ℕ, pos, List, [], ◌∷◌, cond, drop, get_or, length, take}
 use Rattle.std.specs.List.{AllPairs}
 use Rattle.std.specs.declared.cmp.Ordering.TheVariants.{Less}
 use Rattle.plane_core.specs.declared.cell.Cell.{Cell}
-use Rattle.plane_core.specs.declared.forest.Cursors.{Cursors}
-use Rattle.plane_core.specs.Cells.{cell_at, cell_cmp, king_distance, moved_by}
+use Rattle.plane_core.specs.Cells.{cell_at, cell_cmp, king_distance}
 use Rattle.plane_core.specs.Clusters.{FirstBefore, Linked}
 
 -- the cell at a place
@@ -37,10 +36,6 @@ Joined parents j k = (label : ℕ → ℕ) → Labels parents label → label j 
 abbrev pub Keeps : List ℕ → List ℕ → Type 0
 Keeps old new = (label : ℕ → ℕ) → Labels new label → Labels old label
 
--- the trees may only be joined where cells are linked
-abbrev pub JoinsLinked : List ℕ → List ℕ → ℕ → ℕ → Type 0
-JoinsLinked old new j k = (cells : List Cell) → IsForest cells old → Linked cells (cell_of cells j) (cell_of cells k) → IsForest cells new
-
 -- places of near cells are joined, up to this place
 abbrev pub JoinsAll : List Cell → List ℕ → ℕ → Type 0
 JoinsAll cells parents place =
@@ -60,14 +55,6 @@ pub record NeedsJoin (cells : List Cell) (k place : ℕ) : Type 0 where
 -- the places before the cursor are those of cells that come before this one
 abbrev pub IsPassed : List Cell → ℕ → Cell → Type 0
 IsPassed cells cursor from = (k : ℕ) → k < cursor → cell_cmp (cell_of cells k) from ≡ Less
-
--- they come before all that is near the cells from this place on, so many rows further down
-abbrev pub IsBehind : List Cell → ℕ → ℤ → ℕ → Type 0
-IsBehind cells cursor dy place = (p : ℕ) → place ≤ p → p < length cells → IsPassed cells cursor (moved_by (negsuc 1) dy (cell_of cells p))
-
-pub record AreBehind (cells : List Cell) (cursors : Cursors) (place : ℕ) : Type 0 where
-  pub above : IsBehind cells cursors.above (negsuc 0) place
-  pub top : IsBehind cells cursors.top (negsuc 1) place
 
 -- the cells at places with this number
 abbrev pub numbered : ℕ → List ℕ → List Cell → List Cell

@@ -1,11 +1,11 @@
 -- A board: a rectangle of cells in words, a word for each row of a lane of 64 columns, and where its cells lie on the plane.
-use Rattle.std.specs.Prelude.{◌≡◌, ◌==◌, ◌+◌, ◌*◌, ◌/◌, ◌<◌, ◌≤◌, ◌^◌, ℕ, ◌+ℤ◌, ◌-ℤ◌, ◌-◌, pos, List, length, slice_index, true, unsigned_abs}
+use Rattle.std.specs.Prelude.{◌≡◌, ◌==◌, ◌+◌, ◌*◌, ◌/◌, ◌<◌, ◌≤◌, ◌^◌, ℕ, ◌+ℤ◌, ◌-ℤ◌, pos, List, length, slice_index, true, unsigned_abs}
 use Rattle.std.specs.Int.{bit_at}
 use Rattle.plane_core.specs.declared.bounds.Bounds.{Bounds}
 use Rattle.plane_core.specs.declared.frame.Frame.{Frame}
 use Rattle.plane_core.specs.declared.cell.Cell.{Cell}
 use Rattle.plane_core.specs.Bounds.{AreSidesWithin, IsWithin}
-use Rattle.plane_core.specs.Cells.{cell_at, distance, has, plane_bound}
+use Rattle.plane_core.specs.Cells.{cell_at, has, plane_bound}
 
 -- the cell that bit i of row r of lane s is
 abbrev pub board_cell : Frame → ℕ → ℕ → ℕ → Cell
@@ -55,10 +55,3 @@ HasFewWords at cells = at.lanes * at.rows ≤ 256 * length cells + 271000
 -- all cells lie in it
 abbrev pub LieOn : Frame → List Cell → Type 0
 LieOn at cells = (c : Cell) → has cells c ≡ true → IsWithin (bounds_of at) c
-
--- the box isn't larger than the board, and lies so far from the border of the plane that a board round it lies on the plane
-pub record HasRoom (at : Frame) (b : Bounds) : Type 0 where
-  pub across : distance b.left b.right + 1 ≤ 64 * at.lanes
-  pub down : distance b.top b.bottom + 1 ≤ at.rows
-  pub plane : 64 * at.lanes + at.rows ≤ plane_bound
-  pub sides : AreSidesWithin (plane_bound - (64 * at.lanes + at.rows)) b

@@ -1,5 +1,5 @@
 -- Vectors of four words, a word to a lane, and sums of cells in them.
-use Rattle.std.specs.Prelude.{◌≡◌, ◌==◌, ◌+◌, ◌*◌, ◌<◌, ◌≤◌, ℕ, List, slice_index}
+use Rattle.std.specs.Prelude.{◌≡◌, ◌==◌, ◌+◌, ◌*◌, ◌<◌, ℕ, List, slice_index}
 use Rattle.std.specs.Int.{bit_at}
 use Rattle.plane_core.specs.declared.lanes.RowSums.{RowSums}
 use Rattle.plane_core.specs.declared.lanes.Sum.{Sum}
@@ -28,18 +28,7 @@ row_sum word i = west_of 0 word i + bit_at word i + east_of word 0 i
 abbrev pub AreBeside : RowSums → List ℕ → Type 0
 AreBeside row now = (j i : ℕ) → j < 4 → sum_of row.all j i ≡ sum_of row.beside j i + bit_of now j i
 
--- Each bit says whether the rule lets a cell live with so many live cells in its neighbourhood, where these are at most nine.
-abbrev pub AnswersTotal : Numbers → Total → List ℕ → List ℕ → Type 0
-AnswersTotal rule total now next =
-    (j i : ℕ) → j < 4 → i < 64 → total_of total j i ≤ 9 → bit_of next j i ≡ one_if (lives_by rule (total_of total j i) (bit_of now j i == 1))
-
 -- the same, where the neighbourhood is three rows: the one above, the one here and the one below
 abbrev pub AnswersRows : Numbers → Sum → Sum → Sum → List ℕ → List ℕ → Type 0
 AnswersRows rule up here down now next =
     (j i : ℕ) → j < 4 → i < 64 → bit_of next j i ≡ one_if (lives_by rule (sum_of up j i + sum_of here j i + sum_of down j i) (bit_of now j i == 1))
-
--- the same, where of the row here only the cells beside each cell are counted
-abbrev pub AnswersNeighbours : Numbers → Sum → Sum → Sum → List ℕ → List ℕ → Type 0
-AnswersNeighbours rule up beside down now next =
-    (j i : ℕ) → j < 4 → i < 64
-    → bit_of next j i ≡ one_if (lives_by rule (sum_of up j i + (sum_of beside j i + bit_of now j i) + sum_of down j i) (bit_of now j i == 1))

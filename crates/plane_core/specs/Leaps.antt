@@ -12,7 +12,7 @@ use Rattle.plane_core.specs.Cells.{InOrder, cell_at, has}
 use Rattle.plane_core.specs.Frames.{Shows}
 use Rattle.plane_core.specs.Generations.{after}
 use Rattle.plane_core.specs.Placed.{bit_on, cell_on}
-use Rattle.plane_core.specs.Places.{HoldsChange, IsCovered, IsInnerCell, compared_with}
+use Rattle.plane_core.specs.Places.{HoldsChange, IsInnerCell, compared_with}
 use Rattle.plane_core.specs.Rules.{Numbers}
 use Rattle.plane_core.specs.Windows.{IsShownInside}
 
@@ -25,11 +25,6 @@ ShowsInner p rows cells = (r i : ℕ) → 4 ≤ r → r < 36 → 4 ≤ i → i <
 abbrev pub IsRun : Numbers → ℕ → List (List ℕ) → List (List ℕ) → Change → Type 0
 IsRun rule count x y change = (p : Place) (cells : List Cell) → InOrder cells → IsShownInside 10 p.left p.top 0 x cells
     → IsShownInside 10 p.left p.top 4 y (after rule cells count) × HoldsChange p (after rule cells count) (compared_with rule cells count) change
-
--- The rows of a place are those of the board some generations later, and what has changed is told.
-abbrev pub IsRunAt : Frame → List ℕ → Numbers → ℕ → Place → List ℕ → Change → Type 0
-IsRunAt at words rule count p rows change = (cells : List Cell) → InOrder cells → Shows at words cells
-    → ShowsInner p rows (after rule cells count) × HoldsChange p (after rule cells count) (compared_with rule cells count) change
 
 -- Each place was run. The boxes have each cell in them in which something differs.
 pub record AreRun (at : Frame) (words : List ℕ) (rule : Numbers) (count : ℕ) (places : List Place) (held : List (List ℕ))
@@ -49,8 +44,3 @@ ArePutBack at places held count old new = (cells : List Cell)
     → (u v : ℕ) → u < 64 * at.lanes → v < at.rows
     → (has cells (cell_on at u v) ≡ (bit_on at new u v == 1))
     ⊎ (((k : ℕ) (p : Place) → k < count → ¬ IsInnerCell (slice_index_or places k p) (cell_on at u v)) × (bit_on at new u v ≡ bit_on at old u v))
-
--- If each cell off all inner parts is some generations later what it was, the board shows the cells of that time.
-abbrev pub HasLeapt : Frame → Numbers → ℕ → List Place → List ℕ → List ℕ → Type 0
-HasLeapt at rule count places old new = (cells : List Cell) → InOrder cells → Shows at old cells
-    → ((c : Cell) → ¬ IsCovered places c → has (after rule cells count) c ≡ has cells c) → Shows at new (after rule cells count)

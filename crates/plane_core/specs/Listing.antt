@@ -6,17 +6,6 @@ use Rattle.plane_core.specs.declared.cell.Cell.{Cell}
 use Rattle.plane_core.specs.Cells.{cell_at, has}
 use Rattle.plane_core.specs.Frames.{Shows, board_cell, word_of}
 
--- no bit of a word between two places is 1
-abbrev pub AreDead : ℕ → ℕ → ℕ → Type 0
-AreDead word from to = (b : ℕ) → from ≤ b → b < to → bit_at word b ≡ 0
-
--- and the first bit that is 1 from a place on
-pub record IsNextAlive (word from place : ℕ) : Type 0 where
-  pub low : from ≤ place
-  pub high : place < 64
-  pub one : bit_at word place ≡ 1
-  pub none : AreDead word from place
-
 -- the cells of a list are cells of another
 abbrev pub AreAmong : List Cell → List Cell → Type 0
 AreAmong others cells = (c : Cell) → has cells c ≡ true → has others c ≡ true
@@ -27,12 +16,6 @@ pub record HasRead (word : ℕ) (first : Cell) (old : List Cell) (n : ℕ) (new 
   pub sound : (others : List Cell) → ((i : ℕ) → i < 64 → bit_at word i ≡ 1 → has others (cell_at (first.x +ℤ pos i) first.y) ≡ true)
       → AreAmong others old → AreAmong others new
   pub complete : (i : ℕ) → i < n → bit_at word i ≡ 1 → has new (cell_at (first.x +ℤ pos i) first.y) ≡ true
-
--- the words of the first n lanes in a row have been read
-pub record HasReadRow (at : Frame) (words : List ℕ) (r : ℕ) (old : List Cell) (n : ℕ) (new : List Cell) : Type 0 where
-  pub grows : AreAmong new old
-  pub sound : (others : List Cell) → Shows at words others → AreAmong others old → AreAmong others new
-  pub complete : (s i : ℕ) → s < n → i < 64 → bit_at (slice_index words (word_of at s r)) i ≡ 1 → has new (board_cell at s r i) ≡ true
 
 -- the first n rows have been read
 pub record HasReadRows (at : Frame) (words : List ℕ) (n : ℕ) (new : List Cell) : Type 0 where
@@ -46,7 +29,3 @@ IsLaneEmpty at words band s = (k b : ℕ) → k < 8 → b < 64 → bit_at (slice
 -- nor of any lane from one to before another
 abbrev pub IsBandEmpty : Frame → List ℕ → ℕ → ℕ → ℕ → Type 0
 IsBandEmpty at words band from to = (s : ℕ) → from ≤ s → s < to → IsLaneEmpty at words band s
-
--- no cell of a row is alive in these lanes
-abbrev pub IsRowEmpty : Frame → List ℕ → ℕ → ℕ → ℕ → Type 0
-IsRowEmpty at words r from to = (s b : ℕ) → from ≤ s → s < to → b < 64 → bit_at (slice_index words (word_of at s r)) b ≡ 0

@@ -55,10 +55,3 @@ pub record IsFirstRow (n : ℕ) (x : List (List ℕ)) (row : ℕ) : Type 0 where
   pub low : row < 4 * n
   pub some : 0 < row_at n x row
   pub none : (r : ℕ) → r < row → row_at n x r ≡ 0
-
--- Which row and column a window's cells are counted from: the first row and the first column that have one.
-pub record IsCorner (n : ℕ) (x : List (List ℕ)) (columns row column : ℕ) : Type 0 where
-  pub row_is : IsFirstRow n x row
-  pub low : column < 64
-  pub some : bit_at columns column ≡ 1
-  pub none : (i : ℕ) → i < column → bit_at columns i ≡ 0

@@ -1,13 +1,9 @@
 -- Parts of a pattern that lie so far apart that they don't meet for some generations.
-use Rattle.std.specs.Prelude.{◌≡◌, ◌<◌, ◌≤◌, ◌*◌, ◌++◌, ℕ, Bool, true, false, List, length, take, drop, ◌-◌}
+use Rattle.std.specs.Prelude.{◌≡◌, ◌<◌, ◌≤◌, ◌*◌, ◌++◌, ℕ, true, List, length, take, drop, ◌-◌}
 use Rattle.plane_core.specs.declared.cell.Cell.{Cell}
 use Rattle.plane_core.specs.Cells.{InOrder, has, king_distance, plane_bound, set_of}
 use Rattle.plane_core.specs.Generations.{after, lies_within}
 use Rattle.plane_core.specs.Rules.{Numbers}
-
--- the cells that pass a test are further than so far from those that don't
-abbrev pub AreApart : ℕ → (Cell → Bool) → List Cell → Type 0
-AreApart far test cells = (c d : Cell) → has cells c ≡ true → has cells d ≡ true → test c ≡ true → test d ≡ false → far < king_distance c d
 
 -- the pattern after n generations, in which no cell can get to the edge of the plane
 pub record HasRun (rule : Numbers) (cells : List Cell) (n : ℕ) (later : List Cell) : Type 0 where

@@ -5,7 +5,6 @@ use Rattle.plane_core.specs.declared.cell.Cell.{Cell}
 use Rattle.plane_core.specs.declared.frame.Frame.{Frame}
 use Rattle.plane_core.specs.Cells.{cell_at}
 use Rattle.plane_core.specs.Frames.{word_of}
-use Rattle.plane_core.specs.Windows.{row_at}
 
 -- the cell in column u of row v
 abbrev pub cell_on : Frame → ℕ → ℕ → Cell
@@ -14,11 +13,6 @@ cell_on at u v = cell_at (at.left +ℤ pos u) (at.top +ℤ pos v)
 -- the board's bit in column u of row v
 abbrev pub bit_on : Frame → List ℕ → ℕ → ℕ → ℕ
 bit_on at words u v = bit_at (slice_index words (word_of at (u / 64) v)) (u % 64)
-
--- the window of n vectors has the board's bits from column x and row y on
-abbrev pub IsReadAt : Frame → List ℕ → ℕ → ℕ → ℕ → List (List ℕ) → Type 0
-IsReadAt at words x y n window =
-    (r i : ℕ) → r < 4 * n → i < 64 → bit_at (row_at n window r) i ≡ bit_on at words (x + i) (y + r)
 
 -- the first n rows of a window that begins in column x and row y have the board's bits
 abbrev pub AreRowsRead : Frame → List ℕ → ℕ → ℕ → ℕ → List ℕ → Type 0

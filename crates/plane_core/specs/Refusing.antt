@@ -5,7 +5,6 @@ use Rattle.plane_core.specs.declared.cell.Cell.{Cell}
 use Rattle.plane_core.specs.Cells.{InOrder, has}
 use Rattle.plane_core.specs.Clusters.{IsCluster}
 use Rattle.plane_core.specs.Generations.{NeverBack, after}
-use Rattle.plane_core.specs.LonePatterns.{Holds}
 use Rattle.plane_core.specs.Rules.{Numbers}
 use Rattle.plane_core.specs.Windows.{IsShownInside, row_at}
 
@@ -27,17 +26,6 @@ pub record HasRestlessCluster (rule : Numbers) (cells : List Cell) (horizon peri
 abbrev pub RefusesAll : Numbers → ℕ → List (List ℕ) → ℕ → ℕ → ℕ → Type 0
 RefusesAll rule n window depth horizon period =
     (cells : List Cell) (left top : ℤ) → InOrder cells → IsShownInside n left top depth window cells → HasRestlessCluster rule cells horizon period
-
--- a cluster of the pattern, which is alone in the window of n vectors
-pub record IsAlone (n : ℕ) (left top : ℤ) (window : List (List ℕ)) (cells cluster : List Cell) : Type 0 where
-  pub is : IsCluster cells cluster
-  pub held : Holds n left top window cluster
-
--- for each pattern that the whole window shows at this depth, the other window holds one of its clusters, and nothing else
-abbrev pub HoldsCluster : ℕ → List (List ℕ) → List (List ℕ) → ℕ → Type 0
-HoldsCluster n whole alone depth =
-    (cells : List Cell) (left top : ℤ) → InOrder cells → IsShownInside n left top depth whole cells
-    → (cluster : List Cell) × IsAlone n left top alone cells cluster
 
 -- the other window has the 40 rows of the window from this one on
 abbrev pub IsExcerpt : ℕ → List (List ℕ) → List (List ℕ) → Type 0

@@ -7,7 +7,7 @@ use Rattle.plane_core.specs.declared.spans.Hull.{Hull}
 use Rattle.plane_core.specs.declared.spans.Span.{Span}
 use Rattle.plane_core.specs.Cells.{has}
 use Rattle.plane_core.specs.Frames.{board_cell}
-use Rattle.plane_core.specs.Places.{IsCovered, IsInnerCell}
+use Rattle.plane_core.specs.Places.{IsCovered}
 
 -- the number lies in the span
 pub record HasRow (span : Span) (n : ℕ) : Type 0 where
@@ -25,10 +25,6 @@ IsInSpan spans s r = HasRow (span_of spans s) r
 -- each live cell of the board lies in the span of its lane
 abbrev pub LieInSpans : Frame → List Span → List Cell → Type 0
 LieInSpans at spans cells = (s r i : ℕ) → s < at.lanes → r < at.rows → i < 64 → has cells (board_cell at s r i) ≡ true → IsInSpan spans s r
-
--- and so does each cell of the board in the inner part of a window
-abbrev pub HoldInner : Frame → List Span → Place → Type 0
-HoldInner at spans p = (s r i : ℕ) → s < at.lanes → r < at.rows → i < 64 → IsInnerCell p (board_cell at s r i) → IsInSpan spans s r
 
 -- or in one of the inner parts of windows
 abbrev pub HoldCovered : Frame → List Span → List Place → Type 0

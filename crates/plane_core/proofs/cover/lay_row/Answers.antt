@@ -2,12 +2,12 @@ use Rattle.std.proofs.Common.{◌*ℤ◌, ◌<◌, ◌≤◌, ◌^◌, arith, un
 use Rattle.std.proofs.lemmas.Result.{IfOk-from_err}
 use Rattle.std.proofs.lemmas.Int.{ints}
 use Rattle.plane_core.specs.declared.place.Place.{Place}
-use Rattle.plane_core.specs.Covers.{BeginsAt}
 use Rattle.plane_core.specs.Places.{IsInnerCell}
 use Rattle.plane_core.proofs.BoxLemmas.{any_pushed}
 use Rattle.plane_core.proofs.CoverLemmas.{fits_column, fits_columns, fits_count, row_more}
 use Rattle.plane_core.proofs.cover.lay_row.Goals as goal
 use borrow.Author.Count.{falls}
+use Rattle.plane_core.proofs.Between.{BeginsAt}
 
 begins : (first top : ℤ) (i count : ℕ) → i < count → count ≤ 2 ^ 20 → unsigned_abs first ≤ 2 ^ 26 → unsigned_abs top ≤ 2 ^ 26
     → BeginsAt (record {

@@ -3,11 +3,11 @@ use Rattle.std.proofs.lemmas.List.{take_all}
 use Rattle.plane_core.specs.declared.cell.Cell.{Cell}
 use Rattle.plane_core.specs.declared.place.Place.{Place}
 use Rattle.plane_core.specs.Cells.{has}
-use Rattle.plane_core.specs.Glances.{IsSpot, ShowsRows}
 use Rattle.plane_core.specs.LonePatterns.{IsInWindow}
 use Rattle.plane_core.proofs.CoordinateLemmas.{AreApart, taken, within_apart, within_low}
 use Rattle.plane_core.proofs.GlanceLemmas.{has-at, none_shown, put_shown, shown_packed, shown_taken, zeros}
 use Rattle.plane_core.proofs.glance.window_of.Goals as goal
+use Rattle.plane_core.proofs.Between.{IsSpot, ShowsRows}
 
 abbrev Across : (place : Place) → (cell : Cell) → Type 0
 Across place cell = AreApart cell.x place.left (unsigned_abs (cell.x -ℤ place.left))

@@ -1,8 +1,9 @@
 use Rattle.std.proofs.Common.{◌<◌, ℕ, slice_index_or}
 use Rattle.plane_core.specs.declared.place.Place.{Place}
 use Rattle.plane_core.specs.Leaps.{ArePutBack}
-use Rattle.plane_core.specs.Spans.{AreWidened, HoldInner}
+use Rattle.plane_core.specs.Spans.{AreWidened}
 use Rattle.plane_core.proofs.leap.put_all.Given as goal
+use Rattle.plane_core.proofs.Between.{HoldInner}
 
 abbrev pub invariant-loop-k : goal.invariant-loop-k
 invariant-loop-k l = record {

@@ -1,9 +1,10 @@
 use Rattle.std.proofs.Common.{◌<◌, ℕ, arith, subst}
-use Rattle.plane_core.specs.Listing.{HasReadRow, HasReadRows, IsBandEmpty}
+use Rattle.plane_core.specs.Listing.{HasReadRows, IsBandEmpty}
 use Rattle.plane_core.proofs.ListingLemmas.{band_joined, row-empty, row-more, row-none, row-on, rows-more, rows-on}
 use Rattle.plane_core.proofs.OrderLemmas.{below_too}
 use Rattle.plane_core.proofs.SpanLemmas.{live_bit}
 use Rattle.plane_core.proofs.listing.read_band.Goals as goal
+use Rattle.plane_core.proofs.Between.{HasReadRow}
 
 pub lanes_of_band-alive-requires : goal.lanes_of_band-alive-requires
 lanes_of_band-alive-requires c = c.requires

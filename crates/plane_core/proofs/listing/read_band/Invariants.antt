@@ -1,6 +1,7 @@
 use Rattle.std.proofs.Common.{◌*◌}
-use Rattle.plane_core.specs.Listing.{HasReadRow, HasReadRows}
+use Rattle.plane_core.specs.Listing.{HasReadRows}
 use Rattle.plane_core.proofs.listing.read_band.Given as goal
+use Rattle.plane_core.proofs.Between.{HasReadRow}
 
 abbrev pub invariant-loop-row : goal.invariant-loop-row
 invariant-loop-row l = HasReadRows l.at l.words (8 * l.band) l.fn.cells.items → HasReadRows l.at l.words l.row l.cells.items

@@ -1,12 +1,12 @@
 use Rattle.std.proofs.Common.{◌≡◌, ◌+◌, ◌/◌, ◌^◌, ◌+ℤ◌, ◌∙◌, ◌∷◌, ◌++◌, [], ℕ, pos, arith, sym, ap, subst, List, w64}
 use Rattle.std.specs.Int.{trailing_zeros}
 use Rattle.plane_core.specs.declared.cell.Cell.{Cell}
-use Rattle.plane_core.specs.Listing.{IsNextAlive}
 use Rattle.plane_core.specs.Cells.{cell_at}
 use Rattle.plane_core.specs.Listing.{HasRead}
 use Rattle.plane_core.proofs.ListingLemmas.{next_alive_is, no_more_alive, read_on, read_one}
 use Rattle.plane_core.proofs.listing.read_word.Goals as goal
 use Rattle.plane_core.proofs.listing.read_word.Goals.{Else-remainder-eq0}
+use Rattle.plane_core.proofs.Between.{IsNextAlive}
 
 -- the next live cell
 next : ℕ → ℕ → ℕ

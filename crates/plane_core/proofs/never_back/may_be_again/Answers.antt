@@ -1,10 +1,11 @@
 use Rattle.std.proofs.Common.{◌<◌, ◌^◌, ℕ, List, w64}
 use Rattle.std.proofs.lemmas.Nat.Bits.{bit_at-trailing_zeros}
 use Rattle.std.specs.Int.{trailing_zeros}
-use Rattle.plane_core.specs.LonePatterns.{IsCorner, IsFirstRow}
+use Rattle.plane_core.specs.LonePatterns.{IsFirstRow}
 use Rattle.plane_core.proofs.AgainLemmas.{begins, columns_again, same_rows, some_again}
 use Rattle.plane_core.proofs.OrderLemmas.{few_vectors, some_of}
 use Rattle.plane_core.proofs.never_back.may_be_again.Goals as goal
+use Rattle.plane_core.proofs.Between.{IsCorner}
 
 corner : (n : ℕ) (x : List (List ℕ)) (columns row : ℕ) → 0 < columns → columns < 2 ^ 64 → IsFirstRow n x row
     → IsCorner n x columns row (trailing_zeros w64 columns)

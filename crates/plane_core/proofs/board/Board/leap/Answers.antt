@@ -7,7 +7,7 @@ use Rattle.plane_core.specs.declared.bounds.Bounds.{Bounds}
 use Rattle.plane_core.specs.declared.frame.Frame.{Frame}
 use Rattle.plane_core.specs.declared.place.Place.{Place}
 use Rattle.plane_core.specs.declared.spans.Span.{Span}
-use Rattle.plane_core.specs.Boards.{HasGoneOn, Running}
+use Rattle.plane_core.specs.Boards.{Running}
 use Rattle.plane_core.specs.Bounds.{AreSidesWithin}
 use Rattle.plane_core.specs.Boxes.{AreCovered, box_bound}
 use Rattle.plane_core.specs.Generations.{after}
@@ -20,6 +20,7 @@ use Rattle.plane_core.proofs.LeapLemmas.{leapt}
 use Rattle.plane_core.proofs.OnBoardLemmas.{cells_in_order, shows_cells}
 use Rattle.plane_core.proofs.OrderLemmas.{itself}
 use Rattle.plane_core.proofs.board.Board.leap.Goals as goal
+use Rattle.plane_core.proofs.Between.{HasGoneOn}
 
 nothing : (n : ℕ) → 0 ≤ n
 nothing n = omega arith

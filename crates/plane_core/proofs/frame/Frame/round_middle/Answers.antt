@@ -1,11 +1,11 @@
 use Rattle.std.proofs.Common.{ap, arith, ℕ, ◌∙◌, ◌≤◌, ◌+◌, ◌-◌, ◌-ℤ◌, ◌*◌, ◌/◌, pos, refl, subst, sym, w32, Fits, FitsSigned}
 use Rattle.std.proofs.lemmas.Int.{to_z-of_z}
-use Rattle.plane_core.specs.Frames.{HasRoom}
 use Rattle.plane_core.proofs.FrameFits.{apart_is, apart_small, back_is, fits_around, fits_back, fits_columns, fits_lanes, fits_more, fits_room, fits_rows}
 use Rattle.plane_core.proofs.FrameFits.{half_low, half_near, has_room, passed_near, room_sides, sides_near}
 use Rattle.plane_core.proofs.FrameLemmas.{IsRoundMiddle, middle_has_on, middle_is_frame, middle_on_plane}
 use Rattle.plane_core.proofs.frame.Frame.round_middle.Goals as goal
 use Rattle.plane_core.proofs.frame.Frame.round_middle.Goals.{After-back-2, Else-height-room}
+use Rattle.plane_core.proofs.Between.{HasRoom}
 
 one : 1 ≤ 10000
 one = omega arith
