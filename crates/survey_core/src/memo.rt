@@ -114,13 +114,19 @@ impl Memo {
     /// A memo that knows nothing yet, with room for 4,096 shapes: half a megabyte, and some three if all of them are
     /// large. If there is no memory for it, it has no room.
     pub fn new(alloc: Global) -> Memo {
-        let mut memo = Memo::without_room(alloc);
+        let Ok(mut slots) = Vec::with_capacity(alloc, SLOTS) else {
+            return Memo::without_room(alloc);
+        };
         for _ in 0..SLOTS {
-            let Ok(()) = memo.slots.push(None) else {
+            let Ok(()) = slots.push(None) else {
                 return Memo::without_room(alloc);
             };
         }
-        memo
+        Memo {
+            slots,
+            board: None,
+            size: Size::Small,
+        }
     }
 
     /// A memo without room, which remembers no shape. It takes no memory.
