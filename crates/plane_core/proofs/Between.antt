@@ -1,4 +1,4 @@
--- Definitions that only proofs name: what holds between two steps of a call, of one turn of a loop.
+-- Definitions that only proofs name: what holds between two steps of a call, or in one turn of a loop.
 use Rattle.plane_core.specs.Bounds.{AreSidesWithin}
 use Rattle.plane_core.specs.Boxes.{HoldAll, IsQuiet, box_bound}
 use Rattle.plane_core.specs.Cells.{InOrder, cell_at, distance, has, king_distance, moved_by, plane_bound}
@@ -69,7 +69,7 @@ pub record IsGreater (found : Option ℤ) (depth greater : ℤ) : Type 0 where
 abbrev pub JoinsLinked : List ℕ → List ℕ → ℕ → ℕ → Type 0
 JoinsLinked old new j k = (cells : List Cell) → IsForest cells old → Linked cells (cell_of cells j) (cell_of cells k) → IsForest cells new
 
--- they come before all that is near the cells from this place on, so many rows further down
+-- the cells before a cursor come before all that is near the cells from this place on, so many rows further down
 abbrev pub IsBehind : List Cell → ℕ → ℤ → ℕ → Type 0
 IsBehind cells cursor dy place = (p : ℕ) → place ≤ p → p < length cells → IsPassed cells cursor (moved_by (negsuc 1) dy (cell_of cells p))
 
@@ -119,7 +119,7 @@ HasLeapt at rule count places old new = (cells : List Cell) → InOrder cells �
 abbrev pub AreDead : ℕ → ℕ → ℕ → Type 0
 AreDead word from to = (b : ℕ) → from ≤ b → b < to → bit_at word b ≡ 0
 
--- and the first bit that is 1 from a place on
+-- the first bit that is 1 from a place on
 pub record IsNextAlive (word from place : ℕ) : Type 0 where
   pub low : from ≤ place
   pub high : place < 64
@@ -163,6 +163,6 @@ HoldsCluster n whole alone depth =
     (cells : List Cell) (left top : ℤ) → InOrder cells → IsShownInside n left top depth whole cells
     → (cluster : List Cell) × IsAlone n left top alone cells cluster
 
--- and so does each cell of the board in the inner part of a window
+-- each cell of the board in the inner part of a window lies in the span of its lane
 abbrev pub HoldInner : Frame → List Span → Place → Type 0
 HoldInner at spans p = (s r i : ℕ) → s < at.lanes → r < at.rows → i < 64 → IsInnerCell p (board_cell at s r i) → IsInSpan spans s r

@@ -1,7 +1,7 @@
 //! Boxes outside of which nothing changes from one generation to the next but one.
 //!
-//! When a board is loaded there is one for all cells that fit one window together. After a leap there is one for each
-//! window in which something still changes. So what is at rest, or alternates, costs nothing:
+//! When a board is loaded, cells that fit one window share a box. After a leap there is one for each window in which
+//! something still changes. So what is at rest, or alternates, costs nothing:
 //!
 //! ```text
 //! +-----+
@@ -38,8 +38,8 @@ pub(crate) fn put_in_boxes(cells: &[Cell], boxes: &mut Vec<Bounds>) -> Result<()
     Ok(())
 }
 
-/// Widens one of the last sixteen boxes, so that it has the part in it and still fits one window. If none does, the
-/// part is a box. If memory runs out, the boxes have at least what they had.
+/// Widens one of the last sixteen boxes, so that it has the part in it and still fits one window. If none would fit,
+/// the part becomes a box of its own. If memory runs out, the boxes have at least what they had.
 fn put_in_box(part: Bounds, boxes: &mut Vec<Bounds>) -> Result<(), OutOfMemory>
     ensures wider { AreWider boxes.old.items boxes.new.items }
     ensures held { OnOk result ((c : Cell) → IsWithin part c → IsInOne boxes.new.items c) }

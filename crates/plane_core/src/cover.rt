@@ -12,7 +12,7 @@
 //! | +-----+-----+ |
 //! +-------+-------+
 //! ```
-ghost use Rattle.std.specs.Prelude.{◌≡◌, ◌+◌, ◌*◌, ◌^◌, ◌<◌, ◌≤◌, ◌⊎◌, All};
+ghost use Rattle.std.specs.Prelude.{◌+◌, ◌*◌, ◌^◌, ◌<◌, ◌≤◌, ◌⊎◌, All};
 ghost use Rattle.std.specs.Prelude.{OnOk, unsigned_abs};
 ghost use Rattle.plane_core.specs.Bounds.{IsWithin};
 ghost use Rattle.plane_core.specs.Boxes.{AreCovered, IsInOne, IsNearOne, box_bound, rectangle_bound};

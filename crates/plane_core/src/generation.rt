@@ -75,8 +75,8 @@ impl<E: Into<OutOfMemory>> From<E> for StepError {
 impl Pattern {
     /// The next generation under the rule.
     ///
-    /// It takes time and memory in proportion to the population: in a window if the pattern fits one, or on a board if
-    /// that has at most 32 words a cell. Else it is counted cell by cell, where a sort takes most of the time.
+    /// It takes memory in proportion to the population, and time as well in a window, if the pattern fits one, or on a
+    /// board, if that has at most 32 words a cell. Else it is counted cell by cell, where a sort takes most of the time.
     ///
     /// # Errors
     ///
@@ -172,7 +172,7 @@ impl Pattern {
         if let Some(cut) = self.cut(2 * generations, cuts) {
             return self.run_sides(alloc, rule, generations, cuts - 1, cut);
         }
-        if !self.has_empty_stripe(2 * generations) {
+        if !self.is_worth_a_turn(2 * generations) {
             return self.run_on(alloc, rule, Frame::round(self, generations), generations);
         }
         let turned = self.transposed(alloc)?;

@@ -10,7 +10,7 @@
 //! band 2    .    [#]   [#]   [#]    .
 //! band 3    .     .     .     .     .
 //! ```
-ghost use Rattle.std.specs.Prelude.{◌≡◌, ◌+◌, ◌*◌, ◌/◌, ◌<◌, ◌≤◌, ◌^◌, ◌-ℤ◌, ◌+ℤ◌, ℕ, List, length, pos};
+ghost use Rattle.std.specs.Prelude.{◌≡◌, ◌+◌, ◌*◌, ◌/◌, ◌<◌, ◌≤◌, ◌^◌, ◌+ℤ◌, ℕ, length, pos};
 ghost use Rattle.std.specs.Prelude.{slice_index, IfOk, IsTrue, OnOk, unsigned_abs};
 ghost use Rattle.std.specs.Int.{bit_at};
 ghost use Rattle.plane_core.specs.Bounds.{AreSidesWithin};
@@ -29,8 +29,8 @@ use crate::spans::{Span, hull_of};
 use memory::OutOfMemory;
 use std::alloc::Global;
 
-/// The pattern of a board on the plane, whose cells lie in these spans. For so many there is room from the start. They
-/// come in their order, so it costs little to see to that.
+/// The pattern of a board on the plane, whose cells lie in these spans. There is room for `room` of them from the
+/// start. They come in their order, so it costs little to see to that.
 pub(crate) fn list(
     alloc: Global,
     at: Frame,

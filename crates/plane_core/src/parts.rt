@@ -11,8 +11,8 @@ ghost use Rattle.plane_core.specs.Parts.{IsCut};
 use crate::pattern::Pattern;
 
 impl Pattern {
-    /// How many cells lie above a cut between two rows, which are further apart than so far, if there are such rows and
-    /// a cut is left. Of several cuts it is one near the middle.
+    /// How many cells lie above a cut between two rows that are further apart than so far, if there are such rows and a
+    /// cut is left. It is the first cut from the middle of the cells on, or else the last one before.
     pub(crate) fn cut(&self, far: u32, cuts: u32) -> Option<usize>
         ensures cut { IfSome result (IsCut far self.now) }
         ensures cuts { OnSome result (0 < cuts) }
@@ -33,10 +33,10 @@ impl Pattern {
         cut
     }
 
-    /// Whether there may be a cut between two columns that are further apart than so far. The columns are seen as at
-    /// most 64 stripes: where each has a cell, there is no wide gap. To turn a pattern takes a sort, which isn't made for
-    /// nothing.
-    pub(crate) fn has_empty_stripe(&self, far: u32) -> bool {
+    /// Whether the pattern is worth a turn, which sorts its cells: there may be a cut between two columns that are
+    /// further apart than so far. The columns are seen as at most 64 stripes. If these are narrow, there is one without
+    /// a cell in such a gap.
+    pub(crate) fn is_worth_a_turn(&self, far: u32) -> bool {
         let Some(bounds) = self.bounds() else {
             return false;
         };
@@ -45,6 +45,9 @@ impl Pattern {
             return false;
         }
         let width = last / 64 + 1;
+        if width > far / 2 {
+            return true;
+        }
         let mut stripes = 0u64;
         for cell in self.cells() {
             stripes |= 1 << (cell.x.abs_diff(bounds.left) / width % 64);

@@ -5,7 +5,7 @@
 //! O O .   ->   . O O      Turned, an image is moved so that its least column and its least row are 0.
 //! . O O        O O .
 //! ```
-ghost use Rattle.std.specs.Prelude.{◌≡◌, map, true, false};
+ghost use Rattle.std.specs.Prelude.{◌≡◌, map, true};
 ghost use Rattle.std.specs.Prelude.{IfOk, IfErr, IfSome, OnOk, is_some};
 ghost use Rattle.std.specs.List.{list_all};
 ghost use Rattle.memory.specs.Evidence.{out_of_memory};

@@ -1,5 +1,6 @@
 //! Life-like rules and their texts, such as `b3s23` for Conway's Life.
-ghost use Rattle.std.specs.Prelude.{◌≡◌, ◌↔◌, ◌+◌, ◌<◌, ◌≤◌, ◌++◌, ℕ, true, false, IsTrue, ◌∷◌, [], length, take, codes, IfOk};
+ghost use Rattle.std.specs.Prelude.{◌≡◌, ◌↔◌, ◌+◌, ◌<◌, ◌≤◌, ◌++◌, ◌∷◌, [], ℕ, true, false};
+ghost use Rattle.std.specs.Prelude.{length, take, codes, IfOk, IsTrue};
 ghost use Rattle.plane_core.specs.Out.{Writes};
 ghost use Rattle.plane_core.specs.Rules.{Numbers, IsRule, IsFirstFault, is_birth, is_survival, digits, rule_text};
 ghost use Rattle.plane_core.specs.Rules.{begins, numbers_at, rule_read};

@@ -8,7 +8,7 @@
 //! row 2     .     #     #     .      all is dead.
 //! row 3     .     .     #     .
 //! ```
-ghost use Rattle.std.specs.Prelude.{◌≡◌, ◌+◌, ◌*◌, ◌/◌, ◌<◌, ◌≤◌, ◌∷◌, ◌⊎◌};
+ghost use Rattle.std.specs.Prelude.{◌≡◌, ◌+◌, ◌/◌, ◌<◌, ◌≤◌, ◌⊎◌};
 ghost use Rattle.std.specs.Prelude.{[], ℕ, length, slice_index};
 ghost use Rattle.plane_core.specs.Frames.{FillsFrame, IsFrame, word_of};
 ghost use Rattle.plane_core.specs.OnBoard.{cells_on};
