@@ -1,7 +1,7 @@
 //! Boxes outside of which nothing changes from one generation to the next but one.
 //!
-//! When a board is loaded, cells that fit one window share a box. After a leap there is one for each window in which
-//! something still changes. So what is at rest, or alternates, costs nothing:
+//! When a board is loaded there is one for each group of cells that lie together. After a leap there is one for each
+//! window in which something still changes. So what is at rest, or alternates, costs nothing:
 //!
 //! ```text
 //! +-----+
@@ -38,7 +38,7 @@ pub(crate) fn put_in_boxes(cells: &[Cell], boxes: &mut Vec<Bounds>) -> Result<()
     Ok(())
 }
 
-/// Widens one of the last sixteen boxes, so that it has the part in it and still fits one window. If none would fit,
+/// Widens the last box that is near the part, if one of the last sixteen is, so that it has the part in it. If none is,
 /// the part becomes a box of its own. If memory runs out, the boxes have at least what they had.
 fn put_in_box(part: Bounds, boxes: &mut Vec<Bounds>) -> Result<(), OutOfMemory>
     ensures wider { AreWider boxes.old.items boxes.new.items }
@@ -52,7 +52,7 @@ fn put_in_box(part: Bounds, boxes: &mut Vec<Bounds>) -> Result<(), OutOfMemory>
     while i > earliest {
         i -= 1;
         let wide = boxes[i].joined(part);
-        if fits_window(wide) {
+        if is_near(boxes[i], wide) {
             boxes[i] = wide;
             return Ok(());
         }
@@ -61,8 +61,14 @@ fn put_in_box(part: Bounds, boxes: &mut Vec<Bounds>) -> Result<(), OutOfMemory>
     Ok(())
 }
 
-/// Whether the box, with four columns and rows more on each side, fits the inner part of one window.
+/// Whether a box that was widened by a cell has become at most eight columns and rows larger, and still fits one
+/// window. So what lies apart gets a box of its own, as a ship does.
 #[inline(always)]
-fn fits_window(bounds: Bounds) -> bool {
-    bounds.left.abs_diff(bounds.right) < 48 && bounds.top.abs_diff(bounds.bottom) < 24
+fn is_near(bounds: Bounds, wide: Bounds) -> bool {
+    let across = wide.left.abs_diff(wide.right);
+    let down = wide.top.abs_diff(wide.bottom);
+    across < 48
+        && down < 24
+        && across.wrapping_sub(bounds.left.abs_diff(bounds.right)) <= 8
+        && down.wrapping_sub(bounds.top.abs_diff(bounds.bottom)) <= 8
 }

@@ -35,18 +35,18 @@ returns-clause-sides c n here all =
     (All-push (AreSidesWithin n) c.loop-i.boxes.items c.args.part
     (subst (λ (boxes : List Bounds). All (AreSidesWithin n) boxes) (sym c.loop-i.invariant.same) all) here)
 
-pub returns-then-fits_window-clause-wider : goal.returns-then-fits_window-clause-wider
-returns-then-fits_window-clause-wider c =
+pub returns-then-is_near-clause-wider : goal.returns-then-is_near-clause-wider
+returns-then-is_near-clause-wider c =
     subst (λ (boxes : List Bounds). AreWider boxes (set c.loop-i.boxes.items (c.loop-i.i - 1) c.joined-wide.result)) c.loop-i.invariant.same
     (joined_wider c.loop-i.boxes.items _ c.index.result.now c.args.part c.joined-wide.result (omega (arith, c.loop-i.boxes.ok.0))
     c.index.ensures c.joined-wide.ensures.least)
 
-pub returns-then-fits_window-clause-held : goal.returns-then-fits_window-clause-held
-returns-then-fits_window-clause-held c d h =
+pub returns-then-is_near-clause-held : goal.returns-then-is_near-clause-held
+returns-then-is_near-clause-held c d h =
     any-set (λ (b : Bounds). IsWithin b d) c.loop-i.boxes.items _ c.joined-wide.result (omega (arith, c.loop-i.boxes.ok.0)) (c.joined-wide.ensures.other d h)
 
-pub returns-then-fits_window-clause-sides : goal.returns-then-fits_window-clause-sides
-returns-then-fits_window-clause-sides c n here all =
+pub returns-then-is_near-clause-sides : goal.returns-then-is_near-clause-sides
+returns-then-is_near-clause-sides c n here all =
     let kept = subst (λ (boxes : List Bounds). All (AreSidesWithin n) boxes) (sym c.loop-i.invariant.same) all in
     All-set (AreSidesWithin n) c.loop-i.boxes.items _ c.joined-wide.result
     (c.joined-wide.ensures.sides n
