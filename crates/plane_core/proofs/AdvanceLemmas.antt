@@ -191,14 +191,9 @@ unfolding on_plane
 box_sides S cells boxes is pattern sides k b low =
     fewer_sides plane_bound box_bound _ (omega arith) (sides plane_bound (ap (λ (T : List Cell). lies_within plane_bound T) is ∙ pattern.on_plane) k b low)
 
--- no boxes, and boxes that were none and got cells
+-- no boxes
 pub no_sides : (n : ℕ) (boxes : List Bounds) → boxes ≡ [] → All (AreSidesWithin n) boxes
 no_sides n boxes is = subst (λ (bs : List Bounds). All (AreSidesWithin n) bs) (sym is) (All-nil (AreSidesWithin n))
-
-pub more_sides : (cells : List Cell) (none boxes : List Bounds) → none ≡ []
-    → ((n : ℕ) → lies_within n cells ≡ true → All (AreSidesWithin n) none → All (AreSidesWithin n) boxes)
-    → (n : ℕ) → lies_within n cells ≡ true → All (AreSidesWithin n) boxes
-more_sides cells none boxes is sides n near = sides n near (no_sides n none is)
 
 -- a board on which a pattern was laid, and what it shows
 pub laid_spanned : (rule : Numbers) (at : Frame) (words : List ℕ) (boxes : List Bounds) (spans : List Span) (S cells : List Cell)

@@ -15,7 +15,7 @@ use Rattle.plane_core.specs.declared.bounds.Bounds.{Bounds}
 use Rattle.plane_core.specs.declared.cell.Cell.{Cell}
 use Rattle.plane_core.specs.declared.frame.Frame.{Frame}
 use Rattle.plane_core.specs.declared.place.Place.{Place}
-use Rattle.plane_core.specs.Bounds.{IsRoundBoth, IsWithin, box_at, enlarged}
+use Rattle.plane_core.specs.Bounds.{IsRoundBoth, IsWithin, box_at, enlarged, widened}
 use Rattle.plane_core.specs.Boxes.{AreWider, HoldDifferences, HoldsDifference, IsInOne, IsInReach, IsNearOne}
 use Rattle.plane_core.specs.Cells.{distance, has, is_within, king_distance}
 use Rattle.plane_core.specs.Bounds.{AreSidesWithin}
@@ -212,6 +212,54 @@ passes_at p xs i d less all = go (p (get_or xs i d)) refl
     go : (b : Bool) → p (get_or xs i d) ≡ b → p (get_or xs i d) ≡ true
     go true is = is
     go false is = absurd (false≢true (sym (list_all_at p xs i d less is) ∙ all))
+
+-- ---- a box with one cell more
+
+pub widened_kept : (c : Cell) (b : Bounds) (d : Cell) → IsWithin b d → IsWithin (widened c b) d
+widened_kept c b d h = record {
+  left = low c.x b.left d.x h.left;
+  top = low c.y b.top d.y h.top;
+  right = high c.x b.right d.x h.right;
+  bottom = high c.y b.bottom d.y h.bottom;
+}
+  where
+    low : (a l x : ℤ) → l ≤ℤ x → int_min a l ≤ℤ x
+    low a l x h = omega (arith, ints, clamps)
+
+    high : (a l x : ℤ) → x ≤ℤ l → x ≤ℤ int_max a l
+    high a l x h = omega (arith, ints, clamps)
+
+pub widened_has : (c : Cell) (b : Bounds) → IsWithin (widened c b) c
+widened_has c b = record { left = low c.x b.left; top = low c.y b.top; right = high c.x b.right; bottom = high c.y b.bottom }
+  where
+    low : (a l : ℤ) → int_min a l ≤ℤ a
+    low a l = omega (arith, ints, clamps)
+
+    high : (a l : ℤ) → a ≤ℤ int_max a l
+    high a l = omega (arith, ints, clamps)
+
+pub widened_sides : (n : ℕ) (c : Cell) (b : Bounds) → is_within n c ≡ true → AreSidesWithin n b → AreSidesWithin n (widened c b)
+widened_sides n c b e h = record {
+  left = least c.x b.left x h.left;
+  top = least c.y b.top y h.top;
+  right = greatest c.x b.right x h.right;
+  bottom = greatest c.y b.bottom y h.bottom;
+}
+  where
+    both : (leb (unsigned_abs c.x) n ≡ true) × (leb (unsigned_abs c.y) n ≡ true)
+    both = and_parts (leb (unsigned_abs c.x) n) (leb (unsigned_abs c.y) n) e
+
+    x : unsigned_abs c.x ≤ n
+    x = leb-true (unsigned_abs c.x) n both.0
+
+    y : unsigned_abs c.y ≤ n
+    y = leb-true (unsigned_abs c.y) n both.1
+
+    least : (a l : ℤ) → unsigned_abs a ≤ n → unsigned_abs l ≤ n → unsigned_abs (int_min a l) ≤ n
+    least a l h k = omega (arith, ints, clamps)
+
+    greatest : (a l : ℤ) → unsigned_abs a ≤ n → unsigned_abs l ≤ n → unsigned_abs (int_max a l) ≤ n
+    greatest a l h k = omega (arith, ints, clamps)
 
 -- ---- the boxes of changes
 

@@ -30,7 +30,6 @@ mod view;
 
 use crate::answering::Answers;
 use crate::bounds::Bounds;
-use crate::boxes::put_in_boxes;
 use crate::cover::cover;
 use crate::frame::Frame;
 use crate::leap::{put_all, run_all};
@@ -39,6 +38,7 @@ use crate::loading::fill;
 use crate::pattern::Pattern;
 use crate::place::Place;
 use crate::rule::Rule;
+use crate::runs::boxes_round;
 use crate::spans::{Span, empty};
 use memory::OutOfMemory;
 use std::alloc::Global;
@@ -171,7 +171,7 @@ impl Board {
         let mut spans = vec![in alloc; Span::empty(); at.lanes]?;
         let mut boxes = Vec::new(alloc);
         let cells = pattern.cells();
-        put_in_boxes(cells, &mut boxes)?;
+        boxes_round(cells, &mut boxes)?;
         fill(at, words.as_mut_slice(), spans.as_mut_slice(), cells);
         Ok(Board {
             at,
@@ -221,7 +221,7 @@ impl Board {
             return Ok(false);
         };
         let cells = pattern.cells();
-        put_in_boxes(cells, &mut self.boxes)?;
+        boxes_round(cells, &mut self.boxes)?;
         self.at = at;
         fill(
             at,

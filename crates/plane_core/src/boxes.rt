@@ -38,9 +38,9 @@ pub(crate) fn put_in_boxes(cells: &[Cell], boxes: &mut Vec<Bounds>) -> Result<()
     Ok(())
 }
 
-/// Widens the last box that is near the part, if one of the last sixteen is, so that it has the part in it. If none is,
-/// the part becomes a box of its own. If memory runs out, the boxes have at least what they had.
-fn put_in_box(part: Bounds, boxes: &mut Vec<Bounds>) -> Result<(), OutOfMemory>
+/// Widens the last box that is near the part, if one of the last sixteen is, so that it has the part in it. Else the
+/// part is a box. If memory runs out, the boxes have at least what they had.
+pub(crate) fn put_in_box(part: Bounds, boxes: &mut Vec<Bounds>) -> Result<(), OutOfMemory>
     ensures wider { AreWider boxes.old.items boxes.new.items }
     ensures held { OnOk result ((c : Cell) → IsWithin part c → IsInOne boxes.new.items c) }
     ensures sides { (n : ℕ) → AreSidesWithin n part → All (AreSidesWithin n) boxes.old.items
@@ -51,8 +51,8 @@ fn put_in_box(part: Bounds, boxes: &mut Vec<Bounds>) -> Result<(), OutOfMemory>
     let earliest = i.saturating_sub(LAST_BOXES);
     while i > earliest {
         i -= 1;
-        let wide = boxes[i].joined(part);
-        if is_near(boxes[i], wide) {
+        if is_near(boxes[i], part) {
+            let wide = boxes[i].joined(part);
             boxes[i] = wide;
             return Ok(());
         }
@@ -61,14 +61,14 @@ fn put_in_box(part: Bounds, boxes: &mut Vec<Bounds>) -> Result<(), OutOfMemory>
     Ok(())
 }
 
-/// Whether a box that was widened by a cell has become at most eight columns and rows larger, and still fits one
-/// window. So what lies apart gets a box of its own, as a ship does.
+/// Whether the part is at most eight columns and rows from the box, and the two fit one window.
 #[inline(always)]
-fn is_near(bounds: Bounds, wide: Bounds) -> bool {
-    let across = wide.left.abs_diff(wide.right);
-    let down = wide.top.abs_diff(wide.bottom);
-    across < 48
-        && down < 24
-        && across.wrapping_sub(bounds.left.abs_diff(bounds.right)) <= 8
-        && down.wrapping_sub(bounds.top.abs_diff(bounds.bottom)) <= 8
+fn is_near(bounds: Bounds, part: Bounds) -> bool {
+    let wide = bounds.joined(part);
+    part.left.saturating_sub(bounds.right) <= 8
+        && bounds.left.saturating_sub(part.right) <= 8
+        && part.top.saturating_sub(bounds.bottom) <= 8
+        && bounds.top.saturating_sub(part.bottom) <= 8
+        && wide.left.abs_diff(wide.right) < 48
+        && wide.top.abs_diff(wide.bottom) < 24
 }

@@ -57,6 +57,7 @@ mod rows;
 /// Rules by birth and survival numbers.
 pub mod rule;
 /// The shift from one pattern to another.
+mod runs;
 pub mod shift_to;
 mod small;
 mod spans;

@@ -38,8 +38,8 @@ returns-clause-sides c n here all =
 pub returns-then-is_near-clause-wider : goal.returns-then-is_near-clause-wider
 returns-then-is_near-clause-wider c =
     subst (λ (boxes : List Bounds). AreWider boxes (set c.loop-i.boxes.items (c.loop-i.i - 1) c.joined-wide.result)) c.loop-i.invariant.same
-    (joined_wider c.loop-i.boxes.items _ c.index.result.now c.args.part c.joined-wide.result (omega (arith, c.loop-i.boxes.ok.0))
-    c.index.ensures c.joined-wide.ensures.least)
+    (joined_wider c.loop-i.boxes.items _ c.index-then-is_near.result.now c.args.part c.joined-wide.result (omega (arith, c.loop-i.boxes.ok.0))
+    c.index-then-is_near.ensures c.joined-wide.ensures.least)
 
 pub returns-then-is_near-clause-held : goal.returns-then-is_near-clause-held
 returns-then-is_near-clause-held c d h =
@@ -50,5 +50,5 @@ returns-then-is_near-clause-sides c n here all =
     let kept = subst (λ (boxes : List Bounds). All (AreSidesWithin n) boxes) (sym c.loop-i.invariant.same) all in
     All-set (AreSidesWithin n) c.loop-i.boxes.items _ c.joined-wide.result
     (c.joined-wide.ensures.sides n
-    (subst (λ (b : Bounds). AreSidesWithin n b) (sym c.index.ensures)
-    (kept _ c.index.result.now (omega (arith, c.loop-i.boxes.ok.0)))) here) kept
+    (subst (λ (b : Bounds). AreSidesWithin n b) (sym c.index-then-is_near.ensures)
+    (kept _ c.index-then-is_near.result.now (omega (arith, c.loop-i.boxes.ok.0)))) here) kept

@@ -4,7 +4,7 @@ use Rattle.std.proofs.lemmas.Result.{IfOk-from_err}
 use Rattle.plane_core.specs.Answers.{rule_of}
 use Rattle.plane_core.specs.Boards.{IsSpannedBoard}
 use Rattle.plane_core.specs.OnBoard.{cells_on}
-use Rattle.plane_core.proofs.AdvanceLemmas.{laid_spanned, more_sides}
+use Rattle.plane_core.proofs.AdvanceLemmas.{laid_spanned}
 use Rattle.plane_core.proofs.FillLemmas.{shown-empty, zeros}
 use Rattle.plane_core.proofs.board.Board.lay.Goals as goal
 
@@ -23,11 +23,11 @@ returns-in_err-spans-clause-rule c = IfOk-from_err _ _ c.from_residual-in_err-sp
 pub returns-in_err-spans-clause-cells : goal.returns-in_err-spans-clause-cells
 returns-in_err-spans-clause-cells c = IfOk-from_err _ _ c.from_residual-in_err-spans.ensures.0
 
-pub returns-in_err-put_in_boxes-clause-rule : goal.returns-in_err-put_in_boxes-clause-rule
-returns-in_err-put_in_boxes-clause-rule c = IfOk-from_err _ _ c.from_residual-in_err-put_in_boxes.ensures.0
+pub returns-in_err-boxes_round-clause-rule : goal.returns-in_err-boxes_round-clause-rule
+returns-in_err-boxes_round-clause-rule c = IfOk-from_err _ _ c.from_residual-in_err-boxes_round.ensures.0
 
-pub returns-in_err-put_in_boxes-clause-cells : goal.returns-in_err-put_in_boxes-clause-cells
-returns-in_err-put_in_boxes-clause-cells c = IfOk-from_err _ _ c.from_residual-in_err-put_in_boxes.ensures.0
+pub returns-in_err-boxes_round-clause-cells : goal.returns-in_err-boxes_round-clause-cells
+returns-in_err-boxes_round-clause-cells c = IfOk-from_err _ _ c.from_residual-in_err-boxes_round.ensures.0
 
 pub fill-requires-clause-frame : goal.fill-requires-clause-frame
 fill-requires-clause-frame c = c.requires.frame
@@ -48,16 +48,16 @@ pub fill-requires-clause-lanes : goal.fill-requires-clause-lanes
 fill-requires-clause-lanes c =
     ap length (c.as_mut_slice-2.ensures.value ∙ c.in_ok-spans.ensures.items_if_clones_equal (λ y h. h)) ∙ length-replicate _ _
 
-laid : (c : goal.After-new-4) → IsSpannedBoard c.args.at (rule_of c.new.result) c.fill.new.words c.put_in_boxes.new.boxes.items true
+laid : (c : goal.After-new-4) → IsSpannedBoard c.args.at (rule_of c.new.result) c.fill.new.words c.boxes_round.new.boxes.items true
     c.fill.new.spans × (cells_on c.args.at c.fill.new.words ≡ c.args.pattern.now)
 laid c =
-    laid_spanned (rule_of c.new.result) c.args.at c.fill.new.words c.put_in_boxes.new.boxes.items c.fill.new.spans
+    laid_spanned (rule_of c.new.result) c.args.at c.fill.new.words c.boxes_round.new.boxes.items c.fill.new.spans
     c.args.pattern.now c.cells-cells.result.now c.cells-cells.ensures.cells c.cells-cells.ensures.pattern c.requires.frame c.requires.plane
     (c.fill.auto.words ∙ ap length (c.as_mut_slice.ensures.value ∙ c.in_ok-words.ensures.items_if_clones_equal (λ y h. h)) ∙ length-replicate _ _
     ∙ c.count.ensures.count)
     (c.fill.auto.spans ∙ ap length (c.as_mut_slice-2.ensures.value ∙ c.in_ok-spans.ensures.items_if_clones_equal (λ y h. h))
     ∙ length-replicate _ _) c.requires.on c.fill.ensures.shown c.fill.ensures.held
-    c.in_ok-put_in_boxes.ensures.held (more_sides _ _ _ c.new-boxes.ensures.items c.put_in_boxes.ensures.sides)
+    c.in_ok-boxes_round.ensures.held c.boxes_round.ensures.sides
 
 pub invariant_of-result : goal.invariant_of-result
 invariant_of-result c =

@@ -8,7 +8,7 @@ use Rattle.plane_core.specs.Boxes.{box_bound}
 use Rattle.plane_core.specs.Frames.{Shows}
 use Rattle.plane_core.specs.OnBoard.{cells_on}
 use Rattle.plane_core.specs.Rules.{Numbers}
-use Rattle.plane_core.proofs.AdvanceLemmas.{box_sides, laid_spanned, more_sides, no_sides}
+use Rattle.plane_core.proofs.AdvanceLemmas.{box_sides, laid_spanned, no_sides}
 use Rattle.plane_core.specs.Answers.{rule_of}
 use Rattle.plane_core.proofs.BoardLemmas.{blank_board, moved_empty}
 use Rattle.plane_core.proofs.SpanLemmas.{empty_spans}
@@ -82,9 +82,9 @@ fill-requires-clause-lanes c =
     ∙ c.empty.auto.spans ∙ ap length c.as_mut_slice-2.ensures.value ∙ c.self.invariant.spanned.lanes ∙ sym c.in-Some.ensures.lanes
 
 laid : (c : goal.After-self-6-1) → IsSpannedBoard c.in-Some.at (rule_of c.new-self-inside.result) c.fill.new.words
-    c.put_in_boxes.new.boxes.items true c.fill.new.spans × (cells_on c.in-Some.at c.fill.new.words ≡ c.args.pattern.now)
+    c.boxes_round.new.boxes.items true c.fill.new.spans × (cells_on c.in-Some.at c.fill.new.words ≡ c.args.pattern.now)
 laid c =
-    laid_spanned (rule_of c.new-self-inside.result) c.in-Some.at c.fill.new.words c.put_in_boxes.new.boxes.items
+    laid_spanned (rule_of c.new-self-inside.result) c.in-Some.at c.fill.new.words c.boxes_round.new.boxes.items
     c.fill.new.spans c.args.pattern.now c.cells-cells.result.now c.cells-cells.ensures.cells c.cells-cells.ensures.pattern
     c.in-Some.ensures.frame c.in-Some.ensures.plane
     (c.fill.auto.words ∙ ap length (c.as_mut_slice-3.ensures.value ∙ with_items_is c.self.inside.words c.empty.new.words (c.empty.auto.words ∙ c.as_mut_slice.ensures.len))
@@ -93,24 +93,24 @@ laid c =
     (c.fill.auto.spans ∙ ap length (c.as_mut_slice-4.ensures.value ∙ with_items_is c.self.inside.spans c.empty.new.spans (c.empty.auto.spans ∙ c.as_mut_slice-2.ensures.len))
     ∙ c.empty.auto.spans ∙ ap length c.as_mut_slice-2.ensures.value ∙ c.self.invariant.spanned.lanes ∙ sym c.in-Some.ensures.lanes)
     c.in-Some.ensures.on c.fill.ensures.shown c.fill.ensures.held
-    c.in_ok-put_in_boxes.ensures.held (more_sides _ _ _ c.clear.ensures.items c.put_in_boxes.ensures.sides)
+    c.in_ok-boxes_round.ensures.held c.boxes_round.ensures.sides
 
 pub invariant_of-self-2 : goal.invariant_of-self-2
 invariant_of-self-2 c =
-    same_board c.in-Some.at (rule_of c.new-self-inside.result) c.fill.new.words _ c.put_in_boxes.new.boxes.items c.fill.new.spans _
+    same_board c.in-Some.at (rule_of c.new-self-inside.result) c.fill.new.words _ c.boxes_round.new.boxes.items c.fill.new.spans _
     (taken c.fill.new.words _ c.self.inside.words.len (c.fill.auto.words ∙ c.as_mut_slice-3.ensures.len))
     (taken c.fill.new.spans _ c.self.inside.spans.len (c.fill.auto.spans ∙ c.as_mut_slice-4.ensures.len))
     (laid c).0
 
-pub invariant_of-self-in_err-put_in_boxes : goal.invariant_of-self-in_err-put_in_boxes
-invariant_of-self-in_err-put_in_boxes c =
-    same_board c.self.inside.at (rule_of c.new-self-inside.result) c.empty.new.words _ c.put_in_boxes.new.boxes.items c.empty.new.spans _
+pub invariant_of-self-in_err-boxes_round : goal.invariant_of-self-in_err-boxes_round
+invariant_of-self-in_err-boxes_round c =
+    same_board c.self.inside.at (rule_of c.new-self-inside.result) c.empty.new.words _ c.boxes_round.new.boxes.items c.empty.new.spans _
     (with_items_is c.self.inside.words c.empty.new.words (c.empty.auto.words ∙ c.as_mut_slice.ensures.len))
     (with_items_is c.self.inside.spans c.empty.new.spans (c.empty.auto.spans ∙ c.as_mut_slice-2.ensures.len))
     (record {
-      board = blank_board c.self.inside.at (rule_of c.new-self-inside.result) c.empty.new.words c.put_in_boxes.new.boxes.items true c.self.invariant.board.frame
+      board = blank_board c.self.inside.at (rule_of c.new-self-inside.result) c.empty.new.words c.boxes_round.new.boxes.items true c.self.invariant.board.frame
           (c.empty.auto.words ∙ ap length c.as_mut_slice.ensures.value ∙ c.self.invariant.board.long) (box_sides c.args.pattern.now c.cells-cells.result.now _ c.cells-cells.ensures.cells c.cells-cells.ensures.pattern
-          (more_sides _ _ _ c.clear.ensures.items c.put_in_boxes.ensures.sides)) c.empty.ensures;
+          c.boxes_round.ensures.sides) c.empty.ensures;
       spanned = empty_spans c.self.inside.at c.empty.new.words c.empty.new.spans c.empty.ensures
           (c.empty.auto.spans ∙ ap length c.as_mut_slice-2.ensures.value ∙ c.self.invariant.spanned.lanes);
       plane = c.self.invariant.plane;
