@@ -75,8 +75,8 @@ impl<E: Into<OutOfMemory>> From<E> for StepError {
 impl Pattern {
     /// The next generation under the rule.
     ///
-    /// It takes memory in proportion to the population, and time as well in a window, if the pattern fits one, or on a
-    /// board, if that has at most 32 words a cell. Else it is counted cell by cell, where a sort takes most of the time.
+    /// It takes memory in proportion to the population. So does time in a window, if the pattern fits one, or on a board,
+    /// if that has at most 32 words a cell. Else it is counted cell by cell, where a sort takes most of the time.
     ///
     /// # Errors
     ///
