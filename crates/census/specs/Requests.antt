@@ -1,6 +1,6 @@
 -- What a request is to do, and how doing it may end.
 use Rattle.std.specs.Prelude.{◌≡◌, ◌⊎◌, ℕ, Bool, true, false, List, [], Option, IsSomeAnd}
-use Rattle.memory.specs.Evidence.{out_of_memory}
+use Rattle.memory.specs.Witness.{out_of_memory}
 use Rattle.pattern_commands.specs.declared.complaint.Complaint.TheVariants as complaint
 use Rattle.pattern_commands.specs.declared.status.Status.{Status}
 use Rattle.pattern_commands.specs.declared.status.Status.TheVariants.{Memory, Refused}

@@ -8,7 +8,7 @@ mod program;
 mod request;
 
 use commands::machine::Machine;
-use commands::progress::Progress;
+use commands::progress_line::Progress;
 use plane_core::output::Out;
 use program::run_program;
 use std::io::{self, IsTerminal};

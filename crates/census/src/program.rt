@@ -10,7 +10,7 @@ ghost use Rattle.std.specs.Prelude.{IfOk, IfErr, IfNone, IfSome, IsOkAnd};
 ghost use Rattle.std.specs.Prelude.{IsSomeAnd, true, false, map, string_bytes};
 ghost use Rattle.std.specs.Io.Buffered.{writer_buffer, writer_contents, writer_inner};
 ghost use Rattle.std.specs.IoError.{error_kind};
-ghost use Rattle.memory.specs.Evidence.{out_of_memory};
+ghost use Rattle.memory.specs.Witness.{out_of_memory};
 ghost use Rattle.pattern_commands.specs.Complaints.{complaint_line};
 ghost use Rattle.pattern_commands.specs.Status.{exit_code};
 ghost use Rattle.pattern_commands.specs.Ends.{Ends};
@@ -22,7 +22,7 @@ ghost use Rattle.words.specs.Requests.{asked_by};
 
 use crate::request::do_words;
 use commands::machine::Machine;
-use commands::progress::Progress;
+use commands::progress_line::Progress;
 use memory::OutOfMemory;
 use pattern_commands::complaint::Complaint;
 use pattern_commands::output::send_buffered;

@@ -9,7 +9,7 @@
 ghost use Rattle.std.specs.Prelude.{◌≡◌, ◌≢◌, IfSome, false, true, is_some, map};
 ghost use Rattle.clap.specs.Words.{kind_of};
 ghost use Rattle.clap.specs.declared.error.kind.ErrorKind.TheVariants.{OutOfMemory};
-ghost use Rattle.memory.specs.Evidence.{out_of_memory};
+ghost use Rattle.memory.specs.Witness.{out_of_memory};
 ghost use Rattle.pattern_commands.specs.Complaints.{complaint_line};
 ghost use Rattle.words.specs.Requests.{AreInTheirRanges, asked_by};
 ghost use Rattle.pattern_commands.specs.Streams.{HasLine, stream};
@@ -18,7 +18,7 @@ ghost use Rattle.census.specs.Requests.{reads_input, refuses_input};
 
 use commands::gather::do_gather;
 use commands::machine::Machine;
-use commands::progress::Progress;
+use commands::progress_line::Progress;
 use commands::take::do_take;
 use commands::work::do_work;
 use pattern_commands::complaint::Complaint;

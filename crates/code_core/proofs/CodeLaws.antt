@@ -5,11 +5,11 @@ use Rattle.std.proofs.lemmas.Int.{ints}
 use Rattle.std.specs.Cmp.Lexicographic.{slice_cmp}
 use Rattle.std.specs.FinMap.{nat_cmp-IsAntisymmetric, slice_cmp-IsAntisymmetric}
 use Rattle.std.specs.Ordering.{ordering_reverse, ordering_then}
-use Rattle.plane_core.specs.declared.cell.Cell.{Cell}
-use Rattle.plane_core.specs.Bounds.{shifted}
-use Rattle.plane_core.specs.Cells.{moved_by}
-use Rattle.plane_core.specs.Generations.{after}
-use Rattle.plane_core.specs.Rules.{Numbers}
+use Rattle.plane_core.specs.declared.plane.cell.Cell.{Cell}
+use Rattle.plane_core.specs.plane.Bounds.{shifted}
+use Rattle.plane_core.specs.plane.Cells.{moved_by}
+use Rattle.plane_core.specs.plane.Generations.{after}
+use Rattle.plane_core.specs.plane.Rules.{Numbers}
 use Rattle.code_core.specs.declared.recurrence.Recurrence.{Recurrence}
 use Rattle.code_core.specs.Apgcodes.{HasCodeShape, code_text}
 use Rattle.code_core.specs.Names.{CodesAreDetermined, CodesHaveTheirShape, IsImageText, OnlyEqualTextsTie, IsLeastOf, kind_of, number_of, text_cmp}
@@ -19,7 +19,7 @@ use Rattle.code_core.specs.declared.apgcode.Kind.{Kind}
 use Rattle.code_core.specs.declared.apgcode.Kind.TheVariants.{Still, Oscillator, Ship}
 use Rattle.code_core.proofs.ApgcodeLemmas.{shape_of_name}
 use Rattle.code_core.proofs.TextLaw.{texts_have_their_shape}
-use Rattle.plane_core.specs.Orientations.{turned}
+use Rattle.plane_core.specs.plane.Orientations.{turned}
 use Rattle.std.specs.Prelude.{IfSome, ◌^◌}
 use Rattle.code_core.proofs.LeastLemmas.{text_cmp_total}
 use Rattle.code_core.proofs.RecurrenceLemmas.{le_or_lt}

@@ -2,12 +2,12 @@
 use Rattle.std.proofs.Common.{◌≡◌, ℕ, ℤ, pos, neg_ℤ, ◌+ℤ◌, ◌≤◌, ◌||◌, List, [], ◌∷◌, Some, arith, refl, ap, sym, ◌∙◌}
 use Rattle.std.specs.Prelude.{unsigned_abs}
 use Rattle.std.proofs.lemmas.Int.{ints}
-use Rattle.plane_core.specs.declared.bounds.Bounds.{Bounds}
-use Rattle.plane_core.specs.declared.cell.Cell.{Cell}
-use Rattle.plane_core.specs.Bounds.{at_corner, box_of, cornered, shifted}
-use Rattle.plane_core.specs.Cells.{IsPattern, cell_at, has, moved_by, plane_bound}
-use Rattle.plane_core.proofs.CellLemmas.{cell_cmp-moved}
-use Rattle.plane_core.proofs.PlaintextBox.{IsBox-box_of}
+use Rattle.plane_core.specs.declared.plane.bounds.Bounds.{Bounds}
+use Rattle.plane_core.specs.declared.plane.cell.Cell.{Cell}
+use Rattle.plane_core.specs.plane.Bounds.{at_corner, box_of, cornered, shifted}
+use Rattle.plane_core.specs.plane.Cells.{IsPattern, cell_at, has, moved_by, plane_bound}
+use Rattle.plane_core.proofs.lemmas.plane.CellLemmas.{cell_cmp-moved}
+use Rattle.plane_core.proofs.lemmas.plaintext.PlaintextBox.{IsBox-box_of}
 use Rattle.std.specs.Ordering.{is_eq}
 
 -- a moved list has a moved cell just where the list has the cell

@@ -4,14 +4,14 @@ use Rattle.std.proofs.Common.{unsigned_abs, ltb-true}
 use Rattle.std.proofs.lemmas.Bool.{and_from, and_parts, le-leb, false≢true}
 use Rattle.std.proofs.lemmas.Int.{ints}
 use Rattle.std.specs.List.{list_all, AllByRecursion}
-use Rattle.plane_core.specs.declared.cell.Cell.{Cell}
-use Rattle.plane_core.specs.declared.bounds.Bounds.{Bounds}
-use Rattle.plane_core.specs.Bounds.{IsWithin, at_corner, box_of, cornered, shifted}
-use Rattle.plane_core.specs.Cells.{distance, moved_by, on_plane, plane_bound}
-use Rattle.plane_core.specs.declared.orientation.Orientation.{Orientation}
-use Rattle.plane_core.specs.Orientations.{image, turned}
-use Rattle.plane_core.proofs.OrientationLemmas.{at_corner-shifted}
-use Rattle.plane_core.proofs.PlaintextBox.{within-box_of}
+use Rattle.plane_core.specs.declared.plane.cell.Cell.{Cell}
+use Rattle.plane_core.specs.declared.plane.bounds.Bounds.{Bounds}
+use Rattle.plane_core.specs.plane.Bounds.{IsWithin, at_corner, box_of, cornered, shifted}
+use Rattle.plane_core.specs.plane.Cells.{distance, moved_by, on_plane, plane_bound}
+use Rattle.plane_core.specs.declared.plane.orientation.Orientation.{Orientation}
+use Rattle.plane_core.specs.plane.Orientations.{image, turned}
+use Rattle.plane_core.proofs.lemmas.plane.OrientationLemmas.{at_corner-shifted}
+use Rattle.plane_core.proofs.lemmas.plaintext.PlaintextBox.{within-box_of}
 use Rattle.code_core.specs.Texts.{boxed_text, fits_forty_square, text}
 
 -- a pattern at the corner is its own image at the corner

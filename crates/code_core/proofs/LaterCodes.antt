@@ -1,14 +1,14 @@
 -- A phase of a pattern that recurs has the name of the pattern.
 use Rattle.std.proofs.Common.{◌≡◌, ◌∙◌, sym, ap, refl, subst, ℕ, zero, suc, ℤ, ◌+◌, ◌-◌, ◌≤◌, List, length, arith, eq-or-lt_of_le, inl, inr, add-zero}
 use Rattle.std.proofs.Common.{Bool, true, false, ◌&&◌, ◌==◌, cond, int_eq, pos, eqb-true}
-use Rattle.plane_core.specs.declared.cell.Cell.{Cell}
-use Rattle.plane_core.specs.Bounds.{shifted}
-use Rattle.plane_core.specs.Cells.{InOrder}
-use Rattle.plane_core.specs.Generations.{after, next}
-use Rattle.plane_core.specs.Orientations.{turned}
-use Rattle.plane_core.specs.Rules.{Numbers}
-use Rattle.plane_core.proofs.GenerationLemmas.{after-none}
-use Rattle.plane_core.proofs.OrientationLemmas.{turning_moved}
+use Rattle.plane_core.specs.declared.plane.cell.Cell.{Cell}
+use Rattle.plane_core.specs.plane.Bounds.{shifted}
+use Rattle.plane_core.specs.plane.Cells.{InOrder}
+use Rattle.plane_core.specs.plane.Generations.{after, next}
+use Rattle.plane_core.specs.plane.Orientations.{turned}
+use Rattle.plane_core.specs.plane.Rules.{Numbers}
+use Rattle.plane_core.proofs.lemmas.plane.GenerationLemmas.{after-none}
+use Rattle.plane_core.proofs.lemmas.plane.OrientationLemmas.{turning_moved}
 use Rattle.code_core.specs.declared.apgcode.Kind.{Kind}
 use Rattle.code_core.specs.declared.apgcode.Kind.TheVariants.{Still, Oscillator, Ship}
 use Rattle.code_core.specs.declared.recurrence.Recurrence.{Recurrence}

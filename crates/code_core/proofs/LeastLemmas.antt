@@ -10,11 +10,11 @@ use Rattle.code_core.specs.Names.{IsImageText, IsLeastOf, text_cmp}
 use Rattle.code_core.specs.Recurrences.{phases}
 use Rattle.code_core.specs.Texts.{HasTextShape, text}
 use Rattle.std.proofs.lemmas.List.FromFn.{get_or-map-range_with_len, length-map-range_with_len}
-use Rattle.plane_core.specs.declared.cell.Cell.{Cell}
-use Rattle.plane_core.specs.Generations.{after}
-use Rattle.plane_core.specs.Orientations.{orientations, turned}
-use Rattle.plane_core.specs.Rules.{Numbers}
-use Rattle.plane_core.specs.declared.orientation.Orientation.TheVariants.{Same, Quarter, Half, ThreeQuarter, Mirror, Flip, Diagonal, AntiDiagonal}
+use Rattle.plane_core.specs.declared.plane.cell.Cell.{Cell}
+use Rattle.plane_core.specs.plane.Generations.{after}
+use Rattle.plane_core.specs.plane.Orientations.{orientations, turned}
+use Rattle.plane_core.specs.plane.Rules.{Numbers}
+use Rattle.plane_core.specs.declared.plane.orientation.Orientation.TheVariants.{Same, Quarter, Half, ThreeQuarter, Mirror, Flip, Diagonal, AntiDiagonal}
 use Rattle.code_core.specs.Least.{Among, IsImage, IsImageAt, IsImageOf, earlier_text}
 use Rattle.code_core.proofs.TextLaw.{texts_have_their_shape}
 

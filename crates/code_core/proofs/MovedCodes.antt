@@ -1,16 +1,16 @@
 -- A pattern that is moved, or followed for some generations, keeps its name.
 use Rattle.std.proofs.Common.{◌≡◌, ◌∙◌, sym, ap, refl, subst, ℕ, zero, suc, ℤ, ◌+ℤ◌, neg_ℤ, List, [], ◌∷◌, length, arith}
 use Rattle.std.proofs.lemmas.Int.{ints}
-use Rattle.plane_core.specs.declared.cell.Cell.{Cell}
-use Rattle.plane_core.specs.Bounds.{shifted}
-use Rattle.plane_core.specs.Cells.{InOrder, cell_at}
-use Rattle.plane_core.specs.Generations.{after, next}
-use Rattle.plane_core.specs.Orientations.{turned}
-use Rattle.plane_core.specs.Rules.{Numbers}
-use Rattle.plane_core.proofs.CommuteLemmas.{next-shifted}
-use Rattle.plane_core.proofs.GenerationLemmas.{after-none, in_order-next}
-use Rattle.plane_core.proofs.OrientationLemmas.{turning_moved}
-use Rattle.plane_core.proofs.PlacementLemmas.{in_order-shifted}
+use Rattle.plane_core.specs.declared.plane.cell.Cell.{Cell}
+use Rattle.plane_core.specs.plane.Bounds.{shifted}
+use Rattle.plane_core.specs.plane.Cells.{InOrder, cell_at}
+use Rattle.plane_core.specs.plane.Generations.{after, next}
+use Rattle.plane_core.specs.plane.Orientations.{turned}
+use Rattle.plane_core.specs.plane.Rules.{Numbers}
+use Rattle.plane_core.proofs.lemmas.plane.CommuteLemmas.{next-shifted}
+use Rattle.plane_core.proofs.lemmas.plane.GenerationLemmas.{after-none, in_order-next}
+use Rattle.plane_core.proofs.lemmas.plane.OrientationLemmas.{turning_moved}
+use Rattle.plane_core.proofs.lemmas.plane.TransformLemmas.{in_order-shifted}
 use Rattle.code_core.specs.declared.apgcode.Kind.{Kind}
 use Rattle.code_core.specs.declared.apgcode.Kind.TheVariants.{Still, Oscillator, Ship}
 use Rattle.code_core.specs.declared.recurrence.Recurrence.{Recurrence}

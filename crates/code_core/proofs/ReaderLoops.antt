@@ -7,8 +7,8 @@ use Rattle.std.specs.Result.{result_err}
 use Rattle.std.proofs.lemmas.Grind.{flat_map-append}
 use Rattle.std.proofs.lemmas.List.Elements.{All-nil, All-push}
 use Rattle.std.proofs.lemmas.List.Folds.{list_any-append}
-use Rattle.plane_core.specs.declared.cell.Cell.{Cell}
-use Rattle.plane_core.specs.Cells.{on_plane}
+use Rattle.plane_core.specs.declared.plane.cell.Cell.{Cell}
+use Rattle.plane_core.specs.plane.Cells.{on_plane}
 use Rattle.code_core.specs.declared.token.Token.{Token}
 use Rattle.code_core.specs.declared.reader.WechslerFault.{WechslerFault}
 use Rattle.code_core.specs.declared.reader.WechslerFault.TheVariants.{BadByte, ShortRun, Empty}

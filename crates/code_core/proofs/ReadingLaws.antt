@@ -6,8 +6,8 @@ use Rattle.std.specs.Prelude.{IfOk, IsErrOf, MatchResult, slice_index}
 use Rattle.std.proofs.Math.Seq.{take-append_seam, get_or-append_seam}
 use Rattle.std.proofs.lemmas.Bool.Decides.{nat_tests}
 use Rattle.std.proofs.lemmas.List.{take-append-drop, drop_more, drop_all, get_or-append-add}
-use Rattle.memory.specs.Evidence.{out_of_memory}
-use Rattle.plane_core.specs.declared.cell.Cell.{Cell}
+use Rattle.memory.specs.Witness.{out_of_memory}
+use Rattle.plane_core.specs.declared.plane.cell.Cell.{Cell}
 use Rattle.code_core.specs.declared.token.Token.{Token}
 use Rattle.code_core.specs.declared.reader.WechslerError.{WechslerError}
 use Rattle.code_core.specs.declared.reader.WechslerError.TheVariants.{Fault, Memory}

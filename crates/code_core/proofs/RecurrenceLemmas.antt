@@ -4,17 +4,17 @@ use Rattle.std.proofs.Common.{eq-or-lt_of_le, inl, inr, ◌⊎◌, true, Bool, O
 use Rattle.std.proofs.lemmas.Bool.{false≢true}
 use Rattle.std.proofs.lemmas.Bool.Decides.{leb_tells}
 use Rattle.std.proofs.lemmas.List.FromFn.{map-range_with_len_more}
-use Rattle.memory.specs.Evidence.{out_of_memory}
-use Rattle.plane_core.specs.declared.cell.Cell.{Cell}
+use Rattle.memory.specs.Witness.{out_of_memory}
+use Rattle.plane_core.specs.declared.plane.cell.Cell.{Cell}
 use Rattle.plane_core.specs.declared.generation.StepError.{StepError}
 use Rattle.plane_core.specs.declared.generation.StepError.TheVariants.{Edge, Memory}
-use Rattle.plane_core.specs.Bounds.{shifted}
-use Rattle.plane_core.specs.Cells.{plane_bound}
-use Rattle.plane_core.specs.Generations.{NeverBack, after, lies_within, next, touches_edge}
-use Rattle.plane_core.specs.Refusals.{RefusesStep}
-use Rattle.plane_core.specs.Rules.{Numbers}
-use Rattle.plane_core.proofs.GenerationLemmas.{after-none, after-more}
-use Rattle.plane_core.proofs.SpeedLemmas.{run_inside}
+use Rattle.plane_core.specs.plane.Bounds.{shifted}
+use Rattle.plane_core.specs.plane.Cells.{plane_bound}
+use Rattle.plane_core.specs.plane.Generations.{NeverBack, after, lies_within, next, touches_edge}
+use Rattle.plane_core.specs.plane.Refusals.{RefusesStep}
+use Rattle.plane_core.specs.plane.Rules.{Numbers}
+use Rattle.plane_core.proofs.lemmas.plane.GenerationLemmas.{after-none, after-more}
+use Rattle.plane_core.proofs.lemmas.plane.SpeedLemmas.{run_inside}
 use Rattle.code_core.specs.Recurrences.{Follows, MeetsEdge, Recurs, SearchEnds, StaysInside, phases}
 
 -- one phase more

@@ -1,7 +1,7 @@
 -- The text of a pattern is read again.
 use Rattle.std.proofs.Common.{◌≡◌, ◌∙◌, ap, refl, ℕ, ◌≤◌, false, List, [], ◌∷◌, Some, Ok, arith, length, nat_lt, le-ltb}
-use Rattle.plane_core.specs.declared.cell.Cell.{Cell}
-use Rattle.plane_core.specs.Bounds.{at_corner}
+use Rattle.plane_core.specs.declared.plane.cell.Cell.{Cell}
+use Rattle.plane_core.specs.plane.Bounds.{at_corner}
 use Rattle.code_core.specs.Reading.{pattern_of_tokens, unless_empty, wechsler_pattern, wechsler_read}
 use Rattle.code_core.specs.ReadingFaults.{TextsAreRead}
 use Rattle.code_core.specs.Texts.{text}

@@ -5,14 +5,14 @@ use Rattle.std.specs.Prelude.{unsigned_abs}
 use Rattle.std.specs.List.{flat_map, range_with_len}
 use Rattle.std.proofs.lemmas.Int.{ints}
 use Rattle.std.proofs.lemmas.Bool.{and_parts, cases_lt, ltb-true}
-use Rattle.plane_core.specs.declared.bounds.Bounds.{Bounds}
-use Rattle.plane_core.specs.declared.cell.Cell.{Cell}
-use Rattle.plane_core.specs.Bounds.{IsWithin, at_corner, box_of, cornered, shifted}
-use Rattle.plane_core.specs.Cells.{InOrder, cell_at, distance, has, moved_by, same_cell, set_of}
-use Rattle.plane_core.proofs.OrientationLemmas.{has-map_from}
-use Rattle.plane_core.proofs.PlacementLemmas.{in_order-shifted}
-use Rattle.plane_core.proofs.PlaintextBox.{within-box_of}
-use Rattle.plane_core.proofs.SetLemmas.{has-all, has-append, has-filter, has-head, is_set_of, or_right}
+use Rattle.plane_core.specs.declared.plane.bounds.Bounds.{Bounds}
+use Rattle.plane_core.specs.declared.plane.cell.Cell.{Cell}
+use Rattle.plane_core.specs.plane.Bounds.{IsWithin, at_corner, box_of, cornered, shifted}
+use Rattle.plane_core.specs.plane.Cells.{InOrder, cell_at, distance, has, moved_by, same_cell, set_of}
+use Rattle.plane_core.proofs.lemmas.plane.OrientationLemmas.{has-map_from}
+use Rattle.plane_core.proofs.lemmas.plane.TransformLemmas.{in_order-shifted}
+use Rattle.plane_core.proofs.lemmas.plaintext.PlaintextBox.{within-box_of}
+use Rattle.plane_core.proofs.lemmas.plane.SetLemmas.{has-all, has-append, has-filter, has-head, is_set_of, or_right}
 use Rattle.code_core.specs.declared.token.Token.{Token}
 use Rattle.code_core.specs.Columns.{token_cells}
 use Rattle.code_core.specs.Texts.{HasTextShape, TextsHaveTheirShape, TextsSpellPatterns, boxed_text, fits_forty_square, text, tokens_of}

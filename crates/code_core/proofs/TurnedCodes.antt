@@ -2,22 +2,22 @@
 use Rattle.std.proofs.Common.{◌≡◌, ◌∙◌, sym, ap, refl, subst, ℕ, zero, suc, ℤ, pos, neg_ℤ, ◌≤◌, Bool, true, false, ◌&&◌, ◌==◌, List, [], ◌∷◌, length}
 use Rattle.std.proofs.Common.{map, arith, cond, int_eq, Ordering, Less, Equal, Greater}
 use Rattle.std.proofs.lemmas.Int.{ints}
-use Rattle.plane_core.proofs.NeighbourhoodLemmas.{int_eq-true}
+use Rattle.plane_core.proofs.lemmas.plane.NeighbourhoodLemmas.{int_eq-true}
 use Rattle.std.specs.Cmp.{both_ways}
 use Rattle.std.specs.Ordering.{match_ordering}
-use Rattle.plane_core.specs.declared.cell.Cell.{Cell}
-use Rattle.plane_core.specs.declared.orientation.Orientation.{Orientation}
-use Rattle.plane_core.specs.declared.orientation.Orientation.TheVariants.{Same, Quarter, Half, ThreeQuarter, Mirror, Flip, Diagonal, AntiDiagonal}
-use Rattle.plane_core.specs.Bounds.{at_corner, box_of, grown, shifted}
-use Rattle.plane_core.specs.Cells.{InOrder, cell_at, cell_cmp, put, set_of}
-use Rattle.plane_core.specs.Generations.{after, next}
-use Rattle.plane_core.specs.Orientations.{image, turned, turned_cell}
-use Rattle.plane_core.specs.OrientationLaws.{product}
-use Rattle.plane_core.specs.Rules.{Numbers}
-use Rattle.plane_core.proofs.CommuteLemmas.{next-image, set_of-in_order}
-use Rattle.plane_core.proofs.GenerationLemmas.{after-none}
-use Rattle.plane_core.proofs.OrientationLemmas.{image-image, image-shifted, turning_back}
-use Rattle.plane_core.proofs.SetLemmas.{in_order-set_of}
+use Rattle.plane_core.specs.declared.plane.cell.Cell.{Cell}
+use Rattle.plane_core.specs.declared.plane.orientation.Orientation.{Orientation}
+use Rattle.plane_core.specs.declared.plane.orientation.Orientation.TheVariants.{Same, Quarter, Half, ThreeQuarter, Mirror, Flip, Diagonal, AntiDiagonal}
+use Rattle.plane_core.specs.plane.Bounds.{at_corner, box_of, grown, shifted}
+use Rattle.plane_core.specs.plane.Cells.{InOrder, cell_at, cell_cmp, put, set_of}
+use Rattle.plane_core.specs.plane.Generations.{after, next}
+use Rattle.plane_core.specs.plane.Orientations.{image, turned, turned_cell}
+use Rattle.plane_core.specs.plane.OrientationLaws.{product}
+use Rattle.plane_core.specs.plane.Rules.{Numbers}
+use Rattle.plane_core.proofs.lemmas.plane.CommuteLemmas.{next-image, set_of-in_order}
+use Rattle.plane_core.proofs.lemmas.plane.GenerationLemmas.{after-none}
+use Rattle.plane_core.proofs.lemmas.plane.OrientationLemmas.{image-image, image-shifted, turning_back}
+use Rattle.plane_core.proofs.lemmas.plane.SetLemmas.{in_order-set_of}
 use Rattle.code_core.specs.declared.apgcode.Kind.{Kind}
 use Rattle.code_core.specs.declared.apgcode.Kind.TheVariants.{Still, Oscillator, Ship}
 use Rattle.code_core.specs.declared.recurrence.Recurrence.{Recurrence}

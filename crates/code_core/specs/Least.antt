@@ -1,10 +1,10 @@
 -- How the least text of a pattern's images is looked for.
 use Rattle.std.specs.Prelude.{◌≡◌, ◌<◌, ℕ, List, [], get_or, length, Option, None, Some}
 use Rattle.std.specs.Ordering.{match_ordering}
-use Rattle.plane_core.specs.declared.cell.Cell.{Cell}
-use Rattle.plane_core.specs.declared.orientation.Orientation.{Orientation}
-use Rattle.plane_core.specs.declared.orientation.Orientation.TheVariants.{Same}
-use Rattle.plane_core.specs.Orientations.{turned}
+use Rattle.plane_core.specs.declared.plane.cell.Cell.{Cell}
+use Rattle.plane_core.specs.declared.plane.orientation.Orientation.{Orientation}
+use Rattle.plane_core.specs.declared.plane.orientation.Orientation.TheVariants.{Same}
+use Rattle.plane_core.specs.plane.Orientations.{turned}
 use Rattle.code_core.specs.declared.recurrence.Recurrence.{Recurrence}
 use Rattle.code_core.specs.Apgcodes.{code_text}
 use Rattle.code_core.specs.Names.{IsLeastOf, kind_of, number_of, text_cmp}

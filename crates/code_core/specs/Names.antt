@@ -4,13 +4,13 @@ use Rattle.std.specs.declared.cmp.Ordering.{Ordering}
 use Rattle.std.specs.declared.cmp.Ordering.TheVariants.{Equal, Greater}
 use Rattle.std.specs.Ordering.{ordering_then, nat_cmp, int_eq}
 use Rattle.std.specs.Cmp.Lexicographic.{slice_cmp}
-use Rattle.plane_core.specs.declared.cell.Cell.{Cell}
-use Rattle.plane_core.specs.declared.orientation.Orientation.{Orientation}
-use Rattle.plane_core.specs.Bounds.{shifted}
-use Rattle.plane_core.specs.Cells.{InOrder}
-use Rattle.plane_core.specs.Generations.{after}
-use Rattle.plane_core.specs.Orientations.{turned}
-use Rattle.plane_core.specs.Rules.{Numbers}
+use Rattle.plane_core.specs.declared.plane.cell.Cell.{Cell}
+use Rattle.plane_core.specs.declared.plane.orientation.Orientation.{Orientation}
+use Rattle.plane_core.specs.plane.Bounds.{shifted}
+use Rattle.plane_core.specs.plane.Cells.{InOrder}
+use Rattle.plane_core.specs.plane.Generations.{after}
+use Rattle.plane_core.specs.plane.Orientations.{turned}
+use Rattle.plane_core.specs.plane.Rules.{Numbers}
 use Rattle.code_core.specs.declared.recurrence.Recurrence.{Recurrence}
 use Rattle.code_core.specs.declared.apgcode.Kind.{Kind}
 use Rattle.code_core.specs.declared.apgcode.Kind.TheVariants.{Still, Oscillator, Ship}

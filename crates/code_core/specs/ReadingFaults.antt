@@ -1,8 +1,8 @@
 -- Where a text goes wrong that says no pattern, and that the text of a pattern is read again.
 use Rattle.std.specs.Prelude.{◌≡◌, ◌+◌, ◌<◌, ℕ, false, List, length, take, Some, Ok, slice_index}
-use Rattle.plane_core.specs.declared.cell.Cell.{Cell}
-use Rattle.plane_core.specs.Bounds.{at_corner}
-use Rattle.plane_core.specs.Cells.{InOrder}
+use Rattle.plane_core.specs.declared.plane.cell.Cell.{Cell}
+use Rattle.plane_core.specs.plane.Bounds.{at_corner}
+use Rattle.plane_core.specs.plane.Cells.{InOrder}
 use Rattle.code_core.specs.declared.token.Token.{Token}
 use Rattle.code_core.specs.Texts.{text}
 use Rattle.code_core.specs.Tokens.{Spells, is_character}

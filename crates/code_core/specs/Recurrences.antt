@@ -1,13 +1,13 @@
 -- When a pattern comes back, where it was or elsewhere (LifeWiki, "Oscillator" and "Spaceship").
 use Rattle.std.specs.Prelude.{◌≡◌, ◌≢◌, ◌+◌, ◌<◌, ◌≤◌, ℕ, ℤ, true, false, List, Option, Result, Err, IfNone, IfOk, IfSome, IsErrOf, OnOk, map}
 use Rattle.std.specs.List.{range_with_len}
-use Rattle.plane_core.specs.declared.cell.Cell.{Cell}
+use Rattle.plane_core.specs.declared.plane.cell.Cell.{Cell}
 use Rattle.plane_core.specs.declared.generation.StepError.{StepError}
 use Rattle.plane_core.specs.declared.generation.StepError.TheVariants.{Edge}
-use Rattle.plane_core.specs.Bounds.{shifted}
-use Rattle.plane_core.specs.Cells.{plane_bound}
-use Rattle.plane_core.specs.Generations.{NeverBack, after, lies_within, touches_edge}
-use Rattle.plane_core.specs.Rules.{Numbers}
+use Rattle.plane_core.specs.plane.Bounds.{shifted}
+use Rattle.plane_core.specs.plane.Cells.{plane_bound}
+use Rattle.plane_core.specs.plane.Generations.{NeverBack, after, lies_within, touches_edge}
+use Rattle.plane_core.specs.plane.Rules.{Numbers}
 use Rattle.code_core.specs.declared.recurrence.Recurrence.{Recurrence}
 
 -- the pattern recurs: after the period it is itself, moved by (dx, dy), and after no earlier generation; the period is 1 to the limit

@@ -9,8 +9,8 @@ ghost use Rattle.code_core.specs.Recurrences.{IsCycle, Recurs, SearchEnds};
 
 use crate::recurrence::Recurrence;
 use plane_core::generation::StepError;
-use plane_core::pattern::Pattern;
-use plane_core::rule::Rule;
+use plane_core::plane::pattern::Pattern;
+use plane_core::plane::rule::Rule;
 use std::alloc::Global;
 
 impl Recurrence {

@@ -1,6 +1,6 @@
 //! A number written in decimal after a text.
 ghost use Rattle.std.specs.Prelude.{◌≡◌, ◌++◌, false};
-ghost use Rattle.plane_core.specs.Out.{Writes};
+ghost use Rattle.plane_core.specs.Outputs.{Writes};
 
 use itoa::{Buffer, Integer};
 use plane_core::output::{Out, WriteError};

@@ -16,7 +16,7 @@
 ghost use Rattle.std.specs.Prelude.{Option, ◌≡◌, ◌≢◌, ◌<◌, ◌≤◌, [], Some, Err, length, option_map};
 ghost use Rattle.std.specs.Prelude.{string_bytes, IfOk};
 ghost use Rattle.std.specs.Cmp.{IsTotalOrder};
-ghost use Rattle.plane_core.specs.Orientations.{turned};
+ghost use Rattle.plane_core.specs.plane.Orientations.{turned};
 ghost use Rattle.code_core.specs.Names.{CodesAreDetermined, CodesHaveTheirShape, CodesLater, CodesMoved, CodesTurned};
 ghost use Rattle.code_core.specs.Names.{IsCode, OnlyEqualTextsTie, IsLeastOf, kind_of, number_of, text_cmp};
 ghost use Rattle.code_core.specs.Least.{Among, IsImageAt, IsImageOf, IsNameBy, earlier_text};
@@ -29,10 +29,10 @@ use crate::recurrence::Recurrence;
 use crate::wechsler::wechsler;
 use memory::OutOfMemory;
 use plane_core::generation::StepError;
-use plane_core::orientation::{Orientation, orientations};
-use plane_core::pattern::Pattern;
-use plane_core::placement::PlaceError;
-use plane_core::rule::Rule;
+use plane_core::plane::orientation::{Orientation, orientations};
+use plane_core::plane::pattern::Pattern;
+use plane_core::plane::transform::PlaceError;
+use plane_core::plane::rule::Rule;
 use std::alloc::Global;
 use std::cmp::Ordering;
 

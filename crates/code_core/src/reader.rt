@@ -7,9 +7,9 @@
 ghost use Rattle.std.specs.Prelude.{◌≡◌, ◌≢◌, ◌↔◌, ◌<◌, ◌≤◌, ◌+◌, ◌*◌, ◌++◌, ◌∷◌, [], ℕ, List, Some, None, Ok, Err};
 ghost use Rattle.std.specs.Prelude.{true, length, pos, IfOk, IfErr, OnOk, IsErrOf, MatchResult, IfSome, IfNone};
 ghost use Rattle.std.specs.Result.{result_err};
-ghost use Rattle.memory.specs.Evidence.{out_of_memory};
-ghost use Rattle.plane_core.specs.declared.cell.Cell.{Cell};
-ghost use Rattle.plane_core.specs.Cells.{cell_at};
+ghost use Rattle.memory.specs.Witness.{out_of_memory};
+ghost use Rattle.plane_core.specs.declared.plane.cell.Cell.{Cell};
+ghost use Rattle.plane_core.specs.plane.Cells.{cell_at};
 ghost use Rattle.code_core.specs.Columns.{is_lit, lit_cells, cells_from};
 ghost use Rattle.code_core.specs.Tokens.{IsToken, Spells, is_character};
 ghost use Rattle.code_core.specs.Reading.{wechsler_pattern, wechsler_read, character_value, single, Says};
@@ -23,8 +23,8 @@ ghost use Rattle.code_core.specs.declared.reader.WechslerError.TheVariants.{Memo
 
 use crate::token::Token;
 use memory::OutOfMemory;
-use plane_core::cell::Cell;
-use plane_core::pattern::{FromCellsError, Pattern};
+use plane_core::plane::cell::Cell;
+use plane_core::plane::pattern::{FromCellsError, Pattern};
 use std::alloc::Global;
 use std::fmt;
 use thiserror::Error;

@@ -18,17 +18,17 @@
 ghost use Rattle.std.specs.Prelude.{◌≡◌, ◌+◌, ◌<◌, ◌≤◌, ◌++◌, ◌∷◌, [], pos, Some, IfOk, OnOk, flat_map, option_map};
 ghost use Rattle.std.specs.Prelude.{codes, replicate, if◌then◌else◌, ◌==◌};
 ghost use Rattle.std.specs.String.{string_bytes};
-ghost use Rattle.plane_core.specs.Bounds.{at_corner, box_of};
-ghost use Rattle.plane_core.specs.Cells.{cell_at, distance, has};
+ghost use Rattle.plane_core.specs.plane.Bounds.{at_corner, box_of};
+ghost use Rattle.plane_core.specs.plane.Cells.{cell_at, distance, has};
 ghost use Rattle.code_core.specs.Columns.{column};
 ghost use Rattle.code_core.specs.Texts.{TextsHaveTheirShape, TextsSpellPatterns, fits_forty_square, strip};
 ghost use Rattle.code_core.specs.Texts.{strip_tokens, text, tokens_of};
 ghost use Rattle.code_core.specs.Tokens.{character, gap_start, gap_text, spelling};
 
 use memory::OutOfMemory;
-use plane_core::bounds::Bounds;
-use plane_core::coordinate::along;
-use plane_core::pattern::Pattern;
+use plane_core::plane::bounds::Bounds;
+use plane_core::plane::coordinate::along;
+use plane_core::plane::pattern::Pattern;
 use std::alloc::Global;
 
 /// The most columns, and the most rows, that the box of a pattern with a text may have.

@@ -4,10 +4,10 @@ ghost use Rattle.std.specs.Prelude.{◌≢◌, ◌≤◌, [], IfOk};
 use code_core::name::name;
 use code_core::recurrence::Recurrence;
 use memory::OutOfMemory;
-use plane_core::cell::Cell;
+use plane_core::plane::cell::Cell;
 use plane_core::generation::StepError;
-use plane_core::pattern::{FromCellsError, Pattern};
-use plane_core::rule::Rule;
+use plane_core::plane::pattern::{FromCellsError, Pattern};
+use plane_core::plane::rule::Rule;
 use std::alloc::Global;
 use std::test::Fail;
 

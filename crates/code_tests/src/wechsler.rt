@@ -1,8 +1,8 @@
 //! Texts of patterns, against texts from outside.
 use code_core::wechsler::wechsler;
 use memory::OutOfMemory;
-use plane_core::cell::Cell;
-use plane_core::pattern::Pattern;
+use plane_core::plane::cell::Cell;
+use plane_core::plane::pattern::Pattern;
 use std::alloc::Global;
 use std::test::Fail;
 

@@ -1,8 +1,8 @@
 //! Tests of the line of progress.
 
 use crate::streams::slow_writer;
-use commands::progress::Progress;
-use crew::watch::Watch;
+use commands::progress_line::Progress;
+use crew::progress_observer::Watch;
 use std::cell::Cell;
 use std::io::{self, Write};
 use std::time::{Clock, Duration};

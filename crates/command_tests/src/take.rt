@@ -8,7 +8,7 @@ use crate::streams::{Left, slow_writer};
 use commands::machine::Machine;
 use commands::take::do_take_with;
 use crew::gate::{Gate, OpenGate, Stop};
-use crew::watch::{Unwatched, Watch};
+use crew::progress_observer::{Unwatched, Watch};
 use pattern_commands::status::Status;
 use plane_core::output::Out;
 use std::sync::Wait;

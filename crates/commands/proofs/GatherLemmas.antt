@@ -19,9 +19,9 @@ use Rattle.survey_core.specs.declared.job.Job.{Job}
 use Rattle.std.proofs.KnownBytes.{Consumes-nil, Consumes-trans, prepend_known-nil}
 use Rattle.std.proofs.lemmas.List.Elements.{All-nil}
 use Rattle.std.specs.Io.KnownBytes.{Consumes, prepend_known}
-use Rattle.memory.specs.Evidence.{out_of_memory}
-use Rattle.plane_core.proofs.OutLemmas.{Appends-append}
-use Rattle.plane_core.specs.Out.{Output}
+use Rattle.memory.specs.Witness.{out_of_memory}
+use Rattle.plane_core.proofs.lemmas.OutputLemmas.{Appends-append}
+use Rattle.plane_core.specs.Outputs.{Output}
 use Rattle.pattern_commands.specs.declared.complaint.Complaint.{Complaint}
 use Rattle.pattern_commands.specs.declared.read_error.ReadError.{ReadError}
 use Rattle.pattern_commands.specs.declared.complaint.Complaint.TheVariants.{Refused, Memory, ReadFailed, TooLong, WriteFailed}

@@ -7,10 +7,10 @@ use Rattle.std.proofs.lemmas.Bool.{cases_Bool, leb-false, leb-true}
 use Rattle.std.proofs.lemmas.List.Elements.{All-contains, All-filter, All-weaker}
 use Rattle.std.specs.List.{IsDistinct}
 use Rattle.std.specs.Result.{result_map_both}
-use Rattle.memory.specs.Evidence.{out_of_memory}
-use Rattle.plane_core.specs.declared.rule.RuleFault.{RuleFault}
-use Rattle.plane_core.specs.declared.rule.RuleFault.TheVariants as rule_error
-use Rattle.plane_core.specs.Rules.{Numbers, rule_read}
+use Rattle.memory.specs.Witness.{out_of_memory}
+use Rattle.plane_core.specs.declared.plane.rule.RuleFault.{RuleFault}
+use Rattle.plane_core.specs.declared.plane.rule.RuleFault.TheVariants as rule_error
+use Rattle.plane_core.specs.plane.Rules.{Numbers, rule_read}
 use Rattle.survey_core.specs.declared.job.Job.{Job}
 use Rattle.survey_core.specs.declared.seed.SeedFault.{SeedFault}
 use Rattle.survey_core.specs.declared.seed.SeedFault.TheVariants as seed_error
@@ -28,7 +28,7 @@ use Rattle.haul_core.specs.Missing.{AreAll, IsComplete, is_taken, missing_of, nu
 use Rattle.ranges.specs.RangeLists.{FitU64, IsListText, list_text}
 use Rattle.ranges.specs.RangeListFaults.{IsFirstListFault}
 use Rattle.ranges.specs.Ranges.{AreSmall, IsNormalForm, is_in}
-use Rattle.crew.specs.Shifts.{StopsAt}
+use Rattle.crew.specs.Workers.{StopsAt}
 use Rattle.crew.specs.Takes.{was_missing}
 use Rattle.pattern_commands.specs.declared.complaint.Complaint.{Complaint}
 use Rattle.pattern_commands.specs.declared.complaint.Complaint.TheVariants.{Refused, Memory, ReadFailed, TooLong, WriteFailed}

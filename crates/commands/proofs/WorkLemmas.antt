@@ -6,9 +6,9 @@ use Rattle.std.proofs.lemmas.List.Concat.{flat_map-append}
 use Rattle.std.specs.List.{range_with_len}
 use Rattle.std.specs.Io.KnownBytes.{Appends}
 use Rattle.memory.specs.declared.OutOfMemory.{OutOfMemory}
-use Rattle.memory.specs.Evidence.{out_of_memory}
+use Rattle.memory.specs.Witness.{out_of_memory}
 use Rattle.plane_core.specs.declared.output.WriteError.{WriteError}
-use Rattle.plane_core.proofs.OutLemmas.{Appends-append, Appends-nil, AppendsFront-append, AppendsFront-longer}
+use Rattle.plane_core.proofs.lemmas.OutputLemmas.{Appends-append, Appends-nil, AppendsFront-append, AppendsFront-longer}
 use Rattle.survey_core.specs.declared.job.Job.{Job}
 use Rattle.survey_core.specs.FindingLaws.{FindingsAreDetermined}
 use Rattle.survey_core.specs.Findings.{IsFinding}

@@ -1,7 +1,7 @@
 -- How report lines are gathered, a line at a time.
 use Rattle.std.specs.Prelude.{◌≡◌, ◌<◌, ◌≤◌, ◌^◌, ℕ, true, false, IfSome, List, Option, length}
 use Rattle.std.specs.Io.KnownBytes.{Consumes, prepend_known}
-use Rattle.plane_core.specs.Out.{Output}
+use Rattle.plane_core.specs.Outputs.{Output}
 use Rattle.haul_core.specs.Books.{Held, Terms}
 use Rattle.pattern_commands.specs.declared.complaint.Complaint.{Complaint}
 use Rattle.pattern_commands.specs.declared.complaint.Complaint.TheVariants.{Refused, Memory, ReadFailed, TooLong, WriteFailed}

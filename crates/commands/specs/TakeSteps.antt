@@ -8,7 +8,7 @@ use Rattle.haul_core.specs.Keeping.{numbers_in}
 use Rattle.haul_core.specs.Missing.{AreAll, IsComplete}
 use Rattle.ranges.specs.RangeLists.{IsListText}
 use Rattle.ranges.specs.Ranges.{AreSmall, IsNormalForm, Overlap, is_in}
-use Rattle.crew.specs.Shifts.{StopsAt}
+use Rattle.crew.specs.Workers.{StopsAt}
 use Rattle.crew.specs.Takes.{was_missing}
 use Rattle.pattern_commands.specs.declared.complaint.Complaint.{Complaint}
 use Rattle.pattern_commands.specs.declared.complaint.Complaint.TheVariants.{Refused, Memory, ReadFailed, TooLong, WriteFailed}

@@ -9,9 +9,9 @@
 ghost use Rattle.std.specs.Prelude.{◌≡◌, ◌≢◌, ◌<◌, ◌≤◌, Ok, Result, ◌+◌, ◌^◌, ◌++◌, ◌∷◌, [], ℕ, List, Option, Some};
 ghost use Rattle.std.specs.Prelude.{IfErr, IfOk, OnErr, OnOk, false, length, take};
 ghost use Rattle.std.specs.Io.KnownBytes.{prepend_known};
-ghost use Rattle.memory.specs.Evidence.{out_of_memory};
+ghost use Rattle.memory.specs.Witness.{out_of_memory};
 ghost use Rattle.haul_core.specs.Reports.{IsWorker, Reported};
-ghost use Rattle.plane_core.specs.Out.{Output};
+ghost use Rattle.plane_core.specs.Outputs.{Output};
 ghost use Rattle.pattern_commands.specs.Answers.{IsInput};
 ghost use Rattle.pattern_commands.specs.Complaints.{status_of};
 ghost use Rattle.pattern_commands.specs.Ends.{Ends};
@@ -50,7 +50,7 @@ use std::alloc::Global;
 use std::io::{Read, Write};
 use survey_core::finding::findings_are_determined;
 use survey_core::job::Job;
-use survey_core::memo::Memo;
+use survey_core::shapes::memo::Memo;
 
 /// Reads report lines, checks each and offers it to a haul over the soups of a plan, and writes the haul text of what
 /// was taken.

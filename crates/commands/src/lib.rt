@@ -19,7 +19,7 @@ pub mod machine;
 /// How a haul is opened over the soups of a plan.
 mod opening;
 /// The line that says how far a haul has come.
-pub mod progress;
+pub mod progress_line;
 /// `take`: the haul of a set of soups.
 pub mod take;
 /// `work`: the report lines of a set of soups.

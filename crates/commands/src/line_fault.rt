@@ -1,7 +1,7 @@
 //! Why a report line is not taken, and the line on standard error that says so.
 
 ghost use Rattle.std.specs.Prelude.{◌≡◌, ◌++◌, codes, decimal, false};
-ghost use Rattle.plane_core.specs.Out.{Writes};
+ghost use Rattle.plane_core.specs.Outputs.{Writes};
 ghost use Rattle.commands.specs.GatheredLines.{fault_line, fault_text};
 
 use code_core::decimal::put_number;

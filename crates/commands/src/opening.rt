@@ -16,7 +16,7 @@ use memory::OutOfMemory;
 use pattern_commands::complaint::Complaint;
 use pattern_commands::profile::profile_named;
 use pattern_commands::refusal::Refusal;
-use plane_core::rule::Rule;
+use plane_core::plane::rule::Rule;
 use ranges::range::Range;
 use requests::plan::Plan;
 use requests::soup_set::SoupSet;

@@ -7,7 +7,7 @@
 //! ```
 
 ghost use Rattle.std.specs.Prelude.{◌≡◌, ◌≢◌, ◌≤◌, ◌↔◌, [], ℕ, Err, List, Option, IfErr, IfOk, false, length};
-ghost use Rattle.memory.specs.Evidence.{out_of_memory};
+ghost use Rattle.memory.specs.Witness.{out_of_memory};
 ghost use Rattle.haul_core.specs.Missing.{IsComplete, missing_of};
 ghost use Rattle.haul_core.specs.Reports.{IsWorker};
 ghost use Rattle.pattern_commands.specs.Complaints.{status_of};
@@ -24,8 +24,8 @@ use crate::finish::finish;
 use crate::machine::Machine;
 use crate::opening::open_haul;
 use crew::gate::{Gate, OpenGate};
-use crew::watch::Watch;
-use crew::workers::{self, CrewError};
+use crew::progress_observer::Watch;
+use crew::take::{self, CrewError};
 use haul_core::book::haul::Haul;
 use memory::OutOfMemory;
 use pattern_commands::complaint::Complaint;

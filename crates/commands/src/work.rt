@@ -7,11 +7,11 @@
 //! ```
 
 ghost use Rattle.std.specs.Prelude.{◌≡◌, ◌<◌, ◌≤◌, ◌∷◌, [], ℕ, List, Option, IfErr, false};
-ghost use Rattle.memory.specs.Evidence.{out_of_memory};
+ghost use Rattle.memory.specs.Witness.{out_of_memory};
 ghost use Rattle.ranges.specs.Ranges.{AreBelow, end_of, number_bound};
 ghost use Rattle.haul_core.specs.ReportLines.{report_text};
 ghost use Rattle.haul_core.specs.Reports.{IsWorker};
-ghost use Rattle.plane_core.specs.Out.{Writes};
+ghost use Rattle.plane_core.specs.Outputs.{Writes};
 ghost use Rattle.pattern_commands.specs.Complaints.{status_of};
 ghost use Rattle.pattern_commands.specs.Ends.{Ends};
 ghost use Rattle.pattern_commands.specs.Profiles.{AreInRange};
@@ -35,7 +35,7 @@ use std::alloc::Global;
 use std::io::Write;
 use survey_core::finding::findings_are_determined;
 use survey_core::job::Job;
-use survey_core::memo::Memo;
+use survey_core::shapes::memo::Memo;
 
 /// Surveys all soups of a plan for a worker, 1 to 16, and writes a report line for each, ascending by the soups'
 /// numbers.

@@ -20,24 +20,24 @@ use Rattle.handover.proofs.BeltLemmas.{notes_first, notes_other}
 use Rattle.ranges.specs.declared.range.Range.{Range}
 use Rattle.ranges.specs.Ranges.{is_in, is_in_range}
 use Rattle.survey_core.specs.Jobs.{same_job}
-use Rattle.survey_core.proofs.JobLemmas.{jobs_decide}
+use Rattle.survey_core.proofs.lemmas.JobLemmas.{jobs_decide}
 use Rattle.haul_core.specs.Books.{Terms, entry, is_lawful}
 use Rattle.haul_core.specs.Missing.{is_taken, missing_of, numbers_of, numbers_of_range}
 use Rattle.haul_core.specs.Reports.{Reported}
 use Rattle.crew.specs.Crews.{dones, is_done, report_in, reports_in}
-use Rattle.crew.specs.Shifts.{EndsByDone, Leaves, has_begun, how_many_started, lacks_memory, reported, was_started, was_stopped}
+use Rattle.crew.specs.Workers.{EndsByDone, Leaves, has_begun, how_many_started, lacks_memory, reported, was_started, was_stopped}
 use Rattle.crew.specs.declared.note.Note.{Note}
 use Rattle.crew.specs.declared.note.Note.TheVariants.{Done}
-use Rattle.crew.specs.declared.shift.End.{End}
-use Rattle.crew.specs.declared.shift.End.TheVariants.{CalledOff, Drained, Memory, Stopped, Unstarted}
-use Rattle.crew.specs.declared.shift.Shift.{Shift}
-use Rattle.crew.specs.declared.site.Site.{Site}
-use Rattle.crew.specs.declared.workers.Crew.{Crew}
+use Rattle.crew.specs.declared.worker.End.{End}
+use Rattle.crew.specs.declared.worker.End.TheVariants.{CalledOff, Drained, Memory, Stopped, Unstarted}
+use Rattle.crew.specs.declared.worker.Shift.{Shift}
+use Rattle.crew.specs.declared.shared.Site.{Site}
+use Rattle.crew.specs.declared.take.Crew.{Crew}
 use Rattle.crew.specs.CrewSteps.{HasRunAll}
 use Rattle.crew.specs.Takes.{was_missing}
 use Rattle.crew.proofs.CrewLemmas.{taken_stays}
 use Rattle.crew.proofs.ListLemmas.{all_left, all_right, all_unmap, at_place, count_all, count_append, count_cons, count_none, none_pass, part_all, range_within}
-use Rattle.crew.proofs.ShiftLemmas.{none_stopped}
+use Rattle.crew.proofs.WorkerLemmas.{none_stopped}
 use Rattle.crew.proofs.TakeLemmas.{all_numbers, all_senders, all_whole, crew_part, each_worker, notes_are}
 
 -- how many of these notes say that a worker is done

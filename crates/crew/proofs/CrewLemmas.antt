@@ -18,7 +18,7 @@ use Rattle.haul_core.specs.Refusals.{IsReply, double, refusal_of}
 use Rattle.haul_core.specs.Replies.{refusal_at, worker_in}
 use Rattle.haul_core.specs.declared.book.refused.OfferError.{OfferError}
 use Rattle.haul_core.specs.declared.book.refused.OfferError.TheVariants.{Closed, Memory, OtherJob, OutOfRange, UnknownWorker}
-use Rattle.memory.specs.Evidence.{out_of_memory}
+use Rattle.memory.specs.Witness.{out_of_memory}
 use Rattle.ranges.specs.Ranges.{is_in}
 use Rattle.survey_core.specs.Jobs.{same_job}
 use Rattle.haul_core.specs.BookLaws.{IsSubsequence}

@@ -1,6 +1,6 @@
-mod CompleteLemmas
-mod CrewLemmas
-mod ListLemmas
-mod ShiftLemmas
-mod StepLemmas
-mod TakeLemmas
+pub mod CompleteLemmas
+pub mod CrewLemmas
+pub mod ListLemmas
+pub mod StepLemmas
+pub mod TakeLemmas
+pub mod WorkerLemmas

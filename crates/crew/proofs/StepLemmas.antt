@@ -14,15 +14,15 @@ use Rattle.handover.specs.Belts.{Presented, Received, silent}
 use Rattle.handover.specs.Tickets.{Drawn, fresh}
 use Rattle.crew.specs.CrewSteps.{HasRunAll, HaveRoom, HasAddedPost, IsTakenOut, MayRun, cause_of, collector_of, stopped_with}
 use Rattle.crew.specs.Crews.{Collected, Collector, collector_with}
-use Rattle.crew.specs.Shifts.{Leaves, how_many_started, lacks_memory, sender_numbers, was_started}
+use Rattle.crew.specs.Workers.{Leaves, how_many_started, lacks_memory, sender_numbers, was_started}
 use Rattle.crew.specs.declared.note.Note.{Note}
-use Rattle.crew.specs.declared.posts.Posts.{Posts}
-use Rattle.crew.specs.declared.shift.Shift.{Shift}
-use Rattle.crew.specs.declared.site.Site.{Site}
-use Rattle.crew.specs.declared.workers.Crew.{Crew}
-use Rattle.crew.specs.declared.workers.CrewError.TheVariants as crew_error
+use Rattle.crew.specs.declared.endpoints.Posts.{Posts}
+use Rattle.crew.specs.declared.worker.Shift.{Shift}
+use Rattle.crew.specs.declared.shared.Site.{Site}
+use Rattle.crew.specs.declared.take.Crew.{Crew}
+use Rattle.crew.specs.declared.take.CrewError.TheVariants as crew_error
 use Rattle.crew.proofs.ListLemmas.{all_left, all_right, count_append, count_cons}
-use Rattle.crew.proofs.ShiftLemmas.{stopped_more}
+use Rattle.crew.proofs.WorkerLemmas.{stopped_more}
 use Rattle.crew.proofs.TakeLemmas.{all_silent, all_workers, silent_length}
 
 -- how a crew stands once only these posts are left, while so many of its workers more are away

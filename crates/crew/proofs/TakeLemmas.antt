@@ -22,18 +22,18 @@ use Rattle.handover.specs.Belts.{IsWhole, Presented, Received, deaf, notes_of, s
 use Rattle.handover.specs.Tickets.{Drawn}
 use Rattle.crew.specs.CrewSteps.{HasRunAll}
 use Rattle.crew.specs.Crews.{report_in, reports_in}
-use Rattle.crew.specs.Shifts.{HasReported, IsOwnReport, Leaves, StopsAt, reported, sender_numbers}
+use Rattle.crew.specs.Workers.{HasReported, IsOwnReport, Leaves, StopsAt, reported, sender_numbers}
 use Rattle.crew.specs.Takes.{HasTaken, taken_by, was_missing}
 use Rattle.crew.specs.declared.note.Note.{Note}
 use Rattle.crew.specs.declared.note.Note.TheVariants.{Done, Report}
-use Rattle.crew.specs.declared.shift.Shift.{Shift}
-use Rattle.crew.specs.declared.site.Site.{Site}
-use Rattle.crew.specs.declared.workers.Crew.{Crew}
+use Rattle.crew.specs.declared.worker.Shift.{Shift}
+use Rattle.crew.specs.declared.shared.Site.{Site}
+use Rattle.crew.specs.declared.take.Crew.{Crew}
 use Rattle.handover.proofs.BeltLemmas.{notes_first, notes_other}
 use Rattle.crew.proofs.CrewLemmas.{added_none}
 use Rattle.crew.proofs.ListLemmas.{Rises, all_left, all_part, all_right, all_unmap, at_places, distinct_right, in_range, range_within}
 use Rattle.crew.proofs.ListLemmas.{rises_at, rises_left, rises_part}
-use Rattle.crew.proofs.ShiftLemmas.{of_first_stopped}
+use Rattle.crew.proofs.WorkerLemmas.{of_first_stopped}
 
 -- ---- what was received of one worker
 

@@ -5,15 +5,15 @@ use Rattle.haul_core.specs.Reports.{IsWorker}
 use Rattle.handover.specs.Belts.{Presented, silent}
 use Rattle.handover.specs.Tickets.{Drawn, fresh}
 use Rattle.crew.specs.Crews.{Collected, Collector, collector_with}
-use Rattle.crew.specs.Shifts.{Leaves, first_stopped, how_many_started, lacks_memory, sender_numbers, was_stopped}
+use Rattle.crew.specs.Workers.{Leaves, first_stopped, how_many_started, lacks_memory, sender_numbers, was_stopped}
 use Rattle.crew.specs.declared.note.Note.{Note}
-use Rattle.crew.specs.declared.posts.Posts.{Posts}
-use Rattle.crew.specs.declared.shift.End.{End}
-use Rattle.crew.specs.declared.shift.Shift.{Shift}
-use Rattle.crew.specs.declared.site.Site.{Site}
-use Rattle.crew.specs.declared.workers.Crew.{Crew}
-use Rattle.crew.specs.declared.workers.CrewError.{CrewError}
-use Rattle.crew.specs.declared.workers.CrewError.TheVariants.{Memory, Stopped}
+use Rattle.crew.specs.declared.endpoints.Posts.{Posts}
+use Rattle.crew.specs.declared.worker.End.{End}
+use Rattle.crew.specs.declared.worker.Shift.{Shift}
+use Rattle.crew.specs.declared.shared.Site.{Site}
+use Rattle.crew.specs.declared.take.Crew.{Crew}
+use Rattle.crew.specs.declared.take.CrewError.{CrewError}
+use Rattle.crew.specs.declared.take.CrewError.TheVariants.{Memory, Stopped}
 
 -- the collector of a crew that waits for so many workers
 abbrev pub collector_of : ℕ → Crew → Collector

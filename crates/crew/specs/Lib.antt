@@ -1,4 +1,4 @@
 pub mod CrewSteps
 pub mod Crews
-pub mod Shifts
 pub mod Takes
+pub mod Workers

@@ -11,7 +11,7 @@ ghost use Rattle.haul_core.specs.declared.book.arrival.Arrival.{Arrival};
 ghost use Rattle.crew.specs.Crews.{Collected, HasAdded, HasComeAll, HasSoupOf, collector_with};
 
 use crate::note::Note;
-use crate::watch::Watch;
+use crate::progress_observer::Watch;
 use handover::belt::{Belt, ReceiverPass};
 use haul_core::book::haul::Haul;
 use haul_core::book::refused::OfferError;

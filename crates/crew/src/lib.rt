@@ -8,14 +8,14 @@ pub mod gate;
 /// What a worker says to the collector.
 pub mod note;
 /// What each worker works with.
-mod posts;
+mod endpoints;
 /// A worker's shift.
-mod shift;
+mod worker;
 /// What all workers share.
-mod site;
+mod shared;
 /// What a crew begins with.
-mod start;
+mod crew_setup;
 /// Who hears how far a haul has come.
-pub mod watch;
+pub mod progress_observer;
 /// The workers, and the call that runs them.
-pub mod workers;
+pub mod take;

@@ -4,7 +4,7 @@ ghost use Rattle.std.specs.Prelude.{◌≡◌, ◌<◌};
 use crate::small::{haul_of, small_job};
 use crew::collector::collect;
 use crew::note::Note;
-use crew::watch::Unwatched;
+use crew::progress_observer::Unwatched;
 use handover::belt::{Belt, SenderPass};
 use haul_core::book::haul::Haul;
 use haul_core::report::Report;

@@ -3,8 +3,8 @@ ghost use Rattle.std.specs.Prelude.{◌≡◌, ◌≤◌};
 
 use crate::small::haul_of;
 use crew::gate::{Gate, OpenGate};
-use crew::watch::{Unwatched, Watch};
-use crew::workers::{CrewError, take};
+use crew::progress_observer::{Unwatched, Watch};
+use crew::take::{CrewError, take};
 use haul_core::book::haul::Haul;
 use std::sync::Wait;
 use std::test::Fail;

@@ -2,7 +2,7 @@
 ghost use Rattle.std.specs.Prelude.{◌≡◌, IfOk};
 
 use haul_core::book::haul::Haul;
-use plane_core::rule::Rule;
+use plane_core::plane::rule::Rule;
 use ranges::range::Range;
 use std::alloc::Global;
 use std::test::Fail;

@@ -4,7 +4,7 @@ ghost use Rattle.std.specs.Prelude.{◌≤◌};
 use crate::left::go_on;
 use crate::small::{haul_of, small_job};
 use crew::gate::OpenGate;
-use crew::watch::Watch;
+use crew::progress_observer::Watch;
 use std::sync::Wait;
 use std::test::Fail;
 use std::thread::Threads;

@@ -13,7 +13,7 @@ ghost use Rattle.handover.specs.Belts.{GotOne, IsWhole, NothingLeft, TookFirst, 
 ghost use Rattle.handover.specs.Belts.{with_note};
 ghost use Rattle.handover.specs.BeltRule.{first_share, share, with_senders};
 
-use crate::bell::Bell;
+use crate::event_count::Bell;
 use crossbeam_queue::protocol::{Join, Lesson, Outcome, Protocol, Split};
 use crossbeam_queue::{Pass, RuledArrayQueue};
 use memory::OutOfMemory;

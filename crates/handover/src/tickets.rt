@@ -14,7 +14,7 @@
 //! No thread waits for another.
 ghost use Rattle.std.specs.Prelude.{◌≡◌, ◌<◌, ◌≤◌, ◌^◌, ◌++◌, ◌∷◌, ◌↔◌, All, IfNone, IfOk, IfSome, IsErrOf, None, OnOk};
 ghost use Rattle.std.specs.Prelude.{[], length, true, vec_capacity, vec_len};
-ghost use Rattle.memory.specs.Evidence.{out_of_memory};
+ghost use Rattle.memory.specs.Witness.{out_of_memory};
 ghost use Rattle.atomic_table.specs.Seated.{TableId};
 ghost use Rattle.handover.specs.Tickets.{AreAllBelow, AreSomeBelow, AreFew, fresh, how_many_heard, drawn_by_all};
 ghost use Rattle.handover.specs.Tickets.{with_none, with_drawn};

@@ -5,7 +5,7 @@ use Rattle.std.proofs.lemmas.List.Sums.{sum_by-cons}
 use Rattle.std.specs.List.{AllByRecursion}
 use Rattle.std.specs.Map.{values_of}
 use Rattle.code_core.specs.Apgcodes.{HasCodeShape}
-use Rattle.plane_core.specs.Rules.{IsRule}
+use Rattle.plane_core.specs.plane.Rules.{IsRule}
 use Rattle.survey_core.specs.Profiles.{IsProfile}
 use Rattle.survey_core.specs.Seeds.{IsSeed}
 use Rattle.survey_core.specs.declared.finding.Finding.TheVariants.{Settled, Unsettled}
@@ -19,7 +19,7 @@ use Rattle.survey_core.specs.Jobs.{same_job}
 use Rattle.haul_core.specs.ReportLines.{claim_of, said_of}
 use Rattle.haul_core.specs.LawfulClaims.{Claimed, IsClaim, IsCount, IsFound}
 use Rattle.haul_core.specs.Reports.{IsReport, Reported}
-use Rattle.survey_core.proofs.JobLemmas.{jobs_decide}
+use Rattle.survey_core.proofs.lemmas.JobLemmas.{jobs_decide}
 
 -- a report made of what the claim names
 pub record IsMade (claim : Claimed) (wanted : Job) (report : Reported) : Type 0 where

@@ -8,7 +8,7 @@ use Rattle.std.proofs.lemmas.Str.{IsAscii-append, IsUtf8-from_ascii}
 use Rattle.std.proofs.lemmas.Str.Ascii.{IsAscii-cons, IsAscii-nil}
 use Rattle.std.specs.List.{list_all, list_any, prefix_len}
 use Rattle.std.specs.Str.{IsAscii, IsUtf8}
-use Rattle.plane_core.specs.Rules.{IsRule, Numbers, digits, rule_text}
+use Rattle.plane_core.specs.plane.Rules.{IsRule, Numbers, digits, rule_text}
 use Rattle.survey_core.specs.Seeds.{IsSeed, is_invisible, is_visible, seed_read, seed_with_fault}
 use Rattle.survey_core.specs.declared.seed.SeedFault.TheVariants.{TooLong}
 use Rattle.haul_core.specs.FieldSteps.{IsSmall, IsState, IsVersion, Lacks, Tells, state_field}

@@ -1,6 +1,6 @@
 -- The head with a field more filled in.
 use Rattle.std.proofs.Common.{◌≡◌, ◌<◌, ◌^◌, ◌++◌, ◌∷◌, ℕ, List, Option, [], Some, None, ap, sym, codes, decimal}
-use Rattle.plane_core.specs.Rules.{IsRule, Numbers, rule_text}
+use Rattle.plane_core.specs.plane.Rules.{IsRule, Numbers, rule_text}
 use Rattle.survey_core.specs.Profiles.{IsProfile, Settling}
 use Rattle.survey_core.specs.Seeds.{IsSeed}
 use Rattle.haul_core.specs.ClaimSteps.{HasFilled, IsHead, said_with}

@@ -21,7 +21,7 @@ use Rattle.ranges.specs.Ranges.{AreBelow, AreNormal, BeginAfter, IsNormalForm, S
 use Rattle.haul_core.specs.SampleSteps.{least_three, with_each}
 use Rattle.haul_core.specs.Scores.{no_score, score_in, together}
 use Rattle.haul_core.specs.Totals.{Survey, count_in, has_object, is_for_good, is_unsettled, total}
-use Rattle.survey_core.proofs.JobLemmas.{jobs_decide}
+use Rattle.survey_core.proofs.lemmas.JobLemmas.{jobs_decide}
 use Rattle.haul_core.proofs.JoinedSamples.{least_of_both}
 use Rattle.haul_core.proofs.KeepLemmas.{same_length, total_small}
 

@@ -11,7 +11,7 @@ use Rattle.std.proofs.lemmas.List.Kept.{IsStrictlySortedBy-filter}
 use Rattle.std.proofs.lemmas.List.Sums.{sum_by-append, sum_by-cons}
 use Rattle.std.proofs.lemmas.Map.Views.{any-filter_same}
 use Rattle.survey_core.specs.FindingLaws.{FindingsAreDetermined}
-use Rattle.survey_core.specs.Objects.{is_code}
+use Rattle.survey_core.specs.shapes.Objects.{is_code}
 use Rattle.survey_core.specs.Soups.{soup}
 use Rattle.survey_core.specs.declared.job.Job.{Job}
 use Rattle.haul_core.specs.declared.book.census_rows.Row.{Row}

@@ -13,11 +13,11 @@ use Rattle.std.proofs.lemmas.Map.Entries.{All-lookup}
 use Rattle.std.proofs.lemmas.Map.Keys.{IsDistinct-from_apart, IsDistinct-push}
 use Rattle.std.proofs.lemmas.Map.Steps.{lookup-le-sum}
 use Rattle.survey_core.specs.Findings.{IsFinding, objects_in}
-use Rattle.survey_core.specs.Objects.{is_code}
+use Rattle.survey_core.specs.shapes.Objects.{is_code}
 use Rattle.survey_core.specs.Profiles.{Settling}
 use Rattle.survey_core.specs.Soups.{soup}
-use Rattle.plane_core.specs.Rules.{Numbers}
-use Rattle.plane_core.specs.declared.cell.Cell.{Cell}
+use Rattle.plane_core.specs.plane.Rules.{Numbers}
+use Rattle.plane_core.specs.declared.plane.cell.Cell.{Cell}
 use Rattle.survey_core.specs.declared.finding.Finding.{Finding}
 use Rattle.survey_core.specs.declared.finding.Finding.TheVariants.{Settled, Unsettled}
 use Rattle.haul_core.specs.declared.book.scores.Score.{Score}
@@ -25,7 +25,7 @@ use Rattle.survey_core.specs.declared.job.Job.{Job}
 use Rattle.haul_core.specs.Replies.{refusal_at, worker_in}
 use Rattle.survey_core.specs.Jobs.{same_job}
 use Rattle.haul_core.proofs.BookLemmas.{none_holds}
-use Rattle.survey_core.proofs.JobLemmas.{jobs_decide}
+use Rattle.survey_core.proofs.lemmas.JobLemmas.{jobs_decide}
 use Rattle.haul_core.specs.Books.{Held, Terms, entry}
 use Rattle.haul_core.specs.Keeping.{KeepsBook, Sums, numbers_in, samples, score_of}
 use Rattle.ranges.specs.Ranges.{AreBelow, AreNormal, is_in, number_bound, size_of}

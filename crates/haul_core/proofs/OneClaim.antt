@@ -4,8 +4,8 @@ use Rattle.std.proofs.lemmas.Fmt.{decimal_injective}
 use Rattle.std.proofs.lemmas.List.{append_cancel_left}
 use Rattle.std.proofs.lemmas.List.Elements.{recursion_from_All}
 use Rattle.std.specs.List.{AllByRecursion}
-use Rattle.plane_core.proofs.RuleReading.{rule_read-rule_text}
-use Rattle.plane_core.specs.Rules.{IsRule, Numbers, rule_read, rule_text}
+use Rattle.plane_core.proofs.lemmas.plane.RuleReading.{rule_read-rule_text}
+use Rattle.plane_core.specs.plane.Rules.{IsRule, Numbers, rule_read, rule_text}
 use Rattle.survey_core.specs.Profiles.{IsProfile, Settling}
 use Rattle.haul_core.specs.Claims.{fields_of}
 use Rattle.haul_core.specs.FieldSteps.{numbers_text}

@@ -4,7 +4,7 @@ use Rattle.std.proofs.lemmas.Fmt.{decimal_digit}
 use Rattle.std.proofs.lemmas.Grind.{flat_map-append}
 use Rattle.std.proofs.lemmas.List.{append-nil}
 use Rattle.std.proofs.lemmas.List.Folds.{flat_map-map}
-use Rattle.plane_core.specs.Rules.{rule_text}
+use Rattle.plane_core.specs.plane.Rules.{rule_text}
 use Rattle.survey_core.specs.Profiles.{Settling}
 use Rattle.haul_core.specs.HaulTexts.{line_of, spaced}
 use Rattle.haul_core.specs.ReportLines.{claim_of, count_field, found_fields, claim_line, head_fields, mark_fields, profile_field, report_text, said_of}

@@ -16,7 +16,7 @@ use Rattle.std.proofs.lemmas.List.Elements.{All-append, All-cons, All-head, All-
 use Rattle.std.proofs.lemmas.Map.Keys.{Less-from_sorted}
 use Rattle.std.proofs.lemmas.Map.Lookups.{exact_bytes}
 use Rattle.indexmap.specs.IndexMap.{set_value_at}
-use Rattle.survey_core.specs.Objects.{AreObjects, is_code}
+use Rattle.survey_core.specs.shapes.Objects.{AreObjects, is_code}
 use Rattle.haul_core.specs.declared.book.scores.Score.{Score}
 use Rattle.haul_core.specs.Scores.{Extends, HasScore, added, no_score, found_score, score_in}
 

@@ -9,7 +9,7 @@ use Rattle.std.specs.List.{AllByRecursion, list_all}
 use Rattle.std.specs.Str.{all_ascii_digits}
 use Rattle.code_core.specs.Apgcodes.{is_code_byte}
 use Rattle.code_core.specs.Tokens.{is_character}
-use Rattle.plane_core.specs.Rules.{Numbers, digits, rule_text}
+use Rattle.plane_core.specs.plane.Rules.{Numbers, digits, rule_text}
 use Rattle.survey_core.specs.Profiles.{IsProfile, Settling}
 use Rattle.survey_core.specs.Seeds.{is_visible}
 use Rattle.haul_core.specs.Claims.{BeginClaim, IsBadField, IsClaimLine, IsFirstFaultOf, fields_of, followed}

@@ -15,7 +15,7 @@ use Rattle.survey_core.specs.Jobs.{same_job}
 use Rattle.haul_core.specs.Joins.{CanJoin, IsJoined, joined_arrivals, taken_offers}
 use Rattle.ranges.specs.Ranges.{ShareNumber, is_in, is_in_range}
 use Rattle.haul_core.specs.Reports.{Reported}
-use Rattle.survey_core.proofs.JobLemmas.{jobs_decide}
+use Rattle.survey_core.proofs.lemmas.JobLemmas.{jobs_decide}
 
 offered-offers : (xs : List Reported) (remainder : List Arrival) → offered (map (λ r. Offer r) xs ++ remainder) ≡ xs ++ offered remainder
 offered-offers [] remainder = refl

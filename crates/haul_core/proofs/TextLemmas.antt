@@ -5,10 +5,10 @@ use Rattle.std.proofs.lemmas.Bool.{eqb-true, false≢true}
 use Rattle.std.proofs.lemmas.Grind.{flat_map-append}
 use Rattle.std.proofs.lemmas.List.{append-nil, drop_all, drop_more}
 use Rattle.std.proofs.lemmas.List.Folds.{flat_map-map}
-use Rattle.plane_core.proofs.OutLemmas.{Writes_same, Writes_stops, Writes_then}
-use Rattle.plane_core.specs.Out.{Output, Writes}
+use Rattle.plane_core.proofs.lemmas.OutputLemmas.{Writes_same, Writes_stops, Writes_then}
+use Rattle.plane_core.specs.Outputs.{Output, Writes}
 use Rattle.plane_core.specs.declared.output.WriteError.{WriteError}
-use Rattle.plane_core.specs.Rules.{rule_text}
+use Rattle.plane_core.specs.plane.Rules.{rule_text}
 use Rattle.survey_core.specs.declared.job.Job.{Job}
 use Rattle.haul_core.specs.declared.book.census.Census.{Census}
 use Rattle.ranges.specs.declared.range.Range.{Range}

@@ -1,7 +1,7 @@
 -- Laws of censuses: their texts don't depend on the order in which the soups came, and joined hauls add up.
 use Rattle.std.specs.Prelude.{◌≡◌, ◌+◌, ◌++◌, ℕ, List, [], count_by, nat_eq, option_map, unwrap_or}
 use Rattle.std.specs.List.{find}
-use Rattle.survey_core.specs.Objects.{is_code}
+use Rattle.survey_core.specs.shapes.Objects.{is_code}
 use Rattle.survey_core.specs.declared.job.Job.{Job}
 use Rattle.haul_core.specs.declared.book.census.Census.{Census}
 use Rattle.ranges.specs.declared.range.Range.{Range}

@@ -1,6 +1,6 @@
 -- The haul text: what a census says, line by line.
 use Rattle.std.specs.Prelude.{◌++◌, ℕ, List, [], ◌∷◌, codes, decimal, flat_map, map}
-use Rattle.plane_core.specs.Rules.{rule_text}
+use Rattle.plane_core.specs.plane.Rules.{rule_text}
 use Rattle.survey_core.specs.Profiles.{Settling}
 use Rattle.survey_core.specs.declared.job.Job.{Job}
 use Rattle.haul_core.specs.declared.book.census.Census.{Census}

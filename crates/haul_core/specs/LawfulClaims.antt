@@ -5,7 +5,7 @@ use Rattle.std.specs.List.{All}
 use Rattle.std.specs.List.Sorted.{IsStrictlySortedBy}
 use Rattle.std.specs.Map.{keys_of}
 use Rattle.std.specs.Ordering.{nat_cmp}
-use Rattle.plane_core.specs.Rules.{IsRule}
+use Rattle.plane_core.specs.plane.Rules.{IsRule}
 use Rattle.code_core.specs.Apgcodes.{HasCodeShape}
 use Rattle.survey_core.specs.Profiles.{IsProfile}
 use Rattle.survey_core.specs.Seeds.{IsSeed}

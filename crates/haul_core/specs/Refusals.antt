@@ -1,7 +1,7 @@
 -- Why the book refuses an offer, and what it replies to arrivals.
 use Rattle.std.specs.Prelude.{◌≡◌, ◌++◌, ◌⊎◌, ℕ, not, List, [], ◌∷◌, Option, None, Some, nat_lt, option_map, if◌then◌else◌}
 use Rattle.std.specs.List.{find}
-use Rattle.memory.specs.Evidence.{out_of_memory}
+use Rattle.memory.specs.Witness.{out_of_memory}
 use Rattle.haul_core.specs.declared.book.arrival.Arrival.{Arrival}
 use Rattle.haul_core.specs.declared.book.arrival.Arrival.TheVariants.{Closing, Offer}
 use Rattle.haul_core.specs.declared.book.refused.OfferError.{OfferError}

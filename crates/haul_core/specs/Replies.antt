@@ -1,7 +1,7 @@
 -- What a haul answers to an offer, and where a list of arrivals stops for want of memory.
 use Rattle.std.specs.Prelude.{◌≡◌, ◌≢◌, ◌++◌, ◌⊎◌, ℕ, List, [], ◌∷◌, Option, None, Some, Result, Ok, Err, map, not, nat_eq, nat_lt, if◌then◌else◌}
 use Rattle.std.specs.Map.{lookup}
-use Rattle.memory.specs.Evidence.{out_of_memory}
+use Rattle.memory.specs.Witness.{out_of_memory}
 use Rattle.haul_core.specs.declared.book.refused.OfferError.{OfferError}
 use Rattle.haul_core.specs.declared.book.refused.OfferError.TheVariants.{Closed, Memory, OtherJob, OutOfRange, UnknownWorker}
 use Rattle.haul_core.specs.declared.book.refused.Refused.{Refused}

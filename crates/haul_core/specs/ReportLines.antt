@@ -1,7 +1,7 @@
 -- Report lines: what a worker says of a soup, in fields with one space between each two.
 use Rattle.std.specs.Prelude.{◌==◌, ◌++◌, ℕ, Bool, false, true, List, [], ◌∷◌, Option, None, Some, codes, decimal, map}
 use Rattle.std.specs.Prelude.{if◌then◌else◌}
-use Rattle.plane_core.specs.Rules.{rule_text}
+use Rattle.plane_core.specs.plane.Rules.{rule_text}
 use Rattle.survey_core.specs.Profiles.{Settling}
 use Rattle.survey_core.specs.declared.finding.Finding.{Finding}
 use Rattle.survey_core.specs.declared.finding.Finding.TheVariants.{Settled, Unsettled}

@@ -1,7 +1,7 @@
 -- How the rows of a census are listed.
 use Rattle.std.specs.Prelude.{◌≡◌, ℕ, All, IsSome, List, Option, None, Some, nat_lt, true, if◌then◌else◌}
 use Rattle.std.specs.List.{list_any}
-use Rattle.survey_core.specs.Objects.{is_code}
+use Rattle.survey_core.specs.shapes.Objects.{is_code}
 use Rattle.haul_core.specs.Rows.{AreInOrder, codes_of}
 use Rattle.haul_core.specs.Scores.{found_score}
 use Rattle.haul_core.specs.declared.book.census_rows.Row.{Row}

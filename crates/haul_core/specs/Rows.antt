@@ -4,7 +4,7 @@ use Rattle.std.specs.Cmp.Lexicographic.{slice_cmp}
 use Rattle.std.specs.List.{list_any}
 use Rattle.std.specs.List.Sorted.{IsStrictlySortedBy}
 use Rattle.std.specs.Ordering.{nat_cmp}
-use Rattle.survey_core.specs.Objects.{is_code}
+use Rattle.survey_core.specs.shapes.Objects.{is_code}
 use Rattle.haul_core.specs.declared.book.census_rows.Row.{Row}
 use Rattle.haul_core.specs.Samples.{AreLeastThree}
 use Rattle.haul_core.specs.Totals.{Survey, numbers_with, total}

@@ -2,7 +2,7 @@
 use Rattle.std.specs.Prelude.{◌≡◌, ◌+◌, ◌++◌, ℕ, All, IsSome, List, [], Option, None, Some, nat_eq, take, unwrap_or}
 use Rattle.std.specs.Cmp.Lexicographic.{pointwise}
 use Rattle.std.specs.Map.{lookup}
-use Rattle.survey_core.specs.Objects.{AreObjects, is_code}
+use Rattle.survey_core.specs.shapes.Objects.{AreObjects, is_code}
 use Rattle.survey_core.specs.declared.finding.Finding.{Finding}
 use Rattle.survey_core.specs.declared.finding.Finding.TheVariants.{Settled, Unsettled}
 use Rattle.haul_core.specs.declared.book.scores.Score.{Score}

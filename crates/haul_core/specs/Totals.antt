@@ -2,7 +2,7 @@
 use Rattle.std.specs.Prelude.{◌≡◌, ℕ, Bool, true, false, List, count_by, filter, map, nat_le, sum_by}
 use Rattle.std.specs.List.{All}
 use Rattle.survey_core.specs.Findings.{IsFinding}
-use Rattle.survey_core.specs.Objects.{count_of}
+use Rattle.survey_core.specs.shapes.Objects.{count_of}
 use Rattle.survey_core.specs.Soups.{soup}
 use Rattle.survey_core.specs.declared.finding.Finding.{Finding}
 use Rattle.survey_core.specs.declared.finding.Finding.TheVariants.{Settled, Unsettled}

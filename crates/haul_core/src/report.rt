@@ -9,7 +9,7 @@
 //! ```
 
 ghost use Rattle.std.specs.Prelude.{◌≡◌, ◌<◌, ◌↔◌, IfOk, IsErrOf, IsTrue};
-ghost use Rattle.memory.specs.Evidence.{out_of_memory};
+ghost use Rattle.memory.specs.Witness.{out_of_memory};
 ghost use Rattle.ranges.specs.Ranges.{number_bound};
 ghost use Rattle.haul_core.specs.Reports.{IsReport, IsWorker};
 ghost use Rattle.haul_core.specs.declared.report.ReportError.TheVariants.{BadWorker, Memory};
@@ -24,7 +24,7 @@ use std::alloc::Global;
 use std::marker::Model;
 use survey_core::finding::{Finding, survey_with};
 use survey_core::job::Job;
-use survey_core::memo::Memo;
+use survey_core::shapes::memo::Memo;
 use thiserror::Error;
 
 /// The most workers that a haul may have: as many threads as most machines run at a time. They are numbered from 1.

@@ -3,7 +3,7 @@
 use crate::setup::{closed, offer, quick_job, range, text_of};
 use haul_core::book::haul::{Haul, OpenError};
 use memory::OutOfMemory;
-use plane_core::rule::Rule;
+use plane_core::plane::rule::Rule;
 use ranges::range::Range;
 use std::alloc::Global;
 use std::test::Fail;

@@ -6,7 +6,7 @@ use haul_core::book::haul::Haul;
 use haul_core::book::haul_text::write_haul;
 use haul_core::report::Report;
 use plane_core::output::Out;
-use plane_core::rule::Rule;
+use plane_core::plane::rule::Rule;
 use ranges::range::Range;
 use std::alloc::Global;
 use std::test::Fail;

@@ -1,1 +1,1 @@
-pub mod Evidence
+pub mod Witness

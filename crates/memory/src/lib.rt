@@ -7,7 +7,7 @@
 ghost use Rattle.std.specs.Prelude.{◌≡◌};
 ghost use Rattle.std.specs.IoError.{error_kind};
 ghost use Rattle.std.specs.declared.io.ErrorKind.TheVariants as ErrorKind;
-ghost use Rattle.memory.specs.Evidence.{out_of_memory};
+ghost use Rattle.memory.specs.Witness.{out_of_memory};
 
 use std::alloc::{AllocError, AllocFailed};
 use std::io;

@@ -5,15 +5,15 @@ use Rattle.std.specs.List.{range_with_len}
 use Rattle.std.specs.Option.{option_map}
 use Rattle.std.proofs.lemmas.List.FromFn.{length-range_with_len}
 use Rattle.std.specs.Result.{IsErrAnd, IsErrOf, result_map_both}
-use Rattle.memory.specs.Evidence.{out_of_memory}
-use Rattle.plane_core.specs.declared.cell.Cell.{Cell}
-use Rattle.plane_core.specs.declared.rule.RuleFault.{RuleFault}
-use Rattle.plane_core.specs.declared.rule.RuleFault.TheVariants as rule_error
+use Rattle.memory.specs.Witness.{out_of_memory}
+use Rattle.plane_core.specs.declared.plane.cell.Cell.{Cell}
+use Rattle.plane_core.specs.declared.plane.rule.RuleFault.{RuleFault}
+use Rattle.plane_core.specs.declared.plane.rule.RuleFault.TheVariants as rule_error
 use Rattle.plane_core.specs.declared.plaintext.PlaintextError.{PlaintextError}
 use Rattle.plane_core.specs.declared.plaintext.PlaintextError.TheVariants as plaintext_error
 use Rattle.plane_core.specs.declared.plaintext.PlaintextFault.{PlaintextFault}
 use Rattle.plane_core.specs.declared.plaintext.PlaintextFault.TheVariants as plaintext_fault
-use Rattle.plane_core.specs.Rules.{rule_read}
+use Rattle.plane_core.specs.plane.Rules.{rule_read}
 use Rattle.plane_core.specs.Plaintext.{pattern}
 use Rattle.pattern_commands.specs.declared.complaint.Complaint.{Complaint}
 use Rattle.pattern_commands.specs.declared.complaint.Complaint.TheVariants.{Refused, Memory, ReadFailed, TooLong, WriteFailed}

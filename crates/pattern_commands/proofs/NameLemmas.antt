@@ -2,8 +2,8 @@
 use Rattle.std.proofs.Common.{◌≡◌, ◌&&◌, ◌++◌, ◌+◌, ◌<◌, ℕ, Bool, List, [], ◌∷◌, Ok, Err, true, false, is_ok, nat_le, refl, sym, ap, ◌∙◌, append_assoc}
 use Rattle.std.proofs.Common.{drop, flat_map, get_or, length}
 use Rattle.std.proofs.lemmas.List.{drop_more}
-use Rattle.plane_core.specs.declared.cell.Cell.{Cell}
-use Rattle.plane_core.specs.Rules.{Numbers}
+use Rattle.plane_core.specs.declared.plane.cell.Cell.{Cell}
+use Rattle.plane_core.specs.plane.Rules.{Numbers}
 use Rattle.survey_core.specs.declared.finding.Finding.{Finding}
 use Rattle.survey_core.specs.Findings.{IsFinding}
 use Rattle.survey_core.specs.Profiles.{Settling}

@@ -1,8 +1,8 @@
 -- What `show` answers.
 use Rattle.std.proofs.Common.{◌≡◌, ◌↔◌, ℕ, false, List, [], Result, Ok, Err, IsOk, refl, true}
 use Rattle.std.specs.Result.{IsErrOf}
-use Rattle.memory.specs.Evidence.{out_of_memory}
-use Rattle.plane_core.specs.declared.cell.Cell.{Cell}
+use Rattle.memory.specs.Witness.{out_of_memory}
+use Rattle.plane_core.specs.declared.plane.cell.Cell.{Cell}
 use Rattle.plane_core.specs.Plaintext.{plain}
 use Rattle.code_core.specs.declared.reader.WechslerError.{WechslerError}
 use Rattle.code_core.specs.declared.reader.WechslerError.TheVariants.{Fault, Memory}

@@ -1,7 +1,7 @@
 -- How commands that give a text alone end.
 use Rattle.std.proofs.Common.{◌≡◌, ℕ, Bool, true, false, inl, List, [], Option, Result, Ok, Err, IfErr, refl}
 use Rattle.std.proofs.KnownBytes.{Appends-nil}
-use Rattle.memory.specs.Evidence.{out_of_memory}
+use Rattle.memory.specs.Witness.{out_of_memory}
 use Rattle.pattern_commands.specs.declared.complaint.Complaint.{Complaint}
 use Rattle.pattern_commands.specs.declared.complaint.Complaint.TheVariants.{Refused, Memory, ReadFailed, TooLong, WriteFailed}
 use Rattle.pattern_commands.specs.declared.status.Status.{Status}

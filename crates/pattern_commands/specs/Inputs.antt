@@ -1,16 +1,16 @@
 -- What the rule texts and the inputs of commands stand for, and the complaints about them.
 use Rattle.std.specs.Prelude.{◌≡◌, ℕ, ◌^◌, true, List, length, nat_le, Result, Ok, Err, if◌then◌else◌}
 use Rattle.std.specs.Result.{result_map_both}
-use Rattle.plane_core.specs.declared.cell.Cell.{Cell}
-use Rattle.plane_core.specs.declared.rule.RuleFault.{RuleFault}
-use Rattle.plane_core.specs.declared.rule.RuleFault.TheVariants as rule_error
+use Rattle.plane_core.specs.declared.plane.cell.Cell.{Cell}
+use Rattle.plane_core.specs.declared.plane.rule.RuleFault.{RuleFault}
+use Rattle.plane_core.specs.declared.plane.rule.RuleFault.TheVariants as rule_error
 use Rattle.plane_core.specs.declared.plaintext.PlaintextFault.{PlaintextFault}
 use Rattle.plane_core.specs.declared.plaintext.PlaintextFault.TheVariants as fault
 use Rattle.plane_core.specs.declared.plaintext.PlaintextError.{PlaintextError}
 use Rattle.plane_core.specs.declared.plaintext.PlaintextError.TheVariants as error
-use Rattle.plane_core.specs.Rules.{Numbers}
-use Rattle.plane_core.specs.Rules.{rule_read}
-use Rattle.plane_core.specs.Generations.{lies_within}
+use Rattle.plane_core.specs.plane.Rules.{Numbers}
+use Rattle.plane_core.specs.plane.Rules.{rule_read}
+use Rattle.plane_core.specs.plane.Generations.{lies_within}
 use Rattle.plane_core.specs.Plaintext.{pattern}
 use Rattle.ranges.specs.declared.range_list.ListError.{ListError}
 use Rattle.ranges.specs.declared.range_list.ListError.TheVariants as list_error

@@ -1,7 +1,7 @@
 -- What `census name` is asked for.
 use Rattle.std.specs.Prelude.{◌++◌, ◌&&◌, true, is_ok, ℕ, List, Ok, codes, decimal, flat_map}
-use Rattle.plane_core.specs.declared.cell.Cell.{Cell}
-use Rattle.plane_core.specs.Rules.{Numbers}
+use Rattle.plane_core.specs.declared.plane.cell.Cell.{Cell}
+use Rattle.plane_core.specs.plane.Rules.{Numbers}
 use Rattle.survey_core.specs.declared.finding.Finding.{Finding}
 use Rattle.survey_core.specs.declared.finding.Finding.TheVariants.{Settled, Unsettled}
 use Rattle.survey_core.specs.Findings.{IsFinding}

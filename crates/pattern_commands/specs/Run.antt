@@ -1,6 +1,6 @@
 -- What `census run` is asked for.
 use Rattle.std.specs.Prelude.{ℕ, List, Ok, true, is_ok}
-use Rattle.plane_core.specs.Generations.{after}
+use Rattle.plane_core.specs.plane.Generations.{after}
 use Rattle.plane_core.specs.Plaintext.{plain}
 use Rattle.pattern_commands.specs.Answers.{Answer, given, only}
 use Rattle.pattern_commands.specs.Inputs.{rule_named, pattern_of}

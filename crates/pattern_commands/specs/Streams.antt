@@ -1,7 +1,7 @@
 -- What a command leaves on a stream.
 use Rattle.std.specs.Prelude.{◌≡◌, ℕ, Bool, false, List, [], Option, MatchBool}
 use Rattle.std.specs.Io.KnownBytes.{Appends}
-use Rattle.plane_core.specs.Out.{Output, AppendsFront}
+use Rattle.plane_core.specs.Outputs.{Output, AppendsFront}
 
 -- A stream over a call: the bytes that stand there before and after, where they are known, and whether a write failed.
 pub record Stream : Type 0 where

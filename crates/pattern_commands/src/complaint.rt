@@ -1,7 +1,7 @@
 //! Why a command did not do all that was asked, and the line and the status that say so.
 
 ghost use Rattle.std.specs.Prelude.{◌≡◌, false};
-ghost use Rattle.plane_core.specs.Out.{Writes};
+ghost use Rattle.plane_core.specs.Outputs.{Writes};
 ghost use Rattle.pattern_commands.specs.Complaints.{complaint_line, missing_line, status_of};
 ghost use Rattle.pattern_commands.specs.Streams.{stream, HasLine};
 
@@ -15,7 +15,7 @@ use code_core::reader::{WechslerError, WechslerFault};
 use memory::OutOfMemory;
 use plane_core::output::{Out, WriteError};
 use plane_core::plaintext::{PlaintextError, PlaintextFault};
-use plane_core::rule::RuleFault;
+use plane_core::plane::rule::RuleFault;
 use ranges::range_list::ListError;
 use std::io::Write;
 use survey_core::seed::SeedFault;

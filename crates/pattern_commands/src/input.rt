@@ -1,7 +1,7 @@
 //! Inputs that are read whole, up to a limit.
 
 ghost use Rattle.std.specs.Prelude.{◌≡◌, ◌≢◌, ◌<◌, ◌≤◌, ◌^◌, ℕ, Err, List, IfOk, IfSome, length, vec_len};
-ghost use Rattle.memory.specs.Evidence.{out_of_memory};
+ghost use Rattle.memory.specs.Witness.{out_of_memory};
 ghost use Rattle.pattern_commands.specs.Answers.{IsInput};
 ghost use Rattle.pattern_commands.specs.Inputs.{LiesWithin999, Reads, pattern_of};
 ghost use Rattle.pattern_commands.specs.declared.input.InputError.TheVariants.{TooLong};
@@ -9,7 +9,7 @@ ghost use Rattle.pattern_commands.specs.declared.input.InputError.TheVariants.{T
 use crate::complaint::Complaint;
 use crate::read_error::ReadError;
 use memory::OutOfMemory;
-use plane_core::pattern::Pattern;
+use plane_core::plane::pattern::Pattern;
 use std::alloc::Global;
 use std::io::{self, ErrorKind, Read};
 

@@ -8,8 +8,8 @@
 
 ghost use Rattle.std.specs.Prelude.{◌≡◌, ◌&&◌, ◌++◌, ℕ, List, codes, decimal, false, flat_map, is_ok, IsErr, IfErr};
 ghost use Rattle.std.specs.Prelude.{IfOk, true};
-ghost use Rattle.memory.specs.Evidence.{out_of_memory};
-ghost use Rattle.plane_core.specs.Out.{Writes};
+ghost use Rattle.memory.specs.Witness.{out_of_memory};
+ghost use Rattle.plane_core.specs.Outputs.{Writes};
 ghost use Rattle.pattern_commands.specs.Answers.{IsInput};
 ghost use Rattle.pattern_commands.specs.Complaints.{status_of};
 ghost use Rattle.pattern_commands.specs.Ends.{Ends};
@@ -27,7 +27,7 @@ use crate::status::Status;
 use code_core::apgcode::Apgcode;
 use code_core::decimal::put_number;
 use plane_core::output::{Out, WriteError};
-use plane_core::rule::Rule;
+use plane_core::plane::rule::Rule;
 use requests::profile_numbers::ProfileNumbers;
 use std::alloc::Global;
 use std::io::{Read, Write};

@@ -7,8 +7,8 @@
 //! ```
 
 ghost use Rattle.std.specs.Prelude.{◌≡◌, ◌≤◌, ℕ, List, false, is_ok, IsErr, IfOk, IfErr, true};
-ghost use Rattle.memory.specs.Evidence.{out_of_memory};
-ghost use Rattle.plane_core.specs.Generations.{after};
+ghost use Rattle.memory.specs.Witness.{out_of_memory};
+ghost use Rattle.plane_core.specs.plane.Generations.{after};
 ghost use Rattle.pattern_commands.specs.Answers.{IsInput, only};
 ghost use Rattle.pattern_commands.specs.Complaints.{status_of};
 ghost use Rattle.pattern_commands.specs.Ends.{Ends};
@@ -23,8 +23,8 @@ use crate::input::read_pattern;
 use crate::status::Status;
 use plane_core::generation::StepError;
 use plane_core::output::Out;
-use plane_core::pattern::Pattern;
-use plane_core::rule::Rule;
+use plane_core::plane::pattern::Pattern;
+use plane_core::plane::rule::Rule;
 use std::alloc::Global;
 use std::io::{Read, Write};
 

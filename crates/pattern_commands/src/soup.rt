@@ -1,7 +1,7 @@
 //! `soup`: a random start pattern, as plaintext.
 
 ghost use Rattle.std.specs.Prelude.{◌≡◌, ◌<◌, ◌^◌, ℕ, List, Option, IfErr, false, true};
-ghost use Rattle.memory.specs.Evidence.{out_of_memory};
+ghost use Rattle.memory.specs.Witness.{out_of_memory};
 ghost use Rattle.pattern_commands.specs.Answers.{only};
 ghost use Rattle.pattern_commands.specs.Complaints.{status_of};
 ghost use Rattle.pattern_commands.specs.Ends.{Ends};
@@ -13,7 +13,7 @@ use crate::complaint::Complaint;
 use crate::ending::tell_end_of_text;
 use crate::status::Status;
 use plane_core::output::Out;
-use plane_core::rule::Rule;
+use plane_core::plane::rule::Rule;
 use std::alloc::Global;
 use std::io::Write;
 use survey_core::job::Job;

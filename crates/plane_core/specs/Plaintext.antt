@@ -2,12 +2,12 @@
 use Rattle.std.specs.Prelude.{◌==◌, ℕ, zero, suc, ℤ, pos, ◌+◌, ◌+ℤ◌, ◌<◌, Bool, not, ◌&&◌, ◌||◌, List, [], ◌∷◌}
 use Rattle.std.specs.Prelude.{◌++◌, Option, None, Some, Result, Ok, Err, map, filter, nat_lt, if◌then◌else◌}
 use Rattle.std.specs.List.{slice_get, filter_map, flat_map}
-use Rattle.plane_core.specs.declared.cell.Cell.{Cell}
-use Rattle.plane_core.specs.declared.bounds.Bounds.{Bounds}
+use Rattle.plane_core.specs.declared.plane.cell.Cell.{Cell}
+use Rattle.plane_core.specs.declared.plane.bounds.Bounds.{Bounds}
 use Rattle.plane_core.specs.declared.plaintext.PlaintextFault.{PlaintextFault}
 use Rattle.plane_core.specs.declared.plaintext.PlaintextFault.TheVariants.{BadByte, TooLarge}
-use Rattle.plane_core.specs.Cells.{cell_at, distance, has}
-use Rattle.plane_core.specs.Bounds.{box_of}
+use Rattle.plane_core.specs.plane.Cells.{cell_at, distance, has}
+use Rattle.plane_core.specs.plane.Bounds.{box_of}
 use Rattle.plane_core.specs.PlaintextPlaces.{dot, letter_o, star, line_feed, side_limit, Place, places}
 
 -- `O` and `*` are live

@@ -1,9 +1,9 @@
 -- How a writer of plaintext walks along the cells of a box.
 use Rattle.std.specs.Prelude.{ℤ, pos, ◌≤ℤ◌, List}
 use Rattle.std.specs.List.{AllByRecursion}
-use Rattle.plane_core.specs.declared.cell.Cell.{Cell}
-use Rattle.plane_core.specs.declared.bounds.Bounds.{Bounds}
-use Rattle.plane_core.specs.Cells.{plane_bound, InOrder}
+use Rattle.plane_core.specs.declared.plane.cell.Cell.{Cell}
+use Rattle.plane_core.specs.declared.plane.bounds.Bounds.{Bounds}
+use Rattle.plane_core.specs.plane.Cells.{plane_bound, InOrder}
 use lib.IntN.{neg_ℤ}
 
 -- the box has a cell of the plane at least, and no cell off the plane

@@ -1,4 +1,4 @@
-//! How a pattern falls into clusters: each tree of its [forest](crate::forest) is one.
+//! How a pattern falls into clusters: each tree of its [forest](crate::clusters::union_find) is one.
 //!
 //!      O . O . . . O          place    0  1  2  3  4
 //!      . . . . . . O          leads to 0  0  2  2  0
@@ -8,15 +8,17 @@
 //! place to which it leads, which stands earlier. That place has its cluster's number by then, in place of where it
 //! led. So the clusters come in the order of their first cells, and the cells of each in their own.
 ghost use Rattle.std.specs.Prelude.{◌+◌, ◌<◌, length, All, IfOk, OnOk};
-ghost use Rattle.plane_core.specs.Cells.{IsPattern};
-ghost use Rattle.plane_core.specs.Clusters.{AreClusters};
-ghost use Rattle.plane_core.specs.Clusters.{ClustersAreDetermined, ClustersLieApart, ClustersMoveAlong};
-ghost use Rattle.plane_core.specs.Clusters.{ClustersPartition, LinkedIsAnEquivalence};
-ghost use Rattle.plane_core.specs.Forest.{IsForest, IsGatheringCells, JoinsAll};
+ghost use Rattle.plane_core.specs.plane.Cells.{IsPattern};
+ghost use Rattle.plane_core.specs.clusters.Clusters.{AreClusters};
+ghost use Rattle.plane_core.specs.clusters.Clusters.{ClustersAreDetermined, ClustersLieApart, ClustersMoveAlong};
+ghost use Rattle.plane_core.specs.clusters.Clusters.{ClustersPartition, LinkedIsAnEquivalence};
+ghost use Rattle.plane_core.specs.clusters.UnionFind.{IsForest, IsGatheringCells, JoinsAll};
 
-use crate::cell::Cell;
-use crate::forest::{join_all, roots};
-use crate::pattern::Pattern;
+pub(crate) mod union_find;
+
+use crate::plane::cell::Cell;
+use crate::clusters::union_find::{join_all, roots};
+use crate::plane::pattern::Pattern;
 use memory::OutOfMemory;
 use std::alloc::Global;
 
@@ -44,7 +46,7 @@ impl Pattern {
 }
 
 /// A law of all patterns: to be linked is an equivalence of their cells.
-#[tactic(auto, using(crate::proofs::ClusterLaws::linked_law))]
+#[tactic(auto, using(crate::proofs::lemmas::clusters::ClusterLaws::linked_law))]
 pub fn linked_is_an_equivalence()
     ensures { LinkedIsAnEquivalence }
 {}

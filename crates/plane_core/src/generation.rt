@@ -10,23 +10,23 @@
 //! ```
 ghost use Rattle.std.specs.Prelude.{◌≡◌, ◌≢◌, ℕ, ◌+◌, ◌-◌, ◌*◌, ◌<◌, ◌≤◌, true, false};
 ghost use Rattle.std.specs.Prelude.{IfOk, IfErr, IfSome, OnOk, OnSome, IsErrOf};
-ghost use Rattle.memory.specs.Evidence.{out_of_memory};
-ghost use Rattle.plane_core.specs.Cells.{IsPattern, has, plane_bound};
-ghost use Rattle.plane_core.specs.Generations.{next, after, lives, touches_edge, lies_within, NextMoved, NextTurned};
-ghost use Rattle.plane_core.specs.Generations.{SpeedFromOrigin, SpeedOfCells, SpeedOfLight};
-ghost use Rattle.plane_core.specs.Bounds.{AreSidesWithin};
-ghost use Rattle.plane_core.specs.Frames.{HasFewWords, IsFrame, LieOn, bounds_of};
-ghost use Rattle.plane_core.specs.Parts.{FarPatternsRunAlone, HasRun, IsCut};
-ghost use Rattle.plane_core.specs.Refusals.{RefusesStep};
-ghost use Rattle.plane_core.specs.declared.cell.Cell.{Cell};
+ghost use Rattle.memory.specs.Witness.{out_of_memory};
+ghost use Rattle.plane_core.specs.plane.Cells.{IsPattern, has, plane_bound};
+ghost use Rattle.plane_core.specs.plane.Generations.{next, after, lives, touches_edge, lies_within, NextMoved, NextTurned};
+ghost use Rattle.plane_core.specs.plane.Generations.{SpeedFromOrigin, SpeedOfCells, SpeedOfLight};
+ghost use Rattle.plane_core.specs.plane.Bounds.{AreSidesWithin};
+ghost use Rattle.plane_core.specs.engine.Frames.{HasFewWords, IsFrame, LieOn, bounds_of};
+ghost use Rattle.plane_core.specs.plane.Parts.{FarPatternsRunAlone, HasRun, IsCut};
+ghost use Rattle.plane_core.specs.plane.Refusals.{RefusesStep};
+ghost use Rattle.plane_core.specs.declared.plane.cell.Cell.{Cell};
 ghost use Rattle.plane_core.specs.declared.generation.StepError.TheVariants.{Memory};
 
-use crate::board::Board;
-use crate::cell::Cell;
-use crate::frame::Frame;
-use crate::pattern::Pattern;
-use crate::rule::Rule;
-use crate::small::next_in_window;
+use crate::engine::board::Board;
+use crate::plane::cell::Cell;
+use crate::engine::frame::Frame;
+use crate::plane::pattern::Pattern;
+use crate::plane::rule::Rule;
+use crate::engine::lone_window::next_in_window;
 use memory::OutOfMemory;
 use std::alloc::Global;
 use std::fmt::{self, Display};
@@ -229,7 +229,7 @@ impl Pattern {
     }
 
     /// The pattern after so many generations on a board, if one is worth it and there is room for them.
-    #[tactic(auto, using(crate::proofs::PartLemmas::ran_on_board))]
+    #[tactic(auto, using(crate::proofs::lemmas::plane::PartLemmas::ran_on_board))]
     fn run_on(
         &self,
         alloc: Global,
@@ -260,7 +260,7 @@ pub fn speed_of_light()
 {}
 
 /// A law of all rules: two patterns that lie further than 2g apart run for g generations as if each were alone.
-#[tactic(auto, using(crate::proofs::PartLemmas::far_patterns))]
+#[tactic(auto, using(crate::proofs::lemmas::plane::PartLemmas::far_patterns))]
 pub fn far_patterns_run_alone()
     ensures { FarPatternsRunAlone }
 {}

@@ -1,6 +1,6 @@
 //! A writer that remembers whether a write has failed, and the error for that.
 ghost use Rattle.std.specs.Prelude.{◌≡◌, ◌<◌, [], false};
-ghost use Rattle.plane_core.specs.Out.{Writes};
+ghost use Rattle.plane_core.specs.Outputs.{Writes};
 
 use std::fmt;
 use std::io::{self, ErrorKind, Write};
@@ -46,7 +46,7 @@ pub struct Out<V: Write> {
 }
 
 impl<V: Write> Model for Out<V> {
-    ghost use Rattle.plane_core.specs.Out.{Output};
+    ghost use Rattle.plane_core.specs.Outputs.{Output};
 
     ghost Value = { Output V };
 

@@ -11,22 +11,22 @@ ghost use Rattle.std.specs.Prelude.{ℕ, pos, Ok, Err};
 ghost use Rattle.std.specs.Prelude.{Some, IfSome, replicate, true, false, drop};
 ghost use Rattle.std.specs.List.{prefix_len};
 ghost use Rattle.std.specs.Ordering.{int_eq};
-ghost use Rattle.plane_core.specs.Out.{Writes};
-ghost use Rattle.plane_core.specs.Bounds.{box_of, at_corner};
+ghost use Rattle.plane_core.specs.Outputs.{Writes};
+ghost use Rattle.plane_core.specs.plane.Bounds.{box_of, at_corner};
 ghost use Rattle.plane_core.specs.PlaintextWalk.{IsBox, IsAhead};
 ghost use Rattle.std.specs.Str.Lines.{strip_carriage_return};
-ghost use Rattle.plane_core.specs.Cells.{IsPattern, cell_at, has};
-ghost use Rattle.plane_core.specs.declared.cell.Cell.{Cell};
+ghost use Rattle.plane_core.specs.plane.Cells.{IsPattern, cell_at, has};
+ghost use Rattle.plane_core.specs.declared.plane.cell.Cell.{Cell};
 ghost use Rattle.plane_core.specs.declared.plaintext.PlaintextFault.{PlaintextFault};
-ghost use Rattle.plane_core.specs.Generations.{lies_within};
+ghost use Rattle.plane_core.specs.plane.Generations.{lies_within};
 ghost use Rattle.plane_core.specs.Plaintext.{is_live, first_fault, live_cells, pattern, row_text};
 ghost use Rattle.plane_core.specs.Plaintext.{plain, FitsThousandSquare};
 ghost use Rattle.plane_core.specs.PlaintextPlaces.{byte_at, dot, is_comment, line_feed, places_of_row, places, side_limit};
 
-use crate::bounds::Bounds;
-use crate::cell::Cell;
+use crate::plane::bounds::Bounds;
+use crate::plane::cell::Cell;
 use crate::output::{Out, WriteError};
-use crate::pattern::Pattern;
+use crate::plane::pattern::Pattern;
 use memory::OutOfMemory;
 use std::alloc::Global;
 use std::fmt::{self, Display};
@@ -160,7 +160,7 @@ impl Pattern {
 
 /// A law of all patterns whose box is at most 1,000 by 1,000: what is written is read again, as the pattern moved to
 /// the corner.
-#[tactic(auto, using(crate::proofs::PlaintextRoundTrip::round_trip))]
+#[tactic(auto, using(crate::proofs::lemmas::plaintext::PlaintextRoundTrip::round_trip))]
 pub fn round_trip()
     ensures { (cells : List Cell) → IsPattern cells → IfSome (box_of cells) FitsThousandSquare
         → pattern (plain cells) ≡ Ok (at_corner cells) }
@@ -235,7 +235,7 @@ fn fault_in(text: &[u8]) -> Option<PlaintextFault>
 }
 
 /// Adds the cells of row y, each byte of which is in the first 1,000 columns and rows.
-#[tactic(auto, using(crate::proofs::PlaintextRows::live_here, crate::proofs::PlaintextRows::dead_here, crate::proofs::PlaintextRows::no_cell_past))]
+#[tactic(auto, using(crate::proofs::lemmas::plaintext::PlaintextRows::live_here, crate::proofs::lemmas::plaintext::PlaintextRows::dead_here, crate::proofs::lemmas::plaintext::PlaintextRows::no_cell_past))]
 fn push_row(cells: &mut Vec<Cell>, y: usize, row: &[u8]) -> Result<(), OutOfMemory>
     requires { (x : ℕ) → x < length row.now → (x < side_limit) × (y < side_limit) }
     ensures { OnOk result

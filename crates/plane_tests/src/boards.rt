@@ -1,11 +1,11 @@
 //! What no clause says of a board: that ships are among its small clusters, and that the frontier is no further than it
 //! has to be.
 use memory::OutOfMemory;
-use plane_core::board::Board;
-use plane_core::cell::Cell;
-use plane_core::orientation::Orientation;
-use plane_core::pattern::Pattern;
-use plane_core::rule::Rule;
+use plane_core::engine::board::Board;
+use plane_core::plane::cell::Cell;
+use plane_core::plane::orientation::Orientation;
+use plane_core::plane::pattern::Pattern;
+use plane_core::plane::rule::Rule;
 use std::alloc::Global;
 use std::test::Fail;
 

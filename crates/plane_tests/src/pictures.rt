@@ -1,8 +1,8 @@
 //! Patterns drawn by hand.
-use plane_core::orientation::Orientation;
+use plane_core::plane::orientation::Orientation;
 use plane_core::output::Out;
-use plane_core::pattern::Pattern;
-use plane_core::rule::Rule;
+use plane_core::plane::pattern::Pattern;
+use plane_core::plane::rule::Rule;
 use std::alloc::Global;
 use std::test::Fail;
 

@@ -1,8 +1,8 @@
 //! A run ends rightly, or fails for want of memory, whichever allocation is refused. `checks/memory` refuses each in turn.
-use plane_core::cell::Cell;
+use plane_core::plane::cell::Cell;
 use plane_core::generation::StepError;
-use plane_core::pattern::Pattern;
-use plane_core::rule::Rule;
+use plane_core::plane::pattern::Pattern;
+use plane_core::plane::rule::Rule;
 use std::test::Fail;
 
 /// A glider, and far from it an upright blinker.

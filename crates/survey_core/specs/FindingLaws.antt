@@ -1,20 +1,20 @@
 -- Laws of findings.
 use Rattle.std.specs.Prelude.{◌≡◌, ◌≤◌, ℕ, ℤ, true, List, length, sum}
 use Rattle.std.specs.Map.{values_of}
-use Rattle.plane_core.specs.declared.cell.Cell.{Cell}
-use Rattle.plane_core.specs.declared.orientation.Orientation.{Orientation}
-use Rattle.plane_core.specs.Bounds.{shifted}
-use Rattle.plane_core.specs.Cells.{InOrder}
-use Rattle.plane_core.specs.Generations.{after}
-use Rattle.plane_core.specs.Orientations.{image, turned}
-use Rattle.plane_core.specs.Rules.{Numbers}
+use Rattle.plane_core.specs.declared.plane.cell.Cell.{Cell}
+use Rattle.plane_core.specs.declared.plane.orientation.Orientation.{Orientation}
+use Rattle.plane_core.specs.plane.Bounds.{shifted}
+use Rattle.plane_core.specs.plane.Cells.{InOrder}
+use Rattle.plane_core.specs.plane.Generations.{after}
+use Rattle.plane_core.specs.plane.Orientations.{image, turned}
+use Rattle.plane_core.specs.plane.Rules.{Numbers}
 use Rattle.survey_core.specs.declared.finding.Finding.{Finding}
 use Rattle.survey_core.specs.declared.finding.Finding.TheVariants.{Settled}
 use Rattle.survey_core.specs.Findings.{IsFinding}
-use Rattle.survey_core.specs.Objects.{AreObjectsOf, StayForGood}
+use Rattle.survey_core.specs.shapes.Objects.{AreObjectsOf, StayForGood}
 use Rattle.survey_core.specs.Profiles.{Settling}
-use Rattle.survey_core.specs.Rest.{RestsAs}
-use Rattle.survey_core.specs.RestLaws.{RestsForever}
+use Rattle.survey_core.specs.rest.Rest.{RestsAs}
+use Rattle.survey_core.specs.rest.RestLaws.{RestsForever}
 
 -- a pattern has one finding
 abbrev pub FindingsAreDetermined : Type 0

@@ -1,14 +1,14 @@
 -- Findings: at which checkpoint a pattern is at rest, which objects it consists of then, and whether they stay for good.
 use Rattle.std.specs.Prelude.{◌≡◌, ◌<◌, ◌↔◌, ℕ, Bool, IsTrue, List, sum}
 use Rattle.std.specs.Map.{values_of}
-use Rattle.plane_core.specs.declared.cell.Cell.{Cell}
-use Rattle.plane_core.specs.Generations.{after}
-use Rattle.plane_core.specs.Rules.{Numbers}
+use Rattle.plane_core.specs.declared.plane.cell.Cell.{Cell}
+use Rattle.plane_core.specs.plane.Generations.{after}
+use Rattle.plane_core.specs.plane.Rules.{Numbers}
 use Rattle.survey_core.specs.declared.finding.Finding.{Finding}
 use Rattle.survey_core.specs.declared.finding.Finding.TheVariants.{Settled, Unsettled}
-use Rattle.survey_core.specs.Objects.{AreObjectsOf, StayForGood}
+use Rattle.survey_core.specs.shapes.Objects.{AreObjectsOf, StayForGood}
 use Rattle.survey_core.specs.Profiles.{IsCheckpoint, Settling}
-use Rattle.survey_core.specs.Rest.{IsAtRest, RestsAs}
+use Rattle.survey_core.specs.rest.Rest.{IsAtRest, RestsAs}
 
 -- how many objects a finding has: its counts added up
 abbrev pub objects_in : Finding → ℕ

@@ -2,7 +2,7 @@
 use Rattle.std.specs.Prelude.{◌≡◌, ◌==◌, ◌&&◌, ◌↔◌, Bool, true, nat_eq}
 use Rattle.std.specs.Bool.{beq}
 use Rattle.std.specs.Cmp.Lexicographic.{pointwise}
-use Rattle.plane_core.specs.Rules.{Numbers}
+use Rattle.plane_core.specs.plane.Rules.{Numbers}
 use Rattle.survey_core.specs.Profiles.{Settling}
 use Rattle.survey_core.specs.declared.job.Job.{Job}
 

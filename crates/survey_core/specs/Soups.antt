@@ -1,9 +1,9 @@
 -- Soups: 16 by 16 cells from the 256 bits of a SHA-256 digest (FIPS 180-4).
 use Rattle.std.specs.Prelude.{◌≡◌, ◌<◌, ◌==◌, ◌+◌, ◌-◌, ◌*◌, ◌/◌, ◌%◌, ◌^◌, ◌++◌, ℕ, pos, Bool, List, decimal, filter, map, slice_index}
 use Rattle.std.specs.List.{range_with_len}
-use Rattle.plane_core.specs.declared.cell.Cell.{Cell}
-use Rattle.plane_core.specs.declared.bounds.Bounds.{Bounds}
-use Rattle.plane_core.specs.Cells.{cell_at, has, set_of}
+use Rattle.plane_core.specs.declared.plane.cell.Cell.{Cell}
+use Rattle.plane_core.specs.declared.plane.bounds.Bounds.{Bounds}
+use Rattle.plane_core.specs.plane.Cells.{cell_at, has, set_of}
 use Rattle.sha2.specs.Sha256.{sha256}
 
 -- the digest's bit for column x of row y is set: bit 7 - x mod 8 of byte 2y + x div 8, where bit 7 is the greatest

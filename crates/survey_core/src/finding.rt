@@ -5,26 +5,26 @@
 //!                                                   ->  or unsettled, at the limit
 //! ```
 ghost use Rattle.std.specs.Prelude.{◌≡◌, ◌<◌, ◌≤◌, ◌^◌, IfOk, IfNone, IfSome, OnOk, true};
-ghost use Rattle.plane_core.specs.Generations.{lies_within};
-ghost use Rattle.survey_core.specs.Courses.{IsKept, kept};
-ghost use Rattle.survey_core.specs.UnderWay.{survey_reach};
+ghost use Rattle.plane_core.specs.plane.Generations.{lies_within};
+ghost use Rattle.survey_core.specs.evolution.Evolutions.{IsKept, kept};
+ghost use Rattle.survey_core.specs.evolution.UnderWay.{survey_reach};
 ghost use Rattle.survey_core.specs.FindingLaws.{CountsAddUp, FindingsAreDetermined, FindingsForGood, FindingsMoved};
 ghost use Rattle.survey_core.specs.FindingLaws.{FindingsOfImages, FindingsTurned};
 ghost use Rattle.survey_core.specs.Findings.{IsFinding, SettlesAt, objects_in};
-ghost use Rattle.survey_core.specs.Noes.{AreNoes};
-ghost use Rattle.survey_core.specs.Rest.{IsAtRest};
+ghost use Rattle.survey_core.specs.rest.KnownRestless.{AreNoes};
+ghost use Rattle.survey_core.specs.rest.Rest.{IsAtRest};
 ghost use Rattle.survey_core.specs.Soups.{soup};
 
-use crate::course::Course;
+use crate::evolution::Course;
 use crate::job::Job;
-use crate::memo::Memo;
-use crate::objects::Objects;
+use crate::shapes::memo::Memo;
+use crate::shapes::objects::Objects;
 use crate::profile::Profile;
 use crate::rest::clusters_at_rest;
 use crate::soup::soup;
 use memory::OutOfMemory;
-use plane_core::pattern::Pattern;
-use plane_core::rule::Rule;
+use plane_core::plane::pattern::Pattern;
+use plane_core::plane::rule::Rule;
 use std::alloc::Global;
 
 /// What becomes of a pattern.

@@ -4,7 +4,7 @@ ghost use Rattle.survey_core.specs.Jobs.{SameJobsAreEqual, same_job};
 
 use crate::profile::Profile;
 use crate::seed::Seed;
-use plane_core::rule::Rule;
+use plane_core::plane::rule::Rule;
 
 /// What a census counts: the soups of a seed, run under a rule, and settled by a profile.
 #[derive(Clone, Copy, Debug, PartialEq, Eq)]

@@ -1,35 +1,31 @@
 //! Soups, and what becomes of a pattern: when it is at rest, and which objects are left then.
+//!
+//! The folders are floors. Each knows only those below it:
+//!
+//! ```text
+//! finding        what becomes of a soup: checkpoint after checkpoint, until the pattern is at rest
+//! evolution      a pattern between two checkpoints, as a list or on a board without its escaped spaceships
+//! rest           whether a pattern is at rest
+//! shapes         what is known of a cluster: how it recurs, its envelope, its apgcode
+//! patterns       patterns far from the edge of the plane, where no step fails
+//! ```
 #![tactic(auto)]
 
+/// A pattern between two checkpoints.
+pub mod evolution;
 /// What a survey finds.
 pub mod finding;
 /// Seed, profile and rule together.
 pub mod job;
-/// What a worker remembers of clusters that came back.
-pub mod memo;
-/// The objects of a finding, with how many there are of each.
-pub mod objects;
+/// Patterns far from the edge of the plane.
+mod patterns;
 /// When a pattern counts as settled.
 pub mod profile;
 /// When a pattern is at rest.
 pub mod rest;
 /// Seeds: the texts from which soups are made.
 pub mod seed;
-/// Ships that are ahead of all the rest of a pattern.
-pub mod ships;
+/// What is known of a cluster's shape.
+pub mod shapes;
 /// Random patterns of 16 by 16 cells.
 pub mod soup;
-/// Where a pattern that comes back lies, turn by turn.
-pub mod sweep;
-/// Clusters that are run alone.
-mod alone;
-/// The way of a pattern from look to look.
-mod course;
-/// Groups of clusters that may meet.
-mod groups;
-/// Later generations of patterns that lie far from the edge of the plane.
-mod later;
-/// A board, and the ships that have left it.
-mod harbour;
-/// In which slot of a memo a pattern belongs.
-mod slot;

@@ -22,22 +22,27 @@
 
 ghost use Rattle.std.specs.Prelude.{◌≡◌, ◌<◌, ◌≤◌, ◌↔◌, ℕ, All, IfNone, IfOk, IfSome, IsTrue, length, map};
 ghost use Rattle.std.specs.Prelude.{◌==◌, filter, true};
-ghost use Rattle.plane_core.specs.Cells.{InOrder};
-ghost use Rattle.plane_core.specs.Generations.{lies_within};
-ghost use Rattle.survey_core.specs.Alone.{alone_at, clusters_of};
-ghost use Rattle.survey_core.specs.Groups.{GroupKeeps, ShareNoCell, members, union_of};
-ghost use Rattle.survey_core.specs.Rest.{IsAtRest, KeepApart, RestsAs};
-ghost use Rattle.survey_core.specs.RestLaws.{AtRestForGood, EmptyIsAtRest, GroupsRunAlone, PartsRunAlone};
-ghost use Rattle.survey_core.specs.UnderWay.{survey_reach};
+ghost use Rattle.plane_core.specs.plane.Cells.{InOrder};
+ghost use Rattle.plane_core.specs.plane.Generations.{lies_within};
+ghost use Rattle.survey_core.specs.rest.Alone.{alone_at, clusters_of};
+ghost use Rattle.survey_core.specs.rest.Groups.{GroupKeeps, ShareNoCell, members, union_of};
+ghost use Rattle.survey_core.specs.rest.Rest.{IsAtRest, KeepApart, RestsAs};
+ghost use Rattle.survey_core.specs.rest.RestLaws.{AtRestForGood, EmptyIsAtRest, GroupsRunAlone, PartsRunAlone};
+ghost use Rattle.survey_core.specs.evolution.UnderWay.{survey_reach};
 
-use crate::alone::{Alone, are_back, are_same, joined, step_each};
-use crate::groups::groups;
-use crate::later::next;
-use crate::memo::Memo;
+/// Clusters that are run alone.
+mod alone;
+/// Groups of clusters that may meet.
+mod groups;
+
+use crate::rest::alone::{Alone, are_back, joined, step_each};
+use crate::rest::groups::groups;
+use crate::patterns::{are_same, next};
+use crate::shapes::memo::Memo;
 use crate::profile::Profile;
 use memory::OutOfMemory;
-use plane_core::pattern::Pattern;
-use plane_core::rule::Rule;
+use plane_core::plane::pattern::Pattern;
+use plane_core::plane::rule::Rule;
 use std::alloc::Global;
 
 /// The clusters of the pattern, if it is at rest.
@@ -179,7 +184,7 @@ fn keep_apart(
 
 /// The laws of patterns at rest: the empty pattern is at rest, and a pattern whose objects stay for good keeps them
 /// apart in every later generation, and comes back after the least common multiple of their periods.
-#[tactic(auto, using(crate::proofs::ForGoodLemmas::empty_is_at_rest))]
+#[tactic(auto, using(crate::proofs::lemmas::rest::ForGoodLemmas::empty_is_at_rest))]
 pub fn at_rest_for_good()
     ensures empty { EmptyIsAtRest }
     ensures forever { AtRestForGood }

@@ -10,16 +10,16 @@
 //! So the cell at place i of the square, counted row by row, is bit 7 - i mod 8 of byte i div 8.
 
 ghost use Rattle.std.specs.Prelude.{◌≡◌, ◌<◌, All, IfOk};
-ghost use Rattle.plane_core.specs.Bounds.{IsWithin};
+ghost use Rattle.plane_core.specs.plane.Bounds.{IsWithin};
 ghost use Rattle.survey_core.specs.Soups.{SoupsByCells, is_alive_at, soup, soup_of, square};
 ghost use Rattle.survey_core.specs.Soups.{square_cell};
 
 use crate::job::Job;
-use crate::later::pattern_of;
+use crate::patterns::pattern_of;
 use itoa::Buffer;
 use memory::OutOfMemory;
-use plane_core::cell::Cell;
-use plane_core::pattern::Pattern;
+use plane_core::plane::cell::Cell;
+use plane_core::plane::pattern::Pattern;
 use sha2::{Digest, Sha256};
 use std::alloc::Global;
 
@@ -60,7 +60,7 @@ pub fn soup_of_digest(alloc: Global, digest: &[u8; 32]) -> Result<Pattern, OutOf
 }
 
 /// A law of all soups, cell by cell: the one in column x of row y, both 0 to 15, is alive exactly if its bit is set.
-#[tactic(auto, using(crate::proofs::SoupLemmas::soups_by_cells))]
+#[tactic(auto, using(crate::proofs::lemmas::SoupLemmas::soups_by_cells))]
 pub fn soups_by_cells()
     ensures { SoupsByCells }
 {}

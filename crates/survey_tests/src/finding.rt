@@ -1,16 +1,16 @@
 //! Findings of patterns and soups, against an independent program.
 ghost use Rattle.std.specs.Prelude.{◌≡◌, IfOk, true};
-ghost use Rattle.plane_core.specs.Generations.{lies_within};
+ghost use Rattle.plane_core.specs.plane.Generations.{lies_within};
 
 use memory::OutOfMemory;
-use plane_core::pattern::Pattern;
+use plane_core::plane::pattern::Pattern;
 use plane_core::plaintext::PlaintextError;
-use plane_core::rule::Rule;
+use plane_core::plane::rule::Rule;
 use std::alloc::Global;
 use std::test::Fail;
 use survey_core::finding::{Finding, survey, survey_pattern, survey_pattern_with};
 use survey_core::job::Job;
-use survey_core::memo::Memo;
+use survey_core::shapes::memo::Memo;
 use survey_core::profile::Profile;
 use survey_core::seed::Seed;
 

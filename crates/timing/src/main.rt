@@ -7,19 +7,19 @@
 #![tactic(auto)]
 
 ghost use Rattle.std.specs.Prelude.{◌≡◌, IfOk, List, length};
-ghost use Rattle.plane_core.specs.Clusters.{AreClusters};
-ghost use Rattle.plane_core.specs.declared.cell.Cell.{Cell as Place};
+ghost use Rattle.plane_core.specs.clusters.Clusters.{AreClusters};
+ghost use Rattle.plane_core.specs.declared.plane.cell.Cell.{Cell as Place};
 
 use code_core::apgcode::Apgcode;
 use code_core::name::name;
 use haul_core::book::haul::{Haul, OpenError};
 use haul_core::report::{Report, ReportError};
 use memory::OutOfMemory;
-use plane_core::cell::Cell;
+use plane_core::plane::cell::Cell;
 use plane_core::clusters::clusters_are_determined;
 use plane_core::generation::StepError;
-use plane_core::pattern::{FromCellsError, Pattern};
-use plane_core::rule::Rule;
+use plane_core::plane::pattern::{FromCellsError, Pattern};
+use plane_core::plane::rule::Rule;
 use ranges::range::Range;
 use std::alloc::Global;
 use std::env;
@@ -27,7 +27,7 @@ use std::io::{self, Read};
 use std::time::Instant;
 use survey_core::finding::{Finding, survey_with};
 use survey_core::job::Job;
-use survey_core::memo::Memo;
+use survey_core::shapes::memo::Memo;
 use survey_core::profile::Profile;
 use survey_core::seed::Seed;
 

@@ -8,7 +8,7 @@
 
 ghost use Rattle.std.specs.Prelude.{◌≡◌, ◌≢◌, ◌<◌, false, None, Some, IfOk, IfErr, IfSome, IsTrue, length, map};
 ghost use Rattle.std.specs.Prelude.{option_and_then, string_bytes};
-ghost use Rattle.memory.specs.Evidence.{out_of_memory};
+ghost use Rattle.memory.specs.Witness.{out_of_memory};
 ghost use Rattle.clap.specs.Words.{found_of, kind_of, rows_of, subcommand_rows_of};
 ghost use Rattle.words.specs.Calls.{AskForTheirValues, AsksForVersion, NoCommandAsksForNothing, OthersAskForNothing};
 ghost use Rattle.words.specs.Unasked.{IsUsage, IsUsageText, SaysWhy};

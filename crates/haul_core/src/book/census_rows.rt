@@ -5,7 +5,7 @@ ghost use Rattle.std.specs.BTreeMap.{IsOrdered};
 ghost use Rattle.std.specs.Cmp.Lexicographic.{slice_cmp};
 ghost use Rattle.std.specs.Map.{lookup};
 ghost use Rattle.std.specs.Ordering.{nat_cmp};
-ghost use Rattle.survey_core.specs.Objects.{is_code};
+ghost use Rattle.survey_core.specs.shapes.Objects.{is_code};
 ghost use Rattle.haul_core.specs.Rows.{AreInOrder};
 ghost use Rattle.haul_core.specs.RowSteps.{AreRowsFrom, row_from, with_objects};
 ghost use Rattle.haul_core.specs.Scores.{found_score};

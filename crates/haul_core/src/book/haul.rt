@@ -11,7 +11,7 @@ ghost use Rattle.std.specs.Prelude.{IfErr, IfOk, IsErrOf, IsTrue, OnErr, OnOk, f
 ghost use Rattle.std.specs.Prelude.{vec_capacity, vec_len};
 ghost use Rattle.std.specs.List.{IsDistinct};
 ghost use Rattle.std.specs.List.Sorted.{IsStrictlyIncreasing};
-ghost use Rattle.memory.specs.Evidence.{out_of_memory};
+ghost use Rattle.memory.specs.Witness.{out_of_memory};
 ghost use Rattle.indexmap.specs.IndexMap.{get, spare};
 ghost use Rattle.haul_core.specs.Books.{StandsFor, has_closing};
 ghost use Rattle.haul_core.specs.Refusals.{IsReply, refusal_of};

@@ -5,7 +5,7 @@
 //! ```
 
 ghost use Rattle.std.specs.Prelude.{◌≡◌, false, map};
-ghost use Rattle.plane_core.specs.Out.{Writes};
+ghost use Rattle.plane_core.specs.Outputs.{Writes};
 ghost use Rattle.haul_core.specs.HaulLaws.{CompleteHaulsPrintTheSame, SameSoupsPrintTheSame};
 ghost use Rattle.haul_core.specs.HaulTexts.{ended, haul_text, head_lines, line_of, profile_line, range_line};
 ghost use Rattle.haul_core.specs.HaulTexts.{range_lines, sample_lines, sum_lines, text_of, total_lines};

@@ -11,7 +11,7 @@
 ghost use Rattle.std.specs.Prelude.{◌≡◌, ◌≢◌, ◌+◌, ◌<◌, ◌≤◌, ◌^◌, [], ℕ, Some, List, All, IfOk, OnErr, OnOk};
 ghost use Rattle.std.specs.Prelude.{if◌then◌else◌};
 ghost use Rattle.std.specs.Map.{lookup};
-ghost use Rattle.survey_core.specs.Objects.{AreObjects, is_code};
+ghost use Rattle.survey_core.specs.shapes.Objects.{AreObjects, is_code};
 ghost use Rattle.haul_core.specs.Scores.{Extends, HasLawfulObjects, HasScore, HasScores, added, found_in, no_score};
 ghost use Rattle.haul_core.specs.Scores.{score_in, together};
 ghost use Rattle.haul_core.specs.Totals.{is_for_good, is_unsettled};

@@ -5,7 +5,7 @@
 //! ```
 
 ghost use Rattle.std.specs.Prelude.{◌≡◌, ◌++◌, ℕ, List, Some, codes, false, flat_map};
-ghost use Rattle.plane_core.specs.Out.{Writes};
+ghost use Rattle.plane_core.specs.Outputs.{Writes};
 ghost use Rattle.haul_core.specs.HaulTexts.{line_of, spaced};
 ghost use Rattle.haul_core.specs.ReportLines.{claim_of, count_field, found_fields, head_fields, mark_fields};
 ghost use Rattle.haul_core.specs.ReportLines.{profile_field, report_text, said_of};

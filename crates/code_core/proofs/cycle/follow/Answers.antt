@@ -1,6 +1,6 @@
 use Rattle.std.proofs.Common.{◌≡◌, ◌∙◌, sym, ap, suc, arith, rules, FitsSigned, to_z-of_z, w32}
-use Rattle.plane_core.specs.Bounds.{shifted}
-use Rattle.plane_core.specs.Generations.{touches_edge}
+use Rattle.plane_core.specs.plane.Bounds.{shifted}
+use Rattle.plane_core.specs.plane.Generations.{touches_edge}
 use Rattle.code_core.specs.declared.recurrence.Recurrence.{Recurrence}
 use Rattle.code_core.specs.Recurrences.{Recurs}
 use Rattle.code_core.proofs.RecurrenceLemmas.{ends_at_once, ends_by_memory, ends_found, ends_refused, ends_without, follows-none, follows-more}

@@ -1,7 +1,7 @@
 use Rattle.std.proofs.Common.{sym}
-use Rattle.plane_core.specs.Orientations.{turned}
-use Rattle.plane_core.specs.Refusals.{RefusesPlace}
-use Rattle.plane_core.specs.declared.placement.PlaceError.TheVariants.{OutOfPlane}
+use Rattle.plane_core.specs.plane.Orientations.{turned}
+use Rattle.plane_core.specs.plane.Refusals.{RefusesPlace}
+use Rattle.plane_core.specs.declared.plane.transform.PlaceError.TheVariants.{OutOfPlane}
 use Rattle.code_core.proofs.ImageLemmas.{no_text_past}
 use Rattle.code_core.proofs.name.image_text.Goals as goal
 

@@ -1,7 +1,7 @@
 use Rattle.std.proofs.Common.{◌≡◌, ◌∙◌, subst, List, ◌<◌, [], get_or, option_map, string_bytes, rules, length}
 use Rattle.std.proofs.lemmas.List.{get_or_default}
-use Rattle.plane_core.specs.declared.cell.Cell.{Cell}
-use Rattle.plane_core.specs.Orientations.{orientations}
+use Rattle.plane_core.specs.declared.plane.cell.Cell.{Cell}
+use Rattle.plane_core.specs.plane.Orientations.{orientations}
 use Rattle.code_core.specs.Names.{IsLeastOf}
 use Rattle.code_core.specs.Least.{Among, IsImage, IsImageAt, IsImageOf}
 use Rattle.code_core.proofs.LeastLemmas.{least_of_all, least_of_more}

@@ -1,5 +1,5 @@
 use Rattle.std.proofs.Common.{List, Ok, Some, length, subst}
-use Rattle.plane_core.specs.declared.cell.Cell.{Cell}
+use Rattle.plane_core.specs.declared.plane.cell.Cell.{Cell}
 use Rattle.code_core.specs.declared.cycle.Cycle.{Cycle}
 use Rattle.code_core.specs.Names.{IsLeastOf}
 use Rattle.code_core.specs.Least.{Among, IsImageOf}

@@ -1,5 +1,5 @@
 use Rattle.std.proofs.Common.{◌≡◌, rules, sym, ap, ◌∙◌, None, Some, Ok}
-use Rattle.plane_core.specs.Cells.{set_of, off_plane}
+use Rattle.plane_core.specs.plane.Cells.{set_of, off_plane}
 use Rattle.std.specs.List.{position}
 use Rattle.code_core.specs.Columns.{cells_from}
 use Rattle.code_core.proofs.ReaderCells.{position-on_plane}

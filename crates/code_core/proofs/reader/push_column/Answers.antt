@@ -1,6 +1,6 @@
 use Rattle.std.proofs.Common.{◌∙◌, ◌++◌, ◌∷◌, [], List, ap, append_assoc, arith, sym}
 use Rattle.std.proofs.lemmas.List.{append-nil}
-use Rattle.plane_core.specs.declared.cell.Cell.{Cell}
+use Rattle.plane_core.specs.declared.plane.cell.Cell.{Cell}
 use Rattle.code_core.proofs.ReaderCells.{lit_above, lit_above-all, lit_above-dark, lit_above-lit, lit_above-none}
 use Rattle.code_core.proofs.reader.push_column.Goals as goal
 use Rattle.code_core.proofs.reader.push_column.Goals.{then-is_lit+in_ok-push, else-is_lit}

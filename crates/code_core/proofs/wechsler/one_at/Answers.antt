@@ -1,6 +1,6 @@
 use Rattle.std.proofs.Common.{◌≡◌, ◌+ℤ◌, pos, FitsSigned, to_z, of_z, w32, rules, ap, ◌∙◌}
 use Rattle.std.proofs.lemmas.Int.{to_z-of_z}
-use Rattle.plane_core.specs.Cells.{cell_at, has}
+use Rattle.plane_core.specs.plane.Cells.{cell_at, has}
 use Rattle.code_core.proofs.CornerLemmas.{has-at_corner, left_on_plane, top_on_plane}
 use Rattle.code_core.proofs.wechsler.one_at.Goals as goal
 

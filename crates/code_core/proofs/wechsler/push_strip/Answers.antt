@@ -1,6 +1,6 @@
 use Rattle.std.proofs.Common.{◌≡◌, ◌==◌, ◌+◌, ◌<◌, ◌++◌, ◌∷◌, ◌∙◌, [], ℕ, List, ap, arith, if◌then◌else◌, string_bytes}
-use Rattle.plane_core.specs.Bounds.{at_corner}
-use Rattle.plane_core.specs.Cells.{distance}
+use Rattle.plane_core.specs.plane.Bounds.{at_corner}
+use Rattle.plane_core.specs.plane.Cells.{distance}
 use Rattle.code_core.specs.Texts.{strip, strip_tokens}
 use Rattle.code_core.proofs.JoinedStrips.{parted_first, parted_other}
 use Rattle.code_core.proofs.StripLemmas.{spelled, strip_more-live, strip_more-empty, strip_done}

@@ -1,7 +1,7 @@
 use Rattle.std.proofs.Common.{◌≡◌, ◌+◌, ◌/◌, ◌++◌, [], ◌∷◌, ◌==◌, List, ℕ, arith, ap, flat_map, sym, ◌∙◌, if◌then◌else◌}
 use Rattle.std.proofs.lemmas.Result.{IfOk-from_err}
-use Rattle.plane_core.specs.Bounds.{at_corner}
-use Rattle.plane_core.specs.Cells.{distance}
+use Rattle.plane_core.specs.plane.Bounds.{at_corner}
+use Rattle.plane_core.specs.plane.Cells.{distance}
 use Rattle.code_core.proofs.JoinedStrips.{strips_are, strips_none, strips_step, strips_text}
 use Rattle.code_core.specs.Texts.{strip, strip_tokens}
 use Rattle.code_core.specs.Tokens.{spelling}

@@ -1,7 +1,7 @@
 use Rattle.std.proofs.Common.{◌≡◌, ◌+◌}
 use Rattle.std.specs.String.{string_bytes}
-use Rattle.plane_core.specs.Bounds.{at_corner}
-use Rattle.plane_core.specs.Cells.{distance}
+use Rattle.plane_core.specs.plane.Bounds.{at_corner}
+use Rattle.plane_core.specs.plane.Cells.{distance}
 use Rattle.code_core.proofs.JoinedStrips.{strips_text}
 use Rattle.code_core.proofs.wechsler.text_in.Given as goal
 

@@ -1,6 +1,6 @@
 use Rattle.std.proofs.Common.{append-nil, refl}
 use Rattle.std.proofs.KnownBytes.{Appends-nil}
-use Rattle.plane_core.proofs.OutLemmas.{Writes_same, Writes_then}
+use Rattle.plane_core.proofs.lemmas.OutputLemmas.{Writes_same, Writes_then}
 use Rattle.pattern_commands.proofs.AnswerLemmas.{err_of}
 use Rattle.commands.proofs.finish.finish.Goals as goal
 

@@ -1,5 +1,5 @@
 use Rattle.std.proofs.Common.{◌+◌, None, Some, []}
-use Rattle.plane_core.proofs.OutLemmas.{Appends-nil}
+use Rattle.plane_core.proofs.lemmas.OutputLemmas.{Appends-nil}
 use Rattle.commands.specs.GatheredLines.{fault_line}
 use Rattle.commands.proofs.GatherLemmas.{come_more, no_fault}
 use Rattle.commands.proofs.gather.take_line.Goals as goal

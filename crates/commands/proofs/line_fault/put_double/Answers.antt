@@ -1,5 +1,5 @@
 use Rattle.std.proofs.Common.{◌++◌, codes, decimal}
-use Rattle.plane_core.proofs.OutLemmas.{Writes_then, Writes_stops}
+use Rattle.plane_core.proofs.lemmas.OutputLemmas.{Writes_then, Writes_stops}
 use Rattle.commands.proofs.line_fault.put_double.Goals as goal
 
 pub returns-in_err-put_number : goal.returns-in_err-put_number

@@ -1,5 +1,5 @@
 use Rattle.std.proofs.Common.{◌≡◌, ◌∙◌, inr, sym}
-use Rattle.crew.specs.declared.workers.CrewError.TheVariants as crew_error
+use Rattle.crew.specs.declared.take.CrewError.TheVariants as crew_error
 use Rattle.commands.proofs.GrownLemmas.{grown_by}
 use Rattle.commands.proofs.take.complete_by_crew.Goals as goal
 

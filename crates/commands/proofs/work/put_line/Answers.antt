@@ -1,5 +1,5 @@
 use Rattle.std.proofs.Common.{append-nil}
-use Rattle.plane_core.proofs.OutLemmas.{Writes_same, Writes_then}
+use Rattle.plane_core.proofs.lemmas.OutputLemmas.{Writes_same, Writes_then}
 use Rattle.commands.proofs.work.put_line.Goals as goal
 
 pub returns : goal.returns

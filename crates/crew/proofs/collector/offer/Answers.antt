@@ -1,5 +1,5 @@
 use Rattle.std.proofs.Common.{◌≡◌, ◌≢◌, ◌∙◌, ℕ, Bool, true, false, List, None, Option, Some, ap, if◌then◌else◌, inl, inr, nat_lt, not, subst, sym}
-use Rattle.memory.specs.Evidence.{out_of_memory}
+use Rattle.memory.specs.Witness.{out_of_memory}
 use Rattle.haul_core.specs.Missing.{is_taken}
 use Rattle.haul_core.specs.Books.{Held, Terms, eligible, has_closing}
 use Rattle.haul_core.specs.Refusals.{IsReply, double, first_worker, refusal_of}

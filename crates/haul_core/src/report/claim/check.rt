@@ -1,7 +1,7 @@
 //! How a claim is checked: the soup is surveyed, and what was found is compared with what the claim says.
 
 ghost use Rattle.std.specs.Prelude.{◌≡◌, ◌==◌, ◌↔◌, All, IfErr, IfOk, IsTrue, MatchResult, None, Some, if◌then◌else◌};
-ghost use Rattle.memory.specs.Evidence.{out_of_memory};
+ghost use Rattle.memory.specs.Witness.{out_of_memory};
 ghost use Rattle.code_core.specs.Apgcodes.{HasCodeShape};
 ghost use Rattle.haul_core.specs.ClaimChecks.{Agrees, Fails, HaveShape, IsConfirmed};
 ghost use Rattle.haul_core.specs.ReportLines.{claim_of};
@@ -17,8 +17,8 @@ use memory::OutOfMemory;
 use std::alloc::Global;
 use survey_core::finding::{Finding, findings_are_determined};
 use survey_core::job::{Job, is_same_job};
-use survey_core::memo::Memo;
-use survey_core::objects::Objects;
+use survey_core::shapes::memo::Memo;
+use survey_core::shapes::objects::Objects;
 
 /// Why a claim did not become a report.
 #[derive(Debug, Drop)]

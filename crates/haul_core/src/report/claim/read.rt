@@ -3,7 +3,7 @@
 
 ghost use Rattle.std.specs.Prelude.{◌≡◌, ◌↔◌, ◌-◌, ℕ, IfNone, IfOk, IfSome, IsErrOf, IsTrue, MatchResult, length};
 ghost use Rattle.std.specs.Prelude.{option_map};
-ghost use Rattle.memory.specs.Evidence.{out_of_memory};
+ghost use Rattle.memory.specs.Witness.{out_of_memory};
 ghost use Rattle.haul_core.specs.ClaimSteps.{HasReadStart, IsAfter, MayFollow, claimed};
 ghost use Rattle.haul_core.specs.Claims.{FaultyLinesHaveNoClaim, IsClaimLine, IsFirstFaultOf, LinesHaveOneClaim};
 ghost use Rattle.haul_core.specs.Claims.{LinesHaveOneFault};

@@ -3,7 +3,7 @@
 ghost use Rattle.std.specs.Prelude.{◌≡◌, ◌≢◌, ◌↔◌, ◌<◌, ◌≤◌, ◌^◌, ◌++◌, ◌==◌, ℕ, IsTrue, List, MatchOption, codes};
 ghost use Rattle.std.specs.Prelude.{decimal, option_map, position};
 ghost use Rattle.std.specs.List.{list_all};
-ghost use Rattle.plane_core.specs.Rules.{IsRule, rule_text};
+ghost use Rattle.plane_core.specs.plane.Rules.{IsRule, rule_text};
 ghost use Rattle.code_core.specs.Apgcodes.{HasCodeShape, is_code_byte};
 ghost use Rattle.survey_core.specs.Seeds.{IsSeed};
 ghost use Rattle.haul_core.specs.FieldSteps.{BeginsNumber, Cuts, IsAnyMark, IsNumber, IsSmall, IsState, IsVersion};
@@ -14,7 +14,7 @@ ghost use Rattle.haul_core.specs.LawfulClaims.{IsCount};
 ghost use Rattle.haul_core.specs.Reports.{IsWorker};
 
 use crate::report::MOST_WORKERS;
-use plane_core::rule::Rule;
+use plane_core::plane::rule::Rule;
 use ranges::range::NUMBER_BOUND;
 use ranges::range_list::first_decimal;
 use survey_core::profile::Profile;

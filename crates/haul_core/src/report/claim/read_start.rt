@@ -13,7 +13,7 @@ ghost use Rattle.haul_core.specs.Claims.{IsFirstFaultOf};
 use crate::report::claim::read_field::{
     cut_at, mark_in, profile_in, rule_in, seed_in, soup_in, state_in, version_in, worker_in,
 };
-use plane_core::rule::Rule;
+use plane_core::plane::rule::Rule;
 use survey_core::job::Job;
 use survey_core::profile::Profile;
 use survey_core::seed::Seed;

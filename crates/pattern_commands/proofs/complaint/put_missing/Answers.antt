@@ -1,5 +1,5 @@
 use Rattle.std.proofs.Common.{◌≡◌, refl}
-use Rattle.plane_core.proofs.OutLemmas.{Writes_same}
+use Rattle.plane_core.proofs.lemmas.OutputLemmas.{Writes_same}
 use Rattle.pattern_commands.specs.Complaints.{missing_line}
 use Rattle.pattern_commands.proofs.complaint.put_missing.Goals as goal
 

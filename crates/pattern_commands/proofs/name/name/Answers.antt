@@ -1,5 +1,5 @@
 use Rattle.std.proofs.Common.{◌≡◌, ◌≤◌, Ok, arith, refl, sym}
-use Rattle.survey_core.proofs.PlaneLemmas.{within_more}
+use Rattle.survey_core.proofs.lemmas.PlaneLemmas.{within_more}
 use Rattle.pattern_commands.specs.Inputs.{pattern_of, rule_named}
 use Rattle.pattern_commands.specs.Name.{finding_text, name_right}
 use Rattle.pattern_commands.specs.Streams.{stream}

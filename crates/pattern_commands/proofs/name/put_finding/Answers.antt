@@ -1,5 +1,5 @@
 use Rattle.std.proofs.Common.{flat_map}
-use Rattle.plane_core.proofs.OutLemmas.{Writes_then, Writes_stops}
+use Rattle.plane_core.proofs.lemmas.OutputLemmas.{Writes_then, Writes_stops}
 use Rattle.pattern_commands.specs.Name.{object_line}
 use Rattle.pattern_commands.proofs.name.put_finding.Goals as goal
 

@@ -1,5 +1,5 @@
 use Rattle.std.proofs.Common.{◌++◌, ◌∙◌, codes, decimal}
-use Rattle.plane_core.proofs.OutLemmas.{Writes_same, Writes_then, Writes_stops}
+use Rattle.plane_core.proofs.lemmas.OutputLemmas.{Writes_same, Writes_then, Writes_stops}
 use Rattle.pattern_commands.proofs.name.put_object.Goals as goal
 
 pub returns-in_err-put : goal.returns-in_err-put

@@ -1,5 +1,5 @@
 use Rattle.std.proofs.Common.{◌++◌, ◌+◌, drop, flat_map, sym}
-use Rattle.plane_core.proofs.OutLemmas.{Writes_same, Writes_then, Writes_stops}
+use Rattle.plane_core.proofs.lemmas.OutputLemmas.{Writes_same, Writes_then, Writes_stops}
 use Rattle.pattern_commands.specs.Name.{object_line}
 use Rattle.pattern_commands.proofs.NameLemmas.{lines_more}
 use Rattle.pattern_commands.proofs.name.put_objects.Goals as goal

@@ -1,6 +1,6 @@
 use Rattle.std.proofs.Common.{◌≡◌, ◌++◌, List, ℕ, Ok, drop, flat_map}
 use Rattle.plane_core.specs.declared.output.WriteError.{WriteError}
-use Rattle.plane_core.specs.Out.{Writes}
+use Rattle.plane_core.specs.Outputs.{Writes}
 use Rattle.pattern_commands.specs.Name.{object_line}
 use Rattle.pattern_commands.proofs.name.put_objects.Given as goal
 

@@ -1,5 +1,5 @@
 use Rattle.std.proofs.Common.{codes}
-use Rattle.plane_core.proofs.OutLemmas.{Writes_then, Writes_stops}
+use Rattle.plane_core.proofs.lemmas.OutputLemmas.{Writes_then, Writes_stops}
 use Rattle.pattern_commands.proofs.name.put_settled.Goals as goal
 
 pub returns-in_err-put_number : goal.returns-in_err-put_number

@@ -1,4 +1,4 @@
-use Rattle.plane_core.proofs.ClusterLaws.{determined_law}
+use Rattle.plane_core.proofs.lemmas.clusters.ClusterLaws.{determined_law}
 use Rattle.plane_core.proofs.clusters.clusters_are_determined.Goals as goal
 
 pub returns : goal.returns

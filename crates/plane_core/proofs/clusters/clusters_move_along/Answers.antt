@@ -1,4 +1,4 @@
-use Rattle.plane_core.proofs.ClusterLaws.{moved_law}
+use Rattle.plane_core.proofs.lemmas.clusters.ClusterLaws.{moved_law}
 use Rattle.plane_core.proofs.clusters.clusters_move_along.Goals as goal
 
 pub returns : goal.returns

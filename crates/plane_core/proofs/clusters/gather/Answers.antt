@@ -2,10 +2,10 @@ use Rattle.std.proofs.Common.{Ok, ℕ, ◌≡◌, ◌∙◌, ◌+◌, ◌*◌, �
 use Rattle.std.specs.Vec.{vec_len}
 use Rattle.std.proofs.lemmas.List.{get_or_default}
 use Rattle.std.proofs.lemmas.Result.{on_ok_weaker}
-use Rattle.plane_core.specs.declared.cell.Cell.{Cell}
-use Rattle.plane_core.specs.Cells.{IsPattern}
-use Rattle.plane_core.specs.Forest.{IsGatheringCells, cell_of, parent_of}
-use Rattle.plane_core.proofs.GatherLemmas.{gathering-begun, gathering-grown, number_is_inside, parent_inside, pattern_grown, pattern-root}
+use Rattle.plane_core.specs.declared.plane.cell.Cell.{Cell}
+use Rattle.plane_core.specs.plane.Cells.{IsPattern}
+use Rattle.plane_core.specs.clusters.UnionFind.{IsGatheringCells, cell_of, parent_of}
+use Rattle.plane_core.proofs.lemmas.clusters.GatherLemmas.{gathering-begun, gathering-grown, number_is_inside, parent_inside, pattern_grown, pattern-root}
 use Rattle.plane_core.proofs.clusters.gather.Goals as goal
 
 -- a cluster of one cell

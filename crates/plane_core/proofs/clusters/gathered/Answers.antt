@@ -1,4 +1,4 @@
-use Rattle.plane_core.proofs.GatherLemmas.{gathered_all, gathered_patterns, gathering-start}
+use Rattle.plane_core.proofs.lemmas.clusters.GatherLemmas.{gathered_all, gathered_patterns, gathering-start}
 use Rattle.plane_core.proofs.clusters.gathered.Goals as goal
 
 pub loop-place-init : goal.loop-place-init

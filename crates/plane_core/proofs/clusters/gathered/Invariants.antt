@@ -1,4 +1,4 @@
-use Rattle.plane_core.specs.Forest.{IsGatheringCells}
+use Rattle.plane_core.specs.clusters.UnionFind.{IsGatheringCells}
 use Rattle.plane_core.proofs.clusters.gathered.Given as goal
 
 abbrev pub invariant-loop-place : goal.invariant-loop-place

@@ -1,4 +1,4 @@
-use Rattle.plane_core.proofs.CommuteLemmas.{next-shifted, next-image}
+use Rattle.plane_core.proofs.lemmas.plane.CommuteLemmas.{next-shifted, next-image}
 use Rattle.plane_core.proofs.generation.isotropy.Goals as goal
 
 pub returns-clause-moved : goal.returns-clause-moved

@@ -1,5 +1,5 @@
-use Rattle.plane_core.proofs.PartLemmas.{near-after}
-use Rattle.plane_core.proofs.SpeedLemmas.{speed_from_origin, speed_of_light_law}
+use Rattle.plane_core.proofs.lemmas.plane.PartLemmas.{near-after}
+use Rattle.plane_core.proofs.lemmas.plane.SpeedLemmas.{speed_from_origin, speed_of_light_law}
 use Rattle.plane_core.proofs.generation.speed_of_light.Goals as goal
 
 pub returns-clause-boxes : goal.returns-clause-boxes

@@ -3,7 +3,7 @@ use Rattle.std.proofs.lemmas.Iterator.Consumers.{YieldsList-turn, YieldsList-end
 use Rattle.std.proofs.lemmas.Iterator.Splits.{YieldsList-from_slice_split}
 use Rattle.std.proofs.lemmas.List.{length_push}
 use Rattle.std.proofs.Common.{le_refl}
-use Rattle.plane_core.proofs.PlaintextLines.{places_are, IsNext, parts_of, no_fault_in_comment, fault_in_row_here, no_fault_in_row_here, no_fault_past_lines, one_row_more, one_line_more, fits_one_more}
+use Rattle.plane_core.proofs.lemmas.plaintext.PlaintextLines.{places_are, IsNext, parts_of, no_fault_in_comment, fault_in_row_here, no_fault_in_row_here, no_fault_past_lines, one_row_more, one_line_more, fits_one_more}
 use Rattle.plane_core.specs.PlaintextPlaces.{line_feed, is_comment, places_of_row}
 use Rattle.plane_core.specs.Plaintext.{first_fault}
 use Rattle.plane_core.proofs.plaintext.fault_in.Goals as goal

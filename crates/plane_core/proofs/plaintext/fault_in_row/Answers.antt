@@ -1,7 +1,7 @@
 use Rattle.std.proofs.Common.{◌≡◌, ◌==◌, ◌∙◌, ◌||◌, Bool, ap, get_or, sym}
 use Rattle.plane_core.specs.Plaintext.{is_cell}
 use Rattle.plane_core.specs.PlaintextPlaces.{dot}
-use Rattle.plane_core.proofs.PlaintextRows.{bad_byte, no_fault_past, past_limits, within_limits}
+use Rattle.plane_core.proofs.lemmas.plaintext.PlaintextRows.{bad_byte, no_fault_past, past_limits, within_limits}
 use Rattle.plane_core.proofs.plaintext.fault_in_row.Goals as goal
 use Rattle.plane_core.proofs.plaintext.fault_in_row.Goals.{After-is_live}
 

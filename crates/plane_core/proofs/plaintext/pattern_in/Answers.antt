@@ -3,13 +3,13 @@ use Rattle.std.proofs.Common.{le_refl, ◌≡◌, map, pos, ap, ◌==◌, ◌++�
 use Rattle.std.proofs.lemmas.Iterator.Consumers.{YieldsList-turn, YieldsList-end}
 use Rattle.std.proofs.lemmas.Iterator.Splits.{YieldsList-from_slice_split}
 use Rattle.std.proofs.lemmas.List.{length_push}
-use Rattle.plane_core.proofs.PlaintextCells.{has-live_cells}
-use Rattle.plane_core.specs.Cells.{cell_at, has, IsPattern}
-use Rattle.plane_core.proofs.PlaintextOrder.{IsPattern-live_cells}
+use Rattle.plane_core.proofs.lemmas.plaintext.PlaintextCells.{has-live_cells}
+use Rattle.plane_core.specs.plane.Cells.{cell_at, has, IsPattern}
+use Rattle.plane_core.proofs.lemmas.plaintext.PlaintextOrder.{IsPattern-live_cells}
 use Rattle.plane_core.specs.Plaintext.{first_fault, live_cells}
 use Rattle.plane_core.specs.PlaintextPlaces.{line_feed, is_comment, places_of_row}
-use Rattle.plane_core.proofs.PlaintextLines.{IsNext, places_after, places_are, parts_of, no_fault_in_comment, no_fault_later, row_is_small, one_row_more, one_line_more, fits_one_more}
-use Rattle.plane_core.proofs.PlaintextLines.{cells_of_row, no_cell_in_comment, no_cell_past_lines, moved_over}
+use Rattle.plane_core.proofs.lemmas.plaintext.PlaintextLines.{IsNext, places_after, places_are, parts_of, no_fault_in_comment, no_fault_later, row_is_small, one_row_more, one_line_more, fits_one_more}
+use Rattle.plane_core.proofs.lemmas.plaintext.PlaintextLines.{cells_of_row, no_cell_in_comment, no_cell_past_lines, moved_over}
 use Rattle.plane_core.proofs.plaintext.pattern_in.Goals as goal
 use Rattle.plane_core.proofs.plaintext.pattern_in.Goals.{In-Some, In-None}
 

@@ -1,7 +1,7 @@
 use Rattle.std.proofs.Common.{◌≡◌, ◌+◌, ◌≤◌, ◌++◌, None, drop, length}
 use Rattle.plane_core.specs.Plaintext.{first_fault, live_cells}
 use Rattle.plane_core.specs.PlaintextPlaces.{places}
-use Rattle.plane_core.proofs.PlaintextLines.{parts_of, places_after}
+use Rattle.plane_core.proofs.lemmas.plaintext.PlaintextLines.{parts_of, places_after}
 use Rattle.plane_core.proofs.plaintext.pattern_in.Given as goal
 
 abbrev pub invariant-loop-line : goal.invariant-loop-line

@@ -1,10 +1,10 @@
 use Rattle.std.proofs.Common.{◌≡◌, ◌∙◌, ◌+◌, ◌++◌, ◌<◌, ◌∷◌, [], List, ℕ, ap, arith, drop, pos, sym, to_z, w32}
 use Rattle.std.proofs.lemmas.Int.{ints}
-use Rattle.plane_core.specs.declared.cell.Cell.{Cell}
-use Rattle.plane_core.specs.Cells.{cell_at}
+use Rattle.plane_core.specs.declared.plane.cell.Cell.{Cell}
+use Rattle.plane_core.specs.plane.Cells.{cell_at}
 use Rattle.plane_core.specs.Plaintext.{live_cells}
 use Rattle.plane_core.specs.PlaintextPlaces.{side_limit}
-use Rattle.plane_core.proofs.PlaintextRows.{live_here, dead_here, no_cell_past, places_from}
+use Rattle.plane_core.proofs.lemmas.plaintext.PlaintextRows.{live_here, dead_here, no_cell_past, places_from}
 use Rattle.plane_core.proofs.plaintext.push_row.Goals as goal
 use Rattle.plane_core.proofs.plaintext.push_row.Goals.{then-is_live+in_ok-push, else-is_live}
 

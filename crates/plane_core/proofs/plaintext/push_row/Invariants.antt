@@ -1,7 +1,7 @@
 use Rattle.std.proofs.Common.{◌≡◌, ◌++◌, drop}
 use Rattle.plane_core.specs.Plaintext.{live_cells}
 use Rattle.plane_core.specs.PlaintextPlaces.{places_of_row}
-use Rattle.plane_core.proofs.PlaintextRows.{places_from}
+use Rattle.plane_core.proofs.lemmas.plaintext.PlaintextRows.{places_from}
 use Rattle.plane_core.proofs.plaintext.push_row.Given as goal
 
 abbrev pub invariant-loop-x : goal.invariant-loop-x

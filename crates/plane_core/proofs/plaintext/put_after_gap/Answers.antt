@@ -1,7 +1,7 @@
 use Rattle.std.proofs.Common.{◌≡◌, ◌∷◌, [], ◌++◌, ◌-◌, ◌<◌, ◌≤◌, ℕ, min, replicate, take, arith, ap, Ok, Err}
 use Rattle.std.proofs.lemmas.List.{take-replicate}
-use Rattle.plane_core.proofs.OutLemmas.{Writes_then, Writes_stops}
-use Rattle.plane_core.proofs.PlaintextWriting.{Writes_as, replicate_more, replicate_more_remainder}
+use Rattle.plane_core.proofs.lemmas.OutputLemmas.{Writes_then, Writes_stops}
+use Rattle.plane_core.proofs.lemmas.plaintext.PlaintextWriting.{Writes_as, replicate_more, replicate_more_remainder}
 use Rattle.plane_core.specs.PlaintextPlaces.{dot}
 use Rattle.plane_core.proofs.plaintext.put_after_gap.Goals as goal
 

@@ -1,6 +1,6 @@
 use Rattle.std.proofs.Common.{◌-◌, ◌≤◌, Ok, replicate}
 use Rattle.plane_core.specs.declared.output.WriteError.{WriteError}
-use Rattle.plane_core.specs.Out.{Writes}
+use Rattle.plane_core.specs.Outputs.{Writes}
 use Rattle.plane_core.specs.PlaintextPlaces.{dot}
 use Rattle.plane_core.proofs.plaintext.put_after_gap.Given as goal
 

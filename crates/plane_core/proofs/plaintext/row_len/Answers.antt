@@ -1,7 +1,7 @@
 use Rattle.std.proofs.Common.{◌≡◌, add-one, get_or, pos, rules, true, of_z, to_z, w32}
 use Rattle.std.proofs.lemmas.Int.{to_z-of_z}
 use Rattle.std.specs.Ordering.{int_eq}
-use Rattle.plane_core.proofs.PlaintextWalks.{other_bits, same_bits, walked-on, walked-off, walked-all}
+use Rattle.plane_core.proofs.lemmas.plaintext.PlaintextWalks.{other_bits, same_bits, walked-on, walked-off, walked-all}
 use Rattle.plane_core.proofs.plaintext.row_len.Goals as goal
 
 pub loop-len-preserved : goal.loop-len-preserved

@@ -1,5 +1,5 @@
 use Rattle.std.proofs.Common.{◌≡◌, ◌+◌, ◌-◌, ◌≤◌, drop, length}
-use Rattle.plane_core.proofs.PlaintextWalks.{len_in_row}
+use Rattle.plane_core.proofs.lemmas.plaintext.PlaintextWalks.{len_in_row}
 use Rattle.plane_core.proofs.plaintext.row_len.Given as goal
 
 abbrev pub invariant-loop-len : goal.invariant-loop-len

@@ -1,12 +1,12 @@
 use Rattle.std.proofs.Common.{◌≡◌, ◌++◌, ◌+◌, ◌+ℤ◌, ◌≤ℤ◌, ◌<ℤ◌, ℤ, pos, [], ◌∷◌, take, drop, get_or, replicate, arith, ap, sym, Ok, Err, ◌∙◌, w32, FitsSigned, to_z, of_z}
 use Rattle.std.proofs.lemmas.List.{length-take-le}
 use Rattle.std.proofs.lemmas.Int.{ints, to_z-of_z}
-use Rattle.plane_core.specs.declared.bounds.Bounds.{Bounds}
-use Rattle.plane_core.specs.Cells.{distance}
+use Rattle.plane_core.specs.declared.plane.bounds.Bounds.{Bounds}
+use Rattle.plane_core.specs.plane.Cells.{distance}
 use Rattle.plane_core.specs.Plaintext.{row_text}
-use Rattle.plane_core.proofs.OutLemmas.{Writes_nothing, Writes_then, Writes_stops}
-use Rattle.plane_core.proofs.PlaintextWalks.{IsRowAhead, IsRowAhead-taken, IsRowAhead-next, IsRowAhead-at, len_in_row}
-use Rattle.plane_core.proofs.PlaintextWriting.{Writes_as, row_remainder, row_remainder-at, row_remainder-end, row_text_is, row_text-taken}
+use Rattle.plane_core.proofs.lemmas.OutputLemmas.{Writes_nothing, Writes_then, Writes_stops}
+use Rattle.plane_core.proofs.lemmas.plaintext.PlaintextWalks.{IsRowAhead, IsRowAhead-taken, IsRowAhead-next, IsRowAhead-at, len_in_row}
+use Rattle.plane_core.proofs.lemmas.plaintext.PlaintextWriting.{Writes_as, row_remainder, row_remainder-at, row_remainder-end, row_text_is, row_text-taken}
 use Rattle.plane_core.specs.PlaintextWalk.{IsBox}
 use Rattle.plane_core.specs.PlaintextPlaces.{dot, letter_o, line_feed}
 use Rattle.plane_core.proofs.plaintext.write_row.Goals as goal

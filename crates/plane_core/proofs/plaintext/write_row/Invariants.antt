@@ -1,9 +1,9 @@
 use Rattle.std.proofs.Common.{◌≡◌, ◌++◌, ◌≤ℤ◌, ◌+ℤ◌, pos, List, ℕ, Ok, drop}
 use Rattle.plane_core.specs.declared.output.WriteError.{WriteError}
-use Rattle.plane_core.specs.Out.{Writes}
+use Rattle.plane_core.specs.Outputs.{Writes}
 use Rattle.plane_core.specs.Plaintext.{row_text}
-use Rattle.plane_core.proofs.PlaintextWalks.{IsRowAhead}
-use Rattle.plane_core.proofs.PlaintextWriting.{row_remainder}
+use Rattle.plane_core.proofs.lemmas.plaintext.PlaintextWalks.{IsRowAhead}
+use Rattle.plane_core.proofs.lemmas.plaintext.PlaintextWriting.{row_remainder}
 use Rattle.plane_core.proofs.plaintext.write_row.Given as goal
 
 -- a front of the row has been written, and what is left begins at column x

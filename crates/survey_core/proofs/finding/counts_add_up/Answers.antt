@@ -1,4 +1,4 @@
-use Rattle.survey_core.proofs.CountLaw.{counts_add_up}
+use Rattle.survey_core.proofs.lemmas.shapes.CountLaw.{counts_add_up}
 use Rattle.survey_core.proofs.finding.counts_add_up.Goals as goal
 
 pub returns : goal.returns

@@ -1,4 +1,4 @@
-use Rattle.survey_core.proofs.PlacedFindings.{findings_moved, findings_of_images, findings_turned}
+use Rattle.survey_core.proofs.lemmas.PlacedFindings.{findings_moved, findings_of_images, findings_turned}
 use Rattle.survey_core.proofs.finding.findings_are_kept.Goals as goal
 
 pub returns-clause-moved : goal.returns-clause-moved

@@ -1,4 +1,4 @@
-use Rattle.survey_core.proofs.ForGoodLemmas.{findings_for_good}
+use Rattle.survey_core.proofs.lemmas.rest.ForGoodLemmas.{findings_for_good}
 use Rattle.survey_core.proofs.finding.findings_for_good.Goals as goal
 
 pub returns : goal.returns

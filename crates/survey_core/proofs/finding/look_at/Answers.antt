@@ -1,13 +1,13 @@
 use Rattle.std.proofs.Common.{◌≡◌, ◌≢◌, ◌∙◌, ◌≤◌, ◌↔◌, IsTrue, List, [], All, ℕ, ap, refl, subst, sym, true}
-use Rattle.plane_core.specs.declared.cell.Cell.{Cell}
-use Rattle.plane_core.specs.Generations.{lies_within}
-use Rattle.survey_core.specs.Courses.{kept}
-use Rattle.survey_core.specs.Noes.{AreNoes}
-use Rattle.survey_core.specs.Objects.{AreObjectsOf, StayForGood}
-use Rattle.survey_core.specs.Rest.{ComesBack, IsAtRest, RestsAs}
-use Rattle.survey_core.specs.UnderWay.{survey_reach}
-use Rattle.survey_core.proofs.NoesLemmas.{known_more, known_now}
-use Rattle.survey_core.proofs.RestLemmas.{cluster_some, cluster_within}
+use Rattle.plane_core.specs.declared.plane.cell.Cell.{Cell}
+use Rattle.plane_core.specs.plane.Generations.{lies_within}
+use Rattle.survey_core.specs.evolution.Evolutions.{kept}
+use Rattle.survey_core.specs.rest.KnownRestless.{AreNoes}
+use Rattle.survey_core.specs.shapes.Objects.{AreObjectsOf, StayForGood}
+use Rattle.survey_core.specs.rest.Rest.{ComesBack, IsAtRest, RestsAs}
+use Rattle.survey_core.specs.evolution.UnderWay.{survey_reach}
+use Rattle.survey_core.proofs.lemmas.rest.KnownRestlessLemmas.{known_more, known_now}
+use Rattle.survey_core.proofs.lemmas.rest.RestLemmas.{cluster_some, cluster_within}
 use Rattle.survey_core.proofs.finding.look_at.Goals as goal
 use Rattle.survey_core.proofs.finding.look_at.Goals.{then-is_still, else-is_still}
 

@@ -1,17 +1,17 @@
 use Rattle.std.proofs.Common.{◌≡◌, ◌∙◌, ◌+◌, ◌≤◌, ap, sym, subst, subst₂, ℕ, Fits, w32, List, arith}
 use Rattle.std.proofs.lemmas.Result.{IfOk-from_err}
-use Rattle.plane_core.specs.declared.cell.Cell.{Cell}
-use Rattle.plane_core.specs.Generations.{after, lies_within}
-use Rattle.plane_core.proofs.GenerationLemmas.{after-none}
-use Rattle.survey_core.specs.Courses.{kept}
+use Rattle.plane_core.specs.declared.plane.cell.Cell.{Cell}
+use Rattle.plane_core.specs.plane.Generations.{after, lies_within}
+use Rattle.plane_core.proofs.lemmas.plane.GenerationLemmas.{after-none}
+use Rattle.survey_core.specs.evolution.Evolutions.{kept}
 use Rattle.survey_core.specs.Findings.{NoRestBefore}
-use Rattle.survey_core.specs.Noes.{AreNoes}
+use Rattle.survey_core.specs.rest.KnownRestless.{AreNoes}
 use Rattle.survey_core.specs.Profiles.{IsCheckpoint}
-use Rattle.survey_core.specs.UnderWay.{survey_reach}
-use Rattle.survey_core.proofs.CourseLemmas.{stays_near}
-use Rattle.survey_core.proofs.FindingLemmas.{after-then, finding_from, first_checkpoint, next_checkpoint, no_rest_more, no_room, none_at_last, room_for_more}
-use Rattle.survey_core.proofs.NoesLemmas.{known_later, none_known}
-use Rattle.survey_core.proofs.PlaneLemmas.{within_later, within_more}
+use Rattle.survey_core.specs.evolution.UnderWay.{survey_reach}
+use Rattle.survey_core.proofs.lemmas.evolution.EvolutionLemmas.{stays_near}
+use Rattle.survey_core.proofs.lemmas.FindingLemmas.{after-then, finding_from, first_checkpoint, next_checkpoint, no_rest_more, no_room, none_at_last, room_for_more}
+use Rattle.survey_core.proofs.lemmas.rest.KnownRestlessLemmas.{known_later, none_known}
+use Rattle.survey_core.proofs.lemmas.PlaneLemmas.{within_later, within_more}
 use Rattle.survey_core.proofs.finding.survey_pattern_with.Goals as goal
 
 pub loop-course-init : goal.loop-course-init

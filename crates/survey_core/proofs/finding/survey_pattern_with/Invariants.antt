@@ -1,8 +1,8 @@
 use Rattle.std.proofs.Common.{◌≡◌, ◌-◌}
-use Rattle.plane_core.specs.Generations.{after}
-use Rattle.survey_core.specs.Courses.{IsKept, kept}
+use Rattle.plane_core.specs.plane.Generations.{after}
+use Rattle.survey_core.specs.evolution.Evolutions.{IsKept, kept}
 use Rattle.survey_core.specs.Findings.{NoRestBefore}
-use Rattle.survey_core.specs.Noes.{AreNoes}
+use Rattle.survey_core.specs.rest.KnownRestless.{AreNoes}
 use Rattle.survey_core.specs.Profiles.{IsCheckpoint}
 use Rattle.survey_core.proofs.finding.survey_pattern_with.Given as goal
 

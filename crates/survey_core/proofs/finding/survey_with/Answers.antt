@@ -1,10 +1,10 @@
 use Rattle.std.proofs.Common.{◌∙◌, ◌++◌, ap, arith, decimal}
-use Rattle.plane_core.specs.Cells.{set_of}
-use Rattle.plane_core.specs.Generations.{lies_within}
+use Rattle.plane_core.specs.plane.Cells.{set_of}
+use Rattle.plane_core.specs.plane.Generations.{lies_within}
 use Rattle.sha2.specs.Sha256.{sha256}
 use Rattle.survey_core.specs.Soups.{live_in_square}
-use Rattle.survey_core.proofs.PlaneLemmas.{within_more}
-use Rattle.survey_core.proofs.SoupLemmas.{soup_is_small}
+use Rattle.survey_core.proofs.lemmas.PlaneLemmas.{within_more}
+use Rattle.survey_core.proofs.lemmas.SoupLemmas.{soup_is_small}
 use Rattle.survey_core.proofs.finding.survey_with.Goals as goal
 
 -- a soup lies near the origin

@@ -1,5 +1,5 @@
 use Rattle.std.proofs.Common.{◌∙◌}
-use Rattle.survey_core.proofs.JobLemmas.{same_job-fields}
+use Rattle.survey_core.proofs.lemmas.JobLemmas.{same_job-fields}
 use Rattle.survey_core.proofs.job.is_same_job.Goals as goal
 
 pub returns : goal.returns

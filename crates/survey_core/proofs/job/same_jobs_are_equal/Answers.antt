@@ -1,4 +1,4 @@
-use Rattle.survey_core.proofs.JobLemmas.{jobs_decide}
+use Rattle.survey_core.proofs.lemmas.JobLemmas.{jobs_decide}
 use Rattle.survey_core.proofs.job.same_jobs_are_equal.Goals as goal
 
 pub returns : goal.returns

@@ -1,4 +1,4 @@
-use Rattle.survey_core.proofs.ForGoodLemmas.{at_rest_for_good}
+use Rattle.survey_core.proofs.lemmas.rest.ForGoodLemmas.{at_rest_for_good}
 use Rattle.survey_core.proofs.rest.at_rest_for_good.Goals as goal
 
 pub returns-clause-forever : goal.returns-clause-forever

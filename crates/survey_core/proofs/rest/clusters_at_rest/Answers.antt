@@ -1,17 +1,17 @@
 use Rattle.std.proofs.Common.{◌≡◌, ◌≢◌, ◌∙◌, ◌<◌, ◌≤◌, ap, sym, subst, ℕ, List, [], All, length, true}
 use Rattle.std.proofs.lemmas.Bool.{false≢true}
 use Rattle.std.proofs.lemmas.Result.{IfOk-from_err}
-use Rattle.plane_core.specs.declared.cell.Cell.{Cell}
-use Rattle.plane_core.specs.Cells.{InOrder}
-use Rattle.plane_core.specs.Generations.{lies_within}
-use Rattle.survey_core.specs.declared.sweep.Sweep.{Sweep}
-use Rattle.survey_core.specs.Grouping.{AreGroups}
-use Rattle.survey_core.specs.Groups.{GroupKeeps, ShareNoCell}
-use Rattle.survey_core.specs.Rest.{ComesBack, IsAtRest, RestsAs}
-use Rattle.survey_core.specs.Sweeps.{AreSweeps}
-use Rattle.survey_core.specs.UnderWay.{survey_reach}
-use Rattle.survey_core.proofs.GroupingLemmas.{groups_of_rest, none_if, rest_by_groups, some_if}
-use Rattle.survey_core.proofs.RestLemmas.{clusters_near, clusters_off, clusters_some, same_clusters}
+use Rattle.plane_core.specs.declared.plane.cell.Cell.{Cell}
+use Rattle.plane_core.specs.plane.Cells.{InOrder}
+use Rattle.plane_core.specs.plane.Generations.{lies_within}
+use Rattle.survey_core.specs.declared.shapes.envelope_bounds.Sweep.{Sweep}
+use Rattle.survey_core.specs.rest.Grouping.{AreGroups}
+use Rattle.survey_core.specs.rest.Groups.{GroupKeeps, ShareNoCell}
+use Rattle.survey_core.specs.rest.Rest.{ComesBack, IsAtRest, RestsAs}
+use Rattle.survey_core.specs.shapes.Envelopes.{AreSweeps}
+use Rattle.survey_core.specs.evolution.UnderWay.{survey_reach}
+use Rattle.survey_core.proofs.lemmas.rest.GroupingLemmas.{groups_of_rest, none_if, rest_by_groups, some_if}
+use Rattle.survey_core.proofs.lemmas.rest.RestLemmas.{clusters_near, clusters_off, clusters_some, same_clusters}
 use Rattle.survey_core.proofs.rest.clusters_at_rest.Goals as goal
 
 pub sweeps-requires-clause-some : goal.sweeps-requires-clause-some

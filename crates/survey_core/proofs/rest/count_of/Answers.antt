@@ -3,9 +3,9 @@ use Rattle.std.proofs.lemmas.Bool.{eqb-true}
 use Rattle.std.proofs.lemmas.Bool.Decides.{Decides-eqb}
 use Rattle.std.proofs.lemmas.List.{take_all}
 use Rattle.std.proofs.lemmas.List.Filters.{length-filter_more}
-use Rattle.plane_core.proofs.PartLemmas.{false_unless}
-use Rattle.plane_core.proofs.SetLemmas.{filter-without}
-use Rattle.survey_core.proofs.GroupLemmas.{counted_more}
+use Rattle.plane_core.proofs.lemmas.plane.PartLemmas.{false_unless}
+use Rattle.plane_core.proofs.lemmas.plane.SetLemmas.{filter-without}
+use Rattle.survey_core.proofs.lemmas.rest.GroupLemmas.{counted_more}
 use Rattle.survey_core.proofs.rest.count_of.Goals as goal
 
 -- one of another group

@@ -1,4 +1,4 @@
-use Rattle.survey_core.proofs.AloneLemmas.{groups_run_alone, parts_run_alone}
+use Rattle.survey_core.proofs.lemmas.rest.AloneLemmas.{groups_run_alone, parts_run_alone}
 use Rattle.survey_core.proofs.rest.far_parts_run_alone.Goals as goal
 
 pub returns-clause-parts : goal.returns-clause-parts

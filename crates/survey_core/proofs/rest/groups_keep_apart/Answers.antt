@@ -1,14 +1,14 @@
 use Rattle.std.proofs.Common.{◌≡◌, ◌∙◌, ◌<◌, ◌≤◌, ap, map, refl, sym, subst, ℕ, arith, length, true, All, List}
 use Rattle.std.proofs.lemmas.Bool.{false≢true}
-use Rattle.plane_core.specs.declared.cell.Cell.{Cell}
-use Rattle.plane_core.specs.Cells.{InOrder}
-use Rattle.plane_core.specs.Generations.{lies_within}
-use Rattle.survey_core.specs.Alone.{alone_at}
-use Rattle.survey_core.specs.Groups.{GroupKeeps, ShareNoCell, members, union_of}
-use Rattle.survey_core.specs.Rest.{KeepApart}
-use Rattle.survey_core.specs.UnderWay.{survey_reach}
-use Rattle.survey_core.proofs.GroupLemmas.{alone_keeps, below_more, members_all, members_few, members_off}
-use Rattle.survey_core.proofs.RunLemmas.{clusters_are}
+use Rattle.plane_core.specs.declared.plane.cell.Cell.{Cell}
+use Rattle.plane_core.specs.plane.Cells.{InOrder}
+use Rattle.plane_core.specs.plane.Generations.{lies_within}
+use Rattle.survey_core.specs.rest.Alone.{alone_at}
+use Rattle.survey_core.specs.rest.Groups.{GroupKeeps, ShareNoCell, members, union_of}
+use Rattle.survey_core.specs.rest.Rest.{KeepApart}
+use Rattle.survey_core.specs.evolution.UnderWay.{survey_reach}
+use Rattle.survey_core.proofs.lemmas.rest.GroupLemmas.{alone_keeps, below_more, members_all, members_few, members_off}
+use Rattle.survey_core.proofs.lemmas.rest.RunLemmas.{clusters_are}
 use Rattle.survey_core.proofs.rest.groups_keep_apart.Goals as goal
 
 -- a cluster alone has nothing to meet

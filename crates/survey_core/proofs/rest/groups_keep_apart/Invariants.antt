@@ -1,5 +1,5 @@
 use Rattle.std.proofs.Common.{◌<◌, ℕ}
-use Rattle.survey_core.specs.Groups.{GroupKeeps}
+use Rattle.survey_core.specs.rest.Groups.{GroupKeeps}
 use Rattle.survey_core.proofs.rest.groups_keep_apart.Given as goal
 
 abbrev pub invariant-loop-number : goal.invariant-loop-number

@@ -1,24 +1,24 @@
 use Rattle.std.proofs.Common.{◌≡◌, ◌∙◌, ◌+◌, ◌<◌, ◌≤◌, ap, sym, refl, subst, ℕ, All, true, arith, flat_map, get_or, map, List}
 use Rattle.std.proofs.lemmas.Bool.{false≢true}
-use Rattle.plane_core.specs.declared.cell.Cell.{Cell}
-use Rattle.plane_core.specs.Cells.{InOrder}
-use Rattle.plane_core.specs.Clusters.{Partition}
-use Rattle.plane_core.specs.Generations.{after, lies_within, next}
-use Rattle.plane_core.specs.Rules.{Numbers}
-use Rattle.plane_core.proofs.GenerationLemmas.{after-none, after-more}
-use Rattle.plane_core.proofs.SetLemmas.{in_order-set_of}
-use Rattle.plane_core.proofs.RunLemmas.{in_order-after}
-use Rattle.survey_core.specs.declared.alone.Alone.{Alone}
-use Rattle.survey_core.specs.Alone.{alone_at, clusters_of, latest_of}
-use Rattle.survey_core.specs.Groups.{union_of}
-use Rattle.survey_core.specs.Rest.{KeepApart}
-use Rattle.survey_core.specs.UnderWay.{survey_reach}
-use Rattle.survey_core.proofs.ForGoodLemmas.{apart_once_back}
-use Rattle.survey_core.proofs.GroupLemmas.{union_partition}
-use Rattle.survey_core.proofs.PartitionLemmas.{set_of-joined}
-use Rattle.survey_core.proofs.PlaneLemmas.{within_later, within_more}
-use Rattle.survey_core.proofs.RestLemmas.{alone_in_order, alone_near, apart_at_once, apart_more, apart_now, union_near}
-use Rattle.survey_core.proofs.RunLemmas.{clusters_are, first_known, later_is, latest_at_once, latest_is, latest_near}
+use Rattle.plane_core.specs.declared.plane.cell.Cell.{Cell}
+use Rattle.plane_core.specs.plane.Cells.{InOrder}
+use Rattle.plane_core.specs.clusters.Clusters.{Partition}
+use Rattle.plane_core.specs.plane.Generations.{after, lies_within, next}
+use Rattle.plane_core.specs.plane.Rules.{Numbers}
+use Rattle.plane_core.proofs.lemmas.plane.GenerationLemmas.{after-none, after-more}
+use Rattle.plane_core.proofs.lemmas.plane.SetLemmas.{in_order-set_of}
+use Rattle.plane_core.proofs.lemmas.plane.RunLemmas.{in_order-after}
+use Rattle.survey_core.specs.declared.rest.alone.Alone.{Alone}
+use Rattle.survey_core.specs.rest.Alone.{alone_at, clusters_of, latest_of}
+use Rattle.survey_core.specs.rest.Groups.{union_of}
+use Rattle.survey_core.specs.rest.Rest.{KeepApart}
+use Rattle.survey_core.specs.evolution.UnderWay.{survey_reach}
+use Rattle.survey_core.proofs.lemmas.rest.ForGoodLemmas.{apart_once_back}
+use Rattle.survey_core.proofs.lemmas.rest.GroupLemmas.{union_partition}
+use Rattle.survey_core.proofs.lemmas.PartitionLemmas.{set_of-joined}
+use Rattle.survey_core.proofs.lemmas.PlaneLemmas.{within_later, within_more}
+use Rattle.survey_core.proofs.lemmas.rest.RestLemmas.{alone_in_order, alone_near, apart_at_once, apart_more, apart_now, union_near}
+use Rattle.survey_core.proofs.lemmas.rest.RunLemmas.{clusters_are, first_known, later_is, latest_at_once, latest_is, latest_near}
 use Rattle.survey_core.proofs.rest.keep_apart.Goals as goal
 
 whole_in_order : (rule : Numbers) (clusters : List (List Cell)) (g : ℕ) (whole : List Cell) → whole ≡ after rule (union_of clusters) g → InOrder whole

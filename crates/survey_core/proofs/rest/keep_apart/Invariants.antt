@@ -1,8 +1,8 @@
 use Rattle.std.proofs.Common.{◌≡◌, ◌≤◌, ℕ, map}
-use Rattle.plane_core.specs.Generations.{after}
-use Rattle.survey_core.specs.Alone.{alone_at, clusters_of}
-use Rattle.survey_core.specs.Groups.{union_of}
-use Rattle.survey_core.specs.Rest.{KeepApart}
+use Rattle.plane_core.specs.plane.Generations.{after}
+use Rattle.survey_core.specs.rest.Alone.{alone_at, clusters_of}
+use Rattle.survey_core.specs.rest.Groups.{union_of}
+use Rattle.survey_core.specs.rest.Rest.{KeepApart}
 use Rattle.survey_core.proofs.rest.keep_apart.Given as goal
 
 abbrev pub invariant-loop : goal.invariant-loop

@@ -1,12 +1,12 @@
 use Rattle.std.proofs.Common.{◌≡◌, ◌∙◌, ap, arith, get_or, map, subst, sym, true, List, []}
-use Rattle.plane_core.specs.declared.cell.Cell.{Cell}
-use Rattle.plane_core.specs.Generations.{lies_within}
-use Rattle.plane_core.proofs.GenerationLemmas.{after-none}
-use Rattle.survey_core.specs.Alone.{alone_at}
-use Rattle.survey_core.specs.UnderWay.{survey_reach}
-use Rattle.survey_core.proofs.GroupLemmas.{members-none, members_other}
-use Rattle.survey_core.proofs.PlaneLemmas.{within_more}
-use Rattle.survey_core.proofs.RunLemmas.{start_more}
+use Rattle.plane_core.specs.declared.plane.cell.Cell.{Cell}
+use Rattle.plane_core.specs.plane.Generations.{lies_within}
+use Rattle.plane_core.proofs.lemmas.plane.GenerationLemmas.{after-none}
+use Rattle.survey_core.specs.rest.Alone.{alone_at}
+use Rattle.survey_core.specs.evolution.UnderWay.{survey_reach}
+use Rattle.survey_core.proofs.lemmas.rest.GroupLemmas.{members-none, members_other}
+use Rattle.survey_core.proofs.lemmas.PlaneLemmas.{within_more}
+use Rattle.survey_core.proofs.lemmas.rest.RunLemmas.{start_more}
 use Rattle.survey_core.proofs.rest.members.Goals as goal
 
 pub loop-place-init : goal.loop-place-init

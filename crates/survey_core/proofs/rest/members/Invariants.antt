@@ -1,6 +1,6 @@
 use Rattle.std.proofs.Common.{◌≡◌, map, take}
-use Rattle.survey_core.specs.Alone.{alone_at}
-use Rattle.survey_core.specs.Groups.{members}
+use Rattle.survey_core.specs.rest.Alone.{alone_at}
+use Rattle.survey_core.specs.rest.Groups.{members}
 use Rattle.survey_core.proofs.rest.members.Given as goal
 
 abbrev pub invariant-loop-place : goal.invariant-loop-place

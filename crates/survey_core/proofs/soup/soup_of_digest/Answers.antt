@@ -1,11 +1,11 @@
 use Rattle.std.proofs.Common.{◌≡◌, ◌∙◌, ◌++◌, ◌∷◌, [], List, All, ap, arith, subst, sym}
 use Rattle.std.proofs.lemmas.Result.{IfOk-weaker}
-use Rattle.plane_core.specs.declared.cell.Cell.{Cell}
-use Rattle.plane_core.specs.Bounds.{IsWithin}
-use Rattle.plane_core.specs.Cells.{set_of}
-use Rattle.plane_core.specs.Generations.{lies_within}
+use Rattle.plane_core.specs.declared.plane.cell.Cell.{Cell}
+use Rattle.plane_core.specs.plane.Bounds.{IsWithin}
+use Rattle.plane_core.specs.plane.Cells.{set_of}
+use Rattle.plane_core.specs.plane.Generations.{lies_within}
 use Rattle.survey_core.specs.Soups.{live_in_square, square}
-use Rattle.survey_core.proofs.SoupLemmas.{live_cells_alive, live_cells_dead, live_cells_none, soup_in_square, soup_near}
+use Rattle.survey_core.proofs.lemmas.SoupLemmas.{live_cells_alive, live_cells_dead, live_cells_none, soup_in_square, soup_near}
 use Rattle.survey_core.proofs.soup.soup_of_digest.Goals as goal
 use Rattle.survey_core.proofs.soup.soup_of_digest.Goals.{then-is_alive_at+in_ok-push, else-is_alive_at}
 

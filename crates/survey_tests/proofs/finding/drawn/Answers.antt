@@ -1,5 +1,5 @@
 use Rattle.std.proofs.Common.{arith}
-use Rattle.survey_core.proofs.PlaneLemmas.{within_more}
+use Rattle.survey_core.proofs.lemmas.PlaneLemmas.{within_more}
 use Rattle.survey_tests.proofs.finding.drawn.Goals as goal
 
 pub returns : goal.returns

@@ -1,5 +1,5 @@
 use Rattle.std.proofs.Common.{◌++◌, codes}
-use Rattle.plane_core.proofs.OutLemmas.{Writes_then, Writes_stops}
+use Rattle.plane_core.proofs.lemmas.OutputLemmas.{Writes_then, Writes_stops}
 use Rattle.commands.specs.GatheredLines.{fault_text}
 use Rattle.commands.proofs.line_fault.LineFault.put_line.Goals as goal
 

@@ -1,5 +1,5 @@
 use Rattle.std.proofs.Common.{ap, sym}
-use Rattle.plane_core.proofs.OutLemmas.{Writes_same}
+use Rattle.plane_core.proofs.lemmas.OutputLemmas.{Writes_same}
 use Rattle.commands.specs.GatheredLines.{fault_text}
 use Rattle.commands.proofs.line_fault.LineFault.put_text.Goals as goal
 

@@ -1,7 +1,7 @@
 use Rattle.std.proofs.Common.{◌≡◌, ◌∙◌, sym, subst, ap, arith, List, ℕ, ◌<◌, length, Some, cond, is_some}
 use Rattle.std.proofs.lemmas.Bool.{false≢true}
 use Rattle.std.specs.Map.{lookup}
-use Rattle.survey_core.specs.Objects.{is_code}
+use Rattle.survey_core.specs.shapes.Objects.{is_code}
 use Rattle.haul_core.proofs.CensusLemmas.{kept_inserted, kept_skipped}
 use Rattle.haul_core.proofs.book.census_rows.with_objects.Goals as goal
 use Rattle.haul_core.proofs.book.census_rows.with_objects.Goals.{in-Some+then-score-gt0+in_ok-code+in_ok-insert, in-Some+else-score-gt0, in_default}

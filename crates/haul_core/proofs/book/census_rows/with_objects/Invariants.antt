@@ -1,6 +1,6 @@
 use Rattle.std.proofs.Common.{◌≡◌, List, ℕ, take}
 use Rattle.std.specs.Map.{lookup}
-use Rattle.survey_core.specs.Objects.{is_code}
+use Rattle.survey_core.specs.shapes.Objects.{is_code}
 use Rattle.haul_core.specs.RowSteps.{with_objects}
 use Rattle.haul_core.specs.Scores.{found_score}
 use Rattle.haul_core.proofs.book.census_rows.with_objects.Given as goal

@@ -1,6 +1,6 @@
 use Rattle.std.proofs.Common.{◌++◌}
-use Rattle.plane_core.specs.Rules.{rule_text}
-use Rattle.plane_core.proofs.OutLemmas.{Writes_same, Writes_then, Writes_stops}
+use Rattle.plane_core.specs.plane.Rules.{rule_text}
+use Rattle.plane_core.proofs.lemmas.OutputLemmas.{Writes_same, Writes_then, Writes_stops}
 use Rattle.haul_core.specs.HaulTexts.{ended, profile_line}
 use Rattle.haul_core.proofs.TextLemmas.{after_rule, after_seed, head_spelled}
 use Rattle.haul_core.proofs.book.haul_text.put_head.Goals as goal

@@ -1,5 +1,5 @@
 use Rattle.std.proofs.Common.{◌∙◌, ◌++◌, ◌+◌, ℕ, List, ap, append_assoc, codes, drop, flat_map, refl, sym}
-use Rattle.plane_core.proofs.OutLemmas.{Writes_longer, Writes_same, Writes_then, Writes_stops}
+use Rattle.plane_core.proofs.lemmas.OutputLemmas.{Writes_longer, Writes_same, Writes_then, Writes_stops}
 use Rattle.haul_core.specs.HaulTexts.{spaced}
 use Rattle.haul_core.proofs.TextLemmas.{line_spelled, text_done, text_more}
 use Rattle.haul_core.proofs.book.haul_text.put_line.Goals as goal

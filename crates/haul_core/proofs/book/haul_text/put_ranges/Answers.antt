@@ -1,5 +1,5 @@
 use Rattle.std.proofs.Common.{◌∙◌, ◌++◌, ◌+◌, [], ℕ, List, drop, flat_map, get_or, sym}
-use Rattle.plane_core.proofs.OutLemmas.{Writes_nothing, Writes_same, Writes_then, Writes_stops}
+use Rattle.plane_core.proofs.lemmas.OutputLemmas.{Writes_nothing, Writes_same, Writes_then, Writes_stops}
 use Rattle.ranges.specs.declared.range.Range.{Range}
 use Rattle.haul_core.specs.HaulTexts.{ended, range_line, range_lines, text_of}
 use Rattle.haul_core.proofs.TextLemmas.{none_spelled, some_spelled, text_done, text_more_at}

@@ -1,6 +1,6 @@
 use Rattle.std.proofs.Common.{◌≡◌, ◌++◌, List, ℕ, Ok, drop, flat_map}
 use Rattle.plane_core.specs.declared.output.WriteError.{WriteError}
-use Rattle.plane_core.specs.Out.{Writes}
+use Rattle.plane_core.specs.Outputs.{Writes}
 use Rattle.haul_core.specs.HaulTexts.{ended, range_line, range_lines, text_of}
 use Rattle.haul_core.proofs.book.haul_text.put_ranges.Given as goal
 

@@ -1,5 +1,5 @@
 use Rattle.std.proofs.Common.{◌∙◌, codes, flat_map, sym}
-use Rattle.plane_core.proofs.OutLemmas.{Writes_same, Writes_stops}
+use Rattle.plane_core.proofs.lemmas.OutputLemmas.{Writes_same, Writes_stops}
 use Rattle.haul_core.specs.HaulTexts.{ended, line_of_numbers, sample_line, sample_lines, text_of}
 use Rattle.haul_core.proofs.TextLemmas.{item_more, item_stops, items_done, samples_spelled}
 use Rattle.haul_core.proofs.book.haul_text.put_samples.Goals as goal

@@ -1,4 +1,4 @@
-use Rattle.plane_core.proofs.OutLemmas.{Writes_same, Writes_then, Writes_stops}
+use Rattle.plane_core.proofs.lemmas.OutputLemmas.{Writes_same, Writes_then, Writes_stops}
 use Rattle.haul_core.proofs.TextLemmas.{after_for_good, after_soups, after_unsettled, sums_spelled}
 use Rattle.haul_core.proofs.book.haul_text.put_sums.Goals as goal
 

@@ -1,5 +1,5 @@
 use Rattle.std.proofs.Common.{◌∙◌, ◌∷◌, [], ℕ, List, ap, codes, flat_map, sym}
-use Rattle.plane_core.proofs.OutLemmas.{Writes_same, Writes_stops}
+use Rattle.plane_core.proofs.lemmas.OutputLemmas.{Writes_same, Writes_stops}
 use Rattle.haul_core.specs.HaulTexts.{ended, line_of_numbers, total_line, total_lines, text_of}
 use Rattle.haul_core.proofs.TextLemmas.{item_more, item_stops, items_done, totals_spelled}
 use Rattle.haul_core.proofs.book.haul_text.put_totals.Goals as goal

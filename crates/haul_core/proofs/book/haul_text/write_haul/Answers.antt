@@ -1,5 +1,5 @@
 use Rattle.std.proofs.Common.{ap}
-use Rattle.plane_core.proofs.OutLemmas.{Writes_same, Writes_then, Writes_stops}
+use Rattle.plane_core.proofs.lemmas.OutputLemmas.{Writes_same, Writes_then, Writes_stops}
 use Rattle.haul_core.specs.HaulTexts.{range_lines, sample_lines, text_of, total_lines}
 use Rattle.haul_core.proofs.TextLemmas.{after_head, after_ranges, after_sums, haul_spelled}
 use Rattle.haul_core.proofs.book.haul_text.write_haul.Goals as goal

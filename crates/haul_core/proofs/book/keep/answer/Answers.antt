@@ -1,5 +1,5 @@
 use Rattle.std.proofs.Common.{◌∙◌, ◌++◌, ◌∷◌, [], ap, sym, subst, Some}
-use Rattle.memory.specs.Evidence.{out_of_memory}
+use Rattle.memory.specs.Witness.{out_of_memory}
 use Rattle.haul_core.specs.Books.{StandsFor}
 use Rattle.haul_core.specs.Refusals.{reply_for, reply_to}
 use Rattle.haul_core.specs.Replies.{IsTakenNext}

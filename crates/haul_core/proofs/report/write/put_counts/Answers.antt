@@ -1,5 +1,5 @@
 use Rattle.std.proofs.Common.{◌++◌, ◌+◌, ℕ, List, drop, sym}
-use Rattle.plane_core.proofs.OutLemmas.{Writes_same, Writes_then, Writes_stops}
+use Rattle.plane_core.proofs.lemmas.OutputLemmas.{Writes_same, Writes_then, Writes_stops}
 use Rattle.haul_core.specs.HaulTexts.{spaced}
 use Rattle.haul_core.specs.ReportLines.{count_field}
 use Rattle.haul_core.proofs.ReportLemmas.{counts_text}

@@ -1,6 +1,6 @@
 use Rattle.std.proofs.Common.{◌≡◌, ◌++◌, List, ℕ, Ok, drop}
 use Rattle.plane_core.specs.declared.output.WriteError.{WriteError}
-use Rattle.plane_core.specs.Out.{Writes}
+use Rattle.plane_core.specs.Outputs.{Writes}
 use Rattle.haul_core.proofs.ReportLemmas.{counts_text}
 use Rattle.haul_core.proofs.report.write.put_counts.Given as goal
 

@@ -1,6 +1,6 @@
 use Rattle.std.proofs.Common.{◌++◌, ◌∙◌, ap, codes, decimal}
-use Rattle.plane_core.specs.Rules.{rule_text}
-use Rattle.plane_core.proofs.OutLemmas.{Writes_same, Writes_then, Writes_stops}
+use Rattle.plane_core.specs.plane.Rules.{rule_text}
+use Rattle.plane_core.proofs.lemmas.OutputLemmas.{Writes_same, Writes_then, Writes_stops}
 use Rattle.survey_core.specs.declared.job.Job.{Job}
 use Rattle.haul_core.specs.HaulTexts.{spaced}
 use Rattle.haul_core.specs.ReportLines.{profile_field}

@@ -1,5 +1,5 @@
 use Rattle.std.proofs.Common.{ap, ◌++◌, codes, decimal}
-use Rattle.plane_core.proofs.OutLemmas.{Writes_same, Writes_then, Writes_stops}
+use Rattle.plane_core.proofs.lemmas.OutputLemmas.{Writes_same, Writes_then, Writes_stops}
 use Rattle.haul_core.proofs.ReportLemmas.{after_horizon, after_period, after_stride, profile_spelled}
 use Rattle.haul_core.proofs.report.write.put_profile.Goals as goal
 

@@ -1,5 +1,5 @@
 use Rattle.std.proofs.Common.{ap, sym}
-use Rattle.plane_core.proofs.OutLemmas.{Writes_same}
+use Rattle.plane_core.proofs.lemmas.OutputLemmas.{Writes_same}
 use Rattle.pattern_commands.specs.Complaints.{refusal_line}
 use Rattle.pattern_commands.proofs.refusal.Refusal.put_line.Goals as goal
 

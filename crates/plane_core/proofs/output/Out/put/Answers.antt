@@ -2,8 +2,8 @@ use Rattle.std.proofs.Common.{◌∙◌, ◌++◌, ◌+◌, ◌-◌, ◌<◌, �
 use Rattle.std.specs.Io.KnownBytes.{Appends}
 use Rattle.plane_core.specs.declared.output.WriteError.{WriteError}
 use Rattle.plane_core.specs.declared.output.Out.TheInside.{Inside}
-use Rattle.plane_core.specs.Out.{Writes}
-use Rattle.plane_core.proofs.OutLemmas.{Appends-append, Appends-kept, Appends-nil, cut}
+use Rattle.plane_core.specs.Outputs.{Writes}
+use Rattle.plane_core.proofs.lemmas.OutputLemmas.{Appends-append, Appends-kept, Appends-nil, cut}
 use Rattle.plane_core.proofs.output.Out.put.Goals.{in-Ok, in-Err+in-Interrupted}
 use Rattle.plane_core.proofs.output.Out.put.Goals.{else-loop-test, then-loop-test+else-is_empty+in-Ok-eq0, then-loop-test+else-is_empty+in-Err+in_default}
 use Rattle.plane_core.proofs.output.Out.put.Goals as goal

@@ -2,7 +2,7 @@ use Rattle.std.proofs.Common.{◌≡◌, ◌∙◌, ap, get_or, set, sym, List, 
 use Rattle.std.proofs.Math.Seq.{take-append_seam}
 use Rattle.std.proofs.lemmas.Iterator.Adapters.{position_from-zero}
 use Rattle.survey_core.specs.Seeds.{IsSeed, is_invisible, most_bytes, seed_read}
-use Rattle.survey_core.proofs.SeedLemmas.{all_visible, invisible_here, invisible_later, invisible_nowhere, padded_all, padded_more, read_as}
+use Rattle.survey_core.proofs.lemmas.SeedLemmas.{all_visible, invisible_here, invisible_later, invisible_nowhere, padded_all, padded_more, read_as}
 use Rattle.survey_core.proofs.seed.Seed.new.Goals as goal
 
 pub loop-place-init : goal.loop-place-init

@@ -1,5 +1,5 @@
 use Rattle.std.proofs.Common.{subst}
-use Rattle.plane_core.specs.Rules.{IsRule}
+use Rattle.plane_core.specs.plane.Rules.{IsRule}
 use Rattle.survey_core.specs.Profiles.{IsProfile}
 use Rattle.survey_core.specs.Seeds.{IsSeed}
 use Rattle.survey_core.specs.declared.job.Job.{Job}

@@ -1,7 +1,7 @@
 use Rattle.std.proofs.Common.{◌∙◌, ◌++◌, ℕ, List, ap, codes, subst, sym}
 use Rattle.std.proofs.lemmas.List.{append_cancel_left}
 use Rattle.std.specs.Str.{IsUtf8}
-use Rattle.plane_core.specs.Rules.{rule_text}
+use Rattle.plane_core.specs.plane.Rules.{rule_text}
 use Rattle.haul_core.proofs.FieldLemmas.{rule_is_text}
 use Rattle.haul_core.proofs.report.claim.read_field.rule_in.Goals as goal
 

@@ -1,0 +1,66 @@
+use Rattle.std.proofs.Common.{◌∙◌, ap, length, refl, subst, sym}
+use Rattle.haul_core.specs.Books.{Held}
+use Rattle.haul_core.specs.Missing.{IsComplete}
+use Rattle.crew.proofs.CompleteLemmas.{nothing_missing}
+use Rattle.handover.specs.Belts.{Received}
+use Rattle.crew.specs.declared.note.Note.{Note}
+use Rattle.crew.proofs.StepLemmas.{cause_none, cause_open, cause_stopped, ready_first}
+use Rattle.crew.proofs.TakeLemmas.{belts_of, crew_has_taken, crew_stops, crew_within, series_of_all}
+use Rattle.crew.proofs.take.complete_haul.Goals as goal
+
+pub run_in_scope-crew-requires-after_bounds : goal.run_in_scope-crew-requires-after_bounds
+run_in_scope-crew-requires-after_bounds g c κs within =
+    let start = c.in-Ok.ensures in
+    ready_first c.in-Ok.start.site _ c.args.workers start.passes start.many start.senders start.few refl
+    (ap (λ (r : Received Note). r.belt) start.receiver) start.back refl
+
+pub end_crew-requires-clause-passes : goal.end_crew-requires-clause-passes
+end_crew-requires-clause-passes g c = series_of_all c.run_in_scope-crew.ensures
+
+pub end_crew-requires-clause-senders : goal.end_crew-requires-clause-senders
+end_crew-requires-clause-senders g c = belts_of c.run_in_scope-crew.ensures
+
+pub end_crew-requires-clause-receiver : goal.end_crew-requires-clause-receiver
+end_crew-requires-clause-receiver g c =
+    c.run_in_scope-crew.ensures.collected.belt ∙ ap (λ (r : Received Note). r.belt) c.in-Ok.ensures.receiver
+
+pub returns-clause-taken : goal.returns-clause-taken
+returns-clause-taken g c =
+    let start = c.in-Ok.ensures in
+    let ended = c.end_crew.ensures in
+    crew_has_taken c.in-Ok.start.site c.args.workers _ c.run_in_scope-crew.result c.run_in_scope-crew.ensures start.receiver
+    start.workers start.missing start.ascending start.senders ended.whole c.end_crew.result.0 ended.haul ended.distinct start.job
+
+pub returns-clause-complete : goal.returns-clause-complete
+returns-clause-complete g c none =
+    let start = c.in-Ok.ensures in
+    let ended = c.end_crew.ensures in
+    let crew = c.run_in_scope-crew.result in
+    let both = cause_none crew.stopped crew.lacking (sym ended.cause ∙ none) in
+    let nothing = nothing_missing c.in-Ok.start.site c.args.workers _ crew c.run_in_scope-crew.ensures start.receiver
+    start.workers start.missing start.ascending start.senders ended.whole c.requires.some c.requires.few c.requires.«open» start.job
+    refl start.tickets ended.drawn both.0 both.1 in
+    subst (λ (h : Held). IsComplete h.terms.ranges h.taken) (sym ended.haul) (ended.none.0 (ap length nothing))
+
+pub returns-clause-stopped : goal.returns-clause-stopped
+returns-clause-stopped g c worker is =
+    let start = c.in-Ok.ensures in
+    let ended = c.end_crew.ensures in
+    let crew = c.run_in_scope-crew.result in
+    crew_stops c.in-Ok.start.site c.args.workers _ crew c.run_in_scope-crew.ensures start.receiver
+    start.workers start.missing start.ascending start.senders ended.whole worker
+    (cause_stopped crew.stopped crew.lacking worker (sym ended.cause ∙ is))
+
+pub returns-clause-within : goal.returns-clause-within
+returns-clause-within g c worker is =
+    let start = c.in-Ok.ensures in
+    let ended = c.end_crew.ensures in
+    let crew = c.run_in_scope-crew.result in
+    crew_within c.in-Ok.start.site c.args.workers _ crew c.run_in_scope-crew.ensures start.receiver
+    start.workers start.missing start.ascending start.senders ended.whole worker
+    (cause_stopped crew.stopped crew.lacking worker (sym ended.cause ∙ is))
+
+pub returns-clause-open : goal.returns-clause-open
+returns-clause-open g c is =
+    let crew = c.run_in_scope-crew.result in
+    cause_open crew.stopped crew.lacking (sym c.end_crew.ensures.cause ∙ is)

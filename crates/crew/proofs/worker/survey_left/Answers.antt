@@ -1,0 +1,27 @@
+use Rattle.std.proofs.Common.{◌<◌, ◌∙◌, ap, arith, length, sym}
+use Rattle.std.proofs.lemmas.List.{get_or_read}
+use Rattle.handover.specs.Belts.{Presented}
+use Rattle.handover.specs.Tickets.{Drawn}
+use Rattle.crew.specs.declared.note.Note.{Note}
+use Rattle.crew.proofs.WorkerLemmas.{not_done_more, own_report, reported_next}
+use Rattle.crew.proofs.worker.survey_left.Goals as goal
+
+pub loop-preserved : goal.loop-preserved
+loop-preserved g c =
+    let site = c.args.site.now in
+    let missing = site.missing.items in
+    let place = c.in-Some-draw.place in
+    let so_far = c.loop.invariant in
+    let below : place < length missing = omega (arith, c.in-Some-draw.ensures.below, site.listed) in (
+      c.draw.ensures.series ∙ so_far.0,
+      ap (λ (s : Presented Note). s.number) c.present.ensures ∙ so_far.1,
+      reported_next site c.loop.pass.numbers c.draw.new.pass.numbers c.loop.sender c.present.new.pass place
+          c.in-Ok-make_with.report so_far.2 c.in-Some-draw.ensures.greater below
+          (own_report (g.G.Gate.lets c.args.gate.now) c.in-Ok-make_with.report (sym (c.number-worker.ensures ∙ sym so_far.1))
+          c.in-Ok-make_with.ensures.worker c.in-Ok-make_with.ensures.job
+          c.in-Ok-make_with.ensures.number c.in-Ok.ensures.lets)
+          (c.in-Ok-make_with.ensures.number ∙ get_or_read missing _ _ below c.index-number.ensures 0)
+          (ap (λ (d : Drawn). d.numbers) c.in-Some-draw.ensures.drawn) c.present.ensures,
+      not_done_more c.loop.sender.notes c.present.new.pass.notes c.in-Ok-make_with.report so_far.3
+          (ap (λ (s : Presented Note). s.notes) c.present.ensures),
+    )

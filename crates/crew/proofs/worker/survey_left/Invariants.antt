@@ -1,0 +1,10 @@
+use Rattle.std.proofs.Common.{◌≡◌}
+use Rattle.crew.specs.Workers.{AreNotDone, HasReported}
+use Rattle.crew.proofs.worker.survey_left.Given as goal
+
+abbrev pub invariant-loop : goal.invariant-loop
+invariant-loop g l =
+    (l.pass.series ≡ l.fn.site.tickets)
+    × (l.sender.number ≡ l.fn.sender.number)
+    × HasReported (g.G.Gate.lets l.fn.gate) l.fn.site l.pass.numbers l.sender
+    × AreNotDone l.sender.notes

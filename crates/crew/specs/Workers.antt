@@ -1,0 +1,105 @@
+-- What a worker of the crew reports, and what it leaves.
+use Rattle.std.specs.Prelude.{◌≡◌, ◌<◌, ◌++◌, ◌∷◌, ◌⊎◌, [], ℕ, All, AllPairs, Bool, Contains, List, Option, count_by}
+use Rattle.std.specs.Prelude.{false, flat_map, length, map, option_map, slice_index, true}
+use Rattle.std.specs.List.{find}
+use Rattle.survey_core.specs.declared.job.Job.{Job}
+use Rattle.haul_core.specs.Reports.{Reported}
+use Rattle.handover.specs.Belts.{Presented}
+use Rattle.handover.specs.Tickets.{Drawn}
+use Rattle.crew.specs.Crews.{is_done, report_in}
+use Rattle.crew.specs.declared.note.Note.{Note}
+use Rattle.crew.specs.declared.note.Note.TheVariants.{Done}
+use Rattle.crew.specs.declared.worker.End.{End}
+use Rattle.crew.specs.declared.worker.End.TheVariants.{CalledOff, Drained, Memory, Stopped, Unstarted}
+use Rattle.crew.specs.declared.worker.Shift.{Shift}
+use Rattle.crew.specs.declared.shared.Site.{Site}
+
+-- the reports among a worker's notes, in order
+abbrev pub reported : List Note → List Reported
+reported notes = flat_map report_in notes
+
+-- the worker's own report for the job, of a soup that its gate let it survey
+abbrev pub IsOwnReport : (ℕ → ℕ → Type 0) → Job → ℕ → Reported → Type 0
+IsOwnReport lets job worker r = (r.worker ≡ worker) × (r.job ≡ job) × lets worker r.number
+
+-- The worker has reported its own surveys of the missing numbers at these places, in this order, which ascend
+pub record HasReported (lets : ℕ → ℕ → Type 0) (site : Site) (places : List ℕ) (sender : Presented Note) : Type 0 where
+  pub belt : sender.belt ≡ site.belt.name
+  pub ascending : AllPairs (λ x y. x < y) places
+  pub below : All (λ t. t < length site.missing.items) places
+  pub numbers : map (λ r. r.number) (reported sender.notes) ≡ map (slice_index site.missing.items) places
+  pub own : All (IsOwnReport lets site.job sender.number) (reported sender.notes)
+
+-- the numbers of senders
+abbrev pub sender_numbers : List (Presented Note) → List ℕ
+sender_numbers passes = map (λ s. s.number) passes
+
+-- no note says that the worker is done
+abbrev pub AreNotDone : List Note → Type 0
+AreNotDone notes = All (λ note. is_done note ≡ false) notes
+
+-- the worker's last note says that it is done, and no other
+abbrev pub EndsByDone : ℕ → List Note → Type 0
+EndsByDone worker notes = (front : List Note) × AreNotDone front × (notes ≡ front ++ Done worker ∷ [])
+
+-- the gate may stop the worker at a number that is missing
+abbrev pub StopsAt : (ℕ → ℕ → Type 0) → List ℕ → ℕ → Type 0
+StopsAt may_stop missing worker = (n : ℕ) × Contains missing n × may_stop worker n
+
+-- these places are all that were drawn, or all but the last
+abbrev pub AreAllButLast : List ℕ → List ℕ → Type 0
+AreAllButLast places drawn = (drawn ≡ places) ⊎ ((n : ℕ) × (drawn ≡ places ++ n ∷ []))
+
+-- What the worker with this number has done when its surveys end so. It has reported at each place that it drew, but for the last one
+-- at most; at each, if none was left.
+pub record HasWorked (may_stop lets : ℕ → ℕ → Type 0) (site : Site) (worker : ℕ) (ended : End) (pass : Drawn) (sender : Presented Note)
+    : Type 0 where
+  pub number : sender.number ≡ worker
+  pub series : pass.series ≡ site.tickets
+  pub places : List ℕ
+  pub reports : HasReported lets site places sender
+  pub drawn : AreAllButLast places pass.numbers
+  pub all : ended ≡ Drained → pass.numbers ≡ places
+  pub heard : ended ≡ Drained → pass.heard_none ≡ true
+  pub stops : ended ≡ Stopped → StopsAt may_stop site.missing.items worker
+
+-- the worker has begun to work
+abbrev pub has_begun : End → Bool
+has_begun CalledOff = false
+has_begun (Unstarted error) = false
+has_begun _ = true
+
+-- a thread was started for the worker
+abbrev pub was_started : End → Bool
+was_started (Unstarted error) = false
+was_started _ = true
+
+abbrev pub was_stopped : End → Bool
+was_stopped Stopped = true
+was_stopped _ = false
+
+-- there was no memory for a survey, or for a thread
+abbrev pub lacks_memory : End → Bool
+lacks_memory (Memory error) = true
+lacks_memory (Unstarted error) = true
+lacks_memory _ = false
+
+-- What the worker with this number leaves. Once it has begun to work it ends by saying that it is done; if it was called off it has
+-- said nothing.
+pub record Leaves (may_stop lets : ℕ → ℕ → Type 0) (site : Site) (worker : ℕ) (shift : Shift) : Type 0 where
+  pub worked : HasWorked may_stop lets site worker shift.end shift.pass shift.sender
+  pub done : has_begun shift.end ≡ true → EndsByDone worker shift.sender.notes
+  pub silent_if : shift.end ≡ CalledOff → shift.sender.notes ≡ []
+
+-- what the thread of a worker returns
+pub record Returns (may_stop lets : ℕ → ℕ → Type 0) (site : Site) (worker : ℕ) (shift : Shift) : Type 0 where
+  pub left : Leaves may_stop lets site worker shift
+  pub started : was_started shift.end ≡ true
+
+-- for how many workers a thread was started
+abbrev pub how_many_started : List Shift → ℕ
+how_many_started shifts = count_by (λ s. was_started s.end) shifts
+
+-- the first worker that its gate stopped
+abbrev pub first_stopped : List Shift → Option ℕ
+first_stopped shifts = option_map (λ s. s.sender.number) (find (λ s. was_stopped s.end) shifts)

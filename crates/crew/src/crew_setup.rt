@@ -1,0 +1,76 @@
+//! What a crew begins with: its site, and a post for each worker.
+ghost use Rattle.std.specs.Prelude.{◌≡◌, ◌≤◌, All, IfOk, false, length, map};
+ghost use Rattle.std.specs.List.{range_with_len};
+ghost use Rattle.std.specs.List.Sorted.{IsStrictlyIncreasing};
+ghost use Rattle.handover.specs.Belts.{deaf, silent};
+ghost use Rattle.handover.specs.Tickets.{fresh};
+ghost use Rattle.crew.specs.CrewSteps.{HaveRoom};
+ghost use Rattle.crew.specs.Takes.{was_missing};
+
+use crate::note::Note;
+use crate::endpoints::Posts;
+use crate::shared::Site;
+use handover::belt::{Belt, ReceiverPass};
+use handover::tickets::{Tickets, TicketsError};
+use haul_core::book::haul::Haul;
+use memory::OutOfMemory;
+use std::alloc::Global;
+use std::sync::atomic::AtomicU64;
+
+/// How many notes there is room for on the belt: some for each of sixteen workers, so that none waits for the collector.
+const ROOM: usize = 64;
+
+/// What a crew begins with.
+#[derive(Drop)]
+pub(crate) struct Start {
+    pub(crate) site: Site,
+    pub(crate) posts: Posts,
+    pub(crate) receiver: ReceiverPass<Note>,
+    /// Room for the posts of the workers that come back.
+    pub(crate) back: Posts,
+}
+
+impl Start {
+    /// All that is needed to survey what is missing in a haul.
+    pub(crate) fn new(alloc: Global, haul: &Haul, workers: u8) -> Result<Start, OutOfMemory>
+        requires some { 1 ≤ workers }
+        requires few { workers ≤ haul.now.terms.workers }
+        requires open { haul.now.closed ≡ false }
+        ensures job { IfOk result (λ start. start.site.job ≡ haul.now.terms.job) }
+        ensures missing { IfOk result (λ start. start.site.missing.items ≡ was_missing haul.now) }
+        ensures ascending { IfOk result (λ start. IsStrictlyIncreasing start.site.missing.items) }
+        ensures workers { IfOk result (λ start. start.site.belt.workers ≡ workers) }
+        ensures tickets { IfOk result (λ start. start.site.tickets.passes ≡ workers) }
+        ensures passes { IfOk result (λ start. All (λ p. p ≡ fresh start.site.tickets) start.posts.passes.items) }
+        ensures few { IfOk result (λ _. workers ≤ 16) }
+        ensures many { IfOk result (λ start. length start.posts.passes.items ≡ workers) }
+        ensures senders { IfOk result
+            (λ start. start.posts.senders.items ≡ map (silent start.site.belt.name) (range_with_len 1 workers)) }
+        ensures receiver { IfOk result (λ start. start.receiver ≡ deaf start.site.belt) }
+        ensures back { IfOk result (λ start. HaveRoom workers start.back) }
+    {
+        // For the prover: a haul has at most 16 workers.
+        let _ = haul.workers();
+        let missing = haul.missing()?;
+        let (tickets, passes) = match Tickets::open(alloc, missing.len() as u64, workers) {
+            Ok(opened) => opened,
+            Err(TicketsError::Memory(error)) => return Err(error),
+            Err(TicketsError::BadCount | TicketsError::BadPasses) => unreachable!(),
+        };
+        let (belt, senders, receiver) = Belt::open(alloc, ROOM, workers)?;
+        let back = Posts::with_room(alloc, workers)?;
+        let site = Site {
+            job: haul.job(),
+            tickets,
+            belt,
+            missing,
+            called_off: AtomicU64::new(0),
+        };
+        Ok(Start {
+            site,
+            posts: Posts { passes, senders },
+            receiver,
+            back,
+        })
+    }
+}

@@ -1,0 +1,404 @@
+//! The workers of a crew, and the call that runs them.
+//!
+//! ```text
+//! take ── complete_haul ── run_in_scope ── run_crew ── starts worker 3
+//!                                            run_crew ── starts worker 2
+//!                                              run_crew ── starts worker 1
+//!                                                receive_all: until all that were started are done
+//!                                              worker 1 is back
+//!                                            worker 2 is back
+//!                                          worker 3 is back
+//! ```
+ghost use Rattle.std.specs.Prelude.{◌≡◌, ◌≢◌, ◌<◌, ◌≤◌, ◌↔◌, ℕ, All, Err, IfErr, IfOk, MatchResult, None, Some};
+ghost use Rattle.std.specs.Prelude.{false, is_ok, is_some, length, nat_eq, not, true, vec_capacity};
+ghost use Rattle.std.specs.List.{IsDistinct};
+ghost use Rattle.haul_core.specs.Keeping.{numbers_in};
+ghost use Rattle.haul_core.specs.Missing.{AreAll, IsComplete, missing_of};
+ghost use Rattle.haul_core.specs.Reports.{IsWorker};
+ghost use Rattle.handover.specs.Belts.{IsWhole, silent};
+ghost use Rattle.crew.specs.CrewSteps.{HasAddedPost, HasRunAll, MayRun, cause_of, collector_of, stopped_with};
+ghost use Rattle.crew.specs.Crews.{Collected};
+ghost use Rattle.crew.specs.Workers.{Leaves, Returns, StopsAt, lacks_memory, was_started};
+ghost use Rattle.crew.specs.Takes.{HasTaken, was_missing};
+ghost use Rattle.handover.specs.Tickets.{AreAllBelow, drawn_by_all, fresh, how_many_heard};
+ghost use Rattle.crew.specs.declared.take.CrewError.TheVariants as CrewError;
+
+use crate::collector::collect;
+use crate::gate::Gate;
+use crate::note::Note;
+use crate::endpoints::Posts;
+use crate::worker::{End, Shift, work};
+use crate::shared::Site;
+use crate::crew_setup::Start;
+use crate::progress_observer::Watch;
+use handover::belt::{ReceiverPass, SenderPass};
+use handover::tickets::Pass;
+use haul_core::book::haul::Haul;
+use memory::OutOfMemory;
+use std::alloc::Global;
+use std::sync::Wait;
+use std::sync::atomic::Ordering;
+use std::thread;
+use std::thread::{Promise, PromisedHandle, Scope, Threads};
+use thiserror::Error;
+
+/// Why a crew did not complete a haul.
+#[derive(Clone, Copy, Debug, PartialEq, Eq, Error)]
+pub enum CrewError {
+    /// The haul is closed.
+    #[error("closed")]
+    Closed,
+    /// The gate stopped a worker: of those that it stopped, this is the one with the least number.
+    #[error("worker {worker} was stopped")]
+    Stopped { worker: u8 },
+    /// Memory ran out, or there was none for a thread.
+    #[error("out of memory")]
+    Memory(OutOfMemory),
+}
+
+/// Lets so many workers survey what is missing in a haul, each in a thread of its own, and offers what they report.
+///
+/// There are at least one and at most as many workers as the haul has. A worker asks the gate before each survey, and
+/// surveys nothing more once the gate stops it. The haul stays open. The watch hears how many soups of the haul are
+/// taken, in the thread of the call.
+///
+/// # Errors
+///
+/// The haul, with what was taken, and the first of these that holds. There is no other case:
+///
+/// - [`CrewError::Closed`] if the haul is closed. It comes back as it was.
+/// - [`CrewError::Stopped`] if the gate stopped a worker and the haul is not complete.
+/// - [`CrewError::Memory`] if memory ran out, or a thread could not be started, and the haul is not complete.
+///
+/// To call it again goes on with what is missing.
+pub fn take<G: Gate + Sync, R: Threads + Wait + Sync, H: Watch>(
+    alloc: Global,
+    rt: &R,
+    haul: Haul,
+    workers: u8,
+    gate: &G,
+    watch: &mut H,
+) -> Result<Haul, (Haul, CrewError)>
+    requires some { 1 ≤ workers }
+    requires few { workers ≤ haul.terms.workers }
+    ensures closed { haul.closed ≡ true → result ≡ Err (haul, CrewError.Closed) }
+    ensures open { IfErr result (λ back. back.1 ≡ CrewError.Closed → haul.closed ≡ true) }
+    ensures taken { haul.closed ≡ false
+        → MatchResult result (HasTaken (G.lets gate.now) workers haul)
+        (λ back. HasTaken (G.lets gate.now) workers haul back.0) }
+    ensures complete { IfOk result (λ done. IsComplete done.terms.ranges done.taken) }
+    ensures all { IfOk result (λ done. AreAll done.terms.ranges (numbers_in done.taken)) }
+    ensures stopped { (worker : ℕ)
+        → IfErr result (λ back. back.1 ≡ CrewError.Stopped worker
+        → StopsAt (G.may_stop gate.now) (was_missing haul) worker) }
+    ensures within { (worker : ℕ)
+        → IfErr result (λ back. back.1 ≡ CrewError.Stopped worker → (1 ≤ worker) × (worker ≤ workers)) }
+    ensures incomplete { IfErr result
+        (λ back. back.1 ≢ CrewError.Closed → ¬ IsComplete back.0.terms.ranges back.0.taken) }
+{
+    if haul.is_closed() {
+        return Err((haul, CrewError::Closed));
+    }
+    watch.begin(haul.count(), workers);
+    let (haul, cause) = complete_haul(alloc, rt, haul, workers, gate, watch);
+    watch.end();
+    if haul.is_complete() {
+        return Ok(haul);
+    }
+    let Some(cause) = cause else { unreachable!() };
+    Err((haul, cause))
+}
+
+/// Lets workers survey what is missing in a haul. With it comes what kept them from some soups, if anything did.
+#[tactic(auto, using(crate::proofs::TakeLemmas::taken_none))]
+fn complete_haul<G: Gate + Sync, R: Threads + Wait + Sync, H: Watch>(
+    alloc: Global,
+    rt: &R,
+    haul: Haul,
+    workers: u8,
+    gate: &G,
+    watch: &mut H,
+) -> (Haul, Option<CrewError>)
+    requires some { 1 ≤ workers }
+    requires few { workers ≤ haul.terms.workers }
+    requires open { haul.closed ≡ false }
+    ensures taken { HasTaken (G.lets gate.now) workers haul result.0 }
+    ensures complete { result.1 ≡ None → IsComplete result.0.terms.ranges result.0.taken }
+    ensures stopped { (worker : ℕ)
+        → result.1 ≡ Some (CrewError.Stopped worker) → StopsAt (G.may_stop gate.now) (was_missing haul) worker }
+    ensures within { (worker : ℕ)
+        → result.1 ≡ Some (CrewError.Stopped worker) → (1 ≤ worker) × (worker ≤ workers) }
+    ensures open { result.1 ≢ Some CrewError.Closed }
+{
+    if haul.is_complete() {
+        return (haul, None);
+    }
+    let start = match Start::new(alloc, &haul, workers) {
+        Ok(start) => start,
+        Err(error) => return (haul, Some(CrewError::Memory(error))),
+    };
+    let Start {
+        site,
+        posts,
+        receiver,
+        back,
+    } = start;
+    let crew = Crew {
+        posts,
+        haul,
+        receiver,
+        back,
+        away: 0,
+        stopped: None,
+        lacking: None,
+    };
+    let crew = run_in_scope(alloc, rt, &site, gate, crew, watch);
+    end_crew(site, crew)
+}
+
+/// Runs a crew in a scope of threads.
+fn run_in_scope<G: Gate + Sync, R: Threads + Wait + Sync, H: Watch>(
+    alloc: Global,
+    rt: &R,
+    site: &Site,
+    gate: &G,
+    crew: Crew,
+    watch: &mut H,
+) -> Crew
+    requires { MayRun site.now crew }
+    ensures { HasRunAll (G.may_stop gate.now) (G.lets gate.now) site.now crew result }
+{
+    thread::scope(
+        thread::scope_env(),
+        rt,
+        move |scope| -> Crew
+            requires { MayRun site.now crew }
+            ensures { HasRunAll (G.may_stop gate.entry.now) (G.lets gate.entry.now) site.entry.now crew result }
+        {
+            let mut crew = crew;
+            run_crew(alloc, rt, scope, site, gate, &mut crew, watch);
+            crew
+        },
+    )
+}
+
+/// What a crew leaves, once all workers are back: its haul, and what kept workers from some soups.
+fn end_crew(site: Site, crew: Crew) -> (Haul, Option<CrewError>)
+    requires passes { All (λ p. p.series ≡ site.tickets) crew.back.passes.items }
+    requires senders { All (λ s. s.belt ≡ site.belt.name) crew.back.senders.items }
+    requires receiver { crew.receiver.belt ≡ site.belt }
+    ensures drawn { length crew.back.passes.items ≡ site.tickets.passes → 0 < how_many_heard crew.back.passes.items
+        → AreAllBelow site.tickets.count (drawn_by_all crew.back.passes.items) }
+    ensures whole { All (IsWhole crew.receiver.got) crew.back.senders.items }
+    ensures haul { result.0 ≡ crew.haul }
+    ensures distinct { IsDistinct nat_eq (numbers_in crew.haul.taken) }
+    ensures none { (length (missing_of crew.haul.terms.ranges crew.haul.taken) ≡ 0)
+        ↔ IsComplete crew.haul.terms.ranges crew.haul.taken }
+    ensures cause { result.1 ≡ cause_of crew.stopped crew.lacking }
+{
+    let Crew {
+        haul,
+        receiver,
+        back: Posts { passes, senders },
+        stopped,
+        lacking,
+        ..
+    } = crew;
+    let Site { tickets, belt, .. } = site;
+    // For the prover: all numbers were drawn, if all passes are back and one of them has heard that none is left.
+    let _ = tickets.gather(passes);
+    // For the prover: what was received of a worker is a front of what it presented.
+    drop(belt.gather(senders, receiver));
+    // For the prover: the haul has taken no number twice.
+    let _ = haul.taken();
+    // For the prover: a haul of which nothing is missing is complete.
+    let _ = haul.missing_count();
+    (haul, cause(stopped, lacking))
+}
+
+/// What kept workers from some soups: a gate stopped one, or else memory was refused.
+fn cause(stopped: Option<u8>, lacking: Option<OutOfMemory>) -> Option<CrewError>
+    ensures { result ≡ cause_of stopped lacking }
+{
+    match (stopped, lacking) {
+        (Some(worker), _) => Some(CrewError::Stopped { worker }),
+        (None, Some(error)) => Some(CrewError::Memory(error)),
+        (None, None) => None,
+    }
+}
+
+/// What a worker's thread promises: to return what the worker leaves.
+#[derive(Clone, Copy)]
+struct Duty<'s, G> {
+    worker: u8,
+    site: &'s Site,
+    gate: &'s G,
+}
+
+impl<'s, G: Gate> Promise<Shift> for Duty<'s, G> {
+    ghost kept_by = { λ d shift. Returns (G.may_stop d.gate.now) (G.lets d.gate.now) d.site.now d.worker shift };
+}
+
+/// A crew while it is run.
+#[derive(Drop)]
+struct Crew {
+    /// Of the workers that are still to be started.
+    posts: Posts,
+    haul: Haul,
+    /// What its collector receives with.
+    receiver: ReceiverPass<Note>,
+    /// Of the workers that are back.
+    back: Posts,
+    /// How many workers have been started and are not back.
+    away: u8,
+    /// The least worker that came back stopped.
+    stopped: Option<u8>,
+    /// What was refused: room for a thread, for a survey or for a report.
+    lacking: Option<OutOfMemory>,
+}
+
+/// Starts a worker for each post, from the last on, collects what they report, and waits for them. The first worker
+/// comes back first.
+fn run_crew<'s, E, G: Gate + Sync, R: Threads + Wait + Sync, H: Watch>(
+    alloc: Global,
+    rt: &'s R,
+    scope: &'s Scope<'s, E>,
+    site: &'s Site,
+    gate: &'s G,
+    crew: &mut Crew,
+    watch: &mut H,
+)
+    requires { MayRun site.now crew.old }
+    ensures { HasRunAll (G.may_stop gate.now) (G.lets gate.now) site.now crew.old crew.new }
+{
+    let Some((pass, sender)) = crew.posts.remove_last() else {
+        receive_all(rt, site, crew, watch);
+        return;
+    };
+    let worker = sender.number();
+    let begun = begin_shift(alloc, rt, scope, site, gate, pass, sender);
+    let started = u8::from(begun.is_ok());
+    crew.away += started;
+    run_crew(alloc, rt, scope, site, gate, crew, watch);
+    crew.away -= started;
+    note_shift(crew, end_shift(rt, Duty { worker, site, gate }, begun));
+}
+
+/// Collects what the workers report that have been started, until the last of them is done.
+fn receive_all<R: Wait, H: Watch>(rt: &R, site: &Site, crew: &mut Crew, watch: &mut H)
+    requires { crew.old.receiver.belt ≡ site.now.belt }
+    ensures collected { Collected (collector_of crew.old.away crew.old) (collector_of 0 crew.new)
+        (not (is_some crew.new.lacking)) }
+    ensures back { crew.new.back ≡ crew.old.back }
+    ensures stopped { crew.new.stopped ≡ crew.old.stopped }
+    ensures away { crew.new.away ≡ crew.old.away }
+{
+    let away = crew.away;
+    watch.started(away);
+    let collected = collect(
+        rt,
+        &site.belt,
+        &mut crew.receiver,
+        &mut crew.haul,
+        away,
+        watch,
+    );
+    crew.lacking = collected.err();
+}
+
+/// Begins a worker's shift in a thread of its own. Where none can be started the worker is called off, and its shift
+/// ends here.
+fn begin_shift<'s, E, G: Gate + Sync, R: Threads + Wait + Sync>(
+    alloc: Global,
+    rt: &'s R,
+    scope: &'s Scope<'s, E>,
+    site: &'s Site,
+    gate: &'s G,
+    pass: Pass,
+    sender: SenderPass<Note>,
+) -> Result<PromisedHandle<Shift, Duty<'s, G>>, Shift>
+    requires pass { pass ≡ fresh site.now.tickets }
+    requires sender { sender ≡ silent site.now.belt.name sender.number }
+    requires worker { IsWorker sender.number }
+    ensures worker { IfOk result (λ handle. handle.promise.worker ≡ sender.number) }
+    ensures site { IfOk result (λ handle. handle.promise.site ≡ site.entry) }
+    ensures gate { IfOk result (λ handle. handle.promise.gate ≡ gate.entry) }
+    ensures here { IfErr result (Leaves (G.may_stop gate.now) (G.lets gate.now) site.now sender.number) }
+    ensures unstarted { IfErr result (λ shift. was_started shift.end ≡ false) }
+{
+    let worker = sender.number();
+    let duty = Duty { worker, site, gate };
+    let shift = move || -> Shift
+        requires { (pass ≡ fresh site.now.tickets) × (sender ≡ silent site.now.belt.name sender.number)
+            × IsWorker sender.number }
+        ensures { Returns (G.may_stop gate.entry.now) (G.lets gate.entry.now) site.entry.now sender.number result }
+    { work(alloc, rt, site, gate, pass, sender) };
+    match scope.spawn_with(duty, shift) {
+        Ok(handle) => Ok(handle),
+        Err(refused) => {
+            let (here, error) = OutOfMemory::of_start(refused);
+            site.called_off.store(u64::from(worker), Ordering::SeqCst);
+            let Shift { pass, sender, .. } = here();
+            let end = End::Unstarted(error);
+            Err(Shift { pass, sender, end })
+        }
+    }
+}
+
+/// What a worker leaves, once its shift has ended.
+fn end_shift<'s, G: Gate, R: Threads>(
+    rt: &R,
+    duty: Duty<'s, G>,
+    begun: Result<PromisedHandle<Shift, Duty<'s, G>>, Shift>,
+) -> Shift
+    requires thread { IfOk begun (λ handle. handle.promise ≡ duty) }
+    requires here { IfErr begun (Leaves (G.may_stop duty.gate.now) (G.lets duty.gate.now) duty.site.now duty.worker) }
+    requires unstarted { IfErr begun (λ shift. was_started shift.end ≡ false) }
+    ensures left { Leaves (G.may_stop duty.entry.gate.now) (G.lets duty.entry.gate.now) duty.entry.site.now
+        duty.entry.worker result }
+    ensures started { was_started result.end ≡ is_ok begun.entry }
+{
+    match begun {
+        Ok(handle) => handle.join(rt),
+        Err(shift) => shift,
+    }
+}
+
+/// Notes that one worker more is back.
+fn note_shift(crew: &mut Crew, shift: Shift)
+    requires passes { length crew.old.back.passes.items < vec_capacity crew.old.back.passes }
+    requires senders { length crew.old.back.senders.items < vec_capacity crew.old.back.senders }
+    ensures back { HasAddedPost shift.pass shift.sender crew.old.back crew.new.back }
+    ensures stopped { crew.new.stopped ≡ stopped_with crew.old.stopped shift.sender.number shift.end }
+    ensures answered { crew.new.lacking ≡ None → crew.old.lacking ≡ None }
+    ensures memory { crew.new.lacking ≡ None → lacks_memory shift.end ≡ false }
+    ensures haul { crew.new.haul ≡ crew.old.haul }
+    ensures receiver { crew.new.receiver ≡ crew.old.receiver }
+    ensures away { crew.new.away ≡ crew.old.away }
+{
+    let Shift { pass, sender, end } = shift;
+    crew.stopped = first_stopped(crew.stopped, sender.number(), end);
+    crew.lacking = any_lack(crew.lacking, end);
+    crew.back.add(pass, sender);
+}
+
+/// The first worker that was stopped, once this one is back too.
+fn first_stopped(stopped: Option<u8>, worker: u8, end: End) -> Option<u8>
+    ensures { result ≡ stopped_with stopped worker end }
+{
+    match (stopped, end) {
+        (None, End::Stopped) => Some(worker),
+        _ => stopped,
+    }
+}
+
+/// The want of memory, if there was one, once this shift has ended too.
+fn any_lack(lacking: Option<OutOfMemory>, end: End) -> Option<OutOfMemory>
+    ensures before { result ≡ None → lacking ≡ None }
+    ensures here { result ≡ None → lacks_memory end ≡ false }
+{
+    match end {
+        End::Memory(error) | End::Unstarted(error) => Some(error),
+        End::Drained | End::Stopped | End::CalledOff => lacking,
+    }
+}

@@ -1,0 +1,134 @@
+//! A worker's shift: it draws, asks the gate, surveys and reports, until none is left or it has to stop.
+//!
+//! ```text
+//! tickets ── place ──> number ── gate ──> survey ── report ──> belt
+//!    │                             │         │                  │
+//! none left                     stopped   no memory     and at the end: done
+//! ```
+ghost use Rattle.std.specs.Prelude.{◌≡◌, true};
+ghost use Rattle.haul_core.specs.Reports.{IsWorker};
+ghost use Rattle.handover.specs.Belts.{silent};
+ghost use Rattle.crew.specs.Workers.{AreNotDone, HasWorked, Returns, has_begun};
+ghost use Rattle.handover.specs.Tickets.{fresh};
+
+use crate::gate::{Gate, Stop};
+use crate::note::Note;
+use crate::shared::Site;
+use handover::belt::SenderPass;
+use handover::tickets::Pass;
+use haul_core::report::{Report, ReportError};
+use memory::OutOfMemory;
+use std::alloc::Global;
+use std::sync::Wait;
+use std::sync::atomic::Ordering;
+use survey_core::shapes::memo::Memo;
+
+/// How a worker ended.
+#[derive(Clone, Copy)]
+pub(crate) enum End {
+    /// No number was left.
+    Drained,
+    /// Its gate stopped it.
+    Stopped,
+    /// Memory ran out.
+    Memory(OutOfMemory),
+    /// It was called off before it began.
+    CalledOff,
+    /// No thread could be started for it.
+    Unstarted(OutOfMemory),
+}
+
+/// What a worker leaves.
+#[derive(Drop)]
+pub(crate) struct Shift {
+    pub(crate) pass: Pass,
+    pub(crate) sender: SenderPass<Note>,
+    pub(crate) end: End,
+}
+
+/// A worker's whole shift. It ends with a note that says so, unless the worker was called off.
+pub(crate) fn work<G: Gate, R: Wait>(
+    alloc: Global,
+    rt: &R,
+    site: &Site,
+    gate: &G,
+    pass: Pass,
+    sender: SenderPass<Note>,
+) -> Shift
+    requires pass { pass ≡ fresh site.now.tickets }
+    requires worker { IsWorker sender.number }
+    requires sender { sender ≡ silent site.now.belt.name sender.number }
+    ensures { Returns (G.may_stop gate.now) (G.lets gate.now) site.now sender.number result }
+{
+    let mut pass = pass;
+    let mut sender = sender;
+    let worker = sender.number();
+    if site.called_off.load(Ordering::SeqCst) == u64::from(worker) {
+        let end = End::CalledOff;
+        return Shift { pass, sender, end };
+    }
+    let end = survey_all(alloc, rt, site, gate, &mut pass, &mut sender);
+    site.belt.present(rt, &mut sender, Note::Done { worker });
+    Shift { pass, sender, end }
+}
+
+/// Surveys what is left, with a memo of the worker's own. Each report is presented. A function of its own: a memo is
+/// dear to prove at the ends of the one that owns pass and sender.
+fn survey_all<G: Gate, R: Wait>(
+    alloc: Global,
+    rt: &R,
+    site: &Site,
+    gate: &G,
+    pass: &mut Pass,
+    sender: &mut SenderPass<Note>,
+) -> End
+    requires pass { pass.old ≡ fresh site.now.tickets }
+    requires worker { IsWorker sender.old.number }
+    requires sender { sender.old ≡ silent site.now.belt.name sender.old.number }
+    ensures worked { HasWorked (G.may_stop gate.now) (G.lets gate.now) site.now sender.old.number result pass.new
+        sender.new }
+    ensures begun { has_begun result ≡ true }
+    ensures not_done { AreNotDone sender.new.notes }
+{
+    let mut memo = Memo::new(alloc);
+    survey_left(alloc, rt, site, gate, pass, sender, &mut memo)
+}
+
+/// Surveys one number after another, until none is left, the gate stops the worker, or memory runs out.
+#[tactic(auto, using(crate::proofs::WorkerLemmas::reported_none))]
+fn survey_left<G: Gate, R: Wait>(
+    alloc: Global,
+    rt: &R,
+    site: &Site,
+    gate: &G,
+    pass: &mut Pass,
+    sender: &mut SenderPass<Note>,
+    memo: &mut Memo,
+) -> End
+    requires pass { pass.old ≡ fresh site.now.tickets }
+    requires worker { IsWorker sender.old.number }
+    requires sender { sender.old ≡ silent site.now.belt.name sender.old.number }
+    ensures worked { HasWorked (G.may_stop gate.now) (G.lets gate.now) site.now sender.old.number result pass.new
+        sender.new }
+    ensures begun { has_begun result ≡ true }
+    ensures not_done { AreNotDone sender.new.notes }
+{
+    let worker = sender.number();
+    for _ in rt.forever() {
+        let Some(place) = site.tickets.draw(pass) else {
+            return End::Drained;
+        };
+        let number = site.missing[place as usize];
+        match gate.before(worker, number) {
+            Ok(()) => {}
+            Err(Stop) => return End::Stopped,
+        }
+        let report = match Report::make_with(alloc, &site.job, worker, number, memo) {
+            Ok(report) => report,
+            Err(ReportError::Memory(error)) => return End::Memory(error),
+            Err(ReportError::BadWorker) => unreachable!(),
+        };
+        site.belt.present(rt, sender, Note::Report(report));
+    }
+    unreachable!()
+}

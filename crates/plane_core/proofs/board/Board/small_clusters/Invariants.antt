@@ -1,6 +1,0 @@
-use Rattle.std.specs.List.{All}
-use Rattle.plane_core.specs.Clusters.{IsCluster}
-use Rattle.plane_core.proofs.board.Board.small_clusters.Given as goal
-
-abbrev pub invariant-loop-bounds : goal.invariant-loop-bounds
-invariant-loop-bounds l = All (IsCluster l.self.cells) l.clusters.items

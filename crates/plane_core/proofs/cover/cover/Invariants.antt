@@ -1,8 +1,0 @@
-use Rattle.std.proofs.Common.{take}
-use Rattle.plane_core.specs.declared.cell.Cell.{Cell}
-use Rattle.plane_core.specs.Boxes.{IsInOne}
-use Rattle.plane_core.specs.Places.{IsCovered}
-use Rattle.plane_core.proofs.cover.cover.Given as goal
-
-abbrev pub invariant-loop-rectangle : goal.invariant-loop-rectangle
-invariant-loop-rectangle l = (c : Cell) → IsInOne (take l.rectangle-index l.rectangle-items) c → IsCovered l.places.items c

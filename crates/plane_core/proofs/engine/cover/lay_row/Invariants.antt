@@ -1,0 +1,10 @@
+use Rattle.plane_core.specs.declared.plane.cell.Cell.{Cell}
+use Rattle.plane_core.specs.engine.Covers.{IsInRow}
+use Rattle.plane_core.specs.engine.WindowOrigins.{IsCovered}
+use Rattle.plane_core.proofs.engine.cover.lay_row.Given as goal
+
+abbrev pub invariant-loop-i : goal.invariant-loop-i
+invariant-loop-i l = record {
+  kept : (c : Cell) → IsCovered l.fn.places.items c → IsCovered l.places.items c;
+  laid : (c : Cell) → IsInRow (record { first = l.across.first; count = l.i }) l.top c → IsCovered l.places.items c;
+}

@@ -1,0 +1,104 @@
+use Rattle.std.proofs.Common.{◌≡◌, ◌<◌, ◌≤◌, ◌∙◌, ℕ, ap, arith, inr, pos, refl, subst, sym}
+use Rattle.std.proofs.lemmas.List.{get_or_default}
+use Rattle.plane_core.specs.declared.engine.window_origin.Place.{Place}
+use Rattle.plane_core.specs.engine.Frames.{board_cell}
+use Rattle.plane_core.specs.engine.Leaps.{ArePutBack}
+use Rattle.plane_core.specs.engine.WindowOrigins.{IsInnerCell}
+use Rattle.plane_core.proofs.lemmas.engine.FrameFits.{fits_lane_beside, fits_window_end, two_lanes, window_low}
+use Rattle.plane_core.proofs.lemmas.engine.LeapLemmas.{back_more}
+use Rattle.plane_core.proofs.lemmas.engine.RowSpanLemmas.{inner_held, places_more}
+use Rattle.plane_core.proofs.engine.leap.put_all.Goals as goal
+use borrow.Author.Count.{falls}
+
+few : 4 ≤ 64
+few = omega arith
+
+most : 36 ≤ 64
+most = omega arith
+
+pub loop-k-init : goal.loop-k-init
+loop-k-init c = record {
+  put = λ cells shown u v hu hv. inr (λ k p low. absurd (omega (arith, low)), refl);
+  kept = λ s r h. h;
+  covered = λ k p low. absurd (omega (arith, low));
+}
+
+pub bounds-places-k : goal.bounds-places-k
+bounds-places-k c = c.loop-k-test.true
+
+pub column_of-x-requires-clause-frame : goal.column_of-x-requires-clause-frame
+column_of-x-requires-clause-frame c = c.requires.frame
+
+pub column_of-x-requires-clause-on_board : goal.column_of-x-requires-clause-on_board
+column_of-x-requires-clause-on_board c = c.requires.on_board c.loop-k.k (record { left = pos 0; top = pos 0 }) c.loop-k-test.true
+
+pub row_of-y-requires-clause-frame : goal.row_of-y-requires-clause-frame
+row_of-y-requires-clause-frame c = c.requires.frame
+
+pub row_of-y-requires-clause-on_board : goal.row_of-y-requires-clause-on_board
+row_of-y-requires-clause-on_board c = c.requires.on_board c.loop-k.k (record { left = pos 0; top = pos 0 }) c.loop-k-test.true
+
+pub bounds-held-k : goal.bounds-held-k
+bounds-held-k c = subst (λ (n : ℕ). c.loop-k.k < n) (sym c.requires.each) c.loop-k-test.true
+
+pub write-requires-clause-long : goal.write-requires-clause-long
+write-requires-clause-long c = c.loop-k.auto.words ∙ c.requires.long
+
+pub write-requires-clause-lanes : goal.write-requires-clause-lanes
+write-requires-clause-lanes c = c.column_of-x.ensures.lanes
+
+pub write-requires-clause-rows : goal.write-requires-clause-rows
+write-requires-clause-rows c = c.row_of-y.ensures.rows
+
+pub overflow_add-rows : goal.overflow_add-rows
+overflow_add-rows c = fits_window_end c.row_of-y.result 4 (window_low c.args.at c.row_of-y.result c.requires.frame c.row_of-y.ensures.rows) few
+
+pub overflow_add-rows-in-loop-k : goal.overflow_add-rows-in-loop-k
+overflow_add-rows-in-loop-k c = fits_window_end c.row_of-y.result 36 (window_low c.args.at c.row_of-y.result c.requires.frame c.row_of-y.ensures.rows) most
+
+pub widen-requires : goal.widen-requires
+widen-requires c = (two_lanes c.column_of-x.result c.args.at.lanes _ c.column_of-x.ensures.lanes (c.loop-k.auto.spans ∙ c.requires.lanes)).0
+
+pub overflow_add-lane : goal.overflow_add-lane
+overflow_add-lane c = fits_lane_beside c.args.at c.column_of-x.result c.requires.frame c.column_of-x.ensures.lanes
+
+pub widen-requires-in-loop-k : goal.widen-requires-in-loop-k
+widen-requires-in-loop-k c =
+    (two_lanes c.column_of-x.result c.args.at.lanes _ c.column_of-x.ensures.lanes
+    (c.widen.auto.spans ∙ c.loop-k.auto.spans ∙ c.requires.lanes)).1
+
+pub loop-k-smaller : goal.loop-k-smaller
+loop-k-smaller c = falls _ _ c.loop-k-test.true
+
+pub loop-k-preserved : goal.loop-k-preserved
+loop-k-preserved c =
+    let places = c.args.places.now in
+    let k = c.loop-k.k in
+    let before = c.loop-k.invariant in
+    record {
+      put = back_more c.args.at places c.args.held.now c.args.words.now c.loop-k.words c.write.new.words k c.column_of-x.result c.row_of-y.result
+          (λ p. ap (λ (q : Place). q.left) (get_or_default places k p (record { left = pos 0; top = pos 0 }) c.loop-k-test.true) ∙ c.column_of-x.ensures.is)
+          (λ p. ap (λ (q : Place). q.top) (get_or_default places k p (record { left = pos 0; top = pos 0 }) c.loop-k-test.true) ∙ c.row_of-y.ensures.is)
+          before.put c.write.ensures;
+      kept = λ s r h. c.widen-in-loop-k.ensures.kept s r (c.widen.ensures.kept s r (before.kept s r h));
+      covered = places_more c.args.at c.loop-k.spans c.widen-in-loop-k.new.spans places k
+          (record { left = pos 0; top = pos 0 }) c.loop-k-test.true (λ s r h. c.widen-in-loop-k.ensures.kept s r (c.widen.ensures.kept s r h)) before.covered
+          (inner_held c.args.at _ c.column_of-x.result c.row_of-y.result c.widen.new.spans c.widen-in-loop-k.new.spans c.column_of-x.ensures.is
+          c.row_of-y.ensures.is c.widen.ensures.held c.widen-in-loop-k.ensures.kept c.widen-in-loop-k.ensures.held);
+    }
+
+same : (a b : ℕ) → a ≤ b → b ≤ a → a ≡ b
+same a b low high = omega arith
+
+pub returns-clause-put : goal.returns-clause-put
+returns-clause-put c =
+    subst (λ (n : ℕ). ArePutBack c.args.at c.args.places.now c.args.held.now n c.args.words.now c.loop-k.words)
+    (same _ _ c.loop-k.auto.k-end c.loop-k-test.false) c.loop-k.invariant.put
+
+pub returns-clause-kept : goal.returns-clause-kept
+returns-clause-kept c = c.loop-k.invariant.kept
+
+pub returns-clause-covered : goal.returns-clause-covered
+returns-clause-covered c = λ s r i hs hr hi (k, p, low, is, inner).
+    c.loop-k.invariant.covered k p (omega (arith, low, c.loop-k-test.false)) s r i hs hr hi
+    (subst (λ (q : Place). IsInnerCell q (board_cell c.args.at s r i)) (sym is) inner)

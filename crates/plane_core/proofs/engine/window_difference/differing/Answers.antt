@@ -1,0 +1,23 @@
+use Rattle.std.proofs.Common.{◌≡◌, ◌+◌, ◌*◌, ◌<◌, ◌≤◌, ℕ, [], ◌∷◌, zero, suc, arith, ap, refl, ◌∙◌}
+use Rattle.std.specs.Int.{bit_at}
+use Rattle.std.proofs.lemmas.Bool.{le-leb, lt-ltb}
+use Rattle.std.proofs.lemmas.Nat.Bits.{bit_at_mask_inside}
+use Rattle.plane_core.specs.windows.LaneSums.{bit_of}
+use Rattle.plane_core.specs.engine.WindowIo.{inner_mask}
+use Rattle.plane_core.proofs.lemmas.engine.WindowDifferenceLemmas.{no_difference}
+use Rattle.plane_core.proofs.engine.window_difference.differing.Goals as goal
+
+-- the places of the inner part are set in the mask
+inner : (first last k j i : ℕ) → (4 ≤ k → first ≡ inner_mask) → (k < 6 → last ≡ inner_mask) → k < 10 → j < 4 → 4 ≤ i → i < 60 → 4 ≤ j * 10 + k
+    → j * 10 + k < 36 → bit_of (first ∷ inner_mask ∷ inner_mask ∷ last ∷ []) j i ≡ 1
+inner first last k zero i above below small low a b d e = ap (λ (w : ℕ). bit_at w i) (above (omega arith)) ∙ bit_at_mask_inside 4 60 i a b
+inner first last k (suc zero) i above below small low a b d e = bit_at_mask_inside 4 60 i a b
+inner first last k (suc (suc zero)) i above below small low a b d e = bit_at_mask_inside 4 60 i a b
+inner first last k (suc (suc (suc zero))) i above below small low a b d e =
+    ap (λ (w : ℕ). bit_at w i) (below (omega arith)) ∙ bit_at_mask_inside 4 60 i a b
+inner first last k (suc (suc (suc (suc j)))) i above below small low a b d e = absurd (omega arith)
+
+pub returns : goal.returns
+returns c j i low a b d e none =
+    no_difference c.args.one c.args.other _ j i c.fits-one.0 c.fits-other.0 refl low
+    (inner _ _ c.args.k j i (λ h. c.inner_if.ensures (le-leb 4 c.args.k h)) (λ h. c.inner_if-2.ensures (lt-ltb c.args.k 6 h)) c.requires low a b d e) none

@@ -1,0 +1,6 @@
+use Rattle.std.proofs.Common.{◌≡◌, length}
+use Rattle.plane_core.specs.engine.WindowIo.{AreRowsRead}
+use Rattle.plane_core.proofs.engine.window_io.read_rows.Given as goal
+
+abbrev pub invariant-loop-r : goal.invariant-loop-r
+invariant-loop-r g l = record { long : length l.rows ≡ g.row.R; read : AreRowsRead l.fn.at l.words l.x l.y l.r l.rows }

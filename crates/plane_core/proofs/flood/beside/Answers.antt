@@ -1,8 +1,0 @@
-use Rattle.plane_core.proofs.FloodLemmas.{all_beside, from_beside}
-use Rattle.plane_core.proofs.flood.beside.Goals as goal
-
-pub returns-clause-from : goal.returns-clause-from
-returns-clause-from c i one = from_beside c.args.word i c.ranges.word.fits one
-
-pub returns-clause-all : goal.returns-clause-all
-returns-clause-all c i j low near one = all_beside c.args.word i j low near one

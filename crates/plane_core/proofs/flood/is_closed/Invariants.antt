@@ -1,7 +1,0 @@
-use Rattle.std.proofs.Common.{◌≡◌, ◌<◌, ◌≤◌, ℕ}
-use Rattle.std.specs.Int.{bit_at}
-use Rattle.plane_core.specs.Floods.{IsClosedAt}
-use Rattle.plane_core.proofs.flood.is_closed.Given as goal
-
-abbrev pub invariant-loop-r : goal.invariant-loop-r
-invariant-loop-r l = (j : ℕ) → bit_at l.all j ≡ 0 → j < 64 → (q : ℕ) → q < l.r → 2 ≤ q → IsClosedAt l.rows l.flood q j

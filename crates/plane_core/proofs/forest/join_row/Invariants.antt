@@ -1,9 +1,0 @@
-use Rattle.std.proofs.Common.{◌-◌}
-use Rattle.plane_core.proofs.ForestLemmas.{IsScanning}
-use Rattle.plane_core.proofs.forest.join_row.Given as goal
-
-abbrev pub invariant-loop-at : goal.invariant-loop-at
-invariant-loop-at l = IsScanning l.cells l.initial.parents l.parents l.place l.start l.at
-
-abbrev pub decreases-loop-at : goal.decreases-loop-at
-decreases-loop-at l = l.place - l.at

@@ -1,5 +1,0 @@
-use Rattle.plane_core.proofs.ForestLemmas.{climbs-more}
-use Rattle.plane_core.proofs.forest.root.Goals as goal
-
-pub loop-at-preserved : goal.loop-at-preserved
-loop-at-preserved c = climbs-more c.args.parents.now c.args.place c.loop-at.at c.requires.back c.loop-at.invariant

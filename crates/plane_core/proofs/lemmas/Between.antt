@@ -1,0 +1,168 @@
+-- Definitions that only proofs name: what holds between two steps of a call, or in one turn of a loop.
+use Rattle.plane_core.specs.plane.Bounds.{AreSidesWithin}
+use Rattle.plane_core.specs.engine.ActiveBoxes.{HoldAll, IsQuiet, box_bound}
+use Rattle.plane_core.specs.plane.Cells.{InOrder, cell_at, distance, has, king_distance, moved_by, plane_bound}
+use Rattle.plane_core.specs.clusters.Clusters.{IsCluster, Linked}
+use Rattle.plane_core.specs.engine.Directions.{IsReached}
+use Rattle.plane_core.specs.clusters.UnionFind.{IsForest, IsPassed, cell_of}
+use Rattle.plane_core.specs.engine.Frames.{FillsFrame, IsFrame, Shows, board_cell, word_of}
+use Rattle.plane_core.specs.plane.Generations.{after, lives_by}
+use Rattle.plane_core.specs.windows.LaneSums.{bit_of, sum_of, total_of}
+use Rattle.plane_core.specs.engine.Leaps.{ShowsInner}
+use Rattle.plane_core.specs.engine.Listing.{AreAmong}
+use Rattle.plane_core.specs.windows.LonePatterns.{Holds, IsFirstRow}
+use Rattle.plane_core.specs.engine.OnBoard.{cells_on}
+use Rattle.plane_core.specs.engine.WindowIo.{bit_on}
+use Rattle.plane_core.specs.engine.WindowOrigins.{HoldsChange, IsCovered, IsInnerCell, compared_with}
+use Rattle.plane_core.specs.plane.Rules.{Numbers}
+use Rattle.plane_core.specs.engine.RowSpans.{AreSpans, IsInSpan, LieInSpans}
+use Rattle.plane_core.specs.windows.Windows.{IsShownInside, row_at}
+use Rattle.plane_core.specs.windows.Words.{one_if}
+use Rattle.plane_core.specs.declared.plane.bounds.Bounds.{Bounds}
+use Rattle.plane_core.specs.declared.plane.cell.Cell.{Cell}
+use Rattle.plane_core.specs.declared.engine.difference_box.Change.{Change}
+use Rattle.plane_core.specs.declared.clusters.union_find.Cursors.{Cursors}
+use Rattle.plane_core.specs.declared.engine.frame.Frame.{Frame}
+use Rattle.plane_core.specs.declared.windows.lane_sums.Sum.{Sum}
+use Rattle.plane_core.specs.declared.windows.lane_sums.Total.{Total}
+use Rattle.plane_core.specs.declared.engine.window_origin.Place.{Place}
+use Rattle.plane_core.specs.declared.engine.row_spans.Span.{Span}
+use Rattle.std.specs.Int.{bit_at}
+use Rattle.std.specs.Prelude.{All, Bool, List, Option, Some, false, length, negsuc, pos, slice_index, true, ℕ, ℤ, ◌%◌, ◌*◌, ◌+ℤ◌, ◌+◌, ◌-ℤ◌, ◌-◌, ◌<◌, ◌==◌, ◌≡◌, ◌≤ℤ◌, ◌≤◌, ◌⊎◌}
+
+-- what the boxes have to say before a leap of n generations
+pub record AreRightFor (rule : Numbers) (cells : List Cell) (boxes : List Bounds) (n : ℕ) : Type 0 where
+  pub even : n % 2 ≡ 0 → IsQuiet rule cells boxes
+  pub odd : n % 2 ≡ 1 → HoldAll boxes cells
+
+-- a board that is ready for a leap of n generations
+pub record IsReady (rule : Numbers) (at : Frame) (n : ℕ) (words : List ℕ) (boxes : List Bounds) (spans : List Span) : Type 0 where
+  pub frame : IsFrame at
+  pub long : FillsFrame at words
+  pub sides : All (AreSidesWithin box_bound) boxes
+  pub right : AreRightFor rule (cells_on at words) boxes n
+  pub spanned : AreSpans at (cells_on at words) spans
+
+-- a board that was led on by n generations, with its boxes and spans
+pub record HasGoneOn (rule : Numbers) (at : Frame) (n : ℕ) (old new : List ℕ) (boxes : List Bounds) (spans : List Span) : Type 0 where
+  pub cells : cells_on at new ≡ after rule (cells_on at old) n
+  pub sides : All (AreSidesWithin box_bound) boxes
+  pub right : AreRightFor rule (cells_on at new) boxes n
+  pub live : LieInSpans at spans (cells_on at new)
+
+-- each cell that lies in no inner part is n generations on what it is
+abbrev pub IsStillOutside : Numbers → List Place → List Cell → ℕ → Type 0
+IsStillOutside rule places cells n = (c : Cell) → ¬ IsCovered places c → has (after rule cells n) c ≡ has cells c
+
+-- the inner part of a window begins in this column and this row
+pub record BeginsAt (p : Place) (column row : ℤ) : Type 0 where
+  pub left : p.left ≡ column -ℤ pos 4
+  pub top : p.top ≡ row -ℤ pos 4
+
+-- the greater one of what was found and another depth
+pub record IsGreater (found : Option ℤ) (depth greater : ℤ) : Type 0 where
+  pub kept : (z : ℤ) → IsReached found z → z ≤ℤ greater
+  pub least : depth ≤ℤ greater
+  pub either : greater ≡ depth ⊎ found ≡ Some greater
+
+-- the trees may only be joined where cells are linked
+abbrev pub JoinsLinked : List ℕ → List ℕ → ℕ → ℕ → Type 0
+JoinsLinked old new j k = (cells : List Cell) → IsForest cells old → Linked cells (cell_of cells j) (cell_of cells k) → IsForest cells new
+
+-- the cells before a cursor come before all that is near the cells from this place on, so many rows further down
+abbrev pub IsBehind : List Cell → ℕ → ℤ → ℕ → Type 0
+IsBehind cells cursor dy place = (p : ℕ) → place ≤ p → p < length cells → IsPassed cells cursor (moved_by (negsuc 1) dy (cell_of cells p))
+
+pub record AreBehind (cells : List Cell) (cursors : Cursors) (place : ℕ) : Type 0 where
+  pub above : IsBehind cells cursors.above (negsuc 0) place
+  pub top : IsBehind cells cursors.top (negsuc 1) place
+
+-- the box isn't larger than the board, and lies so far from the border of the plane that a board round it lies on the plane
+pub record HasRoom (at : Frame) (b : Bounds) : Type 0 where
+  pub across : distance b.left b.right + 1 ≤ 64 * at.lanes
+  pub down : distance b.top b.bottom + 1 ≤ at.rows
+  pub plane : 64 * at.lanes + at.rows ≤ plane_bound
+  pub sides : AreSidesWithin (plane_bound - (64 * at.lanes + at.rows)) b
+
+-- the cell is so many columns and rows from the first cell of the window
+pub record IsSpot (p : Place) (c : Cell) (across down : ℕ) : Type 0 where
+  pub across_is : c.x ≡ p.left +ℤ pos across
+  pub down_is : c.y ≡ p.top +ℤ pos down
+
+-- 64 rows show which cells of the window the list has
+abbrev pub ShowsRows : Place → List ℕ → List Cell → Type 0
+ShowsRows p rows cells =
+    (r i : ℕ) → r < 64 → i < 64 → has cells (cell_at (p.left +ℤ pos i) (p.top +ℤ pos r)) ≡ (bit_at (slice_index rows r) i == 1)
+
+-- Each bit says whether the rule lets a cell live with so many live cells in its neighbourhood, where these are at most nine.
+abbrev pub AnswersTotal : Numbers → Total → List ℕ → List ℕ → Type 0
+AnswersTotal rule total now next =
+    (j i : ℕ) → j < 4 → i < 64 → total_of total j i ≤ 9 → bit_of next j i ≡ one_if (lives_by rule (total_of total j i) (bit_of now j i == 1))
+
+-- the same, where of the row here only the cells beside each cell are counted
+abbrev pub AnswersNeighbours : Numbers → Sum → Sum → Sum → List ℕ → List ℕ → Type 0
+AnswersNeighbours rule up beside down now next =
+    (j i : ℕ) → j < 4 → i < 64
+    → bit_of next j i ≡ one_if (lives_by rule (sum_of up j i + (sum_of beside j i + bit_of now j i) + sum_of down j i) (bit_of now j i == 1))
+
+-- The rows of a place are those of the board some generations later, and what has changed is told.
+abbrev pub IsRunAt : Frame → List ℕ → Numbers → ℕ → Place → List ℕ → Change → Type 0
+IsRunAt at words rule count p rows change = (cells : List Cell) → InOrder cells → Shows at words cells
+    → ShowsInner p rows (after rule cells count) × HoldsChange p (after rule cells count) (compared_with rule cells count) change
+
+-- If each cell off all inner parts is some generations later what it was, the board shows the cells of that time.
+abbrev pub HasLeapt : Frame → Numbers → ℕ → List Place → List ℕ → List ℕ → Type 0
+HasLeapt at rule count places old new = (cells : List Cell) → InOrder cells → Shows at old cells
+    → ((c : Cell) → ¬ IsCovered places c → has (after rule cells count) c ≡ has cells c) → Shows at new (after rule cells count)
+
+-- no bit of a word between two places is 1
+abbrev pub AreDead : ℕ → ℕ → ℕ → Type 0
+AreDead word from to = (b : ℕ) → from ≤ b → b < to → bit_at word b ≡ 0
+
+-- the first bit that is 1 from a place on
+pub record IsNextAlive (word from place : ℕ) : Type 0 where
+  pub low : from ≤ place
+  pub high : place < 64
+  pub one : bit_at word place ≡ 1
+  pub none : AreDead word from place
+
+-- the words of the first n lanes in a row have been read
+pub record HasReadRow (at : Frame) (words : List ℕ) (r : ℕ) (old : List Cell) (n : ℕ) (new : List Cell) : Type 0 where
+  pub grows : AreAmong new old
+  pub sound : (others : List Cell) → Shows at words others → AreAmong others old → AreAmong others new
+  pub complete : (s i : ℕ) → s < n → i < 64 → bit_at (slice_index words (word_of at s r)) i ≡ 1 → has new (board_cell at s r i) ≡ true
+
+-- no cell of a row is alive in these lanes
+abbrev pub IsRowEmpty : Frame → List ℕ → ℕ → ℕ → ℕ → Type 0
+IsRowEmpty at words r from to = (s b : ℕ) → from ≤ s → s < to → b < 64 → bit_at (slice_index words (word_of at s r)) b ≡ 0
+
+-- Which row and column a window's cells are counted from: the first row and the first column that have one.
+pub record IsCorner (n : ℕ) (x : List (List ℕ)) (columns row column : ℕ) : Type 0 where
+  pub row_is : IsFirstRow n x row
+  pub low : column < 64
+  pub some : bit_at columns column ≡ 1
+  pub none : (i : ℕ) → i < column → bit_at columns i ≡ 0
+
+-- the cells that pass a test are further than so far from those that don't
+abbrev pub AreApart : ℕ → (Cell → Bool) → List Cell → Type 0
+AreApart far test cells = (c d : Cell) → has cells c ≡ true → has cells d ≡ true → test c ≡ true → test d ≡ false → far < king_distance c d
+
+-- the window of n vectors has the board's bits from column x and row y on
+abbrev pub IsReadAt : Frame → List ℕ → ℕ → ℕ → ℕ → List (List ℕ) → Type 0
+IsReadAt at words x y n window =
+    (r i : ℕ) → r < 4 * n → i < 64 → bit_at (row_at n window r) i ≡ bit_on at words (x + i) (y + r)
+
+-- a cluster of the pattern, which is alone in the window of n vectors
+pub record IsAlone (n : ℕ) (left top : ℤ) (window : List (List ℕ)) (cells cluster : List Cell) : Type 0 where
+  pub is : IsCluster cells cluster
+  pub held : Holds n left top window cluster
+
+-- for each pattern that the whole window shows at this depth, the other window holds one of its clusters, and nothing else
+abbrev pub HoldsCluster : ℕ → List (List ℕ) → List (List ℕ) → ℕ → Type 0
+HoldsCluster n whole alone depth =
+    (cells : List Cell) (left top : ℤ) → InOrder cells → IsShownInside n left top depth whole cells
+    → (cluster : List Cell) × IsAlone n left top alone cells cluster
+
+-- each cell of the board in the inner part of a window lies in the span of its lane
+abbrev pub HoldInner : Frame → List Span → Place → Type 0
+HoldInner at spans p = (s r i : ℕ) → s < at.lanes → r < at.rows → i < 64 → IsInnerCell p (board_cell at s r i) → IsInSpan spans s r

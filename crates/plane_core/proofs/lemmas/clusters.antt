@@ -1,0 +1,4 @@
+pub mod ClusterLaws
+pub mod ClusterLemmas
+pub mod GatherLemmas
+pub mod UnionFindLemmas

@@ -1,0 +1,442 @@
+-- Forests over the places of a pattern's cells: roots, joined trees, and cursors.
+use Rattle.std.proofs.Common.{◌≡◌, ◌≢◌, ℕ, ℤ, ◌+◌, ◌-◌, ◌+ℤ◌, ◌<◌, ◌≤◌, ◌<ℤ◌, max, min, pos, negsuc, true, false, List, arith, refl, ap, ◌∙◌, sym, subst, inl, inr, ◌⊎◌, length, set}
+use Rattle.std.specs.Cmp.{int_ranks}
+use Rattle.std.specs.Ordering.{int_cmp, is_le, is_lt, ordering_then, MatchOrdering}
+use Rattle.std.specs.declared.cmp.Ordering.{Ordering}
+use Rattle.std.specs.declared.cmp.Ordering.TheVariants.{Less, Equal, Greater}
+use Rattle.std.proofs.lemmas.Bool.{cases_eq, cases_lt, false≢true}
+use Rattle.std.proofs.lemmas.Int.{ints}
+use Rattle.std.proofs.lemmas.List.{get_or-set_same, get_or-set_other, length-set}
+use Rattle.std.proofs.lemmas.List.Elements.{Contains-get_or}
+use Rattle.std.proofs.lemmas.Map.Keys.{Less-from_sorted}
+use borrow.Author.Count.{below_more}
+use Rattle.plane_core.specs.declared.plane.cell.Cell.{Cell}
+use Rattle.plane_core.specs.plane.Cells.{cell_at, cell_cmp, distance, king_distance, moved_by, has, InOrder}
+use Rattle.plane_core.specs.clusters.Clusters.{Linked}
+use Rattle.plane_core.specs.clusters.UnionFind.{cell_of, parent_of, LeadsBack, IsForest, Labels, Joined, Keeps, JoinsAll, IsBridged, NeedsJoin, IsPassed}
+use Rattle.plane_core.specs.declared.clusters.union_find.Cursors.{Cursors}
+use Rattle.plane_core.proofs.lemmas.plane.CellLemmas.{cell_cmp_total, cell_cmp-moved}
+use Rattle.plane_core.proofs.lemmas.plane.SetLemmas.{Contains-has, greater_turned}
+use Rattle.plane_core.proofs.lemmas.clusters.ClusterLemmas.{linked-itself, linked-near, linked-trans, linked-sym}
+use Rattle.plane_core.proofs.lemmas.Between.{AreBehind, IsBehind, JoinsLinked}
+
+pub has-cell_of : (cells : List Cell) (k : ℕ) → k < length cells → has cells (cell_of cells k) ≡ true
+has-cell_of cells k low = Contains-has cells (cell_of cells k) (Contains-get_or cells k _ low)
+
+-- ---- roots
+
+-- on the way from a place to its root: the two are joined, and their cells linked
+pub record Climbs (parents : List ℕ) (place at : ℕ) : Type 0 where
+  pub low : at < length parents
+  pub joined : Joined parents place at
+  pub linked : (cells : List Cell) → IsForest cells parents → Linked cells (cell_of cells place) (cell_of cells at)
+
+pub climbs-more : (parents : List ℕ) (place at : ℕ) → LeadsBack parents → Climbs parents place at → Climbs parents place (parent_of parents at)
+climbs-more parents place at back c = record {
+  low = let low : at < length parents = c.low in let less : parent_of parents at ≤ at = back at c.low in omega arith;
+  joined = λ label labels. c.joined label labels ∙ sym (labels at c.low);
+  linked = λ cells f. linked-trans cells (cell_of cells place) (cell_of cells at) (cell_of cells (parent_of parents at)) (c.linked cells f) (f.linked at c.low);
+}
+
+-- ---- two trees joined
+
+-- what holds once the two trees are one
+pub record AreJoined (old new : List ℕ) (one other : ℕ) : Type 0 where
+  pub forest : JoinsLinked old new one other
+  pub keeps : Keeps old new
+  pub joined : Joined new one other
+
+-- a root leads to an earlier place from now on
+hangs : (parents : List ℕ) (later first one other : ℕ) → first ≤ later → later < length parents → parent_of parents later ≡ later
+    → ((label : ℕ → ℕ) → Labels parents label → label first ≡ label later → label one ≡ label other)
+    → ((cells : List Cell) → IsForest cells parents → Linked cells (cell_of cells one) (cell_of cells other) → Linked cells (cell_of cells later) (cell_of cells first))
+    → AreJoined parents (set parents later first) one other
+hangs parents later first one other less low root equal link = record {
+  forest = λ cells f l. record {
+    size = length-set parents later first ∙ f.size;
+    back = λ k few. elim (cases_eq k later) [
+      | inl same ↦ rw (same, here) less
+      | inr different ↦ rw (there k different) (f.back k (fewer k few))
+    ];
+    linked = λ k few. elim (cases_eq k later) [
+      | inl same ↦ rw (same, here) (link cells f l)
+      | inr different ↦ rw (there k different) (f.linked k (fewer k few))
+    ];
+  };
+  keeps = keeps;
+  joined = λ label labels. equal label (keeps label labels) (hung label labels);
+}
+  where
+    here : parent_of (set parents later first) later ≡ first
+    here = get_or-set_same parents later first 0 low
+
+    there : (k : ℕ) → k ≢ later → parent_of (set parents later first) k ≡ parent_of parents k
+    there k different = get_or-set_other parents later k first 0 different
+
+    fewer : (k : ℕ) → k < length (set parents later first) → k < length parents
+    fewer k few = omega (arith, few, length-set parents later first)
+
+    more : (k : ℕ) → k < length parents → k < length (set parents later first)
+    more k few = omega (arith, few, length-set parents later first)
+
+    hung : (label : ℕ → ℕ) → Labels (set parents later first) label → label first ≡ label later
+    hung label labels = ap label (sym here) ∙ labels later (more later low)
+
+    keeps : Keeps parents (set parents later first)
+    keeps label labels k few = elim (cases_eq k later) [
+      | inl same ↦ ap (λ n. label (parent_of parents n)) same ∙ ap label root ∙ ap label (sym same)
+      | inr different ↦ ap label (sym (there k different)) ∙ labels k (more k few)
+    ]
+
+-- the later of the two roots leads to the earlier
+pub joined_roots : (parents : List ℕ) (one other left right : ℕ) → Climbs parents one left → Climbs parents other right → parent_of parents left ≡ left
+    → parent_of parents right ≡ right → AreJoined parents (set parents (max left right) (min left right)) one other
+joined_roots parents one other left right a b is_left is_right = elim (cases_lt left right) [
+  | inl less ↦
+      let most : max left right ≡ right = omega arith in
+      let least : min left right ≡ left = omega arith in
+      let low : left ≤ right = omega arith in
+      rw (most, least) (hangs parents right left one other low b.low is_right
+      (λ label labels e. a.joined label labels ∙ e ∙ sym (b.joined label labels))
+      (λ cells f l. linked-sym cells (cell_of cells left) (cell_of cells right) (along cells f l)))
+  | inr more ↦
+      let most : max left right ≡ left = omega arith in
+      let least : min left right ≡ right = omega arith in
+      rw (most, least) (hangs parents left right one other more a.low is_left
+      (λ label labels e. a.joined label labels ∙ sym e ∙ sym (b.joined label labels))
+      (λ cells f l. along cells f l))
+]
+  where
+    along : (cells : List Cell) → IsForest cells parents → Linked cells (cell_of cells one) (cell_of cells other)
+        → Linked cells (cell_of cells left) (cell_of cells right)
+    along cells f l =
+        linked-trans cells (cell_of cells left) (cell_of cells one) (cell_of cells right)
+        (linked-sym cells (cell_of cells one) (cell_of cells left) (a.linked cells f))
+        (linked-trans cells (cell_of cells one) (cell_of cells other) (cell_of cells right) l (b.linked cells f))
+
+pub joined-kept : (old new : List ℕ) (j k : ℕ) → Keeps old new → Joined old j k → Joined new j k
+joined-kept old new j k keeps joined label labels = joined label (keeps label labels)
+
+pub keeps-then : (a b c : List ℕ) → Keeps a b → Keeps b c → Keeps a c
+keeps-then a b c first second label labels = first label (second label labels)
+
+pub near_linked : (cells : List Cell) (j k : ℕ) → j < length cells → k < length cells → king_distance (cell_of cells j) (cell_of cells k) ≤ 2
+    → Linked cells (cell_of cells j) (cell_of cells k)
+near_linked cells j k few less near = linked-near cells (cell_of cells j) (cell_of cells k) (has-cell_of cells j few) (has-cell_of cells k less) near
+
+-- ---- the order of places
+
+pub in_places : (cells : List Cell) (j k : ℕ) → InOrder cells → j < k → k < length cells → cell_cmp (cell_of cells j) (cell_of cells k) ≡ Less
+in_places cells j k o less low = Less-from_sorted cell_cmp cells j k _ o less low
+
+-- what comes before a cell comes before any that stands at a later place
+pub passed_later : (cells : List Cell) (cursor place p : ℕ) (dx dy : ℤ) → InOrder cells → place ≤ p → p < length cells
+    → IsPassed cells cursor (moved_by dx dy (cell_of cells place)) → IsPassed cells cursor (moved_by dx dy (cell_of cells p))
+passed_later cells cursor place p dx dy o less low passed = elim (cases_eq place p) [
+  | inl same ↦ subst (λ (q : ℕ). IsPassed cells cursor (moved_by dx dy (cell_of cells q))) same passed
+  | inr different ↦ λ k few.
+      let before : place < p = omega (arith, less, different) in
+      cell_cmp_total.trans (cell_of cells k) (moved_by dx dy (cell_of cells place)) (moved_by dx dy (cell_of cells p)) (passed k few)
+      (cell_cmp-moved dx dy (cell_of cells place) (cell_of cells p) ∙ in_places cells place p o before low)
+]
+
+pub all_behind : (cells : List Cell) (cursor place : ℕ) (dy : ℤ) → InOrder cells
+    → IsPassed cells cursor (moved_by (negsuc 1) dy (cell_of cells place)) → IsBehind cells cursor dy place
+all_behind cells cursor place dy o passed p less low = passed_later cells cursor place p (negsuc 1) dy o less low passed
+
+-- a cell that comes before another stands in a row above it, or in its row and further left
+pub before_cases : (a b : Cell) → cell_cmp a b ≡ Less → (a.y <ℤ b.y) ⊎ ((a.y ≡ b.y) × (a.x <ℤ b.x))
+before_cases a b e = rows (int_cmp a.y b.y) (int_ranks a.y b.y) e
+  where
+    columns : (r : Ordering) → MatchOrdering r (a.x <ℤ b.x) (a.x ≡ b.x) (b.x <ℤ a.x) → r ≡ Less → a.x <ℤ b.x
+    columns Less is e = is
+    columns Equal is e = cc
+    columns Greater is e = cc
+
+    rows : (r : Ordering) → MatchOrdering r (a.y <ℤ b.y) (a.y ≡ b.y) (b.y <ℤ a.y) → ordering_then r (int_cmp a.x b.x) ≡ Less
+        → (a.y <ℤ b.y) ⊎ ((a.y ≡ b.y) × (a.x <ℤ b.x))
+    rows Less is e = inl is
+    rows Equal is e = inr (is, columns (int_cmp a.x b.x) (int_ranks a.x b.x) e)
+    rows Greater is e = cc
+
+-- a near cell of that row doesn't come before the first place that is near
+not_left : (c d : Cell) (dy : ℤ) → c.y ≡ (d.y +ℤ dy) → king_distance c d ≤ 2 → cell_cmp c (moved_by (negsuc 1) dy d) ≢ Less
+not_left c d dy row near e = elim (before_cases c (moved_by (negsuc 1) dy d) e) [
+  | inl above ↦ let up : c.y <ℤ (d.y +ℤ dy) = above in absurd (omega (arith, ints, up, row))
+  | inr left ↦
+      let far : c.x <ℤ (d.x +ℤ negsuc 1) = left.1 in
+      let most : distance c.x d.x ≤ 2 = omega (arith, near) in
+      absurd (omega (arith, ints, far, most))
+]
+
+-- nor after the last
+not_right : (c d : Cell) (dy : ℤ) → c.y ≡ (d.y +ℤ dy) → king_distance c d ≤ 2 → cell_cmp (moved_by (pos 2) dy d) c ≢ Less
+not_right c d dy row near e = elim (before_cases (moved_by (pos 2) dy d) c e) [
+  | inl above ↦ let up : (d.y +ℤ dy) <ℤ c.y = above in absurd (omega (arith, ints, up, row))
+  | inr right ↦
+      let far : (d.x +ℤ pos 2) <ℤ c.x = right.1 in
+      let most : distance c.x d.x ≤ 2 = omega (arith, near) in
+      absurd (omega (arith, ints, far, most))
+]
+
+-- a near cell that stands earlier lies in the same row or in one of the two above
+near_rows : (c d : Cell) → cell_cmp c d ≡ Less → king_distance c d ≤ 2 → (c.y ≡ (d.y +ℤ pos 0)) ⊎ ((c.y ≡ (d.y +ℤ negsuc 0)) ⊎ (c.y ≡ (d.y +ℤ negsuc 1)))
+near_rows c d e near = go (before_cases c d e)
+  where
+    most : distance c.y d.y ≤ 2
+    most = omega (arith, near)
+
+    go : (c.y <ℤ d.y) ⊎ ((c.y ≡ d.y) × (c.x <ℤ d.x)) → (c.y ≡ (d.y +ℤ pos 0)) ⊎ ((c.y ≡ (d.y +ℤ negsuc 0)) ⊎ (c.y ≡ (d.y +ℤ negsuc 1)))
+    go (inr same) = inl (omega (arith, ints, same.0))
+    go (inl above) = inr (rows (int_cmp c.y (d.y +ℤ negsuc 0)) (int_ranks c.y (d.y +ℤ negsuc 0)))
+      where
+        rows : (r : Ordering) → MatchOrdering r (c.y <ℤ (d.y +ℤ negsuc 0)) (c.y ≡ (d.y +ℤ negsuc 0)) ((d.y +ℤ negsuc 0) <ℤ c.y)
+            → (c.y ≡ (d.y +ℤ negsuc 0)) ⊎ (c.y ≡ (d.y +ℤ negsuc 1))
+        rows Less is = inr (omega (arith, ints, is, most))
+        rows Equal is = inl is
+        rows Greater is = absurd (omega (arith, ints, is, above))
+
+-- a cell of a row further up comes before
+before_up : (a b : Cell) → a.y <ℤ b.y → cell_cmp a b ≡ Less
+before_up a b up = go (int_cmp a.y b.y) (int_ranks a.y b.y)
+  where
+    go : (r : Ordering) → MatchOrdering r (a.y <ℤ b.y) (a.y ≡ b.y) (b.y <ℤ a.y) → ordering_then r (int_cmp a.x b.x) ≡ Less
+    go Less is = refl
+    go Equal is = absurd (omega (arith, ints, is, up))
+    go Greater is = absurd (omega (arith, ints, is, up))
+
+-- near cells of a row above that don't lie past the third column from the cell before are near that one too
+pub bridged : (cells : List Cell) (k place : ℕ) (from : Cell) → 1 ≤ place → from.y <ℤ (cell_of cells place).y → InOrder cells → place < length cells
+    → (cell_of cells (place - 1)).y ≡ (cell_of cells place).y → king_distance (cell_of cells (place - 1)) (cell_of cells place) ≤ 2 → k < place
+    → cell_cmp (cell_of cells k) from ≢ Less → cell_cmp (cell_of cells k) (cell_at ((cell_of cells (place - 1)).x +ℤ pos 3) from.y) ≡ Less
+    → king_distance (cell_of cells k) (cell_of cells place) ≤ 2 → IsBridged cells k place
+bridged cells k place from some above o low row right less left early near = record {
+  earlier = elim (cases_lt (k + 1) place) [
+    | inl fine ↦ fine
+    | inr late ↦
+        let same : k ≡ place - 1 = omega (arith, less, late) in
+        let level : c.y ≡ b.y = ap (λ (n : ℕ). (cell_of cells n).y) same in
+        absurd (omega (arith, ints, level, row, above, up))
+  ];
+  left = omega (arith, across, down);
+  right = right;
+}
+  where
+    b : Cell
+    b = cell_of cells (place - 1)
+
+    c : Cell
+    c = cell_of cells k
+
+    d : Cell
+    d = cell_of cells place
+
+    stands : (c.y ≡ from.y) × (c.x <ℤ (b.x +ℤ pos 3))
+    stands = elim (before_cases c (cell_at (b.x +ℤ pos 3) from.y) early) [
+      | inl higher ↦ absurd (left (before_up c from higher))
+      | inr same ↦ same
+    ]
+
+    up : c.y ≡ from.y
+    up = stands.0
+
+    wide : distance c.x d.x ≤ 2
+    wide = omega (arith, near)
+
+    high : distance c.y d.y ≤ 2
+    high = omega (arith, near)
+
+    ahead : b.x <ℤ d.x
+    ahead = elim (before_cases b d (in_places cells (place - 1) place o (omega (arith, some)) low)) [
+      | inl higher ↦ absurd (omega (arith, ints, higher, row))
+      | inr same ↦ same.1
+    ]
+
+    across : distance c.x b.x ≤ 2
+    across = omega (arith, ints, wide, ahead, stands.1)
+
+    down : distance c.y b.y ≤ 2
+    down = omega (arith, ints, high, row)
+
+-- the near places of one row are joined with this one
+abbrev pub JoinsRow : List Cell → List ℕ → ℕ → Cell → Cell → Type 0
+JoinsRow cells parents place from to = (k : ℕ) → k < place → cell_cmp (cell_of cells k) from ≢ Less → cell_cmp to (cell_of cells k) ≢ Less
+    → NeedsJoin cells k place → Joined parents k place
+
+-- of an earlier cell of the row that is near, the one just before is between them, and so near both
+between : (c b d : Cell) → cell_cmp c b ≡ Less → cell_cmp b d ≡ Less → c.y ≡ (d.y +ℤ pos 0) → king_distance c d ≤ 2
+    → (king_distance c b ≤ 2) × (king_distance b d ≤ 2)
+between c b d first second row near = go (before_cases c b first) (before_cases b d second)
+  where
+    most : distance c.x d.x ≤ 2
+    most = omega (arith, near)
+
+    go : (c.y <ℤ b.y) ⊎ ((c.y ≡ b.y) × (c.x <ℤ b.x)) → (b.y <ℤ d.y) ⊎ ((b.y ≡ d.y) × (b.x <ℤ d.x))
+        → (king_distance c b ≤ 2) × (king_distance b d ≤ 2)
+    go (inl above) (inl under) = absurd (omega (arith, ints, above, under, row))
+    go (inl above) (inr right) = absurd (omega (arith, ints, above, right.0, row))
+    go (inr left) (inl under) = absurd (omega (arith, ints, left.0, under, row))
+    go (inr left) (inr right) =
+        let west : distance c.x b.x ≤ 2 = omega (arith, ints, left.1, right.1, most) in
+        let east : distance b.x d.x ≤ 2 = omega (arith, ints, left.1, right.1, most) in
+        let level : distance c.y b.y ≤ 2 = omega (arith, ints, left.0) in
+        let even : distance b.y d.y ≤ 2 = omega (arith, ints, right.0) in
+        (omega (arith, west, level), omega (arith, east, even))
+
+-- the place just before a place, joined with it if their cells are near
+pub joins_before : (cells : List Cell) (parents : List ℕ) (place : ℕ) → (NeedsJoin cells (place - 1) place → Joined parents (place - 1) place)
+    → (k : ℕ) → k + 1 ≡ place → NeedsJoin cells k place → Joined parents k place
+joins_before cells parents place joined k next =
+    let before : place - 1 ≡ k = omega (arith, next) in subst (λ j. NeedsJoin cells j place → Joined parents j place) before joined
+
+-- the place before and two rows are all that is near and stands earlier
+pub joins_rows : (cells : List Cell) (a b c : List ℕ) (place : ℕ) → InOrder cells → place < length cells → Keeps a b → Keeps b c
+    → ((k : ℕ) → k + 1 ≡ place → NeedsJoin cells k place → Joined a k place)
+    → JoinsRow cells b place (moved_by (negsuc 1) (negsuc 0) (cell_of cells place)) (moved_by (pos 2) (negsuc 0) (cell_of cells place))
+    → JoinsRow cells c place (moved_by (negsuc 1) (negsuc 1) (cell_of cells place)) (moved_by (pos 2) (negsuc 1) (cell_of cells place))
+    → (k : ℕ) → k < place → NeedsJoin cells k place → Joined c k place
+joins_rows cells a b c place o low first second here above top k less need =
+    go (near_rows (cell_of cells k) (cell_of cells place) (in_places cells k place o less low) need.near)
+  where
+    left : (dy : ℤ) → (cell_of cells k).y ≡ ((cell_of cells place).y +ℤ dy) → cell_cmp (cell_of cells k) (moved_by (negsuc 1) dy (cell_of cells place)) ≢ Less
+    left dy row = not_left (cell_of cells k) (cell_of cells place) dy row need.near
+
+    right : (dy : ℤ) → (cell_of cells k).y ≡ ((cell_of cells place).y +ℤ dy) → cell_cmp (moved_by (pos 2) dy (cell_of cells place)) (cell_of cells k) ≢ Less
+    right dy row = not_right (cell_of cells k) (cell_of cells place) dy row need.near
+
+    bridged : k + 1 < place → (cell_of cells k).y ≡ ((cell_of cells place).y +ℤ pos 0) → IsBridged cells k place
+    bridged early row =
+        let both = between (cell_of cells k) (cell_of cells (place - 1)) (cell_of cells place) (in_places cells k (place - 1) o (omega (arith, early)) (omega (arith, early, low)))
+        (in_places cells (place - 1) place o (omega (arith, early)) low) row need.near in
+        record { earlier = early; left = both.0; right = both.1 }
+
+    last : (cell_of cells k).y ≡ ((cell_of cells place).y +ℤ pos 0) → Joined a k place
+    last row = elim (cases_lt (k + 1) place) [
+      | inl early ↦ absurd (need.alone (bridged early row))
+      | inr late ↦ here k (omega (arith, less, late)) need
+    ]
+
+    go : ((cell_of cells k).y ≡ ((cell_of cells place).y +ℤ pos 0)) ⊎ (((cell_of cells k).y ≡ ((cell_of cells place).y +ℤ negsuc 0))
+        ⊎ ((cell_of cells k).y ≡ ((cell_of cells place).y +ℤ negsuc 1))) → Joined c k place
+    go (inl row) = joined-kept b c k place second (joined-kept a b k place first (last row))
+    go (inr (inl row)) = joined-kept b c k place second (above k less (left (negsuc 0) row) (right (negsuc 0) row) need)
+    go (inr (inr row)) = top k less (left (negsuc 1) row) (right (negsuc 1) row) need
+
+-- what needs no join of its own is joined by the place just before
+pub joins_near : (cells : List Cell) (old new : List ℕ) (place : ℕ) → Keeps old new → JoinsAll cells old place
+    → ((k : ℕ) → k < place → NeedsJoin cells k place → Joined new k place)
+    → (k : ℕ) → k < place → king_distance (cell_of cells k) (cell_of cells place) ≤ 2 → Joined new k place
+joins_near cells old new place keeps all needed k less near = go (cases_lt (k + 1) place)
+  where
+    alone : ¬ IsBridged cells k place → Joined new k place
+    alone free = needed k less (record { near = near; alone = free })
+
+    last : k + 1 < place → king_distance (cell_of cells (place - 1)) (cell_of cells place) ≤ 2 → Joined new (place - 1) place
+    last early right = needed (place - 1) (omega (arith, early)) (record { near = right; alone = λ b. absurd (omega (arith, b.earlier)) })
+
+    through : k + 1 < place → king_distance (cell_of cells k) (cell_of cells (place - 1)) ≤ 2
+        → king_distance (cell_of cells (place - 1)) (cell_of cells place) ≤ 2 → Joined new k place
+    through early left right label labels =
+        joined-kept old new k (place - 1) keeps (all k (place - 1) (omega (arith, early)) (omega (arith, early)) left) label labels
+        ∙ last early right label labels
+
+    go : (k + 1 < place) ⊎ (place ≤ k + 1) → Joined new k place
+    go (inr late) = alone (λ b. absurd (omega (arith, late, b.earlier)))
+    go (inl early) = elim (cases_lt 2 (king_distance (cell_of cells k) (cell_of cells (place - 1)))) [
+      | inl far ↦ alone (λ b. absurd (omega (arith, far, b.left)))
+      | inr left ↦ elim (cases_lt 2 (king_distance (cell_of cells (place - 1)) (cell_of cells place))) [
+        | inl far ↦ alone (λ b. absurd (omega (arith, far, b.right)))
+        | inr right ↦ through early left right
+      ]
+    ]
+
+-- ---- the scan of a row
+
+-- the places that were scanned are joined if they are near
+pub record IsScanning (cells : List Cell) (old new : List ℕ) (place first at : ℕ) : Type 0 where
+  pub forest : IsForest cells new
+  pub keeps : Keeps old new
+  pub joined : (k : ℕ) → first ≤ k → k < at → NeedsJoin cells k place → Joined new k place
+
+pub scanning-more : (cells : List Cell) (old now new : List ℕ) (place first at : ℕ) → IsScanning cells old now place first at → IsForest cells new
+    → Keeps now new → (NeedsJoin cells at place → Joined new at place) → IsScanning cells old new place first (at + 1)
+scanning-more cells old now new place first at s f keeps here = record {
+  forest = f;
+  keeps = keeps-then old now new s.keeps keeps;
+  joined = λ k low less near. elim (cases_eq k at) [
+    | inl same ↦ subst (λ (n : ℕ). Joined new n place) (sym same) (here (subst (λ (n : ℕ). NeedsJoin cells n place) same near))
+    | inr different ↦ let few : k < at = omega (arith, less, different) in joined-kept now new k place keeps (s.joined k low few near)
+  ];
+}
+
+-- no cell after the end of a row is between its ends
+pub scanned : (cells : List Cell) (old new : List ℕ) (place first at : ℕ) (to : Cell) → InOrder cells → place < length cells
+    → (at < place → cell_cmp to (cell_of cells at) ≡ Less) → IsScanning cells old new place first at → (k : ℕ) → first ≤ k → k < place
+    → cell_cmp to (cell_of cells k) ≢ Less → NeedsJoin cells k place → Joined new k place
+scanned cells old new place first at to o low end s k from less short near = elim (cases_lt k at) [
+  | inl few ↦ s.joined k from few near
+  | inr more ↦ absurd (short (after k more less))
+]
+  where
+    after : (k : ℕ) → at ≤ k → k < place → cell_cmp to (cell_of cells k) ≡ Less
+    after k more less =
+        let early : at < place = omega (arith, more, less) in
+        elim (cases_eq at k) [
+          | inl same ↦ subst (λ (n : ℕ). cell_cmp to (cell_of cells n) ≡ Less) same (end early)
+          | inr different ↦
+              let before : at < k = omega (arith, more, different) in
+              let few : k < length cells = omega (arith, less, low) in
+              cell_cmp_total.trans to (cell_of cells at) (cell_of cells k) (end early) (in_places cells at k o before few)
+        ]
+
+-- a place more is joined with all before it
+pub joins_more : (cells : List Cell) (old new : List ℕ) (place : ℕ) → Keeps old new → JoinsAll cells old place
+    → ((k : ℕ) → k < place → king_distance (cell_of cells k) (cell_of cells place) ≤ 2 → Joined new k place) → JoinsAll cells new (place + 1)
+joins_more cells old new place keeps before here j k less low near = elim (cases_eq k place) [
+  | inl same ↦
+      let few : j < place = omega (arith, less, same) in
+      subst (λ (n : ℕ). Joined new j n) (sym same)
+      (here j few (subst (λ (n : ℕ). king_distance (cell_of cells j) (cell_of cells n) ≤ 2) same near))
+  | inr different ↦ let few : k < place = omega (arith, low, different) in joined-kept old new j k keeps (before j k less few near)
+]
+
+-- the cursors serve the next place too
+pub behind_next : (cells : List Cell) (cursors : Cursors) (place : ℕ) → AreBehind cells cursors place → AreBehind cells cursors (place + 1)
+behind_next cells cursors place b = record {
+  above = λ p less low. b.above p (omega (arith, less)) low;
+  top = λ p less low. b.top p (omega (arith, less)) low;
+}
+
+-- a cell that isn't at most another comes after it
+pub not_most : (a b : Cell) → is_le (cell_cmp a b) ≡ false → cell_cmp b a ≡ Less
+not_most a b e = greater_turned a b (go (cell_cmp a b) e)
+  where
+    go : (r : Ordering) → is_le r ≡ false → r ≡ Greater
+    go Less f = cc
+    go Equal f = cc
+    go Greater f = refl
+
+-- what is tested as less comes before
+pub less : (r : Ordering) → is_lt r ≡ true → r ≡ Less
+less Less is = refl
+less Equal is = absurd (false≢true is)
+less Greater is = absurd (false≢true is)
+
+-- one root more
+pub roots-more : (parents : List ℕ) (n : ℕ) → n < length parents → ((k : ℕ) → k < n → parent_of parents k ≡ k)
+    → (k : ℕ) → k < n + 1 → parent_of (set parents n n) k ≡ k
+roots-more parents n low roots =
+    below_more (λ k. parent_of (set parents n n) k ≡ k) n
+    (λ k less. get_or-set_other parents n k n 0 (λ same. absurd (omega (arith, less, same))) ∙ roots k less) (get_or-set_same parents n n 0 low)
+
+-- a place for each cell, each a root
+pub forest-roots : (cells : List Cell) (parents : List ℕ) → length parents ≡ length cells
+    → ((k : ℕ) → k < length cells → parent_of parents k ≡ k) → IsForest cells parents
+forest-roots cells parents long roots =
+    let inside : (k : ℕ) → k < length parents → k < length cells = λ k low. subst (λ n. k < n) long low in
+    record {
+      size = long;
+      back = λ k low. omega (arith, roots k (inside k low));
+      linked = λ k low. subst (λ p. Linked cells (cell_of cells k) (cell_of cells p)) (sym (roots k (inside k low)))
+          (linked-itself cells (cell_of cells k) (has-cell_of cells k (inside k low)));
+    }

@@ -1,0 +1,236 @@
+-- Windows read from a board and put back.
+use Rattle.std.proofs.Common.{◌≡◌, ◌≢◌, ◌==◌, ◌+◌, ◌-◌, ◌*◌, ◌/◌, ◌%◌, ◌<◌, ◌≤◌, ℕ, List, cond, length, set, slice_index}
+use Rattle.std.proofs.Common.{Fits, w64, arith, refl, ap, ◌∙◌, sym, inl, inr, ◌⊎◌}
+use Rattle.std.specs.Int.{bit_at}
+use Rattle.std.proofs.lemmas.Bool.{cases_eq, cases_lt}
+use Rattle.std.proofs.lemmas.List.{get_or-set_same, get_or-set_other}
+use Rattle.std.proofs.lemmas.Nat.Bits.{bit_at_mask_above, bit_at_mask_below, bit_at_mask_inside}
+use Rattle.plane_core.specs.declared.engine.frame.Frame.{Frame}
+use Rattle.plane_core.specs.engine.Frames.{FillsFrame, word_of}
+use Rattle.plane_core.specs.engine.WindowIo.{bit_on, inner_mask, AreRowsRead, IsInnerColumn, IsInner, IsRowPut, IsPutBack}
+use Rattle.plane_core.specs.windows.Windows.{row_at}
+use Rattle.plane_core.proofs.lemmas.engine.FrameLemmas.{one_word as same_spot, word-inside}
+use Rattle.plane_core.proofs.lemmas.Between.{IsReadAt}
+
+-- ---- reading
+
+-- a row that is joined of two words of the board
+pub read_word : (at : Frame) (words : List ℕ) (x y r i word : ℕ) → i < 64
+    → (i + x % 64 < 64 → bit_at word i ≡ bit_at (slice_index words (x / 64 * at.rows + y + r)) (i + x % 64))
+    → (64 ≤ i + x % 64 → bit_at word i ≡ bit_at (slice_index words (x / 64 * at.rows + y + at.rows + r)) (i + x % 64 - 64))
+    → bit_at word i ≡ bit_on at words (x + i) (y + r)
+read_word at words x y r i word low left right = split (cases_lt (i + x % 64) 64)
+  where
+    split : (i + x % 64 < 64) ⊎ (64 ≤ i + x % 64) → bit_at word i ≡ bit_on at words (x + i) (y + r)
+    split (inl first) =
+        let lane : x / 64 ≡ (x + i) / 64 = omega arith in
+        let rows : x / 64 * at.rows ≡ (x + i) / 64 * at.rows = ap (λ (m : ℕ). m * at.rows) lane in
+        let place : x / 64 * at.rows + y + r ≡ (x + i) / 64 * at.rows + (y + r) = omega arith in
+        let bit : i + x % 64 ≡ (x + i) % 64 = omega arith in
+        left first ∙ (λ t. bit_at (slice_index words (place t)) (bit t))
+    split (inr second) =
+        let lane : x / 64 + 1 ≡ (x + i) / 64 = omega arith in
+        let rows : (x / 64 + 1) * at.rows ≡ (x + i) / 64 * at.rows = ap (λ (m : ℕ). m * at.rows) lane in
+        let place : x / 64 * at.rows + y + at.rows + r ≡ (x + i) / 64 * at.rows + (y + r) = omega arith in
+        let bit : i + x % 64 - 64 ≡ (x + i) % 64 = omega arith in
+        right second ∙ (λ t. bit_at (slice_index words (place t)) (bit t))
+
+-- one row more was read
+pub rows_more : (at : Frame) (words : List ℕ) (x y r word : ℕ) (rows : List ℕ) → r < length rows → AreRowsRead at words x y r rows
+    → ((i : ℕ) → i < 64 → bit_at word i ≡ bit_on at words (x + i) (y + r)) → AreRowsRead at words x y (r + 1) (set rows r word)
+rows_more at words x y r word rows within read new q i low inside = split (cases_eq q r)
+  where
+    split : (q ≡ r) ⊎ (q ≡ r → ⊥) → bit_at (slice_index (set rows r word) q) i ≡ bit_on at words (x + i) (y + q)
+    split (inl e) =
+        ap (λ (p : ℕ). bit_at (slice_index (set rows r word) p) i) e
+        ∙ ap (λ (w : ℕ). bit_at w i) (get_or-set_same rows r word 0 within)
+        ∙ new i inside
+        ∙ ap (λ (p : ℕ). bit_on at words (x + i) (y + p)) (sym e)
+    split (inr apart) = ap (λ (w : ℕ). bit_at w i) (get_or-set_other rows r q word 0 apart) ∙ read q i (omega arith) inside
+
+-- the window of rows that were read
+pub read_packed : (at : Frame) (words : List ℕ) (x y n : ℕ) (rows : List ℕ) (window : List (List ℕ)) → AreRowsRead at words x y (4 * n) rows
+    → ((r : ℕ) → r < 4 * n → row_at n window r ≡ slice_index rows r) → IsReadAt at words x y n window
+read_packed at words x y n rows window read packed r i low inside = ap (λ (w : ℕ). bit_at w i) (packed r low) ∙ read r i low inside
+
+-- ---- putting back
+
+-- a bit of the mask says whether the column is an inner one
+pub inner_bit : (i : ℕ) → ((bit_at inner_mask i ≡ 1) × (4 ≤ i) × (i < 60)) ⊎ ((bit_at inner_mask i ≡ 0) × (4 ≤ i → i < 60 → ⊥))
+inner_bit i = split (cases_lt i 4) (cases_lt i 60)
+  where
+    split : (i < 4) ⊎ (4 ≤ i) → (i < 60) ⊎ (60 ≤ i) → ((bit_at inner_mask i ≡ 1) × (4 ≤ i) × (i < 60)) ⊎ ((bit_at inner_mask i ≡ 0) × (4 ≤ i → i < 60 → ⊥))
+    split (inl left) v = inr (bit_at_mask_below 4 60 i left, λ a b. absurd (omega arith))
+    split (inr low) (inl high) = inl (bit_at_mask_inside 4 60 i low high, low, high)
+    split (inr low) (inr right) = inr (bit_at_mask_above 4 60 i right, λ a b. absurd (omega arith))
+
+chosen_yes : (t y n : ℕ) → t ≡ 1 → cond (t == 1) y n ≡ y
+chosen_yes t y n e = ap (λ (m : ℕ). cond (m == 1) y n) e
+
+chosen_no : (t y n : ℕ) → t ≡ 0 → cond (t == 1) y n ≡ n
+chosen_no t y n e = ap (λ (m : ℕ). cond (m == 1) y n) e
+
+-- what becomes of one place of the board
+abbrev IsOnePut : ℕ → ℕ → ℕ → ℕ → ℕ → ℕ → ℕ → Type 0
+IsOnePut x y word old new u v =
+    ((c : IsInnerColumn x u) × (v ≡ y) × (new ≡ bit_at word c.i)) ⊎ ((IsInnerColumn x u → v ≢ y) × (new ≡ old))
+
+-- a place in one of the two lanes: it is column i of the word, if that is an inner one
+put_there : (x y word old new u v i mask value : ℕ) → v ≡ y → (i < 64 → u ≡ x + i) → (IsInnerColumn x u → u ≡ x + i)
+    → mask ≡ bit_at inner_mask i → value ≡ bit_at word i → new ≡ cond (mask == 1) value old → IsOnePut x y word old new u v
+put_there x y word old new u v i mask value row there back m w is = split (inner_bit i)
+  where
+    split : ((bit_at inner_mask i ≡ 1) × (4 ≤ i) × (i < 60)) ⊎ ((bit_at inner_mask i ≡ 0) × (4 ≤ i → i < 60 → ⊥)) → IsOnePut x y word old new u v
+    split (inl (one, low, high)) =
+        inl (record { i = i; low = low; high = high; is = there (omega arith) }, row, is ∙ chosen_yes mask value old (m ∙ one) ∙ w)
+    split (inr (none, outside)) =
+        inr (
+          (λ c e. let at : u ≡ x + i = back c in let a = c.is in let b = c.low in let d = c.high in
+              outside (omega arith) (omega arith)),
+          is ∙ chosen_no mask value old (m ∙ none),
+        )
+
+-- both words of a row
+pub row_put : (at : Frame) (old mid new : List ℕ) (x y word m1 v1 m2 v2 : ℕ) → y < at.rows
+    → ((i : ℕ) → i < x % 64 → bit_at m1 i ≡ 0) → ((i : ℕ) → x % 64 ≤ i → i < 64 → bit_at m1 i ≡ bit_at inner_mask (i - x % 64))
+    → ((i : ℕ) → x % 64 ≤ i → i < 64 → bit_at v1 i ≡ bit_at word (i - x % 64))
+    → ((i : ℕ) → bit_at m2 i ≡ bit_at inner_mask (i + 64 - x % 64)) → ((i : ℕ) → bit_at v2 i ≡ bit_at word (i + 64 - x % 64))
+    → ((b : ℕ) → bit_at (slice_index mid (x / 64 * at.rows + y)) b ≡ cond (bit_at m1 b == 1) (bit_at v1 b) (bit_at (slice_index old (x / 64 * at.rows + y)) b))
+    → ((m : ℕ) → m ≢ x / 64 * at.rows + y → slice_index mid m ≡ slice_index old m)
+    → ((b : ℕ) → bit_at (slice_index new (x / 64 * at.rows + y + at.rows)) b
+    ≡ cond (bit_at m2 b == 1) (bit_at v2 b) (bit_at (slice_index mid (x / 64 * at.rows + y + at.rows)) b))
+    → ((m : ℕ) → m ≢ x / 64 * at.rows + y + at.rows → slice_index new m ≡ slice_index mid m) → IsRowPut at x y word old new
+row_put at old mid new x y word m1 v1 m2 v2 inside m1low m1high v1high m2is v2is first first_others second second_others u v hu hv =
+    split (cases_eq spot a) (cases_eq spot b)
+  where
+    a : ℕ
+    a = x / 64 * at.rows + y
+
+    b : ℕ
+    b = x / 64 * at.rows + y + at.rows
+
+    spot : ℕ
+    spot = word_of at (u / 64) v
+
+    later : a ≢ b
+    later e = absurd (omega arith)
+
+    new_first : spot ≡ a → bit_on at new u v ≡ cond (bit_at m1 (u % 64) == 1) (bit_at v1 (u % 64)) (bit_on at old u v)
+    new_first e =
+        ap (λ (w : ℕ). bit_at w (u % 64)) (second_others spot (λ f. later (sym e ∙ f)))
+        ∙ ap (λ (m : ℕ). bit_at (slice_index mid m) (u % 64)) e
+        ∙ first (u % 64)
+        ∙ ap (λ (m : ℕ). cond (bit_at m1 (u % 64) == 1) (bit_at v1 (u % 64)) (bit_at (slice_index old m) (u % 64))) (sym e)
+
+    in_first : spot ≡ a → (u / 64 ≡ x / 64) × (v ≡ y) → (u % 64 < x % 64) ⊎ (x % 64 ≤ u % 64) → IsOnePut x y word (bit_on at old u v) (bit_on at new u v) u v
+    in_first e (lane, row) (inl left) =
+        inr (
+          λ c same. let is = c.is in absurd (omega arith),
+          new_first e
+              ∙ chosen_no (bit_at m1 (u % 64)) (bit_at v1 (u % 64)) (bit_on at old u v) (m1low (u % 64) left),
+        )
+    in_first e (lane, row) (inr right) =
+        put_there x y word (bit_on at old u v) (bit_on at new u v) u v (u % 64 - x % 64) (bit_at m1 (u % 64)) (bit_at v1 (u % 64)) row
+        (λ less. omega arith) (λ c. omega arith) (m1high (u % 64) right (omega arith)) (v1high (u % 64) right (omega arith)) (new_first e)
+
+    new_second : spot ≡ b → bit_on at new u v ≡ cond (bit_at m2 (u % 64) == 1) (bit_at v2 (u % 64)) (bit_on at old u v)
+    new_second e =
+        ap (λ (m : ℕ). bit_at (slice_index new m) (u % 64)) e
+        ∙ second (u % 64)
+        ∙ ap (λ (w : ℕ). cond (bit_at m2 (u % 64) == 1) (bit_at v2 (u % 64)) (bit_at w (u % 64))) (first_others b (λ f. later (sym f)))
+        ∙ ap (λ (m : ℕ). cond (bit_at m2 (u % 64) == 1) (bit_at v2 (u % 64)) (bit_at (slice_index old m) (u % 64))) (sym e)
+
+    in_second : spot ≡ b → (u / 64 ≡ x / 64 + 1) × (v ≡ y) → IsOnePut x y word (bit_on at old u v) (bit_on at new u v) u v
+    in_second e (lane, row) =
+        put_there x y word (bit_on at old u v) (bit_on at new u v) u v (u % 64 + 64 - x % 64) (bit_at m2 (u % 64)) (bit_at v2 (u % 64)) row
+        (λ less. omega arith) (λ c. omega arith) (m2is (u % 64)) (v2is (u % 64)) (new_second e)
+
+    outside : (spot ≡ a → ⊥) → (spot ≡ b → ⊥) → IsInnerColumn x u → v ≢ y
+    outside apart further c row = lanes (cases_eq (u / 64) (x / 64))
+      where
+        lanes : (u / 64 ≡ x / 64) ⊎ (u / 64 ≡ x / 64 → ⊥) → ⊥
+        lanes (inl same) = apart (λ t. same t * at.rows + row t)
+        lanes (inr other) =
+            let is = c.is in
+            let high = c.high in
+            let lane : u / 64 ≡ x / 64 + 1 = omega arith in
+            let rows : u / 64 * at.rows ≡ (x / 64 + 1) * at.rows = ap (λ (m : ℕ). m * at.rows) lane in
+            further (omega arith)
+
+    split : (spot ≡ a) ⊎ (spot ≡ a → ⊥) → (spot ≡ b) ⊎ (spot ≡ b → ⊥) → IsOnePut x y word (bit_on at old u v) (bit_on at new u v) u v
+    split (inl e) other = in_first e (same_spot at.rows (u / 64) v (x / 64) y e hv inside) (cases_lt (u % 64) (x % 64))
+    split (inr apart) (inl e) = in_second e (same_spot at.rows (u / 64) v (x / 64 + 1) y (omega arith) hv inside)
+    split (inr apart) (inr further) =
+        inr (outside apart further, ap (λ (w : ℕ). bit_at w (u % 64)) (second_others spot further ∙ first_others spot apart))
+
+-- one row more
+pub put_more : (at : Frame) (x y end : ℕ) (rows old mid new : List ℕ) → 4 ≤ end → IsPutBack at x y end rows old mid
+    → IsRowPut at x (y + end) (slice_index rows end) mid new → IsPutBack at x y (end + 1) rows old new
+put_more at x y end rows old mid new least put row u v hu hv = split (row u v hu hv) (put u v hu hv)
+  where
+    split : IsOnePut x (y + end) (slice_index rows end) (bit_on at mid u v) (bit_on at new u v) u v
+        → ((c : IsInner x y end u v) × (bit_on at mid u v ≡ bit_at (slice_index rows c.row.r) c.column.i))
+        ⊎ ((IsInner x y end u v → ⊥) × (bit_on at mid u v ≡ bit_on at old u v))
+        → ((c : IsInner x y (end + 1) u v) × (bit_on at new u v ≡ bit_at (slice_index rows c.row.r) c.column.i))
+        ⊎ ((IsInner x y (end + 1) u v → ⊥) × (bit_on at new u v ≡ bit_on at old u v))
+    split (inl (c, same, is)) before =
+        inl (record { column = c; row = record { r = end; low = least; high = omega arith; is = same } }, is)
+    split (inr (off, kept)) (inl (c, is)) =
+        let high = c.row.high in
+        inl (record { column = c.column; row = record { r = c.row.r; low = c.row.low; high = omega arith; is = c.row.is } }, kept ∙ is)
+    split (inr (off, kept)) (inr (outside, same)) = inr (none, kept ∙ same)
+      where
+        none : IsInner x y (end + 1) u v → ⊥
+        none c = rows_of (cases_eq c.row.r end)
+          where
+            rows_of : (c.row.r ≡ end) ⊎ (c.row.r ≡ end → ⊥) → ⊥
+            rows_of (inl last) = off c.column (c.row.is ∙ ap (λ (m : ℕ). y + m) last)
+            rows_of (inr apart) =
+                let high = c.row.high in
+                outside (record { column = c.column; row = record { r = c.row.r; low = c.row.low; high = omega arith; is = c.row.is } })
+
+pub none_put : (at : Frame) (x y : ℕ) (rows old : List ℕ) → IsPutBack at x y 4 rows old old
+none_put at x y rows old u v hu hv = inr (λ c. let low = c.row.low in let high = c.row.high in absurd (omega arith), refl)
+
+-- ---- words
+
+pub column_low : (x : ℕ) → x % 64 < 64
+column_low x = omega arith
+
+-- the two words of a row that begins in column x
+pub words_in : (at : Frame) (words : List ℕ) (x y : ℕ) → FillsFrame at words → x / 64 + 1 < at.lanes → y < at.rows
+    → (x / 64 * at.rows + y < length words) × (x / 64 * at.rows + y + at.rows < length words)
+words_in at words x y long lane row =
+    let first : x / 64 * at.rows + y < at.lanes * at.rows = word-inside at (x / 64) y (omega (arith, lane)) row in
+    let second : (x / 64 + 1) * at.rows + y < at.lanes * at.rows = word-inside at (x / 64 + 1) y lane row in
+    (omega (arith, long, first), omega (arith, long, second))
+
+-- the two words of a row further on
+pub read_in : (at : Frame) (words : List ℕ) (x y r most : ℕ) → FillsFrame at words → x / 64 + 1 < at.lanes → y + most ≤ at.rows → r < most
+    → (x / 64 * at.rows + y + r < length words) × (x / 64 * at.rows + y + at.rows + r < length words)
+read_in at words x y r most long lane row low =
+    let both = words_in at words x (y + r) long lane (omega (arith, row, low)) in
+    (omega (arith, both.0), omega (arith, both.1))
+
+-- the places of these words fit their type, since a list has fewer items than that has numbers
+pub fits_begin : (at : Frame) (words : List ℕ) (x y most : ℕ) → length words * 8 < 9223372036854775808 → FillsFrame at words → x / 64 + 1 < at.lanes
+    → y + most ≤ at.rows → Fits w64 (x / 64 * at.rows) × Fits w64 (x / 64 * at.rows + y) × Fits w64 (x / 64 * at.rows + y + at.rows)
+fits_begin at words x y most small long lane row =
+    let many : at.lanes ≡ x / 64 + 2 + (at.lanes - (x / 64 + 2)) = omega (arith, lane) in
+    let whole : at.lanes * at.rows ≡ (x / 64 + 2 + (at.lanes - (x / 64 + 2))) * at.rows = ap (λ (m : ℕ). m * at.rows) many in
+    let inside : x / 64 * at.rows + y + at.rows ≤ length words = omega (arith, long, row, whole) in
+    fits_places (x / 64 * at.rows) y at.rows (length words) small inside
+  where
+    fits_places : (a b c n : ℕ) → n * 8 < 9223372036854775808 → a + b + c ≤ n → Fits w64 a × Fits w64 (a + b) × Fits w64 (a + b + c)
+    fits_places a b c n few low = (record { fits = omega arith }, record { fits = omega arith }, record { fits = omega arith })
+
+pub fits_row : (at : Frame) (words : List ℕ) (x y : ℕ) → length words * 8 < 9223372036854775808 → FillsFrame at words → x / 64 + 1 < at.lanes
+    → y < at.rows → Fits w64 (x / 64 * at.rows) × Fits w64 (x / 64 * at.rows + y) × Fits w64 (x / 64 * at.rows + y + at.rows)
+fits_row at words x y small long lane row = fits_begin at words x y 1 small long lane (omega (arith, row))
+
+pub fits_place : (n : ℕ) (words : List ℕ) → length words * 8 < 9223372036854775808 → n < length words → Fits w64 n
+fits_place n words small low = record { fits = omega (arith, small, low) }
+
+-- the word of a row of a lane
+pub index_in : (at : Frame) (words : List ℕ) (s r n : ℕ) → FillsFrame at words → s < at.lanes → r < at.rows → n ≡ word_of at s r → n < length words
+index_in at words s r n long lane row is = let inside = word-inside at s r lane row in omega (arith, long, is, inside)

@@ -1,0 +1,7 @@
+pub mod AgainLemmas
+pub mod CropLemmas
+pub mod DivergesLemmas
+pub mod FloodLemmas
+pub mod FloodedLemmas
+pub mod NeverRecursLemmas
+pub mod RulesOutRestLemmas

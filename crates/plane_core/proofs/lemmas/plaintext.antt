@@ -1,0 +1,9 @@
+pub mod PlaintextBox
+pub mod PlaintextCells
+pub mod PlaintextLines
+pub mod PlaintextOrder
+pub mod PlaintextRoundTrip
+pub mod PlaintextRows
+pub mod PlaintextSmall
+pub mod PlaintextWalks
+pub mod PlaintextWriting

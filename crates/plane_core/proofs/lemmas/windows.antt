@@ -1,0 +1,6 @@
+pub mod LaneLemmas
+pub mod RowPackingLemmas
+pub mod RuleLogicLemmas
+pub mod ShiftLemmas
+pub mod WindowLemmas
+pub mod WordLemmas

@@ -1,0 +1,142 @@
+-- The rows of a window, one after another and in vectors.
+use Rattle.std.proofs.Common.{Fits, w64, zero, suc, length, length-set, ◌∷◌, ◌≡◌, ◌≢◌, ◌+◌, ◌*◌, ◌/◌, ◌%◌, ◌<◌, ◌⊎◌, ℕ, List, [], arith, ap, ◌∙◌, sym, inl, inr, get_or, set, slice_index}
+use Rattle.std.proofs.lemmas.List.{get_or-set_other, get_or-set_same}
+use Rattle.std.proofs.lemmas.Nat.{div-add-mod', div_below, mod-mul-add, mod_below}
+use Rattle.plane_core.specs.windows.Windows.{lane_at, row_at}
+use Rattle.plane_core.proofs.lemmas.plane.CaseLemmas.{same_or_not}
+
+-- the rows of vector k, and that their numbers fit their type
+pub first_row : (k n rows : ℕ) → k < n → rows ≡ 4 * n → k < rows
+first_row k n rows low four = omega (arith, low, four)
+
+pub second_row : (k n rows : ℕ) → k < n → rows ≡ 4 * n → n + k < rows
+second_row k n rows low four = omega (arith, low, four)
+
+pub third_row : (k n rows : ℕ) → k < n → rows ≡ 4 * n → 2 * n + k < rows
+third_row k n rows low four = omega (arith, low, four)
+
+pub fourth_row : (k n rows : ℕ) → k < n → rows ≡ 4 * n → 3 * n + k < rows
+fourth_row k n rows low four = omega (arith, low, four)
+
+pub fits_below : (n rows : ℕ) → n < rows → Fits w64 rows → Fits w64 n
+fits_below n rows low fits = let h = fits.fits in record { fits = omega (arith, low, h) }
+
+pub fits_twice : (n rows : ℕ) → rows ≡ 4 * n → Fits w64 rows → Fits w64 (2 * n)
+fits_twice n rows four fits = let h = fits.fits in record { fits = omega (arith, four, h) }
+
+pub fits_thrice : (n rows : ℕ) → rows ≡ 4 * n → Fits w64 rows → Fits w64 (3 * n)
+fits_thrice n rows four fits = let h = fits.fits in record { fits = omega (arith, four, h) }
+
+-- row r is lane r / n of vector r % n
+by_lanes : (n : ℕ) (x : List (List ℕ)) (rows : List ℕ) → 0 < n
+    → ((m j : ℕ) → m < n → j < 4 → lane_at x m j ≡ slice_index rows (j * n + m)) → (r : ℕ) → r < 4 * n → row_at n x r ≡ slice_index rows r
+by_lanes n x rows some each r low =
+    each (r % n) (r / n) (mod_below r n some) (div_below r n 4 some low) ∙ ap (slice_index rows) (div-add-mod' r n)
+
+-- ---- packing
+
+-- the vectors before vector k have their rows
+abbrev pub ArePacked : ℕ → List ℕ → List (List ℕ) → ℕ → Type 0
+ArePacked n rows x k = (m j : ℕ) → m < k → j < 4 → lane_at x m j ≡ slice_index rows (j * n + m)
+
+pub all_packed : (n : ℕ) (rows : List ℕ) (x : List (List ℕ)) (k : ℕ) → 0 < n → ArePacked n rows x k → k ≡ n → (r : ℕ) → r < 4 * n
+    → row_at n x r ≡ slice_index rows r
+all_packed n rows x k some packed is r low = by_lanes n x rows some (λ m j less lane. packed m j (omega arith) lane) r low
+
+-- a vector more
+pub packed_more : (n k : ℕ) (rows : List ℕ) (x : List (List ℕ)) → k < length x → ArePacked n rows x k
+    → ArePacked n rows (set x k (get_or rows k 0 ∷ get_or rows (n + k) 0 ∷ get_or rows (2 * n + k) 0 ∷ get_or rows (3 * n + k) 0 ∷ [])) (k + 1)
+packed_more n k rows x low before m j less lane = split (same_or_not m k)
+  where
+    v : List ℕ
+    v = get_or rows k 0 ∷ get_or rows (n + k) 0 ∷ get_or rows (2 * n + k) 0 ∷ get_or rows (3 * n + k) 0 ∷ []
+
+    each : (i : ℕ) → i < 4 → slice_index v i ≡ slice_index rows (i * n + k)
+    each zero small = ap (slice_index rows) (omega arith)
+    each (suc zero) small = ap (slice_index rows) (omega arith)
+    each (suc (suc zero)) small = ap (slice_index rows) (omega arith)
+    each (suc (suc (suc zero))) small = ap (slice_index rows) (omega arith)
+    each (suc (suc (suc (suc i)))) small = absurd (omega (arith, small))
+
+    split : (m ≡ k) ⊎ (m ≢ k) → lane_at (set x k v) m j ≡ slice_index rows (j * n + m)
+    split (inl same) =
+        ap (λ (q : ℕ). lane_at (set x k v) q j) same ∙ ap (λ (w : List ℕ). slice_index w j) (get_or-set_same x k v [] low) ∙ each j lane
+        ∙ ap (λ (q : ℕ). slice_index rows (j * n + q)) (sym same)
+    split (inr apart) = ap (λ (w : List ℕ). slice_index w j) (get_or-set_other x k m v [] apart) ∙ before m j (omega (arith, less, apart)) lane
+
+-- ---- unpacking
+
+-- the rows of the first vectors stand in their places
+abbrev pub AreUnpacked : ℕ → List (List ℕ) → List ℕ → ℕ → Type 0
+AreUnpacked n window rows count = (j m : ℕ) → j < 4 → m < count → slice_index rows (j * n + m) ≡ lane_at window m j
+
+pub unpacked_more : (n : ℕ) (window : List (List ℕ)) (rows more vector : List ℕ) (k : ℕ) → k < n → AreUnpacked n window rows k
+    → vector ≡ get_or window k [] → ((j : ℕ) → j < 4 → slice_index more (j * n + k) ≡ slice_index vector j)
+    → ((j m : ℕ) → j < 4 → m < n → m ≢ k → slice_index more (j * n + m) ≡ slice_index rows (j * n + m)) → AreUnpacked n window more (k + 1)
+unpacked_more n window rows more vector k small is same at others j m low less = split (same_or_not m k)
+  where
+    split : (m ≡ k) ⊎ (m ≢ k) → slice_index more (j * n + m) ≡ lane_at window m j
+    split (inl e) =
+        ap (λ (q : ℕ). slice_index more (j * n + q)) e ∙ at j low ∙ ap (λ (v : List ℕ). slice_index v j) same ∙ ap (λ (q : ℕ). lane_at window q j) (sym e)
+    split (inr apart) = others j m low (omega arith) apart ∙ is j m low (omega arith)
+
+pub all_unpacked : (n : ℕ) (window : List (List ℕ)) (rows : List ℕ) (k : ℕ) → 0 < n → AreUnpacked n window rows k → k ≡ n → (r : ℕ) → r < 4 * n
+    → slice_index rows r ≡ row_at n window r
+all_unpacked n window rows k some is all r low = sym (by_lanes n window rows some (λ m j less lane. sym (is j m lane (omega arith))) r low)
+
+-- the rows of other vectors are what they were
+pub other_rows : (n k j m : ℕ) (rows : List ℕ) (a b c d : ℕ) → k < n → m < n → m ≢ k
+    → slice_index (set (set (set (set rows k a) (n + k) b) (2 * n + k) c) (3 * n + k) d) (j * n + m) ≡ slice_index rows (j * n + m)
+other_rows n k j m rows a b c d small low apart =
+    get_or-set_other (set (set (set rows k a) (n + k) b) (2 * n + k) c) (3 * n + k) (j * n + m) d 0 (λ e. off 3 (omega arith))
+    ∙ get_or-set_other (set (set rows k a) (n + k) b) (2 * n + k) (j * n + m) c 0 (λ e. off 2 (omega arith))
+    ∙ get_or-set_other (set rows k a) (n + k) (j * n + m) b 0 (λ e. off 1 (omega arith))
+    ∙ get_or-set_other rows k (j * n + m) a 0 (λ e. off 0 (omega arith))
+  where
+    off : (q : ℕ) → j * n + m ≢ q * n + k
+    off q e = apart (sym (mod-mul-add j n m low) ∙ ap (λ (r : ℕ). r % n) e ∙ mod-mul-add q n k small)
+
+-- the rows of the vector itself
+module _ (n k : ℕ) (rows v : List ℕ) (small : k < n) (long : length rows ≡ 4 * n) where
+  abbrev pub one : List ℕ
+  one = set rows k (get_or v 0 0)
+
+  abbrev pub two : List ℕ
+  two = set one (n + k) (get_or v 1 0)
+
+  abbrev pub three : List ℕ
+  three = set two (2 * n + k) (get_or v 2 0)
+
+  abbrev pub four : List ℕ
+  four = set three (3 * n + k) (get_or v 3 0)
+
+  own_0 : get_or four k 0 ≡ get_or v 0 0
+  own_0 =
+      get_or-set_other three (3 * n + k) k (get_or v 3 0) 0 (λ e. omega (arith, e, small))
+      ∙ get_or-set_other two (2 * n + k) k (get_or v 2 0) 0 (λ e. omega (arith, e, small))
+      ∙ get_or-set_other one (n + k) k (get_or v 1 0) 0 (λ e. omega (arith, e, small))
+      ∙ get_or-set_same rows k (get_or v 0 0) 0 (omega (arith, small, long))
+
+  own_1 : get_or four (n + k) 0 ≡ get_or v 1 0
+  own_1 =
+      get_or-set_other three (3 * n + k) (n + k) (get_or v 3 0) 0 (λ e. omega (arith, e, small))
+      ∙ get_or-set_other two (2 * n + k) (n + k) (get_or v 2 0) 0 (λ e. omega (arith, e, small))
+      ∙ get_or-set_same one (n + k) (get_or v 1 0) 0 (omega (arith, small, long, length-set rows k (get_or v 0 0)))
+
+  own_2 : get_or four (2 * n + k) 0 ≡ get_or v 2 0
+  own_2 =
+      get_or-set_other three (3 * n + k) (2 * n + k) (get_or v 3 0) 0 (λ e. omega (arith, e, small))
+      ∙ get_or-set_same two (2 * n + k) (get_or v 2 0) 0
+      (omega (arith, small, long, length-set rows k (get_or v 0 0), length-set one (n + k) (get_or v 1 0)))
+
+  own_3 : get_or four (3 * n + k) 0 ≡ get_or v 3 0
+  own_3 =
+      get_or-set_same three (3 * n + k) (get_or v 3 0) 0
+      (omega (arith, small, long, length-set rows k (get_or v 0 0), length-set one (n + k) (get_or v 1 0), length-set two (2 * n + k) (get_or v 2 0)))
+
+  pub own_rows : (j : ℕ) → j < 4 → slice_index four (j * n + k) ≡ slice_index v j
+  own_rows zero low = ap (λ (i : ℕ). get_or four i 0) (omega arith) ∙ own_0
+  own_rows (suc zero) low = ap (λ (i : ℕ). get_or four i 0) (omega arith) ∙ own_1
+  own_rows (suc (suc zero)) low = ap (λ (i : ℕ). get_or four i 0) (omega arith) ∙ own_2
+  own_rows (suc (suc (suc zero))) low = ap (λ (i : ℕ). get_or four i 0) (omega arith) ∙ own_3
+  own_rows (suc (suc (suc (suc j)))) low = absurd (omega (arith, low))

@@ -1,8 +1,0 @@
-use Rattle.plane_core.proofs.LocalityLemmas.{right_inside, sees_no_further}
-use Rattle.plane_core.proofs.locality.cut_off.Goals as goal
-
-pub returns-clause-sees : goal.returns-clause-sees
-returns-clause-sees c = sees_no_further
-
-pub returns-clause-inside : goal.returns-clause-inside
-returns-clause-inside c = right_inside

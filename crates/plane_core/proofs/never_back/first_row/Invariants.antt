@@ -1,6 +1,0 @@
-use Rattle.std.proofs.Common.{◌≡◌, ◌<◌, ℕ}
-use Rattle.plane_core.specs.Windows.{row_at}
-use Rattle.plane_core.proofs.never_back.first_row.Given as goal
-
-abbrev pub invariant-loop-r : goal.invariant-loop-r
-invariant-loop-r g l = (r : ℕ) → r < l.r → row_at g.row.N l.window r ≡ 0

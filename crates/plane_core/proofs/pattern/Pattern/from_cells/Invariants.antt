@@ -1,7 +1,0 @@
-use Rattle.std.proofs.Common.{◌≡◌, drop, position}
-use Rattle.std.specs.List.{position_from}
-use Rattle.plane_core.specs.Cells.{off_plane}
-use Rattle.plane_core.proofs.pattern.Pattern.from_cells.Given as goal
-
-abbrev pub invariant-loop-index : goal.invariant-loop-index
-invariant-loop-index l = position_from off_plane l.index (drop l.index l.cells) ≡ position off_plane l.cells

@@ -1,0 +1,15 @@
+use Rattle.std.proofs.Common.{◌≡◌, ◌∷◌, ◌++◌, ◌∙◌, List, ℕ, ap, subst, take}
+use Rattle.plane_core.specs.plane.Rules.{IsRule, digits, rule_text}
+use Rattle.plane_core.proofs.lemmas.plaintext.PlaintextWriting.{Writes_as}
+use Rattle.plane_core.proofs.plane.rule.Rule.write_text.Goals as goal
+
+pub returns-clause-text : goal.returns-clause-text
+unfolding rule_text
+returns-clause-text g c =
+    let rule = c.self.inside in
+    let text : take c.put_numbers-end.result c.put_numbers-end.new.text ≡ (98 ∷ digits 1 rule.births) ++ 115 ∷ digits 0 rule.survivals =
+    c.put_numbers-end.ensures.text ∙ ap (λ (front : List ℕ). front ++ 115 ∷ digits 0 rule.survivals) c.put_numbers-middle.ensures.text in
+    rw (← c.self.view_is) (Writes_as {r = c.put.result} text c.put.ensures)
+
+pub returns-clause-rule : goal.returns-clause-rule
+returns-clause-rule g c = subst IsRule c.self.view_is (record { births = c.self.told.0; survivals = c.self.told.1 })

@@ -1,5 +1,0 @@
-use Rattle.plane_core.proofs.RuleNumbers.{ReadUpTo}
-use Rattle.plane_core.proofs.rule.read_numbers.Given as goal
-
-abbrev pub invariant-loop-i : goal.invariant-loop-i
-invariant-loop-i g l = ReadUpTo l.i-end l.least l.text l.i l.answers l.remainder

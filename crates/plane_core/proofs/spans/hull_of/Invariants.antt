@@ -1,5 +1,0 @@
-use Rattle.plane_core.specs.Spans.{HoldsSpans}
-use Rattle.plane_core.proofs.spans.hull_of.Given as goal
-
-abbrev pub invariant-loop-lane : goal.invariant-loop-lane
-invariant-loop-lane l = HoldsSpans l.spans l.lane l.hull

@@ -1,8 +1,0 @@
--- A pattern without some of its cells.
-use Rattle.std.specs.Prelude.{not, List, filter}
-use Rattle.plane_core.specs.declared.cell.Cell.{Cell}
-use Rattle.plane_core.specs.Cells.{has}
-
--- the cells that are none of the others
-abbrev pub without : List Cell → List Cell → List Cell
-without cells others = filter (λ c. not (has others c)) cells

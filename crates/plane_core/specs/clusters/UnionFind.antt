@@ -1,0 +1,83 @@
+-- How clusters are found: the places of a pattern's list become a forest. Each leads to an earlier place or is a root.
+use Rattle.std.specs.Prelude.{◌≡◌, ◌+◌, ◌-◌, ◌<◌, ◌≤◌, ◌==◌, ℕ, pos, List, [], ◌∷◌, cond, drop, get_or, length, take}
+use Rattle.std.specs.List.{AllPairs}
+use Rattle.std.specs.declared.cmp.Ordering.TheVariants.{Less}
+use Rattle.plane_core.specs.declared.plane.cell.Cell.{Cell}
+use Rattle.plane_core.specs.plane.Cells.{cell_at, cell_cmp, king_distance}
+use Rattle.plane_core.specs.clusters.Clusters.{FirstBefore, Linked}
+
+-- the cell at a place
+abbrev pub cell_of : List Cell → ℕ → Cell
+cell_of cells k = get_or cells k (cell_at (pos 0) (pos 0))
+
+-- the place to which a place leads
+abbrev pub parent_of : List ℕ → ℕ → ℕ
+parent_of parents k = get_or parents k 0
+
+-- no place leads to a later one
+abbrev pub LeadsBack : List ℕ → Type 0
+LeadsBack parents = (k : ℕ) → k < length parents → parent_of parents k ≤ k
+
+-- each cell is linked to the one to which its place leads
+pub record IsForest (cells : List Cell) (parents : List ℕ) : Type 0 where
+  pub size : length parents ≡ length cells
+  pub back : LeadsBack parents
+  pub linked : (k : ℕ) → k < length parents → Linked cells (cell_of cells k) (cell_of cells (parent_of parents k))
+
+-- each place has the label of the one to which it leads
+abbrev pub Labels : List ℕ → (ℕ → ℕ) → Type 0
+Labels parents label = (k : ℕ) → k < length parents → label (parent_of parents k) ≡ label k
+
+-- two places are of one tree: whoever labels trees gives them one label
+abbrev pub Joined : List ℕ → ℕ → ℕ → Type 0
+Joined parents j k = (label : ℕ → ℕ) → Labels parents label → label j ≡ label k
+
+-- what was joined still is
+abbrev pub Keeps : List ℕ → List ℕ → Type 0
+Keeps old new = (label : ℕ → ℕ) → Labels new label → Labels old label
+
+-- places of near cells are joined, up to this place
+abbrev pub JoinsAll : List Cell → List ℕ → ℕ → Type 0
+JoinsAll cells parents place =
+    (j k : ℕ) → j < k → k < place → king_distance (cell_of cells j) (cell_of cells k) ≤ 2 → Joined parents j k
+
+-- the cell at the place just before a place is near that one's cell and an earlier one, so that it joins the two
+pub record IsBridged (cells : List Cell) (k place : ℕ) : Type 0 where
+  pub earlier : k + 1 < place
+  pub left : king_distance (cell_of cells k) (cell_of cells (place - 1)) ≤ 2
+  pub right : king_distance (cell_of cells (place - 1)) (cell_of cells place) ≤ 2
+
+-- near cells that aren't joined by the one between them
+pub record NeedsJoin (cells : List Cell) (k place : ℕ) : Type 0 where
+  pub near : king_distance (cell_of cells k) (cell_of cells place) ≤ 2
+  pub alone : ¬ IsBridged cells k place
+
+-- the places before the cursor are those of cells that come before this one
+abbrev pub IsPassed : List Cell → ℕ → Cell → Type 0
+IsPassed cells cursor from = (k : ℕ) → k < cursor → cell_cmp (cell_of cells k) from ≡ Less
+
+-- the cells at places with this number
+abbrev pub numbered : ℕ → List ℕ → List Cell → List Cell
+numbered n [] cells = []
+numbered n (m ∷ ms) [] = []
+numbered n (m ∷ ms) (c ∷ cs) = cond (m == n) (c ∷ numbered n ms cs) (numbered n ms cs)
+
+-- The places that were passed have the numbers of their clusters, and each cluster the cells that have its number.
+pub record ArePutInClusters (cells : List Cell) (parents numbers : List ℕ) (clusters : List (List Cell)) (place : ℕ) : Type 0 where
+  pub size : length numbers ≡ place
+  pub few : place ≤ length cells
+  pub labels : (k : ℕ) → k < place → get_or numbers (parent_of parents k) 0 ≡ get_or numbers k 0
+  pub below : (k : ℕ) → k < place → get_or numbers k 0 < length clusters
+  pub lists : (n : ℕ) → n < length clusters → get_or clusters n [] ≡ numbered n numbers cells
+  pub used : (n : ℕ) → n < length clusters → (k : ℕ) × (k < place) × (get_or numbers k 0 ≡ n)
+  pub linked : (j k : ℕ) → j < place → k < place → get_or numbers j 0 ≡ get_or numbers k 0 → Linked cells (cell_of cells j) (cell_of cells k)
+  pub in_order : AllPairs FirstBefore clusters
+
+-- The places that were passed have the numbers of their clusters, and the others lead as they did in the forest.
+pub record IsGatheringCells (cells : List Cell) (parents : List ℕ) (clusters : List (List Cell)) (place : ℕ) : Type 0 where
+  pub forest : List ℕ
+  pub is_forest : IsForest cells forest
+  pub joined : JoinsAll cells forest (length cells)
+  pub size : length parents ≡ length cells
+  pub passed : ArePutInClusters cells forest (take place parents) clusters place
+  pub others : drop place parents ≡ drop place forest

@@ -1,0 +1,13 @@
+pub mod ActiveBoxes
+pub mod Boards
+pub mod Covers
+pub mod Directions
+pub mod Frames
+pub mod Leaps
+pub mod Listing
+pub mod LoneWindows
+pub mod OnBoard
+pub mod RowSpans
+pub mod WindowDifferences
+pub mod WindowIo
+pub mod WindowOrigins

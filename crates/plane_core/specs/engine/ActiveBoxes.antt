@@ -1,0 +1,63 @@
+-- Boxes outside of which nothing changes from one generation to the next but one, and windows that cover them.
+use Rattle.std.specs.Prelude.{◌≡◌, ◌≢◌, ◌<◌, ◌≤◌, ℕ, true, List, Option, Any, IsSomeAnd, unsigned_abs}
+use Rattle.std.specs.Int.{bit_at}
+use Rattle.plane_core.specs.declared.plane.bounds.Bounds.{Bounds}
+use Rattle.plane_core.specs.declared.plane.cell.Cell.{Cell}
+use Rattle.plane_core.specs.declared.engine.difference_box.Span.{Span}
+use Rattle.plane_core.specs.declared.engine.window_origin.Place.{Place}
+use Rattle.plane_core.specs.plane.Bounds.{IsWithin, enlarged}
+use Rattle.plane_core.specs.plane.Cells.{has}
+use Rattle.plane_core.specs.plane.Generations.{after}
+use Rattle.plane_core.specs.engine.WindowOrigins.{IsCovered, IsInnerCell}
+use Rattle.plane_core.specs.plane.Rules.{Numbers}
+
+-- how far from the origin the sides of a box may be, and of a rectangle of united boxes: no board reaches further
+abbrev pub box_bound : ℕ
+box_bound = 8388608
+
+abbrev pub rectangle_bound : ℕ
+rectangle_bound = 8388612
+
+-- the window begins so near to the origin that a box of its cells has its sides within the bound
+pub record IsInReach (p : Place) : Type 0 where
+  pub left : unsigned_abs p.left ≤ 6291456
+  pub top : unsigned_abs p.top ≤ 6291456
+
+-- the cell lies in one of the boxes
+abbrev pub IsInOne : List Bounds → Cell → Type 0
+IsInOne boxes c = Any (λ b. IsWithin b c) boxes
+
+-- the cell lies within n columns and rows of one of the boxes
+abbrev pub IsNearOne : ℕ → List Bounds → Cell → Type 0
+IsNearOne n boxes c = Any (λ b. IsWithin (enlarged n b) c) boxes
+
+-- boxes that have at least what others had
+abbrev pub AreWider : List Bounds → List Bounds → Type 0
+AreWider boxes later = (n : ℕ) (c : Cell) → IsNearOne n boxes c → IsNearOne n later c
+
+-- each cell that is not within 2 of a box is the same two generations on
+abbrev pub IsQuiet : Numbers → List Cell → List Bounds → Type 0
+IsQuiet rule cells boxes = (c : Cell) → ¬ IsNearOne 2 boxes c → has (after rule cells 2) c ≡ has cells c
+
+-- each live cell lies in a box
+abbrev pub HoldAll : List Bounds → List Cell → Type 0
+HoldAll boxes cells = (c : Cell) → has cells c ≡ true → IsInOne boxes c
+
+-- each cell within 4 of a box lies in the inner part of a window
+abbrev pub AreCovered : List Place → List Bounds → Type 0
+AreCovered places boxes = (c : Cell) → IsNearOne 4 boxes c → IsCovered places c
+
+-- each bit that is 1 lies between the first and the last, which are below 64
+pub record HasBits (word : ℕ) (span : Span) : Type 0 where
+  pub first : (i : ℕ) → bit_at word i ≡ 1 → span.first ≤ i
+  pub last : (i : ℕ) → bit_at word i ≡ 1 → i ≤ span.last
+  pub order : span.first ≤ span.last
+  pub high : span.last < 64
+
+-- the box, if there is one, has each inner cell of the window in it in which the two patterns differ
+abbrev pub HoldsDifference : Place → List Cell → List Cell → Option Bounds → Type 0
+HoldsDifference p one other found = (c : Cell) → IsInnerCell p c → has one c ≢ has other c → IsSomeAnd found (λ b. IsWithin b c)
+
+-- each cell of an inner part in which the two patterns differ lies in one of the boxes
+abbrev pub HoldDifferences : List Place → List Cell → List Cell → List Bounds → Type 0
+HoldDifferences places one other boxes = (c : Cell) → IsCovered places c → has one c ≢ has other c → IsInOne boxes c

@@ -1,0 +1,33 @@
+-- A board that goes on by leaps.
+use Rattle.std.specs.Prelude.{◌≡◌, ℕ, Bool, true, All, List}
+use Rattle.plane_core.specs.declared.plane.bounds.Bounds.{Bounds}
+use Rattle.plane_core.specs.declared.plane.cell.Cell.{Cell}
+use Rattle.plane_core.specs.declared.engine.frame.Frame.{Frame}
+use Rattle.plane_core.specs.declared.engine.row_spans.Span.{Span}
+use Rattle.plane_core.specs.engine.ActiveBoxes.{HoldAll, IsQuiet, box_bound}
+use Rattle.plane_core.specs.plane.Cells.{plane_bound}
+use Rattle.plane_core.specs.engine.Frames.{FillsFrame, IsFrame, bounds_of}
+use Rattle.plane_core.specs.plane.Bounds.{AreSidesWithin}
+use Rattle.plane_core.specs.engine.OnBoard.{cells_on}
+use Rattle.plane_core.specs.plane.Rules.{Numbers}
+use Rattle.plane_core.specs.engine.RowSpans.{AreSpans}
+
+-- a pattern under a rule
+pub record Running : Type 0 where
+  pub rule : Numbers
+  pub cells : List Cell
+
+-- a board's words and boxes
+pub record IsBoard (at : Frame) (rule : Numbers) (words : List ℕ) (boxes : List Bounds) (holds_all : Bool) : Type 0 where
+  pub frame : IsFrame at
+  pub long : FillsFrame at words
+  pub sides : All (AreSidesWithin box_bound) boxes
+  pub quiet : IsQuiet rule (cells_on at words) boxes
+  pub all : holds_all ≡ true → HoldAll boxes (cells_on at words)
+
+-- and the spans of its lanes, which have all live cells; it lies on the plane
+pub record IsSpannedBoard (at : Frame) (rule : Numbers) (words : List ℕ) (boxes : List Bounds) (holds_all : Bool)
+    (spans : List Span) : Type 0 where
+  pub board : IsBoard at rule words boxes holds_all
+  pub spanned : AreSpans at (cells_on at words) spans
+  pub plane : AreSidesWithin plane_bound (bounds_of at)

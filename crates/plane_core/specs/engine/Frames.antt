@@ -1,0 +1,57 @@
+-- A board: a rectangle of cells in words, a word for each row of a lane of 64 columns, and where its cells lie on the plane.
+use Rattle.std.specs.Prelude.{◌≡◌, ◌==◌, ◌+◌, ◌*◌, ◌/◌, ◌<◌, ◌≤◌, ◌^◌, ℕ, ◌+ℤ◌, ◌-ℤ◌, pos, List, length, slice_index, true, unsigned_abs}
+use Rattle.std.specs.Int.{bit_at}
+use Rattle.plane_core.specs.declared.plane.bounds.Bounds.{Bounds}
+use Rattle.plane_core.specs.declared.engine.frame.Frame.{Frame}
+use Rattle.plane_core.specs.declared.plane.cell.Cell.{Cell}
+use Rattle.plane_core.specs.plane.Bounds.{AreSidesWithin, IsWithin}
+use Rattle.plane_core.specs.plane.Cells.{cell_at, has, plane_bound}
+
+-- the cell that bit i of row r of lane s is
+abbrev pub board_cell : Frame → ℕ → ℕ → ℕ → Cell
+board_cell at s r i = cell_at (at.left +ℤ pos (64 * s + i)) (at.top +ℤ pos r)
+
+-- that row's place in the list of words
+abbrev pub word_of : Frame → ℕ → ℕ → ℕ
+word_of at s r = s * at.rows + r
+
+-- on the board, the bits that are 1 are the cells of the list
+abbrev pub Shows : Frame → List ℕ → List Cell → Type 0
+Shows at words cells = (s r i : ℕ) → s < at.lanes → r < at.rows → i < 64
+    → has cells (board_cell at s r i) ≡ (bit_at (slice_index words (word_of at s r)) i == 1)
+
+-- a frame round cells of the plane
+pub record IsFrame (at : Frame) : Type 0 where
+  pub left : unsigned_abs at.left ≤ 2 ^ 21
+  pub top : unsigned_abs at.top ≤ 2 ^ 21
+  pub lanes : at.lanes ≤ 2 ^ 16
+  pub rows : at.rows ≤ 2 ^ 22
+  pub bands : at.rows ≡ 8 * (at.rows / 8)
+
+-- the board's rectangle
+abbrev pub bounds_of : Frame → Bounds
+bounds_of at = record {
+  left = at.left;
+  top = at.top;
+  right = at.left +ℤ (pos (64 * at.lanes) -ℤ pos 1);
+  bottom = at.top +ℤ (pos at.rows -ℤ pos 1);
+}
+
+-- a frame of one lane and 64 rows, on the plane
+pub record IsViewFrame (at : Frame) : Type 0 where
+  pub frame : IsFrame at
+  pub plane : AreSidesWithin plane_bound (bounds_of at)
+  pub lanes : at.lanes ≡ 1
+  pub rows : at.rows ≡ 64
+
+-- a board has a word for each row of each lane
+abbrev pub FillsFrame : Frame → List ℕ → Type 0
+FillsFrame at words = length words ≡ at.lanes * at.rows
+
+-- There are not many more words than cells: at most 256 a cell, and two megabytes of them and some more.
+abbrev pub HasFewWords : Frame → List Cell → Type 0
+HasFewWords at cells = at.lanes * at.rows ≤ 256 * length cells + 271000
+
+-- all cells lie in it
+abbrev pub LieOn : Frame → List Cell → Type 0
+LieOn at cells = (c : Cell) → has cells c ≡ true → IsWithin (bounds_of at) c

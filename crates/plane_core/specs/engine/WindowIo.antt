@@ -1,0 +1,54 @@
+-- Windows read from a board and put back. Column u and row v of a board count from its first column and row.
+use Rattle.std.specs.Prelude.{◌≡◌, ◌≢◌, ◌+◌, ◌*◌, ◌/◌, ◌%◌, ◌<◌, ◌≤◌, ℕ, List, slice_index, ◌⊎◌, ◌+ℤ◌, pos}
+use Rattle.std.specs.Int.{bit_at}
+use Rattle.plane_core.specs.declared.plane.cell.Cell.{Cell}
+use Rattle.plane_core.specs.declared.engine.frame.Frame.{Frame}
+use Rattle.plane_core.specs.plane.Cells.{cell_at}
+use Rattle.plane_core.specs.engine.Frames.{word_of}
+
+-- the cell in column u of row v
+abbrev pub cell_on : Frame → ℕ → ℕ → Cell
+cell_on at u v = cell_at (at.left +ℤ pos u) (at.top +ℤ pos v)
+
+-- the board's bit in column u of row v
+abbrev pub bit_on : Frame → List ℕ → ℕ → ℕ → ℕ
+bit_on at words u v = bit_at (slice_index words (word_of at (u / 64) v)) (u % 64)
+
+-- the first n rows of a window that begins in column x and row y have the board's bits
+abbrev pub AreRowsRead : Frame → List ℕ → ℕ → ℕ → ℕ → List ℕ → Type 0
+AreRowsRead at words x y n rows = (r i : ℕ) → r < n → i < 64 → bit_at (slice_index rows r) i ≡ bit_on at words (x + i) (y + r)
+
+-- the mask of a window's inner columns, 4 to 59
+abbrev pub inner_mask : ℕ
+inner_mask = 0x0fff_ffff_ffff_fff0
+
+-- column u is one of the inner columns of a window that begins at column x: it is its column i
+pub record IsInnerColumn (x u : ℕ) : Type 0 where
+  pub i : ℕ
+  pub low : 4 ≤ i
+  pub high : i < 60
+  pub is : u ≡ x + i
+
+-- row v is row r of a window that begins at row y, from row 4 on and before row end
+pub record IsInnerRow (y end v : ℕ) : Type 0 where
+  pub r : ℕ
+  pub low : 4 ≤ r
+  pub high : r < end
+  pub is : v ≡ y + r
+
+-- the place lies there in both ways
+pub record IsInner (x y end u v : ℕ) : Type 0 where
+  pub column : IsInnerColumn x u
+  pub row : IsInnerRow y end v
+
+-- the inner columns of a row have become those of a word, and all other bits are what they were
+abbrev pub IsRowPut : Frame → ℕ → ℕ → ℕ → List ℕ → List ℕ → Type 0
+IsRowPut at x y word old new = (u v : ℕ) → u < 64 * at.lanes → v < at.rows
+    → ((c : IsInnerColumn x u) × (v ≡ y) × (bit_on at new u v ≡ bit_at word c.i))
+    ⊎ ((IsInnerColumn x u → v ≢ y) × (bit_on at new u v ≡ bit_on at old u v))
+
+-- the inner part of a window, down to row end, has become these rows, and all other bits are what they were
+abbrev pub IsPutBack : Frame → ℕ → ℕ → ℕ → List ℕ → List ℕ → List ℕ → Type 0
+IsPutBack at x y end rows old new = (u v : ℕ) → u < 64 * at.lanes → v < at.rows
+    → ((c : IsInner x y end u v) × (bit_on at new u v ≡ bit_at (slice_index rows c.row.r) c.column.i))
+    ⊎ ((¬ IsInner x y end u v) × (bit_on at new u v ≡ bit_on at old u v))

@@ -1,0 +1,2 @@
+pub mod Floods
+pub mod RestlessClusters

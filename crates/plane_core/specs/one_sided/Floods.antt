@@ -1,0 +1,61 @@
+-- One cluster in a window of 64 rows, grown from one of its cells. Row r of the window is a word, as is row r of the flood.
+use Rattle.std.specs.Prelude.{◌≡◌, ◌==◌, ◌+◌, ◌<◌, ◌≤◌, ℕ, ℤ, ◌+ℤ◌, pos, List, slice_index}
+use Rattle.std.specs.Int.{bit_at}
+use Rattle.plane_core.specs.declared.plane.cell.Cell.{Cell}
+use Rattle.plane_core.specs.plane.Cells.{cell_at, has}
+use Rattle.plane_core.specs.clusters.Clusters.{Linked}
+
+-- bit i of row r
+abbrev pub bit_in : List ℕ → ℕ → ℕ → ℕ
+bit_in rows r i = bit_at (slice_index rows r) i
+
+-- two columns or rows are at most so far apart
+pub record AreNear (reach a b : ℕ) : Type 0 where
+  pub low : a ≤ b + reach
+  pub high : b ≤ a + reach
+
+-- each of 64 rows shows the pattern
+abbrev pub ShowsInAllRows : ℤ → ℤ → List ℕ → List Cell → Type 0
+ShowsInAllRows left top rows cells = (r i : ℕ) → r < 64 → i < 64 → has cells (cell_at (left +ℤ pos i) (top +ℤ pos r)) ≡ (bit_in rows r i == 1)
+
+-- two or more inside the window the rows show the pattern
+abbrev pub ShowsInRows : ℤ → ℤ → List ℕ → List Cell → Type 0
+ShowsInRows left top rows cells = (r i : ℕ) → 2 ≤ r → r < 62 → 2 ≤ i → i < 62
+    → has cells (cell_at (left +ℤ pos i) (top +ℤ pos r)) ≡ (bit_in rows r i == 1)
+
+-- each cell of the flood is linked to the start
+abbrev pub AreLinked : ℤ → ℤ → Cell → List Cell → List ℕ → Type 0
+AreLinked left top start cells flood = (r i : ℕ) → bit_in flood r i ≡ 1 → Linked cells start (cell_at (left +ℤ pos i) (top +ℤ pos r))
+
+-- What was in the flood is still there, and if that was linked to some start, all of it is.
+pub record HasGrown (rows old new : List ℕ) : Type 0 where
+  pub kept : (r i : ℕ) → bit_in old r i ≡ 1 → bit_in new r i ≡ 1
+  pub linked : (cells : List Cell) (start : Cell) (left top : ℤ) → ShowsInRows left top rows cells → AreLinked left top start cells old
+      → AreLinked left top start cells new
+
+-- the bit lies four or more inside the window
+pub record IsWellInside (r i : ℕ) : Type 0 where
+  pub above : 4 ≤ r
+  pub below : r < 60
+  pub west : 4 ≤ i
+  pub east : i < 60
+
+-- each bit of the flood lies well inside
+abbrev pub LiesInside : List ℕ → Type 0
+LiesInside flood = (r i : ℕ) → bit_in flood r i ≡ 1 → IsWellInside r i
+
+-- if bit j of row q is one of the rows', and within 2 of one of the flood, it is in the flood
+abbrev pub IsClosedAt : List ℕ → List ℕ → ℕ → ℕ → Type 0
+IsClosedAt rows flood q j = (r i : ℕ) → bit_in flood r i ≡ 1 → AreNear 2 q r → AreNear 2 j i → bit_in rows q j ≡ 1 → bit_in flood q j ≡ 1
+
+-- and so is each, but for the two rows at either border
+abbrev pub IsClosed : List ℕ → List ℕ → Type 0
+IsClosed rows flood = (q j : ℕ) → 2 ≤ q → q < 62 → j < 64 → IsClosedAt rows flood q j
+
+-- the flood is all that is linked to bit i of row r
+pub record IsFlooded (rows flood : List ℕ) (r i : ℕ) : Type 0 where
+  pub start : bit_in flood r i ≡ 1
+  pub inside : LiesInside flood
+  pub closed : IsClosed rows flood
+  pub linked : (cells : List Cell) (left top : ℤ) → ShowsInRows left top rows cells
+      → AreLinked left top (cell_at (left +ℤ pos i) (top +ℤ pos r)) cells flood

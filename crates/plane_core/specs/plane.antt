@@ -1,0 +1,11 @@
+pub mod Bounds
+pub mod Cells
+pub mod Frontiers
+pub mod Generations
+pub mod Locality
+pub mod OrientationLaws
+pub mod Orientations
+pub mod Parts
+pub mod Refusals
+pub mod Rules
+pub mod Without

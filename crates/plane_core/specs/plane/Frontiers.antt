@@ -1,0 +1,30 @@
+-- Frontiers: how far a pattern reaches in a diagonal direction, and how slowly that grows under rules such as Life.
+use Rattle.std.specs.Prelude.{◌≡◌, ◌+◌, ◌*◌, ◌||◌, ℕ, ℤ, pos, ◌+ℤ◌, ◌*ℤ◌, ◌≤ℤ◌, Bool, true, not, List}
+use Rattle.plane_core.specs.declared.plane.cell.Cell.{Cell}
+use Rattle.plane_core.specs.declared.plane.orientation.Orientation.{Orientation}
+use Rattle.plane_core.specs.plane.Cells.{InOrder, has}
+use Rattle.plane_core.specs.plane.Generations.{after}
+use Rattle.plane_core.specs.plane.Orientations.{turned_cell}
+use Rattle.plane_core.specs.plane.Rules.{Numbers, is_birth, is_survival}
+
+-- how far to the right and down a cell lies, both together
+abbrev pub depth : Cell → ℤ
+depth c = c.x +ℤ c.y
+
+-- each cell of the pattern, turned by the orientation, lies at most so deep
+abbrev pub LiesUpTo : Orientation → ℤ → List Cell → Type 0
+LiesUpTo o m cells = (c : Cell) → has cells c ≡ true → depth (turned_cell o c) ≤ℤ m
+
+-- the rule's frontiers are slow: nothing is born on 1 or 2 neighbours, and nothing survives on 4 or 5
+abbrev pub is_slow : Numbers → Bool
+is_slow rule = not (is_birth rule 1 || is_birth rule 2 || is_survival rule 4 || is_survival rule 5)
+
+-- Under a slow rule a pattern grows by at most a cell in two generations in each of the diagonal directions, rounded up.
+abbrev pub FrontiersAreSlow : Type 0
+FrontiersAreSlow = (rule : Numbers) (o : Orientation) (m : ℤ) (cells : List Cell) (n : ℕ) → InOrder cells → is_slow rule ≡ true → LiesUpTo o m cells
+    → (c : Cell) → has (after rule cells n) c ≡ true → (pos 2 *ℤ depth (turned_cell o c)) ≤ℤ ((pos 2 *ℤ m) +ℤ pos (n + 1))
+
+-- and by at most k cells in 2k generations
+abbrev pub FrontiersGoOn : Type 0
+FrontiersGoOn = (rule : Numbers) (o : Orientation) (m : ℤ) (cells : List Cell) (k : ℕ) → InOrder cells → is_slow rule ≡ true → LiesUpTo o m cells
+    → LiesUpTo o (m +ℤ pos k) (after rule cells (2 * k))

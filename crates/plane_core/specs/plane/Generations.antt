@@ -1,0 +1,71 @@
+-- Generations under a rule (LifeWiki, "Life-like cellular automaton").
+use Rattle.std.specs.Prelude.{◌≡◌, ◌≢◌, ◌+◌, ◌-◌, ◌≤◌, true, ◌==◌, ℕ, ℤ, zero, suc, pos, negsuc, Bool, List, [], ◌∷◌, All, count_by, filter, flat_map, if◌then◌else◌}
+use Rattle.std.specs.List.{list_any, list_all}
+use Rattle.plane_core.specs.declared.plane.cell.Cell.{Cell}
+use Rattle.plane_core.specs.plane.Cells.{InOrder, king_distance, moved_by, has, set_of, on_edge, is_within}
+use Rattle.plane_core.specs.declared.plane.orientation.Orientation.{Orientation}
+use Rattle.plane_core.specs.declared.plane.bounds.Bounds.{Bounds}
+use Rattle.plane_core.specs.plane.Bounds.{IsWithin, enlarged, shifted}
+use Rattle.plane_core.specs.plane.Orientations.{image}
+use Rattle.plane_core.specs.plane.Rules.{Numbers, is_birth, is_survival}
+
+-- how many cells of the pattern are at king distance 1 from c
+abbrev pub around : List Cell → Cell → ℕ
+around cells c = count_by (λ d. king_distance c d == 1) cells
+
+-- c is alive one generation after the pattern: it is alive and survives, or it is dead and is born
+abbrev pub lives : Numbers → List Cell → Cell → Bool
+lives rule cells c = if has cells c then is_survival rule (around cells c) else is_birth rule (around cells c)
+
+-- The same where count is the number of live cells of its neighbourhood, itself among them where it is alive.
+abbrev pub lives_by : Numbers → ℕ → Bool → Bool
+lives_by rule count alive = if alive then is_survival rule (count - 1) else is_birth rule count
+
+-- c with the cells to its left and right, and three such rows: the cells at king distance at most 1 from c
+abbrev pub triple : Cell → List Cell
+triple c = moved_by (negsuc 0) (pos 0) c ∷ c ∷ moved_by (pos 1) (pos 0) c ∷ []
+
+abbrev pub neighbourhood : Cell → List Cell
+neighbourhood c = flat_map triple (moved_by (pos 0) (negsuc 0) c ∷ c ∷ moved_by (pos 0) (pos 1) c ∷ [])
+
+-- the next generation: of the cells in the pattern and beside it, those that are alive then
+unfoldable pub next : Numbers → List Cell → List Cell
+next rule cells = filter (lives rule cells) (set_of (flat_map neighbourhood cells))
+
+-- the pattern after g generations
+unfoldable pub after : Numbers → List Cell → ℕ → List Cell
+after rule cells zero = cells
+after rule cells (suc g) = next rule (after rule cells g)
+
+-- a cell lies so far out that a neighbour would lie past the bound
+abbrev pub touches_edge : List Cell → Bool
+touches_edge cells = list_any on_edge cells
+
+-- every cell lies within reach of the origin
+abbrev pub lies_within : ℕ → List Cell → Bool
+lies_within reach cells = list_all (is_within reach) cells
+
+-- none of the generations from 1 to n is the pattern itself again, moved or not
+abbrev pub NeverBack : Numbers → List Cell → ℕ → Type 0
+NeverBack rule cells n = (p : ℕ) (dx dy : ℤ) → 1 ≤ p → p ≤ n → after rule cells p ≢ shifted dx dy cells
+
+-- the next generation of a pattern moved, or turned, is its next generation, moved or turned
+abbrev pub NextMoved : Type 0
+NextMoved = (dx dy : ℤ) (rule : Numbers) (cells : List Cell) → InOrder cells → next rule (shifted dx dy cells) ≡ shifted dx dy (next rule cells)
+
+abbrev pub NextTurned : Type 0
+NextTurned = (o : Orientation) (rule : Numbers) (cells : List Cell) → InOrder cells → next rule (image o cells) ≡ image o (next rule cells)
+
+-- The field's speed of light: in a generation no pattern grows by more than a cell a side. So after g generations it lies
+-- in each box that it lay in, with g more columns and rows on each side.
+abbrev pub SpeedOfLight : Type 0
+SpeedOfLight = (rule : Numbers) (cells : List Cell) (b : Bounds) (g : ℕ) → All (IsWithin b) cells → All (IsWithin (enlarged g b)) (after rule cells g)
+
+-- and a pattern that lies within reach of the origin lies within g more after g generations
+abbrev pub SpeedFromOrigin : Type 0
+SpeedFromOrigin = (rule : Numbers) (cells : List Cell) (reach g : ℕ) → lies_within reach cells ≡ true → lies_within (reach + g) (after rule cells g) ≡ true
+
+-- And cell by cell: what is alive after g generations is within king distance g of a cell that was alive at the start.
+abbrev pub SpeedOfCells : Type 0
+SpeedOfCells = (rule : Numbers) (cells : List Cell) (g : ℕ) (c : Cell) → has (after rule cells g) c ≡ true
+    → (d : Cell) × (has cells d ≡ true) × (king_distance c d ≤ g)

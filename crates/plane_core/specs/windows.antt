@@ -1,0 +1,5 @@
+pub mod LaneSums
+pub mod LonePatterns
+pub mod RuleLogic
+pub mod Windows
+pub mod Words

@@ -1,0 +1,193 @@
+//! Which cells of a pattern share a cluster: a forest over the places of its cells.
+//!
+//!      O . O . . . O          0 . 1 . . . 2          place    0  1  2  3  4
+//!      . . . . . . O          . . . . . . 3          leads to 0  0  2  2  0
+//!      . . . O . . .          . . . 4 . . .
+//!
+//! Each place leads to an earlier one of its tree, or to itself: then it is a root. At first all are roots. The places
+//! are gone through in order, and each is joined with those before it whose cells are near, at most two columns and two
+//! rows away: of the two roots, the later one leads to the earlier from then on. At the end each tree is a cluster.
+//!
+//! What is near and stands earlier lies in the cell's own row or in the two above. A cursor for each of the two skips
+//! what lies too far to the left; it never goes back, since the next cell lies further right or further down. In its
+//! own row a cell is joined with the one just before it, and that one, if near, has been joined with all that is near
+//! both: so of the rows above mostly one cell is left, or none.
+ghost use Rattle.std.specs.Prelude.{◌≡◌, ◌≢◌, ◌+◌, ◌<◌, ◌<ℤ◌, ◌≤◌, ℕ, true, IfOk, List, length, nat_le};
+ghost use Rattle.std.specs.declared.cmp.Ordering.TheVariants.{Less};
+ghost use Rattle.plane_core.specs.plane.Cells.{IsPattern, cell_cmp, king_distance, on_plane};
+ghost use Rattle.plane_core.specs.clusters.UnionFind.{IsBridged, IsForest, IsPassed, Joined, JoinsAll};
+ghost use Rattle.plane_core.specs.clusters.UnionFind.{Keeps, LeadsBack, NeedsJoin};
+ghost use Rattle.plane_core.specs.clusters.Clusters.{Linked};
+ghost use Rattle.plane_core.specs.clusters.UnionFind.{cell_of, parent_of};
+ghost use Rattle.plane_core.specs.declared.plane.cell.Cell.{Cell};
+
+use crate::plane::cell::Cell;
+use crate::plane::coordinate::{along, apart};
+use memory::OutOfMemory;
+use std::alloc::Global;
+
+/// The first places that may be near, in the two rows above a cell.
+#[derive(Clone, Copy)]
+struct Cursors {
+    above: usize,
+    top: usize,
+}
+
+/// So many places, each a root.
+pub(crate) fn roots(alloc: Global, count: usize) -> Result<Vec<usize>, OutOfMemory>
+    ensures count { IfOk result (λ parents. length parents.items ≡ count) }
+    ensures roots { IfOk result (λ parents. (k : ℕ) → k < count → parent_of parents.items k ≡ k) }
+{
+    let mut parents = vec![in alloc; 0; count]?;
+    for place in 0..count {
+        parents[place] = place;
+    }
+    Ok(parents)
+}
+
+/// Joins the places of all cells that are near each other: the places lead to one another as in the forest of the
+/// pattern then.
+pub(crate) fn join_all(cells: &[Cell], parents: &mut [usize])
+    requires pattern { IsPattern cells.now }
+    requires forest { IsForest cells.now parents.old }
+    ensures forest { IsForest cells.now parents.new }
+    ensures joined { JoinsAll cells.now parents.new (length cells.now) }
+{
+    let mut cursors = Cursors { above: 0, top: 0 };
+    // The first place has none before it.
+    for place in 1..cells.len() {
+        join_if_near(cells, parents, place - 1, place);
+        let cell = cells[place];
+        let above = join_row(
+            cells,
+            parents,
+            place,
+            cursors.above,
+            cell.moved(-2, -1),
+            cell.moved(2, -1),
+        );
+        let top = join_row(
+            cells,
+            parents,
+            place,
+            cursors.top,
+            cell.moved(-2, -2),
+            cell.moved(2, -2),
+        );
+        cursors = Cursors { above, top };
+    }
+}
+
+/// Joins this place with those before it whose cells are near and lie between two cells, these included. The result is
+/// the first place that may be one.
+#[inline(always)]
+fn join_row(
+    cells: &[Cell],
+    parents: &mut [usize],
+    place: usize,
+    cursor: usize,
+    from: Cell,
+    to: Cell,
+) -> usize
+    requires pattern { IsPattern cells.now }
+    requires place { (0 < place) × (place < length cells.now) }
+    requires forest { IsForest cells.now parents.old }
+    requires cursor { IsPassed cells.now cursor from }
+    requires above { from.y <ℤ (cell_of cells.now place).y }
+    ensures forest { IsForest cells.now parents.new }
+    ensures keeps { Keeps parents.old parents.new }
+    ensures joined { (k : ℕ) → k < place → cell_cmp (cell_of cells.now k) from ≢ Less
+        → cell_cmp to (cell_of cells.now k) ≢ Less
+        → NeedsJoin cells.now k place → Joined parents.new k place }
+    ensures cursor { IsPassed cells.now result from }
+{
+    let first = skipped(cells, cursor, from);
+    let fresh = fresh_from(cells, place, from);
+    let start = skipped(cells, first, fresh);
+    let mut at = start;
+    while at < place && cells[at] <= to {
+        join_if_near(cells, parents, at, place);
+        at += 1;
+    }
+    first
+}
+
+/// The first place from the cursor on whose cell doesn't come before this one.
+fn skipped(cells: &[Cell], cursor: usize, from: Cell) -> usize
+    ensures { (k : ℕ) → cursor ≤ k → k < result → cell_cmp (cell_of cells.now k) from ≡ Less }
+{
+    let mut at = cursor;
+    while at < cells.len() && cells[at] < from {
+        at += 1;
+    }
+    at
+}
+
+/// The first cell of a row above this place that needs a join with it, where those from a cell on are near: if the cell
+/// just before stands in the same row and is near, it is the one past all that are near both.
+fn fresh_from(cells: &[Cell], place: usize, from: Cell) -> Cell
+    requires pattern { IsPattern cells.now }
+    requires place { (0 < place) × (place < length cells.now) }
+    requires above { from.y <ℤ (cell_of cells.now place).y }
+    ensures { (k : ℕ) → k < place → cell_cmp (cell_of cells.now k) from ≢ Less
+        → cell_cmp (cell_of cells.now k) result ≡ Less
+        → king_distance (cell_of cells.now k) (cell_of cells.now place) ≤ 2 → IsBridged cells.now k place }
+{
+    let before = cells[place - 1];
+    if before.y != cells[place].y {
+        return from;
+    }
+    if !are_near(before, cells[place]) {
+        return from;
+    }
+    Cell {
+        y: from.y,
+        x: along(before.x, 3),
+    }
+}
+
+/// Joins the trees of two places if their cells are near: the later root leads to the earlier.
+fn join_if_near(cells: &[Cell], parents: &mut [usize], one: usize, other: usize)
+    requires pattern { IsPattern cells.now }
+    requires one { one < length cells.now }
+    requires other { other < length cells.now }
+    requires forest { IsForest cells.now parents.old }
+    ensures forest { IsForest cells.now parents.new }
+    ensures keeps { Keeps parents.old parents.new }
+    ensures joined { NeedsJoin cells.now one other → Joined parents.new one other }
+{
+    if !are_near(cells[one], cells[other]) {
+        return;
+    }
+    let left = root(parents, one);
+    let right = root(parents, other);
+    let later = left.max(right);
+    parents[later] = left.min(right);
+}
+
+/// The root of a place's tree.
+fn root(parents: &[usize], place: usize) -> usize
+    requires place { place < length parents.now }
+    requires back { LeadsBack parents.now }
+    ensures place { result < length parents.now }
+    ensures root { parent_of parents.now result ≡ result }
+    ensures joined { Joined parents.now place result }
+    ensures linked { (cells : List Cell) → IsForest cells parents.now
+        → Linked cells (cell_of cells place) (cell_of cells result) }
+{
+    let mut at = place;
+    while parents[at] != at {
+        at = parents[at];
+    }
+    at
+}
+
+/// Whether two cells are at king distance at most 2.
+#[tactic(auto, unfolding(crate::specs::plane::Cells::on_plane))]
+fn are_near(one: Cell, other: Cell) -> bool
+    requires one { on_plane one ≡ true }
+    requires other { on_plane other ≡ true }
+    ensures { result ≡ nat_le (king_distance one other) 2 }
+{
+    apart(one.x, other.x).max(apart(one.y, other.y)) <= 2
+}

@@ -1,0 +1,351 @@
+//! A pattern on a board, which goes on by leaps of up to four generations.
+//!
+//! Beside the board stands a list of boxes: each cell that isn't the same two generations on lies in a box, or within 2
+//! of one. So a leap is made in windows that cover the boxes, and all else stays as it is:
+//!
+//! ```text
+//! +--------+                     the box of what changes
+//! | .OO    |   +-----------+
+//! | OO.    |   |  window   |     Only a window's inner part is right after four generations, and is put back.
+//! |  O     |   | +-------+ |
+//! +--------+   | | inner | |     Where the last generation of the leap differs from the one two before it, there are
+//!              | +-------+ |     the boxes for the next leap.
+//!              +-----------+
+//! ```
+//!
+//! What holds after an odd number of generations isn't known by that: a blinker outside of all boxes is the same after
+//! two generations and not after one. So an odd leap is made first, while the boxes hold all live cells.
+ghost use Rattle.std.specs.Prelude.{◌≡◌, ◌%◌, ◌≤◌, ℕ, []};
+ghost use Rattle.std.specs.Prelude.{IfOk, IsTrue, true, false};
+ghost use Rattle.plane_core.specs.engine.Frames.{HasFewWords, IsFrame, LieOn, bounds_of};
+ghost use Rattle.plane_core.specs.windows.RuleLogic.{rule_of};
+ghost use Rattle.plane_core.specs.plane.Cells.{plane_bound};
+ghost use Rattle.plane_core.specs.plane.Generations.{after};
+ghost use Rattle.plane_core.specs.plane.Bounds.{AreSidesWithin};
+
+mod reach;
+mod removal;
+pub(crate) mod view;
+
+use crate::windows::rule_logic::Answers;
+use crate::plane::bounds::Bounds;
+use crate::engine::cover::cover;
+use crate::engine::frame::Frame;
+use crate::engine::leap::{put_all, run_all};
+use crate::engine::listing::list;
+use crate::engine::loading::fill;
+use crate::plane::pattern::Pattern;
+use crate::engine::window_origin::Place;
+use crate::plane::rule::Rule;
+use crate::engine::first_boxes::boxes_round;
+use crate::engine::row_spans::{Span, empty};
+use memory::OutOfMemory;
+use std::alloc::Global;
+use std::marker::Model;
+use std::mem::swap;
+
+/// How many lanes a large board has: 64, and one more, since a window wants a lane to its right.
+const LARGE_LANES: usize = 65;
+
+/// How many rows it has: as many as columns, and 72 more. A multiple of 512 would bring the same row of several lanes
+/// to one place of the processor's cache.
+const LARGE_ROWS: usize = 4168;
+
+/// How many lanes a small board has, whose words are cleared in no time: 8, and one more.
+const SMALL_LANES: usize = 9;
+
+/// And how many rows: as many as columns, and 72 more.
+const SMALL_ROWS: usize = 584;
+
+/// For how many cells there is room from the start where a pattern is read: it takes a kilobyte.
+const ROOM: usize = 128;
+
+/// A pattern on a board under a rule.
+pub struct Board {
+    at: Frame,
+    answers: Answers,
+    words: Vec<u64>,
+    /// Which rows of each lane may have a live cell.
+    spans: Vec<Span>,
+    boxes: Vec<Bounds>,
+    /// Whether the boxes hold all live cells.
+    holds_all: bool,
+    // The lists of a leap. They are kept from one to the next, since new ones each time would cost a tenth of all.
+    /// Rectangles, and then the boxes for the next leap.
+    next_boxes: Vec<Bounds>,
+    places: Vec<Place>,
+    held: Vec<[u64; 40]>,
+}
+
+impl Model for Board {
+    ghost use Rattle.plane_core.specs.windows.RuleLogic.{rule_of};
+    ghost use Rattle.plane_core.specs.engine.Boards.{IsSpannedBoard, Running};
+    ghost use Rattle.plane_core.specs.engine.OnBoard.{cells_on};
+
+    ghost Value = { Running };
+
+    ghost view = { λ b. record { rule = rule_of b.answers; cells = cells_on b.at b.words.items } };
+
+    ghost invariant = { λ b.
+        IsSpannedBoard b.at (rule_of b.answers) b.words.items b.boxes.items b.holds_all b.spans.items };
+}
+
+// Written out, since a derived drop is proved anew wherever a board is given up.
+impl Drop for Board {
+    fn drop(self) {
+        let Board {
+            at: _,
+            answers: _,
+            words,
+            spans,
+            boxes,
+            holds_all: _,
+            next_boxes,
+            places,
+            held,
+        } = self;
+        drop(words);
+        drop(spans);
+        drop(boxes);
+        drop(next_boxes);
+        drop(places);
+        drop(held);
+    }
+}
+
+impl Board {
+    /// An empty board that lies round the origin, for patterns that are shown one after another. It has 4,096 columns,
+    /// and a lane more, and 4,168 rows.
+    ///
+    /// # Errors
+    ///
+    /// `OutOfMemory` if memory runs out.
+    pub fn new(alloc: Global, rule: &Rule) -> Result<Board, OutOfMemory>
+        ensures rule { IfOk result (λ board. board.rule ≡ rule.now) }
+        ensures cells { IfOk result (λ board. board.cells ≡ []) }
+    {
+        let at = Frame {
+            left: -2048,
+            top: -2084,
+            lanes: LARGE_LANES,
+            rows: LARGE_ROWS,
+        };
+        Board::blank(alloc, rule, at)
+    }
+
+    /// An empty board as `new` makes it, but for its size: it has 512 columns, and a lane more, and 584 rows, so it
+    /// is made fifty times as fast.
+    ///
+    /// # Errors
+    ///
+    /// `OutOfMemory` if memory runs out.
+    pub fn small(alloc: Global, rule: &Rule) -> Result<Board, OutOfMemory>
+        ensures rule { IfOk result (λ board. board.rule ≡ rule.now) }
+        ensures cells { IfOk result (λ board. board.cells ≡ []) }
+    {
+        let at = Frame {
+            left: -256,
+            top: -292,
+            lanes: SMALL_LANES,
+            rows: SMALL_ROWS,
+        };
+        Board::blank(alloc, rule, at)
+    }
+
+    /// A board that shows the pattern.
+    pub(crate) fn lay(
+        alloc: Global,
+        rule: &Rule,
+        at: Frame,
+        pattern: &Pattern,
+    ) -> Result<Board, OutOfMemory>
+        requires frame { IsFrame at }
+        requires plane { AreSidesWithin plane_bound (bounds_of at) }
+        requires on { LieOn at pattern.now }
+        requires words { HasFewWords at pattern.now }
+        ensures rule { IfOk result (λ board. board.rule ≡ rule.now) }
+        ensures cells { IfOk result (λ board. board.cells ≡ pattern.now) }
+    {
+        let mut words = vec![in alloc; 0u64; at.count()]?;
+        let mut spans = vec![in alloc; Span::empty(); at.lanes]?;
+        let mut boxes = Vec::new(alloc);
+        let cells = pattern.cells();
+        boxes_round(cells, &mut boxes)?;
+        fill(at, words.as_mut_slice(), spans.as_mut_slice(), cells);
+        Ok(Board {
+            at,
+            answers: Answers::new(rule),
+            words,
+            spans,
+            boxes,
+            holds_all: true,
+            next_boxes: Vec::new(alloc),
+            places: Vec::new(alloc),
+            held: Vec::new(alloc),
+        })
+    }
+
+    /// An empty board: one that shows the empty pattern.
+    fn blank(alloc: Global, rule: &Rule, at: Frame) -> Result<Board, OutOfMemory>
+        requires frame { IsFrame at }
+        requires plane { AreSidesWithin plane_bound (bounds_of at) }
+        requires words { HasFewWords at [] }
+        ensures rule { IfOk result (λ board. board.rule ≡ rule.now) }
+        ensures cells { IfOk result (λ board. board.cells ≡ []) }
+    {
+        let none = Pattern::from_ordered(Vec::new(alloc));
+        Board::lay(alloc, rule, at, &none)
+    }
+
+    /// Shows another pattern under a rule, in the middle of the board. If it has no room there, the board shows
+    /// nothing, and it is `false`.
+    ///
+    /// # Errors
+    ///
+    /// `OutOfMemory` if memory runs out. Then the board shows nothing that is known.
+    pub fn show(&mut self, rule: &Rule, pattern: &Pattern) -> Result<bool, OutOfMemory>
+        ensures rule { self.new.rule ≡ rule.now }
+        ensures shown { IfOk result (λ shown. shown ≡ true → self.new.cells ≡ pattern.now) }
+        ensures none { IfOk result (λ shown. shown ≡ false → self.new.cells ≡ []) }
+    {
+        empty(
+            self.at,
+            self.words.as_mut_slice(),
+            self.spans.as_mut_slice(),
+        );
+        self.boxes.clear();
+        self.holds_all = true;
+        self.answers = Answers::new(rule);
+        let Some(at) = self.at.centred(pattern) else {
+            return Ok(false);
+        };
+        let cells = pattern.cells();
+        boxes_round(cells, &mut self.boxes)?;
+        self.at = at;
+        fill(
+            at,
+            self.words.as_mut_slice(),
+            self.spans.as_mut_slice(),
+            cells,
+        );
+        Ok(true)
+    }
+
+    /// Goes on by at most so many generations, and returns how many were made: fewer, where the next leap would have
+    /// come too near to the border of the board.
+    ///
+    /// # Errors
+    ///
+    /// `OutOfMemory` if memory runs out. Then the board shows nothing that is known.
+    pub fn advance(&mut self, most: u32) -> Result<u32, OutOfMemory>
+        ensures rule { self.new.rule ≡ self.old.rule }
+        ensures most { IfOk result (λ made. made ≤ most) }
+        ensures after { IfOk result (λ made. self.new.cells ≡ after self.old.rule self.old.cells made) }
+    {
+        let mut made = 0;
+        if most % 2 == 1 {
+            // One or three, so that an even number is left for leaps of four generations, and two at the end.
+            made = self.leap(most % 4)?;
+        }
+        while most - made >= 2 {
+            let still = self.is_still();
+            if still {
+                return Ok(made + (most - made) / 2 * 2);
+            }
+            // Four, or else two.
+            let count = (most - made).min(4) / 2 * 2;
+            let leapt = self.leap(count)?;
+            if leapt == 0 {
+                return Ok(made);
+            }
+            made += leapt;
+        }
+        Ok(made)
+    }
+
+    /// Returns the active boxes. They serve to choose where a test looks, so nothing is said of them.
+    pub(crate) fn active_boxes(&self) -> &[Bounds] {
+        self.boxes.as_slice()
+    }
+
+    /// Returns the rule, as operations on words.
+    pub(crate) fn logic(&self) -> &Answers
+        ensures { rule_of result.now ≡ self.now.rule }
+    {
+        &self.answers
+    }
+
+    /// Whether it is seen that no even number of generations changes anything. `false` says nothing.
+    pub fn is_still(&self) -> bool
+        ensures { IsTrue result → (n : ℕ) → n % 2 ≡ 0 → after self.now.rule self.now.cells n ≡ self.now.cells }
+    {
+        self.boxes.is_empty()
+    }
+
+    /// Makes one leap of so many generations, unless it would come too near to the border of the board, or it is an odd
+    /// number, and the boxes may not hold all live cells. Returns how many were made: all, or none.
+    fn leap(&mut self, count: u32) -> Result<u32, OutOfMemory>
+        requires some { 1 ≤ count }
+        requires few { count ≤ 4 }
+        ensures rule { self.new.rule ≡ self.old.rule }
+        ensures most { IfOk result (λ made. made ≤ count) }
+        ensures after { IfOk result (λ made. self.new.cells ≡ after self.old.rule self.old.cells made) }
+    {
+        if !are_enough(self.holds_all, count) {
+            return Ok(0);
+        }
+        cover(
+            self.boxes.as_slice(),
+            &mut self.next_boxes,
+            &mut self.places,
+        )?;
+        let places = self.places.as_slice();
+        let inside = run_all(
+            self.words.as_slice(),
+            self.at,
+            places,
+            &self.answers,
+            count as usize,
+            &mut self.held,
+            &mut self.next_boxes,
+        )?;
+        if !inside {
+            return Ok(0);
+        }
+        // Nothing fails from here on.
+        put_all(
+            self.words.as_mut_slice(),
+            self.spans.as_mut_slice(),
+            self.at,
+            places,
+            self.held.as_slice(),
+        );
+        swap(&mut self.boxes, &mut self.next_boxes);
+        self.holds_all = count % 2 == 1;
+        Ok(count)
+    }
+
+    /// The pattern that the board shows.
+    ///
+    /// # Errors
+    ///
+    /// `OutOfMemory` if memory runs out.
+    pub fn pattern(&self, alloc: Global) -> Result<Pattern, OutOfMemory>
+        ensures { IfOk result (λ pattern. pattern ≡ self.now.cells) }
+    {
+        list(
+            alloc,
+            self.at,
+            self.words.as_slice(),
+            self.spans.as_slice(),
+            ROOM,
+        )
+    }
+}
+
+/// Whether boxes are enough for a leap of so many generations: for an odd number they have to hold all live cells.
+fn are_enough(hold_all: bool, count: u32) -> bool
+    ensures { IsTrue result → count % 2 ≡ 1 → hold_all ≡ true }
+{
+    hold_all || count % 2 == 0
+}

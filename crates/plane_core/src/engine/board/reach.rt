@@ -1,0 +1,217 @@
+//! How far the pattern of a board reaches in a diagonal direction, without some of its cells.
+//!
+//! Of each lane only the rows of its span are looked at, from the outermost one inwards, and only for as long as a row
+//! could have a cell that is deeper than the deepest so far:
+//!
+//! ```text
+//! . . . . . . . O
+//! . . . . . . O .
+//! . . . O . . . .     To the right and down. The last row is read first, and has cell d. A row above can only do
+//! . . . . . . . .     better if it reaches further to the right, by more than the rows that lie between.
+//! . . . d . . . .
+//! ```
+ghost use Rattle.std.specs.Prelude.{◌≡◌, ◌==◌, ◌-◌, ◌<◌, ◌≤◌, ◌+ℤ◌, ℕ, IfSome, pos};
+ghost use Rattle.std.specs.Prelude.{slice_index};
+ghost use Rattle.std.specs.Int.{bit_at};
+ghost use Rattle.plane_core.specs.plane.Bounds.{AreSidesWithin};
+ghost use Rattle.plane_core.specs.plane.Cells.{cell_at, plane_bound, same_cell};
+ghost use Rattle.plane_core.specs.engine.Directions.{GoesDeeper, IsSeen, NoDeeper, depth_in, inner_row};
+ghost use Rattle.plane_core.specs.engine.Frames.{FillsFrame, IsFrame, board_cell, bounds_of, word_of};
+ghost use Rattle.plane_core.specs.plane.Frontiers.{LiesUpTo};
+ghost use Rattle.plane_core.specs.engine.OnBoard.{cells_on};
+ghost use Rattle.plane_core.specs.plane.Without.{without};
+
+use crate::engine::board::Board;
+use crate::plane::cell::Cell;
+use crate::engine::direction::Direction;
+use crate::engine::frame::Frame;
+use crate::engine::listing::along;
+use crate::plane::orientation::Orientation;
+use crate::plane::pattern::Pattern;
+use crate::engine::row_spans::Span;
+
+impl Board {
+    /// How far the pattern reaches in a diagonal direction without these cells: turned by the orientation, none of its
+    /// other cells has a column and a row that are more than this together. `None` if it has no other cell.
+    pub fn frontier_without(&self, way: Orientation, cells: &Pattern) -> Option<i32>
+        ensures { IfSome result (λ m. LiesUpTo way m (without self.now.cells cells.now)) }
+    {
+        let at = self.at;
+        let words = self.words.as_slice();
+        let spans = self.spans.as_slice();
+        let direction = way.direction();
+        let gone = cells.cells();
+        let mut found = None;
+        for lane in 0..at.lanes {
+            let rows = spans[lane].below(at.rows);
+            if rows.from == rows.end {
+                continue;
+            }
+            found = deepest_in_lane(at, words, lane, rows, direction, gone, found);
+        }
+        found
+    }
+}
+
+/// The depth of the deepest cell that was found so far or stands in these rows of a lane.
+fn deepest_in_lane(
+    at: Frame,
+    words: &[u64],
+    lane: usize,
+    rows: Span,
+    way: Direction,
+    gone: &[Cell],
+    found: Option<i32>,
+) -> Option<i32>
+    requires frame { IsFrame at }
+    requires plane { AreSidesWithin plane_bound (bounds_of at) }
+    requires long { FillsFrame at words.now }
+    requires lane { lane < at.lanes }
+    requires order { rows.from ≤ rows.end }
+    requires end { rows.end ≤ at.rows }
+    ensures deeper { GoesDeeper way (without (cells_on at words.now) gone.now) found result }
+    ensures seen { (row : ℕ) → rows.from ≤ row → row < rows.end
+        → IsSeen at way (without (cells_on at words.now) gone.now) lane row result }
+{
+    let mut deepest = found;
+    let mut step = 0;
+    loop {
+        let end = rows_to_see(at, lane, rows, way, deepest);
+        step = next_live(at, words, lane, rows, way, step, end);
+        if step >= end {
+            return deepest;
+        }
+        let row = row_inwards(rows, way, step);
+        deepest = deepest_in_row(at, words, lane, row, way, gone, deepest);
+        step += 1;
+    }
+}
+
+/// How many of the rows of a lane, from the outermost on, could have a cell that is deeper than the deepest so far.
+fn rows_to_see(at: Frame, lane: usize, rows: Span, way: Direction, found: Option<i32>) -> usize
+    requires frame { IsFrame at }
+    requires plane { AreSidesWithin plane_bound (bounds_of at) }
+    requires lane { lane < at.lanes }
+    requires order { rows.from ≤ rows.end }
+    requires end { rows.end ≤ at.rows }
+    ensures most { result ≤ rows.end - rows.from }
+    ensures beyond { NoDeeper at way lane rows result found }
+{
+    let count = rows.end - rows.from;
+    let Some(deepest) = found else {
+        return count;
+    };
+    if count == 0 {
+        return 0;
+    }
+    let row = row_inwards(rows, way, 0);
+    let outermost = depth_at(at, lane, row, way.outer_column(), way);
+    if outermost <= deepest {
+        return 0;
+    }
+    count.min(outermost.abs_diff(deepest) as usize)
+}
+
+/// The first step inwards, from this one on, to a row of a lane that has a live cell; or if there is none, the end, or
+/// what lies past it.
+fn next_live(
+    at: Frame,
+    words: &[u64],
+    lane: usize,
+    rows: Span,
+    way: Direction,
+    from: usize,
+    end: usize,
+) -> usize
+    requires frame { IsFrame at }
+    requires long { FillsFrame at words.now }
+    requires lane { lane < at.lanes }
+    requires order { rows.from ≤ rows.end }
+    requires rows { rows.end ≤ at.rows }
+    requires end { end ≤ rows.end - rows.from }
+    ensures later { from ≤ result }
+    ensures dead { (step : ℕ) → from ≤ step → step < result
+        → slice_index words.now (word_of at lane (inner_row way.down rows step)) ≡ 0 }
+{
+    let mut step = from;
+    while step < end {
+        if words[at.index(lane, row_inwards(rows, way, step))] != 0 {
+            return step;
+        }
+        step += 1;
+    }
+    step
+}
+
+/// The row so many steps inwards from the outermost of these rows.
+#[inline(always)]
+fn row_inwards(rows: Span, way: Direction, step: usize) -> usize
+    requires { step < rows.end - rows.from }
+    ensures row { result ≡ inner_row way.down rows step }
+    ensures low { rows.from ≤ result }
+    ensures high { result < rows.end }
+{
+    if way.down {
+        rows.end - (step + 1)
+    } else {
+        rows.from + step
+    }
+}
+
+/// The depth of the deepest cell that was found so far or stands in this row of a lane.
+fn deepest_in_row(
+    at: Frame,
+    words: &[u64],
+    lane: usize,
+    row: usize,
+    way: Direction,
+    gone: &[Cell],
+    found: Option<i32>,
+) -> Option<i32>
+    requires frame { IsFrame at }
+    requires plane { AreSidesWithin plane_bound (bounds_of at) }
+    requires long { FillsFrame at words.now }
+    requires lane { lane < at.lanes }
+    requires row { row < at.rows }
+    ensures deeper { GoesDeeper way (without (cells_on at words.now) gone.now) found result }
+    ensures seen { IsSeen at way (without (cells_on at words.now) gone.now) lane row result }
+{
+    let first = at.corner(lane, row);
+    let mut gone_here = 0;
+    for cell in gone {
+        gone_here |= bit_of(*cell, first);
+    }
+    let word = words[at.index(lane, row)] & !gone_here;
+    if word == 0 {
+        return found;
+    }
+    let depth = depth_at(at, lane, row, way.farthest(word), way);
+    Some(found.unwrap_or(depth).max(depth))
+}
+
+/// How deep the cell in this column of a row of a lane lies.
+#[inline(always)]
+fn depth_at(at: Frame, lane: usize, row: usize, column: usize, way: Direction) -> i32
+    requires frame { IsFrame at }
+    requires plane { AreSidesWithin plane_bound (bounds_of at) }
+    requires lane { lane < at.lanes }
+    requires row { row < at.rows }
+    requires column { column < 64 }
+    ensures { result ≡ depth_in way (board_cell at lane row column) }
+{
+    way.depth(along(at.corner(lane, row), column))
+}
+
+/// The bit of a cell, if it stands in the 64 columns from this cell on, in its row.
+fn bit_of(cell: Cell, first: Cell) -> u64
+    ensures { (i : ℕ) → i < 64 → (bit_at result i == 1) ≡ same_cell (cell_at (first.x +ℤ pos i) first.y) cell }
+{
+    if cell.y != first.y || cell.x < first.x {
+        return 0;
+    }
+    let column = cell.x.abs_diff(first.x);
+    if column >= 64 {
+        return 0;
+    }
+    1 << column
+}

@@ -1,0 +1,56 @@
+//! Cells that are taken off a board.
+//!
+//! What lay near them may change from now on, so the boxes are made to hold them first:
+//!
+//! ```text
+//! +-----+                    +-----+
+//! |.OO. |      O             |.OO. |
+//! |OO.. |     O      ->      |OO.. |   +---+     A box more, or one that is wider, until the next leap has seen what
+//! |.O.. |     OOO            |.O.. |   |   |     changes in it.
+//! +-----+                    +-----+   +---+
+//! ```
+ghost use Rattle.std.specs.Prelude.{◌≡◌, ◌*◌, OnErr, OnOk};
+ghost use Rattle.plane_core.specs.engine.Frames.{FillsFrame, IsFrame};
+ghost use Rattle.plane_core.specs.engine.OnBoard.{cells_on};
+ghost use Rattle.plane_core.specs.plane.Without.{without};
+
+use crate::engine::board::Board;
+use crate::engine::active_boxes::put_in_boxes;
+use crate::plane::cell::Cell;
+use crate::engine::frame::Frame;
+use crate::plane::pattern::Pattern;
+use memory::OutOfMemory;
+
+impl Board {
+    /// Takes these cells off the board. Those that aren't alive on it are passed over.
+    ///
+    /// # Errors
+    ///
+    /// `OutOfMemory` if memory runs out. Then the board shows what it did.
+    pub fn take_out(&mut self, cells: &Pattern) -> Result<(), OutOfMemory>
+        ensures rule { self.new.rule ≡ self.old.rule }
+        ensures cells { OnOk result (self.new.cells ≡ without self.old.cells cells.now) }
+        ensures kept { OnErr result (self.new.cells ≡ self.old.cells) }
+    {
+        let gone = cells.cells();
+        put_in_boxes(gone, &mut self.boxes)?;
+        take_off(self.at, self.words.as_mut_slice(), gone);
+        Ok(())
+    }
+}
+
+/// Takes cells off a board, those that lie on it.
+fn take_off(at: Frame, words: &mut [u64], cells: &[Cell])
+    requires frame { IsFrame at }
+    requires long { FillsFrame at words.old }
+    ensures { cells_on at words.new ≡ without (cells_on at words.old) cells.now }
+{
+    for cell in cells {
+        if !at.has(*cell) {
+            continue;
+        }
+        let across = at.across(*cell);
+        let i = at.index(across / 64, at.down(*cell));
+        words[i] &= !(1 << (across % 64));
+    }
+}

@@ -1,0 +1,84 @@
+//! Sixty-four rows that are read from a board round the middle of a box:
+//!
+//! ```text
+//! board
+//! +-------------------------------------+
+//! |        view                         |
+//! |        +----------+                 |     What changes lies in the boxes of the board, so this is where to look
+//! |        |   +--+   |        +-+      |     for it. Of a box that is larger than a view the middle is looked at.
+//! |        |   +--+   |        +-+      |
+//! |        |    box   |       box       |
+//! |        +----------+                 |
+//! +-------------------------------------+
+//! ```
+ghost use Rattle.std.specs.Prelude.{◌<◌, ◌^◌, IfSome};
+ghost use Rattle.plane_core.specs.plane.Cells.{InOrder};
+ghost use Rattle.plane_core.specs.one_sided.Floods.{ShowsInAllRows};
+ghost use Rattle.plane_core.specs.engine.Frames.{IsViewFrame};
+
+use crate::engine::board::Board;
+use crate::plane::bounds::Bounds;
+use crate::engine::frame::Frame;
+use crate::engine::window_io::read_rows;
+
+/// What is seen, and where it lies: a board of its own, of one lane.
+#[derive(Clone, Copy)]
+pub(crate) struct View {
+    pub(crate) at: Frame,
+    pub(crate) rows: [u64; 64],
+}
+
+impl Board {
+    /// The view in whose middle the middle of the box lies, if it lies on the board, with a lane to its right.
+    pub(crate) fn view(&self, bounds: Bounds) -> Option<View>
+        ensures frame { IfSome result (λ view. IsViewFrame view.at) }
+        ensures shown { IfSome result
+            (λ view. ShowsInAllRows view.at.left view.at.top view.rows self.now.cells) }
+        ensures order { IfSome result (λ _. InOrder self.now.cells) }
+    {
+        let at = self.at;
+        let Some(x) = first_of(bounds.left, bounds.right, at.left) else {
+            return None;
+        };
+        let Some(y) = first_of(bounds.top, bounds.bottom, at.top) else {
+            return None;
+        };
+        if x / 64 + 1 >= at.lanes {
+            return None;
+        }
+        if y + 64 > at.rows {
+            return None;
+        }
+        Some(View {
+            at: Frame {
+                left: at.left + x as i32,
+                top: at.top + y as i32,
+                lanes: 1,
+                rows: 64,
+            },
+            rows: read_rows(self.words.as_slice(), at, x, y),
+        })
+    }
+}
+
+/// How far the sides of the box are apart, those that are further from one another.
+pub(crate) fn longer_side(bounds: Bounds) -> u32 {
+    let across = bounds.left.abs_diff(bounds.right);
+    across.max(bounds.top.abs_diff(bounds.bottom))
+}
+
+/// Where on a board that starts here a view begins that has the middle of these ends in its middle, if all lie on it.
+#[tactic(auto, using(crate::proofs::lemmas::engine::FrameFits::middle_low))]
+fn first_of(from: i32, to: i32, start: i32) -> Option<usize>
+    ensures { IfSome result (λ first. first < 2 ^ 32) }
+{
+    if from < start || to < start {
+        return None;
+    }
+    let twice = from.abs_diff(start) as usize + to.abs_diff(start) as usize;
+    if twice < 64 {
+        None
+    } else {
+        Some((twice - 64) / 2)
+    }
+}

@@ -1,0 +1,244 @@
+//! Where a board lies, and where a cell stands in its words.
+//!
+//! A board is cut into lanes of 64 columns. The words stand lane after lane, a word for each row of a lane:
+//!
+//! ```text
+//!          lane 0                 lane 1
+//! row 0    word 0                 word 0 + rows
+//! row 1    word 1                 word 1 + rows
+//! row 2    word 2                 word 2 + rows
+//! ```
+ghost use Rattle.std.specs.Prelude.{◌≡◌, ◌+◌, ◌*◌, ◌<◌, ◌≤◌, ◌^◌, ◌-ℤ◌, ◌≤ℤ◌, ◌-◌, ◌↔◌, true, false, pos};
+ghost use Rattle.std.specs.Prelude.{IfSome, IsTrue, OnSome};
+ghost use Rattle.std.specs.Prelude.{unsigned_abs};
+ghost use Rattle.plane_core.specs.plane.Bounds.{IsWithin};
+ghost use Rattle.plane_core.specs.plane.Cells.{plane_bound};
+ghost use Rattle.plane_core.specs.engine.Frames.{HasFewWords, IsFrame, LieOn, bounds_of, board_cell, word_of};
+ghost use Rattle.plane_core.specs.plane.Generations.{lies_within};
+ghost use Rattle.plane_core.specs.plane.Bounds.{AreSidesWithin};
+ghost use Rattle.plane_core.specs.declared.plane.cell.Cell.{Cell};
+
+use crate::plane::bounds::Bounds;
+use crate::plane::cell::{BOUND, Cell};
+use crate::plane::coordinate::{apart, back};
+use crate::plane::pattern::Pattern;
+
+/// Where a board lies: its first column and row, how many lanes of 64 columns it has, and how many rows. The rows are a
+/// multiple of eight.
+#[derive(Clone, Copy)]
+pub(crate) struct Frame {
+    pub(crate) left: i32,
+    pub(crate) top: i32,
+    pub(crate) lanes: usize,
+    pub(crate) rows: usize,
+}
+
+/// How many columns and rows a board has more on each side than what its pattern may reach: a window that covers a cell
+/// begins at most 36 columns or rows before it, and ends as far past it.
+const MARGIN: u32 = 40;
+
+/// How many columns and rows a board has at least on each side of a pattern that is shown in its middle.
+const ROOM: u32 = 200;
+
+impl Frame {
+    /// A frame round the pattern that is mostly large enough for so many generations, if a board is worth it: the
+    /// pattern has a cell, the frame lies on the plane, and there are not many more words than cells.
+    pub(crate) fn round(pattern: &Pattern, generations: u32) -> Option<Frame>
+        requires { generations ≤ 1000 }
+        ensures frame { IfSome result IsFrame }
+        ensures plane { IfSome result (λ at. AreSidesWithin plane_bound (bounds_of at)) }
+        ensures on { IfSome result (λ at. LieOn at pattern.now) }
+        ensures inside { OnSome result (lies_within (plane_bound - generations) pattern.now ≡ true) }
+        ensures words { IfSome result (λ at. HasFewWords at pattern.now) }
+    {
+        let Some(bounds) = pattern.bounds() else {
+            return None;
+        };
+        let margin = generations + MARGIN;
+        if farthest(bounds) > BOUND - margin - 64 {
+            return None;
+        }
+        let at = Frame::round_box(bounds, margin);
+        if at.is_sparse(pattern.population()) {
+            return None;
+        }
+        Some(at)
+    }
+
+    /// A frame round the pattern for one generation, if there are at most 32 words a cell.
+    pub(crate) fn for_a_step(pattern: &Pattern) -> Option<Frame>
+        ensures frame { IfSome result IsFrame }
+        ensures plane { IfSome result (λ at. AreSidesWithin plane_bound (bounds_of at)) }
+        ensures on { IfSome result (λ at. LieOn at pattern.now) }
+        ensures inside { OnSome result (lies_within (plane_bound - 1) pattern.now ≡ true) }
+        ensures words { IfSome result (λ at. HasFewWords at pattern.now) }
+    {
+        let Some(at) = Frame::round(pattern, 1) else {
+            return None;
+        };
+        if at.count() / 32 > pattern.population() {
+            return None;
+        }
+        Some(at)
+    }
+
+    /// A frame round the box, with so many columns and rows more on each side, and then some.
+    fn round_box(bounds: Bounds, margin: u32) -> Frame
+        requires margin { margin ≤ 2000 }
+        requires across { bounds.left ≤ℤ bounds.right }
+        requires down { bounds.top ≤ℤ bounds.bottom }
+        requires sides { AreSidesWithin (plane_bound - margin - 64) bounds }
+        ensures frame { IsFrame result }
+        ensures plane { AreSidesWithin plane_bound (bounds_of result) }
+        ensures on { (c : Cell) → IsWithin bounds c → IsWithin (bounds_of result) c }
+    {
+        let width = apart(bounds.left, bounds.right) + 2 * margin + 1;
+        let height = apart(bounds.top, bounds.bottom) + 2 * margin + 1;
+        Frame {
+            left: back(bounds.left, margin),
+            top: back(bounds.top, margin),
+            lanes: (width / 64 + 1) as usize,
+            rows: (height / 8 * 8 + 8) as usize,
+        }
+    }
+
+    /// The frame of the same size in whose middle the pattern lies, if it has room there, and the frame lies on the
+    /// plane.
+    pub(crate) fn centred(self, pattern: &Pattern) -> Option<Frame>
+        requires frame { IsFrame self }
+        requires plane { AreSidesWithin plane_bound (bounds_of self) }
+        ensures frame { IfSome result IsFrame }
+        ensures plane { IfSome result (λ at. AreSidesWithin plane_bound (bounds_of at)) }
+        ensures on { IfSome result (λ at. LieOn at pattern.now) }
+        ensures lanes { IfSome result (λ at. at.lanes ≡ self.lanes) }
+        ensures rows { IfSome result (λ at. at.rows ≡ self.rows) }
+    {
+        let Some(bounds) = pattern.bounds() else {
+            return Some(self);
+        };
+        self.round_middle(bounds)
+    }
+
+    /// The frame of the same size in whose middle the box lies, if it has room there, and the frame lies on the plane.
+    fn round_middle(self, bounds: Bounds) -> Option<Frame>
+        requires frame { IsFrame self }
+        requires across { bounds.left ≤ℤ bounds.right }
+        requires down { bounds.top ≤ℤ bounds.bottom }
+        ensures frame { IfSome result IsFrame }
+        ensures plane { IfSome result (λ at. AreSidesWithin plane_bound (bounds_of at)) }
+        ensures on { IfSome result (λ at. (c : Cell) → IsWithin bounds c → IsWithin (bounds_of at) c) }
+        ensures lanes { IfSome result (λ at. at.lanes ≡ self.lanes) }
+        ensures rows { IfSome result (λ at. at.rows ≡ self.rows) }
+    {
+        let columns = 64 * self.lanes as u32;
+        let rows = self.rows as u32;
+        let around = columns + rows;
+        if around > BOUND {
+            return None;
+        }
+        if farthest(bounds) > BOUND - around {
+            return None;
+        }
+        let width = apart(bounds.left, bounds.right) + 1;
+        let height = apart(bounds.top, bounds.bottom) + 1;
+        let room = 2 * ROOM;
+        if width + room > columns {
+            return None;
+        }
+        if height + room > rows {
+            return None;
+        }
+        Some(Frame {
+            left: back(bounds.left, (columns - width) / 2),
+            top: back(bounds.top, (rows - height) / 2),
+            lanes: self.lanes,
+            rows: self.rows,
+        })
+    }
+
+    /// Whether there are many more words than cells: over 262,144, which take 2 megabytes, and 256 a cell.
+    fn is_sparse(self, population: usize) -> bool
+        requires { IsFrame self }
+        ensures { result ≡ false → self.lanes * self.rows ≤ 256 * population + 262400 }
+    {
+        let count = self.count();
+        count > 262_144 && (count - 262_144) / 256 > population
+    }
+
+    /// How many words there are.
+    pub(crate) fn count(self) -> usize
+        requires { IsFrame self }
+        ensures count { result ≡ self.lanes * self.rows }
+        ensures small { result < 2 ^ 40 }
+    {
+        self.lanes * self.rows
+    }
+
+    /// The place of a row of a lane in the list of words.
+    pub(crate) fn index(self, lane: usize, row: usize) -> usize
+        requires frame { IsFrame self }
+        requires lane { lane < self.lanes }
+        requires row { row < self.rows }
+        ensures index { result ≡ word_of self lane row }
+        ensures inside { result < self.lanes * self.rows }
+        ensures small { result < 2 ^ 40 }
+    {
+        lane * self.rows + row
+    }
+
+    /// The first cell of a row of a lane.
+    pub(crate) fn corner(self, lane: usize, row: usize) -> Cell
+        requires frame { IsFrame self }
+        requires lane { lane < self.lanes }
+        requires row { row < self.rows }
+        ensures corner { result ≡ board_cell self lane row 0 }
+        ensures small { unsigned_abs result.x ≤ 2 ^ 24 }
+    {
+        Cell {
+            x: self.left + (64 * lane) as i32,
+            y: self.top + row as i32,
+        }
+    }
+
+    /// Whether the cell lies on the board.
+    pub(crate) fn has(self, cell: Cell) -> bool
+        requires { IsFrame self }
+        ensures { IsTrue result ↔ IsWithin (bounds_of self) cell }
+    {
+        if cell.x < self.left || cell.x >= self.left + (64 * self.lanes) as i32 {
+            return false;
+        }
+        if cell.y < self.top || cell.y >= self.top + self.rows as i32 {
+            return false;
+        }
+        true
+    }
+
+    /// How many columns of the board are left of the cell.
+    pub(crate) fn across(self, cell: Cell) -> usize
+        requires frame { IsFrame self }
+        requires within { IsWithin (bounds_of self) cell }
+        ensures { pos result ≡ cell.x -ℤ self.left }
+    {
+        (cell.x - self.left) as usize
+    }
+
+    /// How many rows of the board are above the cell.
+    pub(crate) fn down(self, cell: Cell) -> usize
+        requires frame { IsFrame self }
+        requires within { IsWithin (bounds_of self) cell }
+        ensures { pos result ≡ cell.y -ℤ self.top }
+    {
+        (cell.y - self.top) as usize
+    }
+}
+
+/// How far the sides of a box are from the origin, at most.
+#[tactic(auto, using(crate::proofs::lemmas::engine::FrameFits::sides_below))]
+pub(crate) fn farthest(bounds: Bounds) -> u32
+    ensures { AreSidesWithin result bounds }
+{
+    let across = bounds.left.unsigned_abs().max(bounds.right.unsigned_abs());
+    let down = bounds.top.unsigned_abs().max(bounds.bottom.unsigned_abs());
+    across.max(down)
+}

@@ -1,0 +1,188 @@
+//! The cells of a board in a list, in their order: row by row, and each row from the left.
+//!
+//! The rows are gone through in bands of eight, from the first that a span reaches to the last. Most lanes have no live
+//! cell in a band: either its span doesn't reach there, or eight words at once are seen to be empty.
+//!
+//! ```text
+//! lane      0     1     2     3     4
+//! band 0    .     .     .     .     .
+//! band 1    .    [#]   [.]    .     .      Only where the spans reach, in brackets, is a word looked at.
+//! band 2    .    [#]   [#]   [#]    .
+//! band 3    .     .     .     .     .
+//! ```
+ghost use Rattle.std.specs.Prelude.{◌≡◌, ◌+◌, ◌*◌, ◌/◌, ◌<◌, ◌≤◌, ◌^◌, ◌+ℤ◌, ℕ, length, pos};
+ghost use Rattle.std.specs.Prelude.{slice_index, IfOk, IsTrue, OnOk, unsigned_abs};
+ghost use Rattle.std.specs.Int.{bit_at};
+ghost use Rattle.plane_core.specs.plane.Bounds.{AreSidesWithin};
+ghost use Rattle.plane_core.specs.plane.Cells.{cell_at, plane_bound};
+ghost use Rattle.plane_core.specs.engine.Frames.{FillsFrame, IsFrame, bounds_of, word_of};
+ghost use Rattle.plane_core.specs.engine.OnBoard.{cells_on};
+ghost use Rattle.plane_core.specs.engine.RowSpans.{HasRow, LieInLanes, LieInSpans};
+ghost use Rattle.plane_core.specs.engine.Listing.{HasRead, HasReadRows, IsBandEmpty};
+ghost use Rattle.plane_core.specs.engine.Listing.{IsLaneEmpty};
+ghost use Rattle.plane_core.specs.declared.plane.cell.Cell.{Cell};
+
+use crate::plane::cell::Cell;
+use crate::engine::frame::Frame;
+use crate::plane::pattern::{Pattern, in_order};
+use crate::engine::row_spans::{Span, hull_of};
+use memory::OutOfMemory;
+use std::alloc::Global;
+
+/// The pattern of a board on the plane, whose cells lie in these spans. There is room for `room` of them from the
+/// start. They come in their order, so it costs little to see to that.
+pub(crate) fn list(
+    alloc: Global,
+    at: Frame,
+    words: &[u64],
+    spans: &[Span],
+    room: usize,
+) -> Result<Pattern, OutOfMemory>
+    requires frame { IsFrame at }
+    requires plane { AreSidesWithin plane_bound (bounds_of at) }
+    requires long { FillsFrame at words.now }
+    requires spans { length spans.now ≡ at.lanes }
+    requires live { LieInSpans at spans.now (cells_on at words.now) }
+    ensures { IfOk result (λ pattern. pattern ≡ cells_on at words.now) }
+{
+    let mut cells = Vec::with_capacity(alloc, room)?;
+    let hull = hull_of(at, spans);
+    let lanes = hull.lanes.below(at.lanes);
+    // The bands that have all rows of the hull.
+    let first = hull.rows.from.min(at.rows) / 8;
+    let end = (hull.rows.end.min(at.rows) + 7) / 8;
+    for band in first..end {
+        read_band(at, words, spans, lanes, band, &mut cells)?;
+    }
+    Ok(Pattern::from_ordered(in_order(cells)))
+}
+
+/// Reads the cells of a word, whose first cell this is, and adds them to a list.
+fn read_word(word: u64, first: Cell, cells: &mut Vec<Cell>) -> Result<(), OutOfMemory>
+    requires { unsigned_abs first.x ≤ 2 ^ 24 }
+    ensures { OnOk result (HasRead word first cells.old.items 64 cells.new.items) }
+{
+    let mut done = 0;
+    while done < 64 {
+        let remainder = word >> done;
+        if remainder == 0 {
+            return Ok(());
+        }
+        let i = done + remainder.trailing_zeros() as usize;
+        cells.push(along(first, i))?;
+        done = i + 1;
+    }
+    Ok(())
+}
+
+/// The cell so many columns to the right.
+pub(crate) fn along(cell: Cell, columns: usize) -> Cell
+    requires cell { unsigned_abs cell.x ≤ 2 ^ 24 }
+    requires columns { columns < 64 }
+    ensures { result ≡ cell_at (cell.x +ℤ pos columns) cell.y }
+{
+    Cell {
+        x: cell.x + columns as i32,
+        y: cell.y,
+    }
+}
+
+/// The word of a row of a lane, of which this is the span. Outside of it nothing is alive, and no word is looked at.
+fn word_at(at: Frame, words: &[u64], span: Span, lane: usize, row: usize) -> u64
+    requires frame { IsFrame at }
+    requires lane { lane < at.lanes }
+    requires row { row < at.rows }
+    requires long { FillsFrame at words.now }
+    requires live { (i : ℕ) → i < 64 → bit_at (slice_index words.now (word_of at lane row)) i ≡ 1 → HasRow span row }
+    ensures { (i : ℕ) → i < 64 → bit_at result i ≡ bit_at (slice_index words.now (word_of at lane row)) i }
+{
+    if row < span.from || span.end <= row {
+        return 0;
+    }
+    words[at.index(lane, row)]
+}
+
+/// Reads the cells of a band of eight rows, row by row, and adds them to a list. All lie in these lanes.
+fn read_band(
+    at: Frame,
+    words: &[u64],
+    spans: &[Span],
+    lanes: Span,
+    band: usize,
+    cells: &mut Vec<Cell>,
+) -> Result<(), OutOfMemory>
+    requires frame { IsFrame at }
+    requires band { band < at.rows / 8 }
+    requires long { FillsFrame at words.now }
+    requires spans { length spans.now ≡ at.lanes }
+    requires live { LieInSpans at spans.now (cells_on at words.now) }
+    requires order { lanes.from ≤ lanes.end }
+    requires most { lanes.end ≤ at.lanes }
+    requires lanes { LieInLanes at spans.now lanes }
+    ensures { OnOk result
+        (HasReadRows at words.now (8 * band) cells.old.items
+        → HasReadRows at words.now (8 * band + 8) cells.new.items) }
+{
+    let alive = lanes_of_band(at, words, spans, lanes, band);
+    if alive.from == alive.end {
+        return Ok(());
+    }
+    for row in 8 * band..8 * band + 8 {
+        for lane in alive.from..alive.end {
+            let word = word_at(at, words, spans[lane], lane, row);
+            read_word(word, at.corner(lane, row), cells)?;
+        }
+    }
+    Ok(())
+}
+
+/// The lanes from the first to the last in which a cell of a band is alive, of these lanes. If there is none, they end
+/// where they begin.
+fn lanes_of_band(at: Frame, words: &[u64], spans: &[Span], lanes: Span, band: usize) -> Span
+    requires frame { IsFrame at }
+    requires band { band < at.rows / 8 }
+    requires long { FillsFrame at words.now }
+    requires spans { length spans.now ≡ at.lanes }
+    requires live { LieInSpans at spans.now (cells_on at words.now) }
+    requires order { lanes.from ≤ lanes.end }
+    requires most { lanes.end ≤ at.lanes }
+    requires lanes { LieInLanes at spans.now lanes }
+    ensures order { result.from ≤ result.end }
+    ensures most { result.end ≤ at.lanes }
+    ensures left { IsBandEmpty at words.now band 0 result.from }
+    ensures right { IsBandEmpty at words.now band result.end at.lanes }
+{
+    let mut from = lanes.from;
+    while from < lanes.end && is_lane_empty(at, words, spans, from, band) {
+        from += 1;
+    }
+    let mut end = lanes.end;
+    while end > from && is_lane_empty(at, words, spans, end - 1, band) {
+        end -= 1;
+    }
+    Span { from, end }
+}
+
+/// Whether no cell of a band is alive in a lane.
+fn is_lane_empty(at: Frame, words: &[u64], spans: &[Span], lane: usize, band: usize) -> bool
+    requires frame { IsFrame at }
+    requires lane { lane < at.lanes }
+    requires band { band < at.rows / 8 }
+    requires long { FillsFrame at words.now }
+    requires spans { length spans.now ≡ at.lanes }
+    requires live { LieInSpans at spans.now (cells_on at words.now) }
+    ensures { IsTrue result → IsLaneEmpty at words.now band lane }
+{
+    let rows = spans[lane];
+    let first = 8 * band;
+    let is_missed = (rows.end <= first) | (first + 8 <= rows.from);
+    if is_missed {
+        return true;
+    }
+    let from = at.index(lane, first);
+    let mut columns = 0;
+    for k in 0..8 {
+        columns |= words[from + k];
+    }
+    columns == 0
+}

@@ -1,0 +1,32 @@
+//! Cells that are put on an empty board, one after another: the bit of each is set in the word of its row and lane, and
+//! its row joins the span of the lane.
+ghost use Rattle.std.specs.Prelude.{◌≡◌, ◌*◌, [], length};
+ghost use Rattle.plane_core.specs.engine.Frames.{FillsFrame, IsFrame, LieOn, Shows};
+ghost use Rattle.plane_core.specs.engine.RowSpans.{LieInSpans};
+
+use crate::plane::cell::Cell;
+use crate::engine::frame::Frame;
+use crate::engine::row_spans::{Span, widen};
+
+/// Puts all cells on an empty board, and widens its spans by them.
+pub(crate) fn fill(at: Frame, words: &mut [u64], spans: &mut [Span], cells: &[Cell])
+    requires frame { IsFrame at }
+    requires on { LieOn at cells.now }
+    requires long { FillsFrame at words.old }
+    requires lanes { length spans.old ≡ at.lanes }
+    requires empty { Shows at words.old [] }
+    ensures shown { Shows at words.new cells.now }
+    ensures held { LieInSpans at spans.new cells.now }
+{
+    for cell in cells {
+        let across = at.across(*cell);
+        let lane = across / 64;
+        let row = at.down(*cell);
+        words[at.index(lane, row)] |= 1 << (across % 64);
+        let rows = Span {
+            from: row,
+            end: row + 1,
+        };
+        widen(spans, lane, rows);
+    }
+}

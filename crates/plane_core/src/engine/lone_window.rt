@@ -1,0 +1,118 @@
+//! The next generation of a small pattern, made in a window that has nothing else in it:
+//!
+//! ```text
+//!  cells             window               cells
+//! (3, 1)         . . . . . . .           (1, 2)
+//! (3, 2)    ->   . . . O . . .     ->    (2, 2)
+//! (3, 3)         . . . O . . .           (3, 2)
+//!                . . . O . . .
+//! ```
+ghost use Rattle.std.specs.Prelude.{◌≡◌, IfOk, IfSome, true};
+ghost use Rattle.plane_core.specs.plane.Bounds.{AreSidesWithin};
+ghost use Rattle.plane_core.specs.plane.Cells.{InOrder, has, plane_bound};
+ghost use Rattle.plane_core.specs.engine.Frames.{IsFrame, bounds_of};
+ghost use Rattle.plane_core.specs.plane.Generations.{next};
+ghost use Rattle.plane_core.specs.engine.OnBoard.{cells_on};
+ghost use Rattle.plane_core.specs.engine.LoneWindows.{IsInland};
+ghost use Rattle.plane_core.specs.windows.LonePatterns.{Holds, IsInWindow};
+ghost use Rattle.plane_core.specs.declared.plane.cell.Cell.{Cell};
+
+use crate::windows::rule_logic::Answers;
+use crate::engine::frame::Frame;
+use crate::engine::frame::farthest;
+use crate::engine::window_origin::Place;
+use crate::engine::listing::list;
+use crate::windows::window_queries::{columns_of, is_rim_clear};
+use crate::plane::cell::Cell;
+use crate::plane::coordinate::{apart, back};
+use crate::plane::pattern::Pattern;
+use crate::windows::row_packing::{packed, unpacked};
+use crate::plane::rule::Rule;
+use crate::engine::row_spans::Span;
+use crate::windows::window::generation;
+use memory::OutOfMemory;
+use std::alloc::Global;
+use std::simd::u64x4;
+
+/// How far from the origin the sides of a pattern's box are at most: far from the edge of the plane.
+const INLAND: u32 = 900_000;
+
+/// For how many cells there is room from the start where a pattern is listed.
+const ROOM: usize = 20;
+
+/// The next generation of a pattern, if it is small enough for a window.
+pub(crate) fn next_in_window(
+    alloc: Global,
+    rule: &Rule,
+    pattern: &Pattern,
+) -> Result<Option<Pattern>, OutOfMemory>
+    ensures { IfOk result (λ made. IfSome made (λ later. later ≡ next rule.now pattern.now)) }
+{
+    let Some(place) = place_round(pattern) else {
+        return Ok(None);
+    };
+    let mut window = window_of(place, pattern.cells());
+    if !is_rim_clear(&window, columns_of(&window)) {
+        return Ok(None);
+    }
+    generation(&mut window, &Answers::new(rule));
+    // The window as a board, of one lane.
+    let at = Frame {
+        left: place.left,
+        top: place.top,
+        lanes: 1,
+        rows: 64,
+    };
+    let later = pattern_of(alloc, at, &unpacked(&window))?;
+    Ok(Some(later))
+}
+
+/// The pattern whose cells are these rows of a window that lies here.
+pub(crate) fn pattern_of(alloc: Global, at: Frame, rows: &[u64; 64]) -> Result<Pattern, OutOfMemory>
+    requires frame { IsFrame at }
+    requires plane { AreSidesWithin plane_bound (bounds_of at) }
+    requires lanes { at.lanes ≡ 1 }
+    requires rows { at.rows ≡ 64 }
+    ensures { IfOk result (λ pattern. pattern ≡ cells_on at rows.now) }
+{
+    let spans = [Span { from: 0, end: 64 }];
+    list(alloc, at, rows, &spans, ROOM)
+}
+
+/// Where a window round a small pattern lies, which is far from the edge of the plane.
+pub(crate) fn place_round(pattern: &Pattern) -> Option<Place>
+    ensures inland { IfSome result IsInland }
+    ensures inside { IfSome result
+        (λ place. (c : Cell) → has pattern.now c ≡ true → IsInWindow 16 place.left place.top c) }
+{
+    let Some(bounds) = pattern.bounds() else {
+        return None;
+    };
+    if farthest(bounds) > INLAND {
+        return None;
+    }
+    let width = apart(bounds.left, bounds.right);
+    let height = apart(bounds.top, bounds.bottom);
+    if width > 61 || height > 61 {
+        return None;
+    }
+    Some(Place {
+        left: back(bounds.left, (63 - width) / 2),
+        top: back(bounds.top, (63 - height) / 2),
+    })
+}
+
+/// The window at this place with these cells.
+pub(crate) fn window_of(place: Place, cells: &[Cell]) -> [u64x4; 16]
+    requires order { InOrder cells.now }
+    requires inside { (c : Cell) → has cells.now c ≡ true → IsInWindow 16 place.left place.top c }
+    ensures { Holds 16 place.left place.top result cells.now }
+{
+    let mut rows = [0; 64];
+    for cell in cells {
+        let across = (cell.x - place.left) as usize;
+        let down = (cell.y - place.top) as usize;
+        rows[down] |= 1 << across;
+    }
+    packed(&rows)
+}

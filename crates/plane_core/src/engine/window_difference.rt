@@ -1,0 +1,69 @@
+//! Where two windows differ in their inner parts.
+//!
+//! The windows are laid over one another, and what differs is gathered in two words, one for the columns and one for
+//! the rows. No branch depends on a cell:
+//!
+//! ```text
+//!   . . . .      . . . .      . . . .   rows
+//!   . o o .  and . o . o  :   . . x x    1
+//!   . o . .      . o . .      . . . .    0
+//!                    columns  0 0 1 1
+//! ```
+ghost use Rattle.std.specs.Prelude.{◌≡◌, ◌+◌, ◌*◌, ◌<◌, ◌≤◌, IsTrue, ℕ};
+ghost use Rattle.plane_core.specs.windows.LaneSums.{bit_of};
+ghost use Rattle.plane_core.specs.engine.WindowIo.{inner_mask};
+ghost use Rattle.plane_core.specs.engine.WindowDifferences.{DiffersOnlyIn};
+
+use crate::engine::difference_box::Change;
+use crate::windows::window_queries::{either, in_any_lane};
+use crate::engine::window_io::INNER;
+use std::simd::cmp::SimdPartialEq;
+use std::simd::u64x4;
+
+/// The inner columns of a row, or none.
+#[inline(always)]
+fn inner_if(inside: bool) -> u64
+    ensures { IsTrue inside → result ≡ inner_mask }
+{
+    if inside { INNER } else { 0 }
+}
+
+/// The places of vector k that lie in the inner part of its window, of those in which two of them differ.
+#[inline(always)]
+fn differing(one: u64x4, other: u64x4, k: usize) -> u64x4
+    requires { k < 10 }
+    ensures { (j i : ℕ) → j < 4 → 4 ≤ i → i < 60 → 4 ≤ j * 10 + k → j * 10 + k < 36 → bit_of result j i ≡ 0
+        → bit_of one j i ≡ bit_of other j i }
+{
+    (one ^ other) & u64x4::from_array([inner_if(k >= 4), INNER, INNER, inner_if(k < 6)])
+}
+
+/// The rows of vector k of which a place is set, as bits of a word in each lane.
+#[inline(always)]
+fn marked(places: u64x4, k: usize) -> u64x4
+    requires { k < 10 }
+    ensures { (j i : ℕ) → j < 4 → bit_of result j (j * 10 + k) ≡ 0 → bit_of places j i ≡ 0 }
+{
+    let rows = u64x4::from_array([1 << k, 1 << (10 + k), 1 << (20 + k), 1 << (30 + k)]);
+    places
+        .simd_ne(u64x4::splat(0))
+        .select(rows, u64x4::splat(0))
+}
+
+/// Where two windows differ in their inner parts.
+#[inline(always)]
+pub(crate) fn difference_of(one: &[u64x4; 10], other: &[u64x4; 10]) -> Change
+    ensures { DiffersOnlyIn result one.now other.now }
+{
+    let mut columns = u64x4::splat(0);
+    let mut rows = u64x4::splat(0);
+    for k in 0..10 {
+        let places = differing(one[k], other[k], k);
+        columns = either(columns, places);
+        rows = either(rows, marked(places, k));
+    }
+    Change {
+        columns: in_any_lane(columns),
+        rows: in_any_lane(rows),
+    }
+}

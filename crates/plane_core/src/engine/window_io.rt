@@ -1,0 +1,126 @@
+//! Windows read from a board, and their inner parts put back.
+//!
+//! A window may begin in any column, so each of its rows lies in two lanes of the board:
+//!
+//! ```text
+//!   lane x / 64        |  the lane after it
+//!   ..........[aaaaaaaa|bbbbbbbbbbbb].......
+//!             column x
+//! ```
+ghost use Rattle.std.specs.Prelude.{◌≡◌, ◌≢◌, ◌==◌, ◌+◌, ◌-◌, ◌*◌, ◌/◌, ◌<◌, ◌≤◌, ℕ, ◌+ℤ◌, pos, length};
+ghost use Rattle.std.specs.Prelude.{if◌then◌else◌, slice_index};
+ghost use Rattle.std.specs.Int.{bit_at};
+ghost use Rattle.plane_core.specs.engine.Frames.{FillsFrame, IsFrame};
+ghost use Rattle.plane_core.specs.engine.WindowIo.{AreRowsRead, IsPutBack, IsRowPut};
+ghost use Rattle.plane_core.specs.engine.WindowOrigins.{IsOnBoard};
+
+use crate::engine::frame::Frame;
+use crate::engine::window_origin::Place;
+
+/// The inner columns of a window, 4 to 59.
+pub(crate) const INNER: u64 = 0x0fff_ffff_ffff_fff0;
+
+/// The column of the board in which a window begins.
+#[inline(always)]
+pub(crate) fn column_of(at: Frame, place: Place) -> usize
+    requires frame { IsFrame at }
+    requires on_board { IsOnBoard at place }
+    ensures is { place.left ≡ at.left +ℤ pos result }
+    ensures lanes { result / 64 + 1 < at.lanes }
+{
+    (place.left - at.left) as usize
+}
+
+/// The row of the board in which a window begins.
+#[inline(always)]
+pub(crate) fn row_of(at: Frame, place: Place) -> usize
+    requires frame { IsFrame at }
+    requires on_board { IsOnBoard at place }
+    ensures is { place.top ≡ at.top +ℤ pos result }
+    ensures rows { result + 40 ≤ at.rows }
+{
+    (place.top - at.top) as usize
+}
+
+/// Reads the rows of a window that begins in column x and row y of the board: each is the end of a word of the first
+/// lane with the beginning of one of the second. They are read in order, so that four of them are read at once.
+#[inline(always)]
+pub(crate) fn read_rows<const R: usize>(words: &[u64], at: Frame, x: usize, y: usize) -> [u64; R]
+    requires long { FillsFrame at words.now }
+    requires lanes { x / 64 + 1 < at.lanes }
+    requires rows { y + R ≤ at.rows }
+    ensures { AreRowsRead at words.now x y R result }
+{
+    let first = x / 64 * at.rows + y;
+    let second = first + at.rows;
+    let shift = x % 64;
+    let mut rows = [0; R];
+    for r in 0..R {
+        rows[r] = (words[first + r] >> shift) | (words[second + r] << 1 << (63 - shift));
+    }
+    rows
+}
+
+/// The word's columns that lie in the first lane, where it begins in this column of it.
+#[inline(always)]
+fn in_first(word: u64, shift: usize) -> u64
+    requires { shift < 64 }
+    ensures low { (i : ℕ) → i < shift → bit_at result i ≡ 0 }
+    ensures high { (i : ℕ) → shift ≤ i → i < 64 → bit_at result i ≡ bit_at word (i - shift) }
+{
+    word << shift
+}
+
+/// The word's columns that lie in the second lane.
+#[inline(always)]
+#[tactic(auto, using(crate::proofs::lemmas::windows::ShiftLemmas::bit_second))]
+fn in_second(word: u64, shift: usize) -> u64
+    requires { shift < 64 }
+    ensures { (i : ℕ) → bit_at result i ≡ bit_at word (i + 64 - shift) }
+{
+    word >> 1 >> (63 - shift)
+}
+
+/// Puts the bits of the value into a word where the mask has a 1.
+#[inline(always)]
+fn put_word(words: &mut [u64], i: usize, mask: u64, value: u64)
+    requires { i < length words.old }
+    ensures at { (b : ℕ) → bit_at (slice_index words.new i) b
+        ≡ (if bit_at mask b == 1 then bit_at value b else bit_at (slice_index words.old i) b) }
+    ensures others { (m : ℕ) → m ≢ i → slice_index words.new m ≡ slice_index words.old m }
+{
+    let old = words[i];
+    words[i] = old ^ ((old ^ value) & mask);
+}
+
+/// Puts the inner columns of a row back.
+#[inline(always)]
+fn write_row(words: &mut [u64], at: Frame, x: usize, y: usize, word: u64)
+    requires long { FillsFrame at words.old }
+    requires lanes { x / 64 + 1 < at.lanes }
+    requires rows { y < at.rows }
+    ensures { IsRowPut at x y word words.old words.new }
+{
+    let i = x / 64 * at.rows + y;
+    let shift = x % 64;
+    put_word(words, i, in_first(INNER, shift), in_first(word, shift));
+    put_word(
+        words,
+        i + at.rows,
+        in_second(INNER, shift),
+        in_second(word, shift),
+    );
+}
+
+/// Puts the inner part of a window back, whose rows these are. It begins in column x and row y of the board.
+#[inline(always)]
+pub(crate) fn write(words: &mut [u64], at: Frame, x: usize, y: usize, rows: &[u64; 40])
+    requires long { FillsFrame at words.old }
+    requires lanes { x / 64 + 1 < at.lanes }
+    requires rows { y + 40 ≤ at.rows }
+    ensures { IsPutBack at x y 36 rows.now words.old words.new }
+{
+    for r in 4..36 {
+        write_row(words, at, x, y + r, rows[r]);
+    }
+}

@@ -1,0 +1,15 @@
+//! One-sided tests, which look at one cluster: `true` is a proof that a pattern isn't at rest or doesn't recur, and
+//! `false` says nothing. So which cluster is looked at, and when, is a free choice that needs no proof.
+
+pub(crate) mod active_cells;
+pub(crate) mod crop;
+pub(crate) mod diverges;
+/// A checkpoint of a board that is rejected by one cluster.
+pub mod early_reject;
+pub(crate) mod flood;
+pub(crate) mod never_recurs;
+/// Tests on a small pattern, which is run in one window.
+pub mod quick_test;
+pub(crate) mod rules_out_rest;
+/// Clusters that may be spaceships on their way out.
+pub mod spaceship_candidates;

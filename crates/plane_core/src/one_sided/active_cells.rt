@@ -1,0 +1,57 @@
+//! The cells of a window that change within two generations. What is at rest, or alternates, has none:
+//!
+//! ```text
+//! . . . . . . . .      . . . . . . . .
+//! . O O . . . O .      . . . . . . 1 .      Two cells of the glider are dead two generations on. Those of the block
+//! . O O . . . . O      . . . . . . . .      are alive.
+//! . . . . . O O O      . . . . . . 1 .
+//! ```
+use crate::windows::rule_logic::Answers;
+use crate::one_sided::flood::INSIDE;
+use crate::windows::row_packing::unpacked;
+use crate::windows::window::generations;
+use std::simd::u64x4;
+
+/// The columns in the middle of a window, where a cell that changes is looked for first.
+const MIDDLE: u64 = 0x0000_0fff_fff0_0000;
+
+/// A row and a column of a window.
+#[derive(Clone, Copy)]
+pub(crate) struct Spot {
+    pub(crate) row: usize,
+    pub(crate) column: u32,
+}
+
+/// The live cells that are dead two generations on, of those in columns 4 to 59, from which a cluster may be grown.
+pub(crate) fn changing_cells(window: &[u64x4; 16], rule: &Answers) -> [u64; 64] {
+    let mut cells = *window;
+    generations(&mut cells, rule, 2);
+    for k in 0..16 {
+        // What is alive, and differs two generations on.
+        cells[k] = window[k] & (window[k] ^ cells[k]) & u64x4::splat(INSIDE);
+    }
+    unpacked(&cells)
+}
+
+/// One of the cells, if there is one four or more from the border, those in the middle before others.
+pub(crate) fn first_cell(rows: &[u64; 64]) -> Option<Spot> {
+    for d in 0..28 {
+        if rows[31 - d] != 0 {
+            return Some(spot_in(31 - d, rows[31 - d]));
+        }
+        if rows[32 + d] != 0 {
+            return Some(spot_in(32 + d, rows[32 + d]));
+        }
+    }
+    None
+}
+
+/// The first of the cells of a row, those in the middle before others.
+fn spot_in(row: usize, cells: u64) -> Spot {
+    let middle = cells & MIDDLE;
+    let found = if middle == 0 { cells } else { middle };
+    Spot {
+        row,
+        column: found.trailing_zeros(),
+    }
+}

@@ -1,0 +1,82 @@
+//! Whether a cluster that is run alone comes to have a cell that the whole pattern hasn't:
+//!
+//! ```text
+//! the whole              one cluster alone
+//! . . . . . . . .        . . . . . . . .
+//! . . x . . O O .        . . x . . . . .     What else is there keeps cell x from living. So the cluster is not one
+//! . . O O . O O .        . . O O . . . .     of the objects at rest that the pattern falls into.
+//! . . O . . . . .        . . O . . . . .
+//! ```
+//!
+//! Both are run in windows, which are right a cell less far out with each generation.
+ghost use Rattle.std.specs.Prelude.{◌+◌, ◌≤◌, ◌<◌, IsTrue};
+ghost use Rattle.plane_core.specs.windows.RuleLogic.{rule_of};
+ghost use Rattle.plane_core.specs.one_sided.RestlessClusters.{HasStray, ShowsStray};
+
+use crate::windows::rule_logic::Answers;
+use crate::windows::window_queries::{are_alike, in_any_lane, row};
+use crate::windows::window::generation;
+use std::simd::u64x4;
+
+/// Whether it is seen within so many generations, and within 15, that what one window shows alone strays from the whole
+/// that the other one shows, both right at this depth. `false` says nothing.
+pub(crate) fn shows_stray<const N: usize>(
+    whole: &[u64x4; N],
+    alone: &[u64x4; N],
+    rule: &Answers,
+    depth: usize,
+    most: u32,
+) -> bool
+    requires some { 10 ≤ N }
+    requires few { N ≤ 16 }
+    requires depth { depth ≤ 2 }
+    ensures { IsTrue result → ShowsStray (rule_of rule.now) N whole.now alone.now depth most }
+{
+    // Mostly the window has nothing else that the cluster could meet.
+    if are_alike(whole, alone) {
+        return false;
+    }
+    let mut whole = *whole;
+    let mut alone = *alone;
+    for made in 0..most.min(15) {
+        generation(&mut whole, rule);
+        generation(&mut alone, rule);
+        if made % 4 == 2 {
+            if has_stray(&whole, &alone, depth + 1 + made as usize) {
+                return true;
+            }
+        }
+    }
+    false
+}
+
+/// Whether so deep inside there is a cell alone that the whole hasn't.
+fn has_stray<const N: usize>(whole: &[u64x4; N], alone: &[u64x4; N], depth: usize) -> bool
+    requires some { 10 ≤ N }
+    requires few { N ≤ 16 }
+    requires depth { depth < 20 }
+    ensures { IsTrue result → HasStray N whole.now alone.now depth }
+{
+    // The columns that are so deep inside.
+    let inside = u64::MAX >> (2 * depth) << depth;
+    if columns_astray(whole, alone) & inside == 0 {
+        return false;
+    }
+    for r in depth..4 * N - depth {
+        let here = row(alone, r);
+        let astray = here & (here ^ row(whole, r)) & inside;
+        if astray != 0 {
+            return true;
+        }
+    }
+    false
+}
+
+/// The columns that have a cell alone which the whole hasn't.
+fn columns_astray<const N: usize>(whole: &[u64x4; N], alone: &[u64x4; N]) -> u64 {
+    let mut all = u64x4::splat(0);
+    for k in 0..N {
+        all = all | (alone[k] & (alone[k] ^ whole[k]));
+    }
+    in_any_lane(all)
+}

@@ -1,0 +1,57 @@
+//! Whether a window shows a pattern that isn't at rest, told by one cluster:
+//!
+//! ```text
+//! . . . . . . . .      The window has a piece of the pattern. A cell that changes within two generations is looked
+//! . O O . . . S .      for, and its cluster is grown from it. Alone, that cluster may stray from what the whole does,
+//! . O O . . S S .      or never be itself again. Then the pattern hasn't fallen into objects at rest.
+//! . . . . . . S .
+//! ```
+//!
+//! Only the 'no' to a rest is sure, and most patterns that aren't at rest are told so by a single cluster.
+ghost use Rattle.std.specs.Prelude.{◌≤◌, IsTrue};
+ghost use Rattle.plane_core.specs.windows.RuleLogic.{rule_of};
+ghost use Rattle.plane_core.specs.one_sided.RestlessClusters.{RefusesAll};
+
+use crate::windows::rule_logic::Answers;
+use crate::one_sided::active_cells::{changing_cells, first_cell};
+use crate::one_sided::crop::{excerpt, excerpt_round};
+use crate::one_sided::flood::flood;
+use crate::one_sided::never_recurs::never_back;
+use crate::windows::row_packing::{packed, unpacked};
+use crate::one_sided::diverges::shows_stray;
+use std::simd::u64x4;
+
+/// Whether it is seen that no pattern which the window shows at this depth is at rest: one of its clusters strays from
+/// it within the horizon, or is never itself again within the period. `false` says nothing.
+pub(crate) fn refuses(
+    window: &[u64x4; 16],
+    rule: &Answers,
+    depth: usize,
+    horizon: u32,
+    period: u32,
+) -> bool
+    requires { depth ≤ 2 }
+    ensures { IsTrue result → RefusesAll (rule_of rule.now) 16 window.now depth horizon period }
+{
+    let Some(spot) = first_cell(&changing_cells(window, rule)) else {
+        return false;
+    };
+    let mut cluster = [0; 64];
+    let whole = flood(&unpacked(window), &mut cluster, spot.row, spot.column);
+    if !whole {
+        return false;
+    }
+    // The window with nothing in it but the cluster.
+    let alone = packed(&cluster);
+    let Some(from) = excerpt_round(&alone) else {
+        return shows_stray(window, &alone, rule, depth, horizon)
+            || never_back(&alone, rule, period);
+    };
+    // The cluster lies in these 40 rows, where the same is seen in less time.
+    let whole = excerpt(window, from);
+    let part = excerpt(&alone, from);
+    if shows_stray(&whole, &part, rule, depth, horizon) {
+        return true;
+    }
+    never_back(&part, rule, period) || never_back(&alone, rule, period)
+}

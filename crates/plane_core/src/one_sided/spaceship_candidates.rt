@@ -1,0 +1,157 @@
+//! Candidates for ships: clusters of a few cells that change.
+//!
+//! In the view of each box the cells that change within two generations are looked for, and the cluster of one after
+//! another is grown:
+//!
+//! ```text
+//! . . . . . . . . . .      . . . . . . . . . .
+//! . . O . . . . O . .      . . x . . . . . . .     Two cells change. The cluster of the first has five cells, and
+//! . . . O . . . O . .      . . . . . . . . . .     the second is one of them, so it is no candidate any more. What
+//! . O O O . . . O . .      . . x . . . . . . .     alternates has no cell that changes in two generations.
+//! . . . . . . . . . .      . . . . . . . . . .
+//! ```
+//!
+//! A lone ship has a small box, so only these are looked at, and of these only those that lie ahead of all others.
+ghost use Rattle.std.specs.Prelude.{All, IfOk, List, OnOk};
+ghost use Rattle.plane_core.specs.plane.Cells.{InOrder};
+ghost use Rattle.plane_core.specs.clusters.Clusters.{IsCluster};
+ghost use Rattle.plane_core.specs.one_sided.Floods.{ShowsInRows};
+ghost use Rattle.plane_core.specs.engine.Frames.{IsViewFrame};
+ghost use Rattle.plane_core.specs.declared.plane.cell.Cell.{Cell};
+
+use crate::engine::board::Board;
+use crate::engine::board::view::longer_side;
+use crate::plane::bounds::Bounds;
+use crate::one_sided::active_cells::{changing_cells, first_cell};
+use crate::one_sided::flood::flood;
+use crate::engine::frame::Frame;
+use crate::plane::pattern::Pattern;
+use crate::windows::row_packing::packed;
+use crate::engine::lone_window::pattern_of;
+use memory::OutOfMemory;
+use std::alloc::Global;
+
+/// How many boxes are looked at, at most.
+const BOXES: u32 = 32;
+
+/// How many columns and rows the box of what changes in a ship has at most: a heavyweight spaceship's has nine. A ship
+/// that has just left a larger group shares its box, and gets one of its own soon.
+const SHIP: u32 = 10;
+
+/// How many clusters are grown for each, at most.
+const FLOODS: u32 = 8;
+
+/// How many cells a candidate has at most. A heavyweight spaceship has up to 18.
+const MOST: u32 = 20;
+
+impl Board {
+    /// Some clusters of the pattern that change, each of a few cells. Which ones isn't said.
+    ///
+    /// # Errors
+    ///
+    /// `OutOfMemory` if memory runs out.
+    pub fn small_clusters(&self, alloc: Global) -> Result<Vec<Pattern>, OutOfMemory>
+        ensures { IfOk result (λ clusters. All (IsCluster self.now.cells) clusters.items) }
+    {
+        let boxes = self.active_boxes();
+        let mut clusters = Vec::new(alloc);
+        let mut tries = BOXES;
+        for bounds in boxes {
+            if tries == 0 {
+                break;
+            }
+            // Little else than a ship may change in a small box.
+            if longer_side(*bounds) >= SHIP || !leads_somewhere(boxes, *bounds) {
+                continue;
+            }
+            tries -= 1;
+            let Some(view) = self.view(*bounds) else {
+                continue;
+            };
+            let mut changing = changing_cells(&packed(&view.rows), self.logic());
+            add_grown(alloc, view.at, &view.rows, &mut changing, &mut clusters)?;
+        }
+        Ok(clusters)
+    }
+}
+
+/// Whether the box lies ahead of all others in some diagonal direction. What is in another box can't be ahead of all
+/// the rest, unless what is ahead of it goes first.
+fn leads_somewhere(boxes: &[Bounds], bounds: Bounds) -> bool {
+    let mut right_down = true;
+    let mut right_up = true;
+    let mut left_down = true;
+    let mut left_up = true;
+    for other in boxes {
+        // How far it lies to the right of the other one, to the left, below and above: not at all, if not more than 0.
+        let right = bounds.left.saturating_sub(other.right);
+        let left = other.left.saturating_sub(bounds.right);
+        let down = bounds.top.saturating_sub(other.bottom);
+        let up = other.top.saturating_sub(bounds.bottom);
+        // Those that it meets don't count, since a ship has boxes from more than one window.
+        if right.max(left).max(down).max(up) <= 1 {
+            continue;
+        }
+        right_down &= right.saturating_add(down) > 0;
+        right_up &= right.saturating_add(up) > 0;
+        left_down &= left.saturating_add(down) > 0;
+        left_up &= left.saturating_add(up) > 0;
+        if !(right_down | right_up | left_down | left_up) {
+            return false;
+        }
+    }
+    true
+}
+
+/// Adds the clusters of the cells that change in a window that lies here, if they are small and not among the others
+/// yet: two boxes may lie near each other. Their cells are struck out.
+fn add_grown(
+    alloc: Global,
+    at: Frame,
+    rows: &[u64; 64],
+    changing: &mut [u64; 64],
+    clusters: &mut Vec<Pattern>,
+) -> Result<(), OutOfMemory>
+    requires { IsViewFrame at }
+    ensures { OnOk result ((cells : List Cell) → InOrder cells → ShowsInRows at.left at.top rows.now cells
+        → All (IsCluster cells) clusters.old.items → All (IsCluster cells) clusters.new.items) }
+{
+    for _ in 0..FLOODS {
+        let Some(spot) = first_cell(changing) else {
+            return Ok(());
+        };
+        let mut cluster = [0; 64];
+        let whole = flood(rows, &mut cluster, spot.row, spot.column);
+        let population = strike_out(changing, &cluster);
+        if !whole || population > MOST {
+            continue;
+        }
+        let pattern = pattern_of(alloc, at, &cluster)?;
+        if has(clusters.as_slice(), &pattern) {
+            continue;
+        }
+        clusters.push(pattern)?;
+    }
+    Ok(())
+}
+
+/// Takes the cells of a cluster off others. Returns how many cells the cluster has.
+fn strike_out(cells: &mut [u64; 64], cluster: &[u64; 64]) -> u32 {
+    let mut count = 0u32;
+    for row in 0..64 {
+        cells[row] &= !cluster[row];
+        // At most 4,096, so nothing wraps.
+        count = count.wrapping_add(cluster[row].count_ones());
+    }
+    count
+}
+
+/// Whether the cluster is one of the others.
+fn has(clusters: &[Pattern], cluster: &Pattern) -> bool {
+    for other in clusters {
+        if other.cells() == cluster.cells() {
+            return true;
+        }
+    }
+    false
+}

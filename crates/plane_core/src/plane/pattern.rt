@@ -1,0 +1,182 @@
+//! Patterns: finite sets of live cells. A pattern is kept as the list of its cells in order, each once.
+ghost use Rattle.std.specs.Prelude.{◌≡◌, ◌++◌, List, [], ◌∷◌, length, IfOk, IfErr, OnOk, position, None};
+ghost use Rattle.memory.specs.Witness.{out_of_memory};
+ghost use Rattle.plane_core.specs.plane.Cells.{IsPattern, SetsHaveOneList, cell_at, has, set_of, off_plane};
+ghost use Rattle.plane_core.specs.plane.Refusals.{RefusesCells};
+ghost use Rattle.plane_core.specs.declared.plane.cell.Cell.{Cell};
+ghost use Rattle.plane_core.specs.declared.plane.pattern.FromCellsError.TheVariants.{Memory};
+
+use crate::plane::cell::Cell;
+use memory::OutOfMemory;
+use std::alloc::Global;
+use std::fmt::{self, Display};
+use std::marker::Model;
+use thiserror::Error;
+
+/// Why a list of cells is not a pattern.
+#[derive(Clone, Copy, PartialEq, Eq, Error)]
+pub enum FromCellsError {
+    /// The cell at this index, counted from 0, is the first past the bound.
+    OutOfPlane { index: usize },
+    /// Memory ran out.
+    Memory(OutOfMemory),
+}
+
+impl fmt::Display for FromCellsError {
+    fn fmt<W: fmt::Write>(&self, f: &mut fmt::Formatter<W>) -> fmt::Result {
+        match self {
+            FromCellsError::OutOfPlane { index } => {
+                write!(f, "cell {index} lies past the bound of the plane")
+            }
+            FromCellsError::Memory(refused) => refused.fmt(f),
+        }
+    }
+}
+
+/// Shows the message, as `Display` does.
+impl fmt::Debug for FromCellsError {
+    fn fmt<W: fmt::Write>(&self, f: &mut fmt::Formatter<W>) -> fmt::Result {
+        fmt::Display::fmt(self, f)
+    }
+}
+
+impl<E: Into<OutOfMemory>> From<E> for FromCellsError {
+    ghost from_gives = { λ _ e. e ≡ Memory out_of_memory };
+
+    fn from(refused: E) -> FromCellsError {
+        FromCellsError::Memory(refused.into())
+    }
+}
+
+/// A finite set of cells, each with coordinates at most [`BOUND`](crate::plane::cell::BOUND) in size.
+#[derive(Debug)]
+pub struct Pattern {
+    cells: Vec<Cell>,
+}
+
+impl Model for Pattern {
+    ghost Value = { List Cell };
+
+    ghost view = { λ p. p.cells.items };
+
+    ghost invariant = { λ p. IsPattern p.cells.items };
+}
+
+// Written out, since a derived drop is proved anew wherever a pattern is given up.
+impl Drop for Pattern {
+    fn drop(self) {
+        let Pattern { cells } = self;
+        drop(cells);
+    }
+}
+
+impl Pattern {
+    /// The set of the cells of a list, which may stand in any order and more than once.
+    ///
+    /// # Errors
+    ///
+    /// `OutOfPlane` if a cell lies past the bound, with the index of the first such cell, counted from 0, whether there
+    /// is memory or not. Otherwise `Memory` if memory runs out.
+    pub fn from_cells(alloc: Global, cells: &[Cell]) -> Result<Pattern, FromCellsError>
+        ensures set { IfOk result (λ pattern. pattern ≡ set_of cells.now) }
+        ensures members { IfOk result (λ pattern. (c : Cell) → has pattern c ≡ has cells.now c) }
+        ensures plane { OnOk result (position off_plane cells.now ≡ None) }
+        ensures refused { IfErr result (RefusesCells cells.now) }
+    {
+        for (index, cell) in cells.iter().enumerate() {
+            if !cell.is_on_plane() {
+                return Err(FromCellsError::OutOfPlane { index });
+            }
+        }
+        let cells = Vec::from_slice(alloc, cells)?;
+        Ok(Pattern {
+            cells: in_order(cells),
+        })
+    }
+
+    /// The pattern of cells that are already in order, each once.
+    pub(crate) fn from_ordered(cells: Vec<Cell>) -> Pattern
+        requires { IsPattern cells.items }
+        ensures { result ≡ cells.items }
+    {
+        Pattern { cells }
+    }
+
+    /// Puts a cell after the others, which come before it.
+    pub(crate) fn push(&mut self, cell: Cell) -> Result<(), OutOfMemory>
+        requires { IsPattern (self.old ++ cell ∷ []) }
+        ensures { OnOk result (self.new ≡ self.old ++ cell ∷ []) }
+    {
+        self.cells.push(cell)?;
+        Ok(())
+    }
+
+    /// An equal pattern.
+    ///
+    /// # Errors
+    ///
+    /// `OutOfMemory` if memory runs out.
+    pub fn copy(&self, alloc: Global) -> Result<Pattern, OutOfMemory>
+        ensures { IfOk result (λ pattern. pattern ≡ self.now) }
+    {
+        let cells = Vec::from_slice(alloc, self.cells())?;
+        Ok(Pattern::from_ordered(cells))
+    }
+
+    /// The cells of both patterns.
+    pub(crate) fn united(self, other: &Pattern) -> Result<Pattern, OutOfMemory>
+        ensures { IfOk result (λ whole. whole ≡ set_of (self ++ other.now)) }
+    {
+        let Pattern { mut cells } = self;
+        cells.extend_from_slice(other.cells())?;
+        Ok(Pattern {
+            cells: in_order(cells),
+        })
+    }
+
+    /// All cells in order, each once.
+    pub fn cells(&self) -> &[Cell]
+        ensures cells { result.now ≡ self.now }
+        ensures pattern { IsPattern self.now }
+    {
+        self.cells.as_slice()
+    }
+
+    /// The number of cells.
+    pub fn population(&self) -> usize
+        ensures { result ≡ length self.now }
+    {
+        self.cells.len()
+    }
+
+    /// Whether the cell (x, y) is in the set.
+    pub fn has(&self, x: i32, y: i32) -> bool
+        ensures { result ≡ has self.now (cell_at x y) }
+    {
+        self.cells().binary_search(&Cell { y, x }).is_ok()
+    }
+}
+
+/// A law of all sets of cells: each has one list in order. So two patterns with the same cells are the same list.
+#[tactic(auto, using(crate::proofs::lemmas::plane::SetLemmas::same_lists))]
+pub fn sets_have_one_list()
+    ensures { SetsHaveOneList }
+{}
+
+/// The cells in order, each once. Those that are read off a board are so already.
+pub(crate) fn in_order(cells: Vec<Cell>) -> Vec<Cell>
+    ensures { result.items ≡ set_of cells.items }
+{
+    let mut set = cells;
+    let mut place = 1;
+    while place < set.len() {
+        let before = set[place - 1] < set[place];
+        if !before {
+            set.sort_unstable();
+            set.dedup();
+            return set;
+        }
+        place += 1;
+    }
+    set
+}

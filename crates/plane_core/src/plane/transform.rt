@@ -1,0 +1,186 @@
+//! Patterns moved and turned:
+//!
+//! ```text
+//! O . .        . . O
+//! O O .   ->   . O O      Turned, an image is moved so that its least column and its least row are 0.
+//! . O O        O O .
+//! ```
+ghost use Rattle.std.specs.Prelude.{◌≡◌, map, true};
+ghost use Rattle.std.specs.Prelude.{IfOk, IfErr, IfSome, OnOk, is_some};
+ghost use Rattle.std.specs.List.{list_all};
+ghost use Rattle.memory.specs.Witness.{out_of_memory};
+ghost use Rattle.plane_core.specs.plane.Bounds.{box_of, shifted};
+ghost use Rattle.plane_core.specs.plane.Orientations.{corner_placement, image, landed, turned, turned_cell};
+ghost use Rattle.plane_core.specs.declared.plane.orientation.Orientation.TheVariants.{Diagonal};
+ghost use Rattle.plane_core.specs.plane.Cells.{IsPattern, on_plane};
+ghost use Rattle.plane_core.specs.plane.Refusals.{RefusesPlace};
+ghost use Rattle.plane_core.specs.declared.plane.transform.PlaceError.TheVariants.{Memory};
+
+use crate::plane::bounds::grown;
+use crate::plane::cell::{BOUND, Cell};
+use crate::plane::coordinate::negated;
+use crate::plane::orientation::Orientation;
+use crate::plane::pattern::{Pattern, in_order};
+use memory::OutOfMemory;
+use std::alloc::Global;
+use std::fmt::{self, Display};
+use thiserror::Error;
+
+/// Why a pattern can't be put somewhere.
+#[derive(Clone, Copy, PartialEq, Eq, Error)]
+pub enum PlaceError {
+    /// A cell would lie past the bound.
+    OutOfPlane,
+    /// Memory ran out.
+    Memory(OutOfMemory),
+}
+
+impl fmt::Display for PlaceError {
+    fn fmt<W: fmt::Write>(&self, f: &mut fmt::Formatter<W>) -> fmt::Result {
+        match self {
+            PlaceError::OutOfPlane => f.write_str("a cell would lie past the bound of the plane"),
+            PlaceError::Memory(refused) => refused.fmt(f),
+        }
+    }
+}
+
+/// Shows the message, as `Display` does.
+impl fmt::Debug for PlaceError {
+    fn fmt<W: fmt::Write>(&self, f: &mut fmt::Formatter<W>) -> fmt::Result {
+        fmt::Display::fmt(self, f)
+    }
+}
+
+impl<E: Into<OutOfMemory>> From<E> for PlaceError {
+    ghost from_gives = { λ _ e. e ≡ Memory out_of_memory };
+
+    fn from(refused: E) -> PlaceError {
+        PlaceError::Memory(refused.into())
+    }
+}
+
+impl Pattern {
+    /// The pattern moved by (dx, dy).
+    ///
+    /// # Errors
+    ///
+    /// `OutOfPlane` if a cell would lie past the bound, whether there is memory or not. Otherwise `Memory` if memory
+    /// runs out.
+    pub fn shift(&self, alloc: Global, dx: i32, dy: i32) -> Result<Pattern, PlaceError>
+        ensures shifted { IfOk result (λ pattern. pattern ≡ shifted dx dy self.now) }
+        ensures plane { OnOk result (list_all on_plane (shifted dx dy self.now) ≡ true) }
+        ensures refused { IfErr result (RefusesPlace (shifted dx dy self.now)) }
+    {
+        let placement = Placement {
+            orientation: Orientation::Same,
+            dx,
+            dy,
+        };
+        let cells = self.cells();
+        for cell in cells {
+            if !placement.landing(*cell).is_on_plane() {
+                return Err(PlaceError::OutOfPlane);
+            }
+        }
+        let placed = placement.place_all(alloc, cells)?;
+        Ok(Pattern::from_ordered(placed))
+    }
+
+    /// The image of the pattern in an orientation, moved so that its least x and its least y are 0. The empty pattern
+    /// stays empty.
+    ///
+    /// # Errors
+    ///
+    /// `OutOfPlane` if a side of the image's box has over 1,000,001 cells, so that a cell would lie past the bound,
+    /// whether there is memory or not. Otherwise `Memory` if memory runs out.
+    pub fn turn(&self, alloc: Global, orientation: Orientation) -> Result<Pattern, PlaceError>
+        ensures turned { IfOk result (λ pattern. pattern ≡ turned orientation self.now) }
+        ensures plane { OnOk result (list_all on_plane (turned orientation self.now) ≡ true) }
+        ensures refused { IfErr result (RefusesPlace (turned orientation self.now)) }
+    {
+        let cells = self.cells();
+        let Some(placement) = to_corner(cells, orientation) else {
+            return Err(PlaceError::OutOfPlane);
+        };
+        let placed = placement.place_all(alloc, cells)?;
+        Ok(Pattern::from_ordered(in_order(placed)))
+    }
+
+    /// The pattern with its columns as rows, and its rows as columns.
+    pub(crate) fn transposed(&self, alloc: Global) -> Result<Pattern, OutOfMemory>
+        ensures turned { IfOk result (λ pattern. pattern ≡ image Diagonal self.now) }
+        ensures pattern { IsPattern self.now }
+    {
+        let placement = Placement {
+            orientation: Orientation::Diagonal,
+            dx: 0,
+            dy: 0,
+        };
+        let placed = placement.place_all(alloc, self.cells())?;
+        Ok(Pattern::from_ordered(in_order(placed)))
+    }
+}
+
+/// How a cell is to lie: turned first, and then moved by (dx, dy).
+#[derive(Clone, Copy)]
+pub(crate) struct Placement {
+    orientation: Orientation,
+    dx: i32,
+    dy: i32,
+}
+
+impl Placement {
+    /// Where the cell lands, or some cell off the plane if it lands off it.
+    fn landing(self, cell: Cell) -> Cell
+        requires { on_plane cell ≡ true }
+        ensures plane { on_plane result ≡ on_plane (landed self cell) }
+        ensures landed { on_plane result ≡ true → result ≡ landed self cell }
+    {
+        let Cell { x, y } = self.orientation.image_of(cell);
+        Cell {
+            x: x.saturating_add(self.dx),
+            y: y.saturating_add(self.dy),
+        }
+    }
+
+    /// Where the cells land.
+    fn place_all(self, alloc: Global, cells: &[Cell]) -> Result<Vec<Cell>, OutOfMemory>
+        requires cells { list_all on_plane cells.now ≡ true }
+        requires landed { list_all on_plane (map (landed self) cells.now) ≡ true }
+        ensures { IfOk result (λ placed. placed.items ≡ map (landed self) cells.now) }
+    {
+        let mut placed = Vec::from_slice(alloc, cells)?;
+        for cell in placed.iter_mut() {
+            *cell = self.landing(*cell);
+        }
+        Ok(placed)
+    }
+}
+
+/// How cells are to lie so that their image is at the corner, if it lies on the plane there.
+fn to_corner(cells: &[Cell], orientation: Orientation) -> Option<Placement>
+    requires { list_all on_plane cells.now ≡ true }
+    ensures placement { IfSome result
+        (λ placement. placement ≡ corner_placement orientation (box_of (map (turned_cell orientation) cells.now))) }
+    ensures plane { is_some result ≡ list_all on_plane (turned orientation cells.now) }
+{
+    let mut bounds = None;
+    for cell in cells {
+        bounds = Some(grown(bounds, orientation.image_of(*cell)));
+    }
+    let Some(bounds) = bounds else {
+        return Some(Placement {
+            orientation,
+            dx: 0,
+            dy: 0,
+        });
+    };
+    let across = bounds.right.abs_diff(bounds.left);
+    let down = bounds.bottom.abs_diff(bounds.top);
+    let placement = Placement {
+        orientation,
+        dx: negated(bounds.left),
+        dy: negated(bounds.top),
+    };
+    (across.max(down) <= BOUND).then_some(placement)
+}

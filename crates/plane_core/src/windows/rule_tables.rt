@@ -1,0 +1,139 @@
+//! What a rule answers, as words: which cells live next, by how many live cells their neighbourhoods have.
+//!
+//! The answer for each total from 0 to 9 is a word of equal bits, and the digits of the total choose between them. So
+//! no branch depends on a cell or on the rule:
+//!
+//! ```text
+//! eights ?  ones ? 9 : 8
+//!        :  fours ?  twos ?  ones ? 7 : 6
+//!                         :  ones ? 5 : 4
+//!                 :  twos ?  ones ? 3 : 2
+//!                         :  ones ? 1 : 0
+//! ```
+//!
+//! Life, the rule that is run most, is answered by fewer operations, which count the eight neighbours alone. It is a
+//! type of its own, so that the loop of a generation is built once for Life and once for any rule.
+ghost use Rattle.std.specs.Prelude.{◌≡◌, ◌==◌, ◌+◌, ◌-◌, ◌*◌, ◌<◌, ◌≤◌, ◌%◌, true, ℕ, slice_index};
+ghost use Rattle.std.specs.Int.{bit_at};
+ghost use Rattle.plane_core.specs.windows.LaneSums.{AnswersRows, AreBeside, bit_of};
+ghost use Rattle.plane_core.specs.plane.Rules.{Numbers, is_birth, is_survival};
+ghost use Rattle.plane_core.specs.plane.Generations.{lives_by};
+ghost use Rattle.plane_core.specs.windows.Words.{life, one_if};
+
+use crate::windows::lane_sums::{RowSums, Sum, added, choice, only_one, summed};
+use crate::plane::rule::Rule;
+use std::simd::u64x4;
+
+/// What answers which cells live next.
+pub(crate) trait Answering {
+    ghost rule: { Self → Numbers };
+
+    /// The words one generation after `now`, by the sums of the rows above, here and below.
+    fn answer(&self, up: Sum, here: RowSums, down: Sum, now: u64x4) -> u64x4
+        requires { AreBeside here now }
+        ensures { AnswersRows (rule self.now) up here.all down now result };
+}
+
+/// Conway's Life.
+#[derive(Clone, Copy)]
+pub(crate) struct Life;
+
+impl Answering for Life {
+    ghost rule = { λ _. life };
+
+    #[inline(always)]
+    fn answer(&self, up: Sum, here: RowSums, down: Sum, now: u64x4) -> u64x4 {
+        // By the eight neighbours: alive for three, and for two if the cell was alive. Their sum is two or three where
+        // exactly one of the digits that count twice is 1.
+        let low = added(up.ones, down.ones, here.beside.ones);
+        only_one(up.twos, down.twos, here.beside.twos, low.twos) & (low.ones | now)
+    }
+}
+
+/// The answers of any rule: for each total the answer of a dead cell, and where a live cell's answer differs.
+#[derive(Clone, Copy)]
+pub(crate) struct AnyRule {
+    rule: Rule,
+    dead: [u64; 10],
+    change: [u64; 10],
+    ghost dead_right: { (n i : ℕ) → n < 10 → i < 64 → bit_at (slice_index dead n) i ≡ one_if (is_birth rule n) },
+    ghost change_right: { (n i : ℕ) → n < 10 → i < 64 → bit_at (slice_index change n) i
+        ≡ (one_if (is_birth rule n) + one_if (is_survival rule (n - 1))) % 2 },
+}
+
+impl AnyRule {
+    /// The answers of a rule.
+    pub(crate) fn new(rule: &Rule) -> AnyRule
+        ensures { result.rule ≡ rule.now }
+    {
+        let mut dead = [0; 10];
+        let mut change = [0; 10];
+        for n in 0..10 {
+            let born = rule.births(n as u8);
+            dead[n] = word_of(born);
+            change[n] = word_of(born != rule.survives((n as u8).saturating_sub(1)));
+        }
+        AnyRule {
+            rule: *rule,
+            dead,
+            change,
+        }
+    }
+
+    /// The answer for the total n.
+    #[inline(always)]
+    fn at_one(&self, n: usize, now: u64x4) -> u64x4
+        requires { n ≤ 9 }
+        ensures { (j i : ℕ) → j < 4 → i < 64
+            → bit_of result j i ≡ one_if (lives_by self.now.rule n (bit_of now j i == 1)) }
+    {
+        u64x4::splat(self.dead[n]) ^ (u64x4::splat(self.change[n]) & now)
+    }
+
+    /// The answer for the totals n and n + 1.
+    #[inline(always)]
+    fn at_two(&self, n: usize, ones: u64x4, now: u64x4) -> u64x4
+        requires { n ≤ 8 }
+        ensures { (j i : ℕ) → j < 4 → i < 64
+            → bit_of result j i ≡ one_if (lives_by self.now.rule (n + bit_of ones j i) (bit_of now j i == 1)) }
+    {
+        choice(ones, self.at_one(n + 1, now), self.at_one(n, now))
+    }
+
+    /// The answer for the totals n to n + 3.
+    #[inline(always)]
+    fn at_four(&self, n: usize, ones: u64x4, twos: u64x4, now: u64x4) -> u64x4
+        requires { n ≤ 6 }
+        ensures { (j i : ℕ) → j < 4 → i < 64 → bit_of result j i
+            ≡ one_if (lives_by self.now.rule (n + bit_of ones j i + 2 * bit_of twos j i) (bit_of now j i == 1)) }
+    {
+        choice(
+            twos,
+            self.at_two(n + 2, ones, now),
+            self.at_two(n, ones, now),
+        )
+    }
+}
+
+impl Answering for AnyRule {
+    ghost rule = { λ answers. answers.rule };
+
+    #[inline(always)]
+    fn answer(&self, up: Sum, here: RowSums, down: Sum, now: u64x4) -> u64x4 {
+        let total = summed(up, here.all, down);
+        let high = self.at_two(8, total.ones, now);
+        let low = choice(
+            total.fours,
+            self.at_four(4, total.ones, total.twos, now),
+            self.at_four(0, total.ones, total.twos, now),
+        );
+        choice(total.eights, high, low)
+    }
+}
+
+/// A word of 64 equal bits.
+fn word_of(bit: bool) -> u64
+    ensures { (i : ℕ) → i < 64 → bit_at result i ≡ one_if bit }
+{
+    if bit { u64::MAX } else { 0 }
+}

@@ -1,0 +1,68 @@
+//! Windows: a piece of the plane, 64 columns wide, in vectors.
+//!
+//! A window of N vectors has 4 N rows. Row r is lane r / N of vector r % N, so the rows above and below those of a
+//! vector are those of the vectors beside it, and only at the two ends a lane further:
+//!
+//! ```text
+//!            lane 0    lane 1    lane 2    lane 3
+//! vector 0   row 0     row 10    row 20    row 30
+//! vector 1   row 1     row 11    row 21    row 31
+//!   ..
+//! vector 9   row 9     row 19    row 29    row 39
+//! ```
+//!
+//! Round the window all is taken for dead. So with each generation a window is wrong one cell further inside.
+ghost use Rattle.std.specs.Prelude.{◌≡◌, ◌+◌, ◌<◌, ℕ, ℤ, List};
+ghost use Rattle.plane_core.specs.windows.RuleLogic.{rule_of};
+ghost use Rattle.plane_core.specs.plane.Cells.{InOrder};
+ghost use Rattle.plane_core.specs.plane.Generations.{after};
+ghost use Rattle.plane_core.specs.windows.Windows.{IsNextWindow, IsShownInside};
+ghost use Rattle.plane_core.specs.declared.plane.cell.Cell.{Cell};
+
+use crate::windows::rule_logic::Answers;
+use crate::windows::rule_tables::{Answering, Life};
+use crate::windows::lane_sums::{across, earlier_sum, later_sum};
+use std::simd::u64x4;
+
+/// Makes the next generation. Life has a loop of its own.
+#[inline(always)]
+pub(crate) fn generation<const N: usize>(window: &mut [u64x4; N], rule: &Answers)
+    requires { 0 < N }
+    ensures { IsNextWindow (rule_of rule.now) N window.old window.new }
+{
+    match rule {
+        Answers::Life => generation_by(window, &Life),
+        Answers::Any(rule) => generation_by(window, rule),
+    }
+}
+
+/// Makes the next generation. A vector's sums are made once, and serve the three rows that they lie in.
+#[inline(always)]
+fn generation_by<const N: usize, A: Answering>(window: &mut [u64x4; N], rule: &A)
+    requires { 0 < N }
+    ensures { IsNextWindow (A.rule rule.now) N window.old window.new }
+{
+    let first = across(window[0]);
+    let mut up = later_sum(across(window[N - 1]).all);
+    let mut here = first;
+    for k in 0..N - 1 {
+        let down = across(window[k + 1]);
+        window[k] = rule.answer(up, here, down.all, window[k]);
+        up = here.all;
+        here = down;
+    }
+    window[N - 1] = rule.answer(up, here, earlier_sum(first.all), window[N - 1]);
+}
+
+/// Makes so many generations.
+#[inline(always)]
+pub(crate) fn generations<const N: usize>(window: &mut [u64x4; N], rule: &Answers, count: usize)
+    requires { 0 < N }
+    ensures { (cells : List Cell) (left top : ℤ) (depth : ℕ) → InOrder cells
+        → IsShownInside N left top depth window.old cells
+        → IsShownInside N left top (depth + count) window.new (after (rule_of rule.now) cells count) }
+{
+    for _ in 0..count {
+        generation(window, rule);
+    }
+}

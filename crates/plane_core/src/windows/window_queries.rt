@@ -1,0 +1,127 @@
+//! What is asked of a window: its rows, the columns with a live cell, whether its rim is clear.
+//!
+//! ```text
+//! . . . . . . .     row 1, the first with a live cell
+//! . . O O . . .
+//! . . . O . . .     columns 2 and 3
+//! . . . . . . .     the rim is clear
+//! ```
+ghost use Rattle.std.specs.Prelude.{◌≡◌, ◌*◌, ◌<◌, ◌≤◌, ℕ, IfSome, IsTrue, max};
+ghost use Rattle.std.specs.Int.{bit_at};
+ghost use Rattle.plane_core.specs.windows.LonePatterns.{AreAlike, AreVectors, IsColumns, IsFirstRow, IsRimClear, IsVector};
+ghost use Rattle.plane_core.specs.windows.LaneSums.{bit_of};
+ghost use Rattle.plane_core.specs.windows.Windows.{row_at};
+
+use std::simd::u64x4;
+
+/// Which columns have a live cell.
+#[inline(always)]
+pub(crate) fn columns_of<const N: usize>(window: &[u64x4; N]) -> u64
+    ensures columns { IsColumns N window.now result }
+    ensures whole { AreVectors N window.now }
+{
+    let mut all = u64x4::splat(0);
+    for k in 0..N {
+        all = either(all, window[k]);
+    }
+    in_any_lane(all)
+}
+
+/// The bits of both.
+#[inline(always)]
+pub(crate) fn either(a: u64x4, b: u64x4) -> u64x4
+    ensures bits { (j i : ℕ) → j < 4 → bit_of result j i ≡ max (bit_of a j i) (bit_of b j i) }
+    ensures vector { IsVector b }
+{
+    a | b
+}
+
+/// The bits of all four lanes.
+#[inline(always)]
+#[tactic(auto, using(crate::proofs::lemmas::one_sided::NeverRecursLemmas::four_words))]
+pub(crate) fn in_any_lane(vector: u64x4) -> u64
+    ensures { (i : ℕ) → bit_at result i
+        ≡ max (max (bit_of vector 0 i) (bit_of vector 1 i)) (max (bit_of vector 2 i) (bit_of vector 3 i)) }
+{
+    let words = vector.to_array();
+    (words[0] | words[1]) | (words[2] | words[3])
+}
+
+/// A row of the window.
+#[inline(always)]
+pub(crate) fn row<const N: usize>(window: &[u64x4; N], r: usize) -> u64
+    requires some { 0 < N }
+    requires low { r < 4 * N }
+    ensures { result ≡ row_at N window.now r }
+{
+    window[r % N].to_array()[r / N]
+}
+
+/// Whether no cell stands on the rim.
+#[inline(always)]
+pub(crate) fn is_rim_clear<const N: usize>(window: &[u64x4; N], columns: u64) -> bool
+    requires some { 0 < N }
+    requires few { N ≤ 16 }
+    requires columns { IsColumns N window.now columns }
+    ensures { IsTrue result → IsRimClear N window.now }
+{
+    if row(window, 0) != 0 {
+        return false;
+    }
+    if row(window, 4 * N - 1) != 0 {
+        return false;
+    }
+    if columns & 1 != 0 {
+        return false;
+    }
+    columns >> 63 == 0
+}
+
+/// Whether two windows have the same cells.
+pub(crate) fn are_alike<const N: usize>(one: &[u64x4; N], other: &[u64x4; N]) -> bool
+    ensures { IsTrue result → AreAlike N one.now other.now }
+{
+    let mut differ = u64x4::splat(0);
+    for k in 0..N {
+        differ = marked(differ, one[k], other[k]);
+    }
+    in_any_lane(differ) == 0
+}
+
+/// The marks, and a mark where the two differ.
+#[inline(always)]
+fn marked(marks: u64x4, a: u64x4, b: u64x4) -> u64x4
+    ensures before { (j i : ℕ) → j < 4 → bit_of result j i ≡ 0 → bit_of marks j i ≡ 0 }
+    ensures same { (j i : ℕ) → j < 4 → bit_of result j i ≡ 0 → bit_of a j i ≡ bit_of b j i }
+{
+    marks | (a ^ b)
+}
+
+/// The first row with a live cell.
+pub(crate) fn first_row<const N: usize>(window: &[u64x4; N]) -> Option<usize>
+    requires some { 0 < N }
+    requires few { N ≤ 16 }
+    ensures { IfSome result (IsFirstRow N window.now) }
+{
+    for r in 0..4 * N {
+        if row(window, r) != 0 {
+            return Some(r);
+        }
+    }
+    None
+}
+
+/// The last row with a live cell.
+pub(crate) fn last_row<const N: usize>(window: &[u64x4; N]) -> Option<usize>
+    requires some { 0 < N }
+    requires few { N ≤ 16 }
+    ensures low { IfSome result (λ last. last < 4 * N) }
+    ensures none { IfSome result (λ last. (r : ℕ) → last < r → r < 4 * N → row_at N window.now r ≡ 0) }
+{
+    for r in (0..4 * N).rev() {
+        if row(window, r) != 0 {
+            return Some(r);
+        }
+    }
+    None
+}

@@ -1,6 +1,0 @@
-use Rattle.std.proofs.Common.{◌≡◌, ◌++◌, drop, map, take}
-use Rattle.survey_core.specs.Alone.{stepped}
-use Rattle.survey_core.proofs.alone.step_each.Given as goal
-
-abbrev pub invariant-loop-cluster : goal.invariant-loop-cluster
-invariant-loop-cluster l = l.clusters ≡ map (stepped l.rule) (take l.cluster-index l.fn.clusters) ++ drop l.cluster-index l.fn.clusters

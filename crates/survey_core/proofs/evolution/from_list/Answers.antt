@@ -1,0 +1,59 @@
+use Rattle.std.proofs.Common.{◌≡◌, ◌∙◌, ℕ, [], IfOk, ap, refl, subst, sym, List, arith}
+use Rattle.plane_core.specs.declared.plane.cell.Cell.{Cell}
+use Rattle.plane_core.specs.plane.Cells.{InOrder}
+use Rattle.plane_core.specs.plane.Generations.{after, lies_within}
+use Rattle.survey_core.specs.evolution.Evolutions.{kept}
+use Rattle.plane_core.specs.plane.Rules.{Numbers}
+use Rattle.survey_core.specs.declared.evolution.split_pattern.Harbour.{Harbour}
+use Rattle.survey_core.specs.evolution.SplitPatterns.{IsHarbour, IsMoored, whole_at, whole_of}
+use Rattle.survey_core.proofs.lemmas.evolution.SplitPatternLemmas.{new_harbour}
+use Rattle.survey_core.proofs.lemmas.evolution.RemovedLemmas.{whole-none}
+use Rattle.survey_core.specs.evolution.UnderWay.{StaysNear, survey_reach}
+use Rattle.survey_core.proofs.lemmas.evolution.EvolutionLemmas.{near_now}
+use Rattle.survey_core.proofs.evolution.from_list.Goals as goal
+
+pub run_on-requires-clause-near : goal.run_on-requires-clause-near
+run_on-requires-clause-near c = near_now c.args.rule.now c.args.pattern.now c.args.generations c.requires.near
+
+pub run_on-requires-clause-few : goal.run_on-requires-clause-few
+run_on-requires-clause-few c = c.requires.few
+
+pub returns-in_default-clause-kept : goal.returns-in_default-clause-kept
+returns-in_default-clause-kept c = ap (lies_within survey_reach) c.in_ok-later.ensures ∙ c.requires.near c.args.generations (omega arith)
+
+-- it is on a board, which no ship has left
+moored : (rule : Numbers) (harbour : Harbour) (pattern : List Cell) → harbour.board.rule ≡ rule → harbour.board.cells ≡ pattern
+    → harbour.ships.items ≡ [] → harbour.time ≡ 0 → InOrder pattern → IsMoored rule harbour
+moored rule harbour pattern goes shows none early order = (
+  goes,
+  subst (λ (t : ℕ). IsHarbour rule t harbour.board.cells harbour.ships.items) (sym early)
+      (new_harbour rule harbour.board.cells harbour.ships.items (subst InOrder (sym shows) order) none),
+)
+
+whole_is : (rule : Numbers) (harbour : Harbour) (pattern : List Cell) → harbour.board.cells ≡ pattern → harbour.ships.items ≡ [] → InOrder pattern
+    → whole_of rule harbour ≡ pattern
+whole_is rule harbour pattern shows none order =
+    (λ i. whole_at rule harbour.time (shows i) (none i)) ∙ whole-none rule harbour.time pattern order
+
+pub on_board-requires-clause-moored : goal.on_board-requires-clause-moored
+on_board-requires-clause-moored c =
+    moored c.args.rule.now (record { board = c.in-Some.board; ships = c.new.result; time = 0 }) c.args.pattern.now (rw c.in-Some.is at c.in_ok-board.ensures.rule) (rw c.in-Some.is at c.in_ok-board.ensures.cells)
+    c.new.ensures.items refl c.cells-in_order.ensures.pattern.in_order
+
+pub on_board-requires-clause-few : goal.on_board-requires-clause-few
+on_board-requires-clause-few c = c.requires.few
+
+pub on_board-requires-clause-near : goal.on_board-requires-clause-near
+on_board-requires-clause-near c =
+    subst (λ (S : List Cell). StaysNear c.args.rule.now S c.args.generations)
+    (sym (whole_is c.args.rule.now (record { board = c.in-Some.board; ships = c.new.result; time = 0 }) c.args.pattern.now
+    (rw c.in-Some.is at c.in_ok-board.ensures.cells) c.new.ensures.items c.cells-in_order.ensures.pattern.in_order)) c.requires.near
+
+pub returns-clause-cells : goal.returns-clause-cells
+returns-clause-cells c =
+    subst (λ (S : List Cell). IfOk c.on_board.result (λ course. kept c.args.rule.now course ≡ after c.args.rule.now S c.args.generations))
+    (whole_is c.args.rule.now (record { board = c.in-Some.board; ships = c.new.result; time = 0 }) c.args.pattern.now
+    (rw c.in-Some.is at c.in_ok-board.ensures.cells) c.new.ensures.items c.cells-in_order.ensures.pattern.in_order) c.on_board.ensures.cells
+
+pub returns-clause-kept : goal.returns-clause-kept
+returns-clause-kept c = c.on_board.ensures.kept

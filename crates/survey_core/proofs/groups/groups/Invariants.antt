@@ -1,9 +1,0 @@
-use Rattle.std.proofs.Common.{◌<◌, ℕ}
-use Rattle.survey_core.specs.Grouping.{AreNumbers, PairIsRight}
-use Rattle.survey_core.proofs.groups.groups.Given as goal
-
-abbrev pub invariant-loop-place : goal.invariant-loop-place
-invariant-loop-place l = record {
-  numbers : AreNumbers l.sweeps l.groups.items;
-  apart : (i j : ℕ) → j < i → i < l.place → PairIsRight l.horizon l.sweeps l.groups.items i j;
-}

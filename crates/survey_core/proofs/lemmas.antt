@@ -1,0 +1,12 @@
+pub mod DeterminedLemmas
+pub mod FindingLemmas
+pub mod ImageLemmas
+pub mod JobLemmas
+pub mod PartitionLemmas
+pub mod PlacedFindings
+pub mod PlaneLemmas
+pub mod SeedLemmas
+pub mod SoupLemmas
+pub mod evolution
+pub mod rest
+pub mod shapes

@@ -1,0 +1,4 @@
+pub mod EvolutionLemmas
+pub mod RemovedLemmas
+pub mod SpaceshipLemmas
+pub mod SplitPatternLemmas

@@ -1,0 +1,300 @@
+-- Ships that are off a board: how they and the board go on, and what the board says of the whole.
+use Rattle.std.proofs.Common.{◌≡◌, ◌∙◌, ◌+◌, ◌-◌, ◌*◌, ◌≤◌, ◌⊎◌, ℕ, ℤ, pos, ◌+ℤ◌, ◌*ℤ◌, ◌≤ℤ◌, Bool, true, false, ◌||◌, not, add-zero}
+use Rattle.std.proofs.Common.{List, [], ◌∷◌, ◌++◌, Any, arith, ap, refl, sym, subst, inl, inr, get_or, map}
+use Rattle.std.specs.List.{list_any}
+use Rattle.std.proofs.lemmas.Bool.{false≢true, or_cases}
+use Rattle.std.proofs.lemmas.Int.{ints}
+use Rattle.std.proofs.lemmas.List.Elements.{All-push}
+use Rattle.std.proofs.lemmas.List.Folds.{Any-from_list_any, list_any-append}
+use Rattle.plane_core.specs.declared.plane.cell.Cell.{Cell}
+use Rattle.plane_core.specs.plane.Cells.{InOrder, has, king_distance}
+use Rattle.plane_core.specs.clusters.Clusters.{IsCluster, Leads, LieApart, Linked}
+use Rattle.plane_core.specs.plane.Frontiers.{LiesUpTo, is_slow}
+use Rattle.plane_core.specs.plane.Generations.{NeverBack, after}
+use Rattle.plane_core.specs.one_sided.RestlessClusters.{HasRestlessCluster, Strays}
+use Rattle.plane_core.specs.plane.Rules.{Numbers}
+use Rattle.plane_core.specs.plane.Without.{without}
+use Rattle.plane_core.proofs.lemmas.clusters.ClusterLemmas.{king_distance-itself}
+use Rattle.plane_core.proofs.lemmas.plane.FrontierLemmas.{frontiers_are_slow, frontiers_go_on}
+use Rattle.plane_core.proofs.lemmas.plane.GenerationLemmas.{after-none}
+use Rattle.plane_core.proofs.lemmas.plane.RunLemmas.{after-plus, in_order-after}
+use Rattle.plane_core.proofs.lemmas.plane.SetLemmas.{has-set_of, in_order-filter, in_order-set_of, same_lists}
+use Rattle.survey_core.specs.declared.evolution.escaped_spaceships.Ship.{Ship}
+use Rattle.survey_core.specs.evolution.SplitPatterns.{AreOff, IsOff, ship_at, whole_at}
+use Rattle.survey_core.specs.evolution.EscapedSpaceships.{IsForemost}
+use Rattle.survey_core.proofs.lemmas.PartitionLemmas.{has-joined, joined}
+use Rattle.survey_core.proofs.lemmas.evolution.SpaceshipLemmas.{cluster_part, left_has, or_nothing, ships_run_alone, ships_stay_ahead}
+
+-- ---- the board and the ships are the whole
+
+any_ship : (rule : Numbers) (t : ℕ) (ships : List Ship) (c : Cell)
+    → list_any (λ (part : List Cell). has part c) (map (ship_at rule t) ships) ≡ list_any (λ (ship : Ship). has (ship_at rule t ship) c) ships
+any_ship rule t [] c = refl
+any_ship rule t (ship ∷ ships) c = ap (λ (b : Bool). has (ship_at rule t ship) c || b) (any_ship rule t ships c)
+
+pub has-whole : (rule : Numbers) (t : ℕ) (board : List Cell) (ships : List Ship) (c : Cell)
+    → has (whole_at rule t board ships) c ≡ (has board c || list_any (λ (ship : Ship). has (ship_at rule t ship) c) ships)
+has-whole rule t board ships c =
+    has-set_of (joined (board ∷ map (ship_at rule t) ships)) c ∙ has-joined (board ∷ map (ship_at rule t) ships) c
+    ∙ ap (λ (b : Bool). has board c || b) (any_ship rule t ships c)
+
+in_order-whole : (rule : Numbers) (t : ℕ) (board : List Cell) (ships : List Ship) → InOrder (whole_at rule t board ships)
+in_order-whole rule t board ships = in_order-set_of (joined (board ∷ map (ship_at rule t) ships))
+
+-- without ships the board is the whole
+pub whole-none : (rule : Numbers) (t : ℕ) (board : List Cell) → InOrder board → whole_at rule t board [] ≡ board
+whole-none rule t board order =
+    same_lists (whole_at rule t board []) board (in_order-whole rule t board []) order
+    (λ c. has-whole rule t board [] c ∙ or_nothing (has board c))
+
+-- a ship more
+pub whole-more : (rule : Numbers) (t : ℕ) (all board : List Cell) (ships : List Ship) (ship : Ship)
+    → ((c : Cell) → has all c ≡ (has board c || has (ship_at rule t ship) c)) → whole_at rule t all ships ≡ whole_at rule t board (ships ++ ship ∷ [])
+whole-more rule t all board ships ship is =
+    same_lists (whole_at rule t all ships) (whole_at rule t board (ships ++ ship ∷ [])) (in_order-whole rule t all ships)
+    (in_order-whole rule t board (ships ++ ship ∷ [])) same
+  where
+    around : (a b s : Bool) → ((a || b) || s) ≡ (a || (s || (b || false)))
+    around true b s = refl
+    around false true true = refl
+    around false true false = refl
+    around false false true = refl
+    around false false false = refl
+
+    same : (c : Cell) → has (whole_at rule t all ships) c ≡ has (whole_at rule t board (ships ++ ship ∷ [])) c
+    same c =
+        has-whole rule t all ships c
+        ∙ ap (λ (b : Bool). b || list_any (λ (s : Ship). has (ship_at rule t s) c) ships) (is c)
+        ∙ around (has board c) (has (ship_at rule t ship) c) (list_any (λ (s : Ship). has (ship_at rule t s) c) ships)
+        ∙ ap (λ (b : Bool). has board c || b) (sym (list_any-append (λ (s : Ship). has (ship_at rule t s) c) ships (ship ∷ [])))
+        ∙ sym (has-whole rule t board (ships ++ ship ∷ []) c)
+
+-- ---- off the board
+
+-- no ship has left yet
+pub none_off : (rule : Numbers) (t : ℕ) (board : List Cell) → InOrder board → AreOff rule t board []
+none_off rule t board order = record {
+  in_order = order;
+  each = λ k d low. absurd (omega arith);
+  alone = λ g. ap (λ (S : List Cell). after rule S g) (whole-none rule t board order)
+      ∙ sym (whole-none rule (t + g) (after rule board g) (in_order-after rule board g order));
+}
+
+-- an even number of generations later
+off_later : (rule : Numbers) (t k : ℕ) (board : List Cell) (ship : Ship) → InOrder board → IsOff rule t board ship
+    → IsOff rule (t + 2 * k) (after rule board (2 * k)) ship
+off_later rule t k board ship order off = record {
+  slow = off.slow;
+  half = off.half + k;
+  age = longer t off.half ship.since off.age;
+  way = off.way;
+  m = off.m;
+  ahead = off.ahead;
+  behind = subst (λ (d : ℤ). LiesUpTo off.way d (after rule board (2 * k))) (further off.m off.half)
+      (frontiers_go_on rule off.way (off.m +ℤ pos off.half) board k order off.slow off.behind);
+}
+  where
+    longer : (t half since : ℕ) → t ≡ since + 2 * half → t + 2 * k ≡ since + 2 * (half + k)
+    longer t half since is = omega arith
+
+    further : (m : ℤ) (half : ℕ) → (m +ℤ pos half) +ℤ pos k ≡ m +ℤ pos (half + k)
+    further m half = omega (arith, ints)
+
+pub all_off_later : (rule : Numbers) (t k : ℕ) (board : List Cell) (ships : List Ship) → AreOff rule t board ships
+    → AreOff rule (t + 2 * k) (after rule board (2 * k)) ships
+all_off_later rule t k board ships off = record {
+  in_order = in_order-after rule board (2 * k) off.in_order;
+  each = λ j d low. off_later rule t k board (get_or ships j d) off.in_order (off.each j d low);
+  alone = λ g. ap (λ (S : List Cell). after rule S g) (sym (off.alone (2 * k))) ∙ after-plus rule (whole_at rule t board ships) (2 * k) g
+      ∙ off.alone (2 * k + g)
+      ∙ (λ i. whole_at rule (times_add t (2 * k) g i) (sym (after-plus rule board (2 * k) g) i) ships);
+}
+  where
+    times_add : (a b c : ℕ) → a + (b + c) ≡ (a + b) + c
+    times_add a b c = omega arith
+
+-- ---- one ship more
+
+-- so the whole is the same when it has left
+pub same_whole : (rule : Numbers) (t g : ℕ) (board : List Cell) (ships : List Ship) (ship : Ship) → InOrder board → is_slow rule ≡ true
+    → ship.since ≡ t
+    → IsForemost rule board ship.recurrence ship.cells
+    → whole_at rule (t + g) (after rule board g) ships ≡ whole_at rule (t + g) (after rule (without board ship.cells) g) (ships ++ ship ∷ [])
+same_whole rule t g board ships ship order slow now is =
+    whole-more rule (t + g) (after rule board g) (after rule (without board ship.cells) g) ships ship
+    (λ c. ships_run_alone rule board ship.recurrence ship.cells slow order is g c
+    ∙ ap (λ (n : ℕ). has (after rule (without board ship.cells) g) c || has (after rule ship.cells n) c) (age t ship.since now))
+  where
+    age : (t since : ℕ) → since ≡ t → g ≡ (t + g) - since
+    age t since e = omega arith
+
+-- at once
+pub same_whole_now : (rule : Numbers) (t : ℕ) (board : List Cell) (ships : List Ship) (ship : Ship) → InOrder board → is_slow rule ≡ true
+    → ship.since ≡ t → IsForemost rule board ship.recurrence ship.cells
+    → whole_at rule t board ships ≡ whole_at rule t (without board ship.cells) (ships ++ ship ∷ [])
+same_whole_now rule t board ships ship order slow now is =
+    (λ i. whole_at rule (sym (add-zero t) i) (sym (after-none rule board) i) ships) ∙ same_whole rule t 0 board ships ship order slow now is
+    ∙ (λ i. whole_at rule (add-zero t i) (after-none rule (without board ship.cells) i) (ships ++ ship ∷ []))
+
+-- and the ship is off
+pub all_off_more : (rule : Numbers) (t : ℕ) (board : List Cell) (ships : List Ship) (ship : Ship) → is_slow rule ≡ true → ship.since ≡ t
+    → IsForemost rule board ship.recurrence ship.cells → AreOff rule t board ships → AreOff rule t (without board ship.cells) (ships ++ ship ∷ [])
+all_off_more rule t board ships ship slow now is off = record {
+  in_order = in_order-filter (λ d. not (has ship.cells d)) board off.in_order;
+  each = All-push (IsOff rule t (without board ship.cells)) ships ship (λ k d low. still (get_or ships k d) (off.each k d low)) new;
+  alone = λ g. ap (λ (S : List Cell). after rule S g) (sym (same_whole_now rule t board ships ship off.in_order slow now is)) ∙ off.alone g
+      ∙ same_whole rule t g board ships ship off.in_order slow now is;
+}
+  where
+    still : (other : Ship) → IsOff rule t board other → IsOff rule t (without board ship.cells) other
+    still other before = record {
+      slow = before.slow;
+      half = before.half;
+      age = before.age;
+      way = before.way;
+      m = before.m;
+      ahead = before.ahead;
+      behind = λ c e. before.behind c (left_has board ship.cells c e).0;
+    }
+
+    new : IsOff rule t (without board ship.cells) ship
+    new = record {
+      slow = slow;
+      half = 0;
+      age = at t ship.since now;
+      way = is.way;
+      m = is.m;
+      ahead = is.ahead;
+      behind = subst (λ (d : ℤ). LiesUpTo is.way d (without board ship.cells)) (same is.m) is.behind;
+    }
+      where
+        at : (t since : ℕ) → since ≡ t → t ≡ since + 2 * 0
+        at t since e = omega arith
+
+        same : (d : ℤ) → d ≡ d +ℤ pos 0
+        same d = omega (arith, ints)
+
+-- ---- what the board says of the whole
+
+-- a part of the board, at most a generation later, stays away from each ship
+part_apart : (rule : Numbers) (t : ℕ) (board cells : List Cell) (ship : Ship) (ahead g : ℕ) → IsOff rule t board ship → InOrder board → InOrder cells
+    → ahead ≤ 1 → ((c : Cell) → has cells c ≡ true → has (after rule board ahead) c ≡ true)
+    → LieApart (after rule cells g) (ship_at rule (t + (ahead + g)) ship)
+part_apart rule t board cells ship ahead g off order in_order few part =
+    subst (λ (n : ℕ). LieApart (after rule cells g) (after rule ship.cells n)) (age t ship.since off.half off.age)
+    (ships_stay_ahead rule off.way off.m ship.recurrence ship.cells cells (2 * off.half + ahead) (off.half + ahead) g off.slow off.ahead in_order
+    (λ c e. further off.m _ off.half (frontiers_are_slow rule off.way (off.m +ℤ pos off.half) board ahead order off.slow off.behind c (part c e)))
+    (omega (arith, few)))
+  where
+    age : (t since half : ℕ) → t ≡ since + 2 * half → (2 * half + ahead) + g ≡ (t + (ahead + g)) - since
+    age t since half e = omega arith
+
+    further : (m d : ℤ) (half : ℕ) → (pos 2 *ℤ d) ≤ℤ ((pos 2 *ℤ (m +ℤ pos half)) +ℤ pos (ahead + 1)) → d ≤ℤ (m +ℤ pos (half + ahead))
+    further m d half low = omega (arith, ints, few)
+
+-- no ship has a cell within two of such a part
+no_ship_near : (rule : Numbers) (t : ℕ) (board cells : List Cell) (ships : List Ship) (ahead g : ℕ) → AreOff rule t board ships → InOrder cells
+    → ahead ≤ 1 → ((c : Cell) → has cells c ≡ true → has (after rule board ahead) c ≡ true) → (c d : Cell) → has (after rule cells g) c ≡ true
+    → king_distance c d ≤ 2 → list_any (λ (ship : Ship). has (ship_at rule (t + (ahead + g)) ship) d) ships ≡ true → ⊥
+no_ship_near rule t board cells ships ahead g off in_order few part c d here near some =
+    found (Any-from_list_any (λ (ship : Ship). has (ship_at rule (t + (ahead + g)) ship) d) ships some)
+  where
+    found : Any (λ (ship : Ship). has (ship_at rule (t + (ahead + g)) ship) d ≡ true) ships → ⊥
+    found (k, ship, low, at, there) =
+        let is : IsOff rule t board ship = subst (IsOff rule t board) at (off.each k ship low) in
+        let far : 3 ≤ king_distance c d = part_apart rule t board cells ship ahead g is off.in_order in_order few part c d here there in
+        omega (arith, near, far)
+
+-- the cells of the whole at a later time that are none of the board's are a ship's
+whole_later : (rule : Numbers) (t : ℕ) (board : List Cell) (ships : List Ship) (g : ℕ) (c : Cell) → AreOff rule t board ships
+    → has (after rule (whole_at rule t board ships) g) c
+    ≡ (has (after rule board g) c || list_any (λ (ship : Ship). has (ship_at rule (t + g) ship) c) ships)
+whole_later rule t board ships g c off =
+    ap (λ (S : List Cell). has S c) (off.alone g) ∙ has-whole rule (t + g) (after rule board g) ships c
+
+-- what is linked in a pattern is so in one that has no more cells near
+linked-more : (cells all : List Cell) (c d : Cell) → ((x : Cell) → has cells x ≡ true → has all x ≡ true) → Linked cells c d → Linked all c d
+linked-more cells all c d part way = record { start = part c way.start; path = way.path; leads = leads c way.path way.leads }
+  where
+    leads : (e : Cell) (path : List Cell) → Leads cells e path d → Leads all e path d
+    leads e [] way = way
+    leads e (x ∷ xs) way = (part x way.0, way.1, leads x xs way.2)
+
+linked-fewer : (cells all : List Cell) (c d : Cell)
+    → ((x y : Cell) → has cells x ≡ true → has all y ≡ true → king_distance x y ≤ 2 → has cells y ≡ true) → has cells c ≡ true → Linked all c d
+    → Linked cells c d
+linked-fewer cells all c d near start way = record { start = start; path = way.path; leads = leads c way.path start way.leads }
+  where
+    leads : (e : Cell) (path : List Cell) → has cells e ≡ true → Leads all e path d → Leads cells e path d
+    leads e [] here way = way
+    leads e (x ∷ xs) here way =
+        let there : has cells x ≡ true = near e x here way.0 way.1 in (there, way.1, leads x xs there way.2)
+
+-- a cluster of the board that moves is one of the whole
+pub whole_restless : (rule : Numbers) (t : ℕ) (board : List Cell) (ships : List Ship) (ahead horizon period : ℕ) → AreOff rule t board ships
+    → ahead ≤ 1
+    → HasRestlessCluster rule (after rule board ahead) horizon period
+    → HasRestlessCluster rule (after rule (whole_at rule t board ships) ahead) horizon period
+whole_restless rule t board ships ahead horizon period off few restless = record {
+  cluster = cluster;
+  is = record {
+    in_order = is.in_order;
+    start = is.start;
+    has_start = part is.start is.has_start;
+    members = λ d. (
+      (λ e. linked-more now all is.start d part ((is.members d).0 e)),
+      (λ way. (is.members d).1 (linked-fewer now all is.start d near is.has_start way)),
+    );
+  };
+  why = why restless.why;
+}
+  where
+    cluster : List Cell
+    cluster = restless.cluster
+
+    now : List Cell
+    now = after rule board ahead
+
+    all : List Cell
+    all = after rule (whole_at rule t board ships) ahead
+
+    is : IsCluster now cluster
+    is = restless.is
+
+    part : (x : Cell) → has now x ≡ true → has all x ≡ true
+    part x e = whole_later rule t board ships ahead x off
+        ∙ ap (λ (b : Bool). b || list_any (λ (ship : Ship). has (ship_at rule (t + ahead) ship) x) ships) e
+
+    near : (x y : Cell) → has now x ≡ true → has all y ≡ true → king_distance x y ≤ 2 → has now y ≡ true
+    near x y here there close = elim (or_cases _ _ (sym (whole_later rule t board ships ahead y off) ∙ there)) [
+      | inl stays ↦ stays
+      | inr ship ↦ absurd (no_ship_near rule t board now ships ahead 0 off (in_order-after rule board ahead off.in_order) few (λ c e. e) x y
+          (ap (λ (S : List Cell). has S x) (after-none rule now) ∙ here) close
+          (ap (λ (n : ℕ). list_any (λ (ship : Ship). has (ship_at rule (t + n) ship) y) ships) (add-zero ahead) ∙ ship))
+    ]
+
+    none_there : (g : ℕ) (c : Cell) → has (after rule cluster g) c ≡ true → has (after rule now g) c ≡ false → has (after rule all g) c ≡ false
+    none_there g c alone missing = go (has (after rule all g) c) refl
+      where
+        later : has (after rule all g) c
+            ≡ (has (after rule board (ahead + g)) c || list_any (λ (ship : Ship). has (ship_at rule (t + (ahead + g)) ship) c) ships)
+        later = ap (λ (S : List Cell). has S c) (after-plus rule (whole_at rule t board ships) ahead g)
+            ∙ whole_later rule t board ships (ahead + g) c off
+
+        go : (b : Bool) → has (after rule all g) c ≡ b → has (after rule all g) c ≡ false
+        go false e = e
+        go true e = elim (or_cases _ _ (sym later ∙ e)) [
+          | inl stays ↦ absurd (false≢true (sym missing ∙ ap (λ (S : List Cell). has S c) (after-plus rule board ahead g) ∙ stays))
+          | inr ship ↦ absurd (no_ship_near rule t board cluster ships ahead g off is.in_order few (cluster_part now cluster is) c c alone
+              (let same : king_distance c c ≡ 0 = king_distance-itself c in omega (arith, same)) ship)
+        ]
+
+    why : Strays rule now cluster horizon ⊎ NeverBack rule cluster period → Strays rule all cluster horizon ⊎ NeverBack rule cluster period
+    why (inl strays) = inl (record {
+      generation = strays.generation;
+      early = strays.early;
+      cell = strays.cell;
+      alone = strays.alone;
+      missing = none_there strays.generation strays.cell strays.alone strays.missing;
+    })
+    why (inr never) = inr never

@@ -1,0 +1,228 @@
+-- A board and the ships that have left it, as the code keeps them.
+use Rattle.std.proofs.Common.{◌≡◌, ◌∙◌, ◌+◌, ◌*◌, ◌/◌, ◌%◌, ◌<◌, ◌≤◌, ℕ, ◌==◌, Bool, true, false, ◌||◌, not}
+use Rattle.std.proofs.Common.{unsigned_abs}
+use Rattle.std.proofs.Common.{List, [], ◌∷◌, ◌++◌, All, arith, ap, refl, sym, subst, get_or, length, map}
+use Rattle.std.specs.Cmp.{both_ways}
+use Rattle.std.specs.List.{list_all, list_any}
+use Rattle.std.proofs.lemmas.Bool.{and_from, eqb-true, or_right}
+use Rattle.std.proofs.lemmas.List.{get_or_append_left, get_or_push, length-append}
+use Rattle.std.proofs.lemmas.List.Elements.{All-cons, All-map, All-push}
+use Rattle.std.proofs.lemmas.List.Folds.{list_any_at}
+use Rattle.plane_core.specs.declared.plane.cell.Cell.{Cell}
+use Rattle.plane_core.specs.plane.Cells.{InOrder, has, is_within, on_plane, plane_bound}
+use Rattle.plane_core.specs.clusters.Clusters.{IsCluster, Linked}
+use Rattle.plane_core.specs.plane.Frontiers.{is_slow}
+use Rattle.plane_core.specs.plane.Generations.{after, lies_within}
+use Rattle.plane_core.specs.plane.Rules.{Numbers}
+use Rattle.plane_core.specs.plane.Without.{without}
+use Rattle.plane_core.proofs.lemmas.clusters.ClusterLemmas.{linked-sym, linked-trans}
+use Rattle.plane_core.proofs.lemmas.plane.SearchLemmas.{has-list_all, list_all-has}
+use Rattle.plane_core.proofs.lemmas.plane.SetLemmas.{has-filter, same_lists}
+use Rattle.code_core.specs.declared.recurrence.Recurrence.{Recurrence}
+use Rattle.survey_core.specs.declared.evolution.split_pattern.Harbour.{Harbour}
+use Rattle.survey_core.specs.declared.evolution.escaped_spaceships.Ship.{Ship}
+use Rattle.survey_core.specs.declared.shapes.envelope_bounds.Sweep.{Sweep}
+use Rattle.survey_core.specs.evolution.SplitPatterns.{AreCandidates, AreOff, HasSmallNumbers, IsHarbour, IsMoored, IsNoneOf, IsOff, IsTraced, latest_time, ship_at}
+use Rattle.survey_core.specs.evolution.SplitPatterns.{whole_at, whole_of}
+use Rattle.survey_core.specs.evolution.EscapedSpaceships.{IsForemost, IsPartOf}
+use Rattle.survey_core.specs.shapes.Envelopes.{IsSweep}
+use Rattle.survey_core.specs.evolution.UnderWay.{survey_reach}
+use Rattle.survey_core.proofs.lemmas.PlaneLemmas.{within_later, within_more}
+use Rattle.survey_core.proofs.lemmas.evolution.SpaceshipLemmas.{cluster_part, no_faster}
+use Rattle.survey_core.proofs.lemmas.evolution.RemovedLemmas.{all_off_later, all_off_more, has-whole, none_off, whole-none}
+
+-- ---- the numbers of a ship
+
+-- for long it lies on the plane
+pub ship_on_plane : (rule : Numbers) (cells : List Cell) (age : ℕ) → lies_within survey_reach cells ≡ true → age ≤ latest_time + 10001
+    → list_all on_plane (after rule cells age) ≡ true
+unfolding on_plane
+ship_on_plane rule cells age near early = within_later survey_reach plane_bound rule cells age (omega arith) near
+
+-- a ship with a short period has small numbers
+pub small_by_sweep : (rule : Numbers) (limit : ℕ) (ship : Ship) (cells : List Cell) (sweep : Sweep) → limit ≤ 64 → (cells ≡ [] → ⊥)
+    → lies_within survey_reach cells ≡ true → ship.cells ≡ cells → ship.recurrence ≡ sweep.recurrence → IsSweep rule limit cells sweep
+    → HasSmallNumbers ship
+small_by_sweep rule limit ship cells sweep few some near same back is = record {
+  near = ap (lies_within survey_reach) same ∙ near;
+  period = subst (λ (r : Recurrence). r.period ≤ 64) (sym back) period;
+  across = subst (λ (r : Recurrence). unsigned_abs r.dx ≤ 64) (sym back) (omega (arith, period, light.0));
+  down = subst (λ (r : Recurrence). unsigned_abs r.dy ≤ 64) (sym back) (omega (arith, period, light.1));
+}
+  where
+    within : sweep.recurrence.period ≤ limit
+    within = is.recurs.within
+
+    period : sweep.recurrence.period ≤ 64
+    period = omega (arith, within, few)
+
+    light : (unsigned_abs sweep.recurrence.dx ≤ sweep.recurrence.period) × (unsigned_abs sweep.recurrence.dy ≤ sweep.recurrence.period)
+    light = no_faster rule cells sweep.recurrence.period sweep.recurrence.dx sweep.recurrence.dy some is.recurs.back
+
+-- ---- a harbour
+
+-- where each ship is can be computed at any later time
+pub traced_later : (rule : Numbers) (t g : ℕ) (board : List Cell) (ships : List Ship) → IsHarbour rule t board ships
+    → All (IsTraced rule (t + g)) ships
+traced_later rule t g board ships is k d low = record {
+  comes = off.ahead.comes;
+  small = is.small k d low;
+  since = early t off.half (get_or ships k d).since off.age;
+}
+  where
+    off : IsOff rule t board (get_or ships k d)
+    off = is.off.each k d low
+
+    early : (t half since : ℕ) → t ≡ since + 2 * half → since ≤ t + g
+    early t half since e = omega arith
+
+-- a board that no ship has left
+pub new_harbour : (rule : Numbers) (board : List Cell) (ships : List Ship) → InOrder board → ships ≡ [] → IsHarbour rule 0 board ships
+new_harbour rule board ships order none = subst (IsHarbour rule 0 board) (sym none) (record {
+  off = none_off rule 0 board order;
+  small = λ k d low. absurd (omega arith);
+  early = omega arith;
+})
+
+-- a pattern that lies within a reach has all its parts there
+pub part_near : (reach : ℕ) (board cells : List Cell) → lies_within reach board ≡ true → IsPartOf board cells → lies_within reach cells ≡ true
+part_near reach board cells near part = has-list_all (is_within reach) cells (λ c e. list_all-has (is_within reach) board near c (part c e))
+
+pub board_near : (reach : ℕ) (rule : Numbers) (t : ℕ) (board : List Cell) (ships : List Ship) → lies_within reach (whole_at rule t board ships) ≡ true
+    → lies_within reach board ≡ true
+board_near reach rule t board ships near =
+    has-list_all (is_within reach) board (λ c e. list_all-has (is_within reach) (whole_at rule t board ships) near c
+    (has-whole rule t board ships c ∙ ap (λ (b : Bool). b || list_any (λ (ship : Ship). has (ship_at rule t ship) c) ships) e))
+
+ship_near : (reach : ℕ) (rule : Numbers) (t : ℕ) (board : List Cell) (ships : List Ship) (k : ℕ) (d : Ship) → k < length ships
+    → lies_within reach (whole_at rule t board ships) ≡ true → lies_within reach (ship_at rule t (get_or ships k d)) ≡ true
+ship_near reach rule t board ships k d low near =
+    has-list_all (is_within reach) (ship_at rule t (get_or ships k d)) (λ c e. list_all-has (is_within reach) (whole_at rule t board ships) near c
+    (has-whole rule t board ships c ∙ or_right (has board c) _ (list_any_at (λ (ship : Ship). has (ship_at rule t ship) c) ships k d low e)))
+
+pub parts_near : (near far : ℕ) (rule : Numbers) (t : ℕ) (board : List Cell) (ships : List Ship) (parts : List (List Cell)) → near ≤ far
+    → parts ≡ board ∷ map (ship_at rule t) ships → lies_within near (whole_at rule t board ships) ≡ true
+    → All (λ (part : List Cell). lies_within far part ≡ true) parts
+parts_near near far rule t board ships parts low are within = subst (All (λ (part : List Cell). lies_within far part ≡ true)) (sym are)
+    (All-cons (λ (part : List Cell). lies_within far part ≡ true) board (map (ship_at rule t) ships)
+    (within_more near far board low (board_near near rule t board ships within))
+    (All-map (λ (part : List Cell). lies_within far part ≡ true) (ship_at rule t) ships
+    (λ k d there. within_more near far (ship_at rule t (get_or ships k d)) low (ship_near near rule t board ships k d there within))))
+
+-- where no ship is, the board is all
+pub whole-empty : (rule : Numbers) (t : ℕ) (board : List Cell) (ships : List Ship) (is_empty : Bool) → is_empty ≡ (length ships == 0)
+    → is_empty ≡ true → InOrder board → whole_at rule t board ships ≡ board
+whole-empty rule t board [] is_empty is empty order = whole-none rule t board order
+whole-empty rule t board (ship ∷ ships) is_empty is empty order =
+    let none : length (ship ∷ ships) ≡ 0 = eqb-true (length (ship ∷ ships)) 0 (sym is ∙ empty) in absurd (omega (arith, none))
+
+-- and then it is still where the board is
+pub still_whole : (rule : Numbers) (t n : ℕ) (board : List Cell) (ships : List Ship) (is_empty : Bool) → is_empty ≡ (length ships == 0)
+    → is_empty ≡ true → InOrder board → after rule board n ≡ board → after rule (whole_at rule t board ships) n ≡ whole_at rule t board ships
+still_whole rule t n board ships is_empty is empty order still =
+    let all = whole-empty rule t board ships is_empty is empty order in
+    ap (λ (S : List Cell). after rule S n) all ∙ still ∙ sym all
+
+-- an even number of generations later
+pub harbour_later : (rule r : Numbers) (t n most : ℕ) (board b : List Cell) (ships : List Ship) → IsHarbour rule t board ships → most % 2 ≡ 0
+    → n ≡ most
+    → r ≡ rule → b ≡ after rule board n → t + n ≤ latest_time → IsHarbour r (t + n) b ships
+harbour_later rule r t n most board b ships is even all same at early =
+    subst (λ (q : Numbers). IsHarbour q (t + n) b ships) (sym same)
+    (subst (λ (S : List Cell). IsHarbour rule (t + n) S ships) (sym at) (record { off = off; small = is.small; early = early }))
+  where
+    twice : 2 * (n / 2) ≡ n
+    twice = omega (arith, even, all)
+
+    off : AreOff rule (t + n) (after rule board n) ships
+    off = subst (λ (k : ℕ). AreOff rule (t + k) (after rule board k) ships) twice (all_off_later rule t (n / 2) board ships is.off)
+
+-- a ship more
+pub harbour_more : (rule : Numbers) (t : ℕ) (board b : List Cell) (ships s : List Ship) (ship : Ship) → IsHarbour rule t board ships
+    → is_slow rule ≡ true
+    → ship.since ≡ t → IsForemost rule board ship.recurrence ship.cells → HasSmallNumbers ship → b ≡ without board ship.cells → s ≡ ships ++ ship ∷ []
+    → IsHarbour rule t b s
+harbour_more rule t board b ships s ship is slow now foremost small left more =
+    subst (λ (S : List Cell). IsHarbour rule t S s) (sym left)
+    (subst (λ (all : List Ship). IsHarbour rule t (without board ship.cells) all) (sym more) (record {
+      off = all_off_more rule t board ships ship slow now foremost is.off;
+      small = All-push HasSmallNumbers ships ship is.small small;
+      early = is.early;
+    }))
+
+-- the whole so many generations later
+pub whole_gone_on : (rule : Numbers) (t n : ℕ) (board b whole : List Cell) (ships : List Ship) → IsHarbour rule t board ships
+    → whole_at rule t board ships ≡ whole
+    → b ≡ after rule board n → whole_at rule (t + n) b ships ≡ after rule whole n
+whole_gone_on rule t n board b whole ships is all at =
+    ap (λ (S : List Cell). whole_at rule (t + n) S ships) at ∙ sym (is.off.alone n) ∙ ap (λ (S : List Cell). after rule S n) all
+
+-- ---- a harbour that goes on
+
+-- the board goes on by the rule
+pub board_later : (rule : Numbers) (harbour : Harbour) (n : ℕ) (b : List Cell) → IsMoored rule harbour → b ≡ after harbour.board.rule harbour.board.cells n
+    → b ≡ after rule harbour.board.cells n
+board_later rule harbour n b is at = at ∙ ap (λ (r : Numbers). after r harbour.board.cells n) is.0
+
+-- and so does the whole
+pub whole_later : (rule : Numbers) (harbour : Harbour) (n : ℕ) (b : List Cell) → IsMoored rule harbour → b ≡ after harbour.board.rule harbour.board.cells n
+    → whole_at rule (harbour.time + n) b harbour.ships.items ≡ after rule (whole_of rule harbour) n
+whole_later rule harbour n b is at =
+    whole_gone_on rule harbour.time n harbour.board.cells b (whole_of rule harbour) harbour.ships.items is.1 refl (board_later rule harbour n b is at)
+
+-- ---- candidates
+
+-- clusters that share a cell are one
+same_cluster : (cells one other : List Cell) (c : Cell) → IsCluster cells one → IsCluster cells other → has one c ≡ true → has other c ≡ true
+    → one ≡ other
+same_cluster cells one other c is also in_one in_other =
+    same_lists one other is.in_order also.in_order
+    (λ x. both_ways (has one x) (has other x)
+    (λ h. (also.members x).1 (linked-trans cells also.start is.start x there ((is.members x).0 h)))
+    (λ h. (is.members x).1 (linked-trans cells is.start also.start x (linked-sym cells also.start is.start there) ((also.members x).0 h))))
+  where
+    there : Linked cells also.start is.start
+    there = linked-trans cells also.start c is.start ((also.members c).0 in_other) (linked-sym cells is.start c ((is.members c).0 in_one))
+
+-- at first all clusters are on the board
+pub candidates_start : (board : List Cell) (ships : List Ship) (clusters : List (List Cell)) → All (IsCluster board) clusters
+    → AreCandidates board ships clusters
+candidates_start board ships clusters each = record { before = board; each = each; still = λ cluster is new. cluster_part board cluster is }
+
+-- each of them is one
+pub candidate : (board : List Cell) (ships : List Ship) (clusters : List (List Cell)) (i : ℕ) (cluster : List Cell)
+    → (are : AreCandidates board ships clusters)
+    → i < length clusters → cluster ≡ get_or clusters i cluster → IsCluster are.before cluster
+candidate board ships clusters i cluster are low at = subst (IsCluster are.before) (sym at) (are.each i cluster low)
+
+-- and when one of them has left it, all but this one
+pub candidates_more : (board b : List Cell) (ships s : List Ship) (clusters : List (List Cell)) (ship : Ship) (i : ℕ) (cluster : List Cell)
+    → AreCandidates board ships clusters → i < length clusters → cluster ≡ get_or clusters i cluster → ship.cells ≡ cluster
+    → b ≡ without board ship.cells
+    → s ≡ ships ++ ship ∷ [] → AreCandidates b s clusters
+candidates_more board b ships s clusters ship i cluster are low at same left more =
+    subst (λ (S : List Cell). AreCandidates S s clusters) (sym left)
+    (subst (λ (all : List Ship). AreCandidates (without board ship.cells) all clusters) (sym more)
+    (record { before = are.before; each = are.each; still = still }))
+  where
+    is : IsCluster are.before ship.cells
+    is = subst (IsCluster are.before) (sym (same ∙ at)) (are.each i cluster low)
+
+    still : (other : List Cell) → IsCluster are.before other → IsNoneOf (ships ++ ship ∷ []) other → IsPartOf (without board ship.cells) other
+    still other also new c there = has-filter (λ d. not (has ship.cells d)) board c
+        ∙ and_from (has board c) (not (has ship.cells c)) (are.still other also earlier c there) (ap not none)
+      where
+        earlier : IsNoneOf ships other
+        earlier k d below = subst (λ (one : Ship). one.cells ≡ other → ⊥) (get_or_append_left ships (ship ∷ []) d k below)
+            (new k d (omega (arith, below, length-append ships (ship ∷ []))))
+
+        last : ship.cells ≡ other → ⊥
+        last = subst (λ (one : Ship). one.cells ≡ other → ⊥) (get_or_push ships ship ship (length ships) refl)
+            (new (length ships) ship (omega (arith, length-append ships (ship ∷ []))))
+
+        none : has ship.cells c ≡ false
+        none = go (has ship.cells c) refl
+          where
+            go : (h : Bool) → has ship.cells c ≡ h → has ship.cells c ≡ false
+            go true here = absurd (last (same_cluster are.before ship.cells other c is also here there))
+            go false e = e

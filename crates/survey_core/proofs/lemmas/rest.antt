@@ -1,0 +1,9 @@
+pub mod AloneLemmas
+pub mod ForGoodLemmas
+pub mod GroupLemmas
+pub mod GroupingLemmas
+pub mod KnownRestlessLemmas
+pub mod RestLemmas
+pub mod RuledOutLemmas
+pub mod RunLemmas
+pub mod SortedClusters

@@ -1,0 +1,4 @@
+pub mod CountLaw
+pub mod EnvelopeLemmas
+pub mod MemoLemmas
+pub mod ObjectLemmas

@@ -1,0 +1,132 @@
+-- Counting objects by their codes, and multiples of their periods.
+use Rattle.std.proofs.Common.{◌≡◌, ◌∙◌, ap, sym, refl, subst, ℕ, ◌+◌, ◌*◌, ◌/◌, ◌%◌, ◌<◌, ◌≤◌, ◌↔◌, add-zero, zero-add, mul_comm, nat_eq, Bool, true}
+use Rattle.std.proofs.Common.{false, sum, IsTrue, cond, List, [], ◌∷◌, ◌++◌, take, get_or, count_by, length, Option, Some, IfSome, unwrap_or, arith}
+use Rattle.std.proofs.Common.{if◌then◌else◌}
+use Rattle.std.specs.BTreeMap.{BTreeMap, IsOrdered, insert_entry}
+use Rattle.std.specs.Cmp.Lexicographic.{nat_list_cmp_total, slice_cmp}
+use Rattle.std.specs.FinMap.{nat_cmp-IsAntisymmetric, slice_cmp-IsAntisymmetric}
+use Rattle.std.specs.List.{AllZip}
+use Rattle.std.specs.Map.{lookup, values_of}
+use Rattle.std.specs.Option.{option_map}
+use Rattle.std.proofs.lemmas.Map.Entries.{sum_by-insert_entry}
+use Rattle.std.proofs.lemmas.Iterator.Adapters.{option_map_id}
+use Rattle.std.specs.Ordering.{is_eq, nat_cmp, ordering_reverse}
+use Rattle.std.specs.declared.cmp.Ordering.{Ordering}
+use Rattle.std.specs.declared.cmp.Ordering.TheVariants.{Less, Equal, Greater}
+use Rattle.std.proofs.lemmas.Bool.Decides.{Decides-eqb}
+use Rattle.std.proofs.lemmas.List.{length-append, take_more}
+use Rattle.std.proofs.lemmas.List.Sums.{sum_by-append}
+use Rattle.std.proofs.lemmas.Map.Views.{All-found}
+use Rattle.std.proofs.Math.Nat.{div-add-mod, mul-mod_left}
+use Rattle.plane_core.specs.declared.plane.cell.Cell.{Cell}
+use Rattle.plane_core.specs.plane.Rules.{Numbers}
+use Rattle.code_core.specs.Names.{IsCode}
+use Rattle.survey_core.specs.shapes.Objects.{AreObjects, IsMultiple, count_of, is_code}
+
+-- a multiple of n is what n divides without a rest
+pub multiple_then : (m n : ℕ) → IsTrue (nat_eq (m % n) 0) ↔ IsMultiple m n
+multiple_then m n = (
+  λ e. (m / n, sym (div-add-mod m n) ∙ ap (λ (remainder : ℕ). n * (m / n) + remainder) ((Decides-eqb (m % n) 0).0 e) ∙ add-zero (n * (m / n)) ∙ mul_comm n (m / n)),
+  λ (k, is). (Decides-eqb (m % n) 0).1 (ap (λ (x : ℕ). x % n) is ∙ mul-mod_left k n),
+)
+
+-- of nothing only 0 is a multiple
+pub never_of_none : (m n : ℕ) → 1 ≤ m → n ≡ 0 → ¬ IsMultiple m n
+never_of_none m n some none (k, is) = none_left k m n some none is
+  where
+    none_left : (k m n : ℕ) → 1 ≤ m → n ≡ 0 → m ≡ k * n → ⊥
+    none_left k m n some none is = grind (arith, some, none, is)
+
+-- ---- codes
+
+-- no code has a count of 0
+abbrev pub CountsAreSome : List (List ℕ × ℕ) → Type 0
+CountsAreSome objects = (code : List ℕ) → IfSome (lookup (is_code code) objects) (λ n. 1 ≤ n)
+
+-- two texts that compare as equal are one
+pub same_code : (a b : List ℕ) → slice_cmp nat_cmp a b ≡ Equal → a ≡ b
+same_code a b e = slice_cmp-IsAntisymmetric nat_cmp-IsAntisymmetric a b e
+
+-- the order in which two codes are compared doesn't matter
+pub is_code-sym : (a b : List ℕ) → is_code a b ≡ is_code b a
+is_code-sym a b = ap is_eq (nat_list_cmp_total.antisymm a b) ∙ turned (slice_cmp nat_cmp b a)
+  where
+    turned : (o : Ordering) → is_eq (ordering_reverse o) ≡ is_eq o
+    turned Less = refl
+    turned Equal = refl
+    turned Greater = refl
+
+-- one object more with the code k
+pub counted_more : (old new : List (List ℕ × ℕ)) (k : List ℕ) (before : ℕ)
+    → ((q : List ℕ) → lookup (is_code q) new ≡ cond (is_code k q) (Some (before + 1)) (lookup (is_code q) old))
+    → before ≡ count_of old k → (q : List ℕ) → count_of new q ≡ count_of old q + (if is_code q k then 1 else 0)
+counted_more old new k before updates is q = go (slice_cmp nat_cmp k q) refl
+  where
+    miss : is_code k q ≡ false → count_of new q ≡ count_of old q + (if is_code q k then 1 else 0)
+    miss other =
+        ap (λ (o : Option ℕ). unwrap_or o 0) (updates q ∙ ap (λ (b : Bool). cond b (Some (before + 1)) (lookup (is_code q) old)) other)
+        ∙ sym (add-zero (count_of old q)) ∙ ap (λ (b : Bool). count_of old q + (if b then 1 else 0)) (sym (is_code-sym q k ∙ other))
+
+    go : (o : Ordering) → slice_cmp nat_cmp k q ≡ o → count_of new q ≡ count_of old q + (if is_code q k then 1 else 0)
+    go Equal e =
+        let hit : is_code k q ≡ true = ap is_eq e in
+        let told : count_of new q ≡ before + 1 = ap (λ (o : Option ℕ). unwrap_or o 0) (updates q
+        ∙ ap (λ (b : Bool). cond b (Some (before + 1)) (lookup (is_code q) old)) hit) in
+        told ∙ ap (λ (n : ℕ). n + 1) (is ∙ ap (count_of old) (same_code k q e))
+        ∙ ap (λ (b : Bool). count_of old q + (if b then 1 else 0)) (sym (is_code-sym q k ∙ hit))
+    go Less e = miss (ap is_eq e)
+    go Greater e = miss (ap is_eq e)
+
+-- and still no count is 0
+pub some_more : (old new : List (List ℕ × ℕ)) (k : List ℕ) (before : ℕ)
+    → ((q : List ℕ) → lookup (is_code q) new ≡ cond (is_code k q) (Some (before + 1)) (lookup (is_code q) old))
+    → CountsAreSome old → CountsAreSome new
+some_more old new k before updates some q =
+    subst (λ (o : Option ℕ). IfSome o (λ n. 1 ≤ n)) (sym (updates q)) (go (is_code k q))
+  where
+    go : (b : Bool) → IfSome (cond b (Some (before + 1)) (lookup (is_code q) old)) (λ n. 1 ≤ n)
+    go true = omega arith
+    go false = some q
+
+-- and one object more together
+pub number_more : (old : BTreeMap (List ℕ) ℕ) (new : List (List ℕ × ℕ)) (k : List ℕ) (before : ℕ) → IsOrdered (slice_cmp nat_cmp) old
+    → new ≡ insert_entry (slice_cmp nat_cmp) old.entries k (before + 1) → before ≡ count_of old.entries k → sum (values_of new) ≡ sum (values_of old.entries) + 1
+number_more old new k before ordered is at =
+    let put = sum_by-insert_entry (λ n. n) nat_list_cmp_total old.entries k (before + 1) ordered in
+    let same : unwrap_or (option_map (λ (n : ℕ). n) (lookup (is_code k) old.entries)) 0 ≡ before =
+    ap (λ (o : Option ℕ). unwrap_or o 0) (option_map_id (lookup (is_code k) old.entries)) ∙ sym at in
+    let newer : sum (values_of new) ≡ sum (values_of (insert_entry (slice_cmp nat_cmp) old.entries k (before + 1))) =
+    ap (λ (es : List (List ℕ × ℕ)). sum (values_of es)) is in
+    omega (arith, put)
+
+-- the entries of a map whose counts are not 0
+pub entries_are_objects : (counts : BTreeMap (List ℕ) ℕ) → IsOrdered (slice_cmp nat_cmp) counts → CountsAreSome counts.entries → AreObjects counts.entries
+entries_are_objects counts ordered some = record {
+  in_order = ordered;
+  some = λ k d low. subst (λ (o : Option ℕ). IfSome o (λ n. 1 ≤ n)) (All-found nat_list_cmp_total counts ordered k d low) (some (get_or counts.entries k d).0);
+}
+
+-- ---- clusters and their codes, one after another
+
+zip_more : (rule : Numbers) (limit : ℕ) (clusters : List (List Cell)) (codes : List (List ℕ)) (cluster : List Cell) (code : List ℕ)
+    → AllZip (λ cluster code. IsCode rule cluster limit code) clusters codes → IsCode rule cluster limit code
+    → AllZip (λ cluster code. IsCode rule cluster limit code) (clusters ++ cluster ∷ []) (codes ++ code ∷ [])
+zip_more rule limit [] [] cluster code all is = (is, tt)
+zip_more rule limit [] (y ∷ ys) cluster code all is = absurd all
+zip_more rule limit (x ∷ xs) [] cluster code all is = absurd all
+zip_more rule limit (x ∷ xs) (y ∷ ys) cluster code all is = (all.0, zip_more rule limit xs ys cluster code all.1 is)
+
+pub codes_more : (rule : Numbers) (limit : ℕ) (clusters : List (List Cell)) (i : ℕ) (cluster : List Cell) (codes : List (List ℕ)) (code : List ℕ)
+    → i < length clusters → cluster ≡ get_or clusters i cluster
+    → AllZip (λ cluster code. IsCode rule cluster limit code) (take i clusters) codes → IsCode rule cluster limit code
+    → AllZip (λ cluster code. IsCode rule cluster limit code) (take (i + 1) clusters) (codes ++ code ∷ [])
+codes_more rule limit clusters i cluster codes code low at all is =
+    subst (λ (front : List (List Cell)). AllZip (λ cluster code. IsCode rule cluster limit code) front (codes ++ code ∷ []))
+    (sym (take_more clusters i cluster low))
+    (zip_more rule limit (take i clusters) codes (get_or clusters i cluster) code all (subst (λ (x : List Cell). IsCode rule x limit code) at is))
+
+pub length_more : (codes : List (List ℕ)) (code : List ℕ) (n : ℕ) → length codes ≡ n → length (codes ++ code ∷ []) ≡ n + 1
+length_more codes code n is = length-append codes (code ∷ []) ∙ ap (λ (m : ℕ). m + 1) is
+
+pub count_by_more : (p : List ℕ → Bool) (codes : List (List ℕ)) (code : List ℕ) → count_by p (codes ++ code ∷ []) ≡ count_by p codes + (if p code then 1 else 0)
+count_by_more p codes code = sum_by-append (λ x. cond (p x) 1 0) codes (code ∷ []) ∙ ap (λ (n : ℕ). count_by p codes + n) (zero-add (cond (p code) 1 0))

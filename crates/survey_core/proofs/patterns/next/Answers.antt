@@ -1,0 +1,12 @@
+use Rattle.std.proofs.Common.{◌∙◌, sym, arith}
+use Rattle.std.proofs.lemmas.Bool.{false≢true}
+use Rattle.plane_core.specs.plane.Refusals.{RefusesStep}
+use Rattle.plane_core.specs.declared.generation.StepError.TheVariants.{Edge}
+use Rattle.plane_core.proofs.lemmas.plane.SpeedLemmas.{inside_edge}
+use Rattle.survey_core.proofs.patterns.next.Goals as goal
+
+-- no cell lies on the edge
+pub unreachable-requires : goal.unreachable-requires
+unreachable-requires c =
+    let on : RefusesStep c.args.pattern.now Edge = rw c.in-Err-Edge.field-0-is at c.in-Err-Edge.ensures.refused in
+    false≢true (sym (inside_edge c.args.pattern.now 999999 (omega arith) c.requires) ∙ on)

@@ -1,0 +1,4 @@
+pub mod EscapedSpaceships
+pub mod Evolutions
+pub mod SplitPatterns
+pub mod UnderWay

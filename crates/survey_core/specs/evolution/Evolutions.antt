@@ -1,0 +1,19 @@
+-- A pattern on its way through its generations.
+use Rattle.std.specs.Prelude.{◌≡◌, ◌≤◌, List, true}
+use Rattle.plane_core.specs.declared.plane.cell.Cell.{Cell}
+use Rattle.plane_core.specs.plane.Generations.{after, lies_within}
+use Rattle.plane_core.specs.plane.Rules.{Numbers}
+use Rattle.survey_core.specs.evolution.SplitPatterns.{IsMoored, whole_of}
+use Rattle.survey_core.specs.evolution.UnderWay.{survey_reach}
+use Rattle.survey_core.specs.declared.evolution.Course.{Course}
+use Rattle.survey_core.specs.declared.evolution.Course.TheVariants.{Listed, Shown}
+
+-- the pattern, wherever it is kept
+abbrev pub kept : Numbers → Course → List Cell
+kept rule (Listed cells) = cells
+kept rule (Shown harbour ahead) = after rule (whole_of rule harbour) ahead
+
+-- it lies near the origin; a harbour goes by the rule, and is at most a generation behind
+abbrev pub IsKept : Numbers → Course → Type 0
+IsKept rule (Listed cells) = lies_within survey_reach cells ≡ true
+IsKept rule (Shown harbour ahead) = IsMoored rule harbour × (ahead ≤ 1) × (lies_within survey_reach (whole_of rule harbour) ≡ true)

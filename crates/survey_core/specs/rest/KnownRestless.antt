@@ -1,0 +1,15 @@
+-- Looks that are known to say no, since nothing changes in an even number of generations.
+use Rattle.std.specs.Prelude.{◌≡◌, ◌+◌, ◌%◌, ℕ, Bool, false, true, List, get_or}
+use Rattle.plane_core.specs.declared.plane.cell.Cell.{Cell}
+use Rattle.plane_core.specs.plane.Generations.{after}
+use Rattle.plane_core.specs.plane.Rules.{Numbers}
+use Rattle.survey_core.specs.Profiles.{Settling}
+use Rattle.survey_core.specs.rest.Rest.{IsAtRest}
+
+-- the look in generation t is known to say no: the first of the two is about even generations, and the second about odd ones
+abbrev pub is_known : List Bool → ℕ → Bool
+is_known noes t = get_or noes (t % 2) false
+
+-- and so it does: in generation t the pattern is these cells, and it is at rest in no later one that is known
+abbrev pub AreNoes : Numbers → Settling → List Cell → ℕ → List Bool → Type 0
+AreNoes rule profile cells t noes = (n : ℕ) → is_known noes (t + n) ≡ true → ¬ IsAtRest rule profile (after rule cells n)

@@ -1,0 +1,3 @@
+pub mod Envelopes
+pub mod Memos
+pub mod Objects

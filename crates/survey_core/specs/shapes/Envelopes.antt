@@ -1,0 +1,73 @@
+-- The sweep of a pattern that comes back: a box in which all its phases lie, and which moves along with it.
+use Rattle.std.specs.Prelude.{◌≡◌, ◌+◌, ◌*◌, ◌+ℤ◌, ◌<◌, ◌≤◌, ◌⊎◌, ◌||◌, ◌&&◌, Bool, true, int_le, int_lt, ℕ, ℤ, zero, suc, pos, List, All, get_or, length}
+use lib.IntN.{◌-ℤ◌}
+use Rattle.plane_core.specs.declared.plane.cell.Cell.{Cell}
+use Rattle.plane_core.specs.declared.plane.bounds.Bounds.{Bounds}
+use Rattle.survey_core.specs.declared.shapes.envelope_bounds.Gaps.{Gaps}
+use Rattle.plane_core.specs.plane.Bounds.{IsWithin, shifted}
+use Rattle.plane_core.specs.plane.Cells.{InOrder}
+use Rattle.plane_core.specs.clusters.Clusters.{LieApart}
+use Rattle.plane_core.specs.plane.Generations.{after}
+use Rattle.plane_core.specs.plane.Rules.{Numbers}
+use Rattle.code_core.specs.Recurrences.{Recurs}
+use Rattle.survey_core.specs.declared.shapes.envelope_bounds.Sweep.{Sweep}
+
+-- n steps by d
+abbrev pub times : ℕ → ℤ → ℤ
+times zero d = pos 0
+times (suc n) d = times n d +ℤ d
+
+-- the sweep of a pattern: how it comes back, and a box in which it lies in each generation of its period
+pub record IsSweep (rule : Numbers) (limit : ℕ) (cells : List Cell) (sweep : Sweep) : Type 0 where
+  pub in_order : InOrder cells
+  pub recurs : Recurs rule cells limit sweep.recurrence
+  pub within : (g : ℕ) → g < sweep.recurrence.period → All (IsWithin sweep.bounds) (after rule cells g)
+
+-- the sweeps of some patterns, one for each
+pub record AreSweeps (rule : Numbers) (limit : ℕ) (parts : List (List Cell)) (sweeps : List Sweep) : Type 0 where
+  pub count : length sweeps ≡ length parts
+  pub each : (i : ℕ) (d : List Cell) (e : Sweep) → i < length parts → IsSweep rule limit (get_or parts i d) (get_or sweeps i e)
+
+-- turns of so many generations suit a sweep: they are its period, or it doesn't move
+abbrev pub Serves : ℕ → Sweep → Type 0
+Serves period sweep = (period ≡ sweep.recurrence.period) ⊎ ((sweep.recurrence.dx ≡ pos 0) × (sweep.recurrence.dy ≡ pos 0))
+
+-- what begins here, moved by s, begins more than two past the end, moved by t
+abbrev pub is_past : ℤ → ℤ → ℤ → ℤ → Bool
+is_past end t begin s = int_lt ((end +ℤ t) +ℤ pos 2) (begin +ℤ s)
+
+-- the sides of the box on which the other, moved by (x, y), lies with at least two empty columns or rows between them
+abbrev pub gaps_of : Bounds → Bounds → ℤ → ℤ → Gaps
+gaps_of one other x y = record {
+  right = is_past one.right (pos 0) other.left x;
+  left = is_past other.right x one.left (pos 0);
+  below = is_past one.bottom (pos 0) other.top y;
+  above = is_past other.bottom y one.top (pos 0);
+}
+
+-- there is a gap
+abbrev pub is_gap : Gaps → Bool
+is_gap gaps = gaps.right || gaps.left || gaps.below || gaps.above
+
+-- and one over which no step by (dx, dy) leads back
+abbrev pub gap_stays : Gaps → ℤ → ℤ → Bool
+gap_stays gaps dx dy = gaps.right && int_le (pos 0) dx || gaps.left && int_le dx (pos 0) || gaps.below && int_le (pos 0) dy || gaps.above && int_le dy (pos 0)
+
+-- the box and the other, moved by (x, y), are clear of each other
+abbrev pub is_clear : Bounds → Bounds → ℤ → ℤ → Bool
+is_clear one other x y = is_gap (gaps_of one other x y)
+
+-- so many turns the boxes are clear of each other
+abbrev pub StayClear : ℕ → Sweep → Sweep → Type 0
+StayClear turns one other = (n : ℕ) → n < turns → is_clear one.bounds other.bounds (times n (other.recurrence.dx -ℤ one.recurrence.dx))
+    (times n (other.recurrence.dy -ℤ one.recurrence.dy)) ≡ true
+
+-- Up to the horizon patterns with these sweeps, each run alone, are at king distance 3 or more.
+abbrev pub StayApart : ℕ → Sweep → Sweep → Type 0
+StayApart horizon one other = (rule : Numbers) (limit : ℕ) (cells others : List Cell) → IsSweep rule limit cells one → IsSweep rule limit others other
+    → (g : ℕ) → g ≤ horizon → LieApart (after rule cells g) (after rule others g)
+
+-- what comes back moves by its shift each period
+abbrev pub ShipsMoveByTurns : Type 0
+ShipsMoveByTurns = (rule : Numbers) (cells : List Cell) (p : ℕ) (dx dy : ℤ) → InOrder cells → after rule cells p ≡ shifted dx dy cells → (n r : ℕ)
+    → after rule cells (n * p + r) ≡ shifted (times n dx) (times n dy) (after rule cells r)

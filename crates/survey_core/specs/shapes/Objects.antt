@@ -1,0 +1,59 @@
+-- Objects by their codes, with how many there are of each, and whether they stay for good.
+use Rattle.std.specs.Prelude.{◌≡◌, ◌≢◌, ◌*◌, ◌≤◌, ℕ, Bool, List, All, count_by, unwrap_or}
+use Rattle.std.specs.Cmp.Lexicographic.{slice_cmp}
+use Rattle.std.specs.List.{AllZip}
+use Rattle.std.specs.List.Sorted.{IsStrictlySortedBy}
+use Rattle.std.specs.Map.{keys_of, lookup}
+use Rattle.std.specs.Ordering.{is_eq, nat_cmp}
+use Rattle.plane_core.specs.declared.plane.cell.Cell.{Cell}
+use Rattle.plane_core.specs.plane.Rules.{Numbers}
+use Rattle.code_core.specs.declared.apgcode.Kind.{Kind}
+use Rattle.code_core.specs.declared.apgcode.Kind.TheVariants.{Still, Oscillator, Ship}
+use Rattle.code_core.specs.Apgcodes.{kind_in, number_in}
+use Rattle.code_core.specs.Names.{IsCode}
+
+-- the two texts are one
+abbrev pub is_code : List ℕ → List ℕ → Bool
+is_code a b = is_eq (slice_cmp nat_cmp a b)
+
+-- how many objects a list has of a code: what stands beside it, or 0
+abbrev pub count_of : List (List ℕ × ℕ) → List ℕ → ℕ
+count_of objects code = unwrap_or (lookup (is_code code) objects) 0
+
+-- a list of objects: codes in ASCII order, each once, and each with a count of at least 1
+pub record AreObjects (objects : List (List ℕ × ℕ)) : Type 0 where
+  pub in_order : IsStrictlySortedBy (slice_cmp nat_cmp) (keys_of objects)
+  pub some : All (λ object. 1 ≤ object.1) objects
+
+-- the objects of some clusters: each cluster has its code, and of each code there are as many objects as clusters have it
+pub record AreObjectsOf (rule : Numbers) (limit : ℕ) (clusters : List (List Cell)) (objects : List (List ℕ × ℕ)) : Type 0 where
+  pub lawful : AreObjects objects
+  pub codes : List (List ℕ)
+  pub named : AllZip (λ cluster code. IsCode rule cluster limit code) clusters codes
+  pub counts : (code : List ℕ) → count_of objects code ≡ count_by (is_code code) codes
+
+-- the period that a code tells: 1 for a still life
+abbrev pub period_of_kind : Kind → ℕ → ℕ
+period_of_kind Still number = 1
+period_of_kind Oscillator number = number
+period_of_kind Ship number = number
+
+abbrev pub period_in : List ℕ → ℕ
+period_in code = period_of_kind (kind_in code) (number_in code)
+
+-- m is a multiple of n
+abbrev pub IsMultiple : ℕ → ℕ → Type 0
+IsMultiple m n = (k : ℕ) × (m ≡ k * n)
+
+-- m is 1 or more, and a multiple of the period of each object
+pub record IsCommonMultiple (objects : List (List ℕ × ℕ)) (m : ℕ) : Type 0 where
+  pub some : 1 ≤ m
+  pub each : All (λ object. IsMultiple m (period_in object.0)) objects
+
+-- Objects stay for good if none of them is a spaceship, and if the least common multiple of their periods is at most the horizon.
+pub record StayForGood (horizon : ℕ) (objects : List (List ℕ × ℕ)) : Type 0 where
+  pub none : All (λ object. kind_in object.0 ≢ Ship) objects
+  pub multiple : ℕ
+  pub common : IsCommonMultiple objects multiple
+  pub least : (m : ℕ) → IsCommonMultiple objects m → multiple ≤ m
+  pub within : multiple ≤ horizon

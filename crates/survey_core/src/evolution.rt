@@ -1,0 +1,178 @@
+//! The way of a pattern through its generations, from one look to the next.
+//!
+//! At first the pattern is a list of cells. When it goes on it is laid on a board, if there is one that has room for
+//! it, and stays there from look to look. A board goes on by even numbers of generations alone, so at an odd look the
+//! pattern is one generation ahead of what the board shows:
+//!
+//! ```text
+//! generation     0       101            202      303
+//! is kept        list    board          board    board
+//! board shows            100, 1 ahead   202      302, 1 ahead
+//! ```
+//!
+//! Where the board has no room for the next leap, the pattern goes on from that generation as a list. Ships that are
+//! ahead of all the rest leave the board before it goes on, and are put back into the pattern where that is listed.
+
+ghost use Rattle.std.specs.Prelude.{◌≡◌, ◌%◌, ◌≤◌, ℕ, IfOk, IsTrue};
+ghost use Rattle.plane_core.specs.plane.Generations.{after};
+ghost use Rattle.plane_core.specs.plane.Rules.{Numbers};
+ghost use Rattle.survey_core.specs.evolution.Evolutions.{IsKept, kept};
+ghost use Rattle.survey_core.specs.evolution.SplitPatterns.{IsMoored, whole_of};
+ghost use Rattle.survey_core.specs.rest.Rest.{IsAtRest};
+ghost use Rattle.survey_core.specs.evolution.UnderWay.{StaysNear};
+
+/// Spaceships that escape from all the rest of a pattern.
+pub mod escaped_spaceships;
+/// A board, and the spaceships that were removed from it.
+pub(crate) mod split_pattern;
+
+use crate::evolution::split_pattern::{Harbour, LATEST_TIME, whole};
+use crate::patterns::{next, run_on};
+use crate::shapes::memo::Memo;
+use crate::profile::Profile;
+use memory::OutOfMemory;
+use plane_core::plane::pattern::Pattern;
+use plane_core::plane::rule::Rule;
+use std::alloc::Global;
+
+/// A pattern on its way under a rule.
+#[derive(Drop)]
+pub(crate) enum Course {
+    /// It is in a list of cells.
+    Listed(Pattern),
+    /// It is on a board, with the ships that have left it, as it was so many generations before: none or one.
+    Shown(Harbour, u32),
+}
+
+impl Course {
+    /// The pattern as it is now.
+    pub(crate) fn look(&self, alloc: Global, rule: &Rule) -> Result<Pattern, OutOfMemory>
+        requires { IsKept rule.now self.now }
+        ensures { IfOk result (λ pattern. pattern ≡ kept rule.now self.now) }
+    {
+        match self {
+            Course::Listed(pattern) => pattern.copy(alloc),
+            Course::Shown(harbour, ahead) => {
+                let ships = harbour.ships.as_slice();
+                let pattern = whole(alloc, rule, harbour.time, &harbour.board, ships)?;
+                if *ahead == 0 {
+                    return Ok(pattern);
+                }
+                next(alloc, rule, &pattern)
+            }
+        }
+    }
+
+    /// Whether the pattern is seen at a glance not to be at rest. `false` says nothing.
+    pub(crate) fn is_seen_to_move(&self, rule: &Rule, profile: &Profile) -> bool
+        requires { IsKept rule.now self.now }
+        ensures { IsTrue result → ¬ IsAtRest rule.now profile.now (kept rule.now self.now) }
+    {
+        let horizon = profile.horizon();
+        let period = profile.period();
+        match self {
+            Course::Listed(pattern) => pattern.refuses(rule, horizon, period),
+            Course::Shown(harbour, ahead) => harbour.board.refuses(*ahead, horizon, period),
+        }
+    }
+
+    /// Whether it is seen that no even number of generations changes anything. `false` says nothing.
+    pub(crate) fn is_still(&self) -> bool
+        ensures { IsTrue result → (rule : Numbers) → IsKept rule self.now
+            → (n : ℕ) → n % 2 ≡ 0 → after rule (kept rule self.now) n ≡ kept rule self.now }
+    {
+        match self {
+            Course::Listed(_) => false,
+            Course::Shown(harbour, _) => harbour.ships.is_empty() && harbour.board.is_still(),
+        }
+    }
+
+    /// The pattern at the next look: on the board of the memo, if it isn't on one yet.
+    pub(crate) fn go_on(
+        self,
+        alloc: Global,
+        rule: &Rule,
+        profile: &Profile,
+        memo: &mut Memo,
+    ) -> Result<Course, OutOfMemory>
+        requires kept { IsKept rule.now self }
+        requires near { StaysNear rule.now (kept rule.now self) profile.now.stride }
+        ensures kept { IfOk result (IsKept rule.now) }
+        ensures cells { IfOk result
+            (λ course. kept rule.now course ≡ after rule.now (kept rule.now self) profile.now.stride) }
+    {
+        let generations = profile.stride();
+        match self {
+            Course::Listed(pattern) => from_list(alloc, rule, &pattern, generations, memo),
+            Course::Shown(mut harbour, ahead) => {
+                let total = ahead + generations;
+                harbour.send_off(alloc, rule, profile.period(), total, memo)?;
+                on_board(alloc, rule, harbour, total, memo)
+            }
+        }
+    }
+
+    /// Gives the board back on which the pattern was, for the next one.
+    pub(crate) fn end(self, memo: &mut Memo) {
+        if let Course::Shown(harbour, _) = self {
+            memo.board = Some(harbour.board);
+        }
+    }
+}
+
+/// Goes on from a list by so many generations: on a board of the memo, if there is one with room.
+fn from_list(
+    alloc: Global,
+    rule: &Rule,
+    pattern: &Pattern,
+    generations: u32,
+    memo: &mut Memo,
+) -> Result<Course, OutOfMemory>
+    requires few { generations ≤ 10001 }
+    requires near { StaysNear rule.now pattern.now generations }
+    ensures kept { IfOk result (IsKept rule.now) }
+    ensures cells { IfOk result (λ course. kept rule.now course ≡ after rule.now pattern.now generations) }
+{
+    // That a pattern's cells stand in order is known of them where they are asked for.
+    let _in_order = pattern.cells();
+    let Some(board) = memo.board_with(alloc, rule, pattern)? else {
+        let later = run_on(alloc, rule, generations, pattern)?;
+        return Ok(Course::Listed(later));
+    };
+    let harbour = Harbour {
+        board,
+        ships: Vec::new(alloc),
+        time: 0,
+    };
+    on_board(alloc, rule, harbour, generations, memo)
+}
+
+/// Goes on by so many generations from what a board and its ships are. Where the board has no room, it goes back to the
+/// memo.
+fn on_board(
+    alloc: Global,
+    rule: &Rule,
+    mut harbour: Harbour,
+    generations: u32,
+    memo: &mut Memo,
+) -> Result<Course, OutOfMemory>
+    requires moored { IsMoored rule.now harbour }
+    requires few { generations ≤ 10001 }
+    requires near { StaysNear rule.now (whole_of rule.now harbour) generations }
+    ensures kept { IfOk result (IsKept rule.now) }
+    ensures cells { IfOk result
+        (λ course. kept rule.now course ≡ after rule.now (whole_of rule.now harbour) generations) }
+{
+    let ahead = generations % 2;
+    let most = generations - ahead;
+    let made = harbour.board.advance(most)?;
+    let time = harbour.time + made;
+    if made == most && time <= LATEST_TIME {
+        harbour.time = time;
+        return Ok(Course::Shown(harbour, ahead));
+    }
+    let pattern = whole(alloc, rule, time, &harbour.board, harbour.ships.as_slice())?;
+    let later = run_on(alloc, rule, generations - made, &pattern)?;
+    memo.outgrow(harbour.board);
+    Ok(Course::Listed(later))
+}

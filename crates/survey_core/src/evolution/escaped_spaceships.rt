@@ -1,0 +1,216 @@
+//! Ships that are ahead of all the rest of a pattern. Nothing ever comes near them, so they may leave the board:
+//!
+//! ```text
+//! O O . . . . . . .     A cell's depth is its column and its row together. In two generations the rest gets at most
+//! . O O . . . . . .     one deeper, and a glider does too, since it goes one to the right and one down in four. So
+//! . . . . . O . . .     a glider whose box begins seven deeper than the deepest cell of the rest is never caught.
+//! . . . . . . O . .     The same is true of the three other diagonal directions.
+//! . . . . O O O . .
+//! ```
+//!
+//! A ship is kept as it was when it left, with the time. Where it is later comes of whole periods, each of which moves
+//! it by the same shift, and of a part of one, which is made generation by generation.
+
+ghost use Rattle.std.specs.Prelude.{◌≡◌, ◌≢◌, ◌+◌, ◌≤◌, ◌^◌, [], IfOk, IfSome, IsTrue, true, unsigned_abs};
+ghost use Rattle.std.specs.Prelude.{◌+ℤ◌, ◌*ℤ◌, ◌≤ℤ◌, pos};
+ghost use Rattle.plane_core.specs.plane.Bounds.{IsWithin};
+ghost use Rattle.plane_core.specs.plane.Cells.{cell_at};
+ghost use Rattle.plane_core.specs.plane.Frontiers.{depth};
+ghost use Rattle.plane_core.specs.plane.Generations.{after, lies_within};
+ghost use Rattle.plane_core.specs.plane.Orientations.{turned_cell};
+ghost use Rattle.plane_core.specs.declared.plane.cell.Cell.{Cell};
+ghost use Rattle.survey_core.specs.evolution.SplitPatterns.{HasSmallNumbers, IsTraced};
+ghost use Rattle.survey_core.specs.evolution.EscapedSpaceships.{BeginsPast, IsForemost, IsPartOf, ShipsRunAlone};
+ghost use Rattle.survey_core.specs.evolution.SplitPatterns.{latest_time, ship_at};
+ghost use Rattle.survey_core.specs.evolution.EscapedSpaceships.{ShipsStayAhead};
+ghost use Rattle.survey_core.specs.shapes.Envelopes.{times};
+ghost use Rattle.survey_core.specs.evolution.UnderWay.{survey_reach};
+
+use crate::patterns::run_on;
+use crate::shapes::memo::Memo;
+use crate::shapes::envelope_bounds::{Sweep, difference};
+use code_core::recurrence::Recurrence;
+use memory::OutOfMemory;
+use plane_core::engine::board::Board;
+use plane_core::plane::bounds::Bounds;
+use plane_core::plane::orientation::Orientation;
+use plane_core::plane::pattern::Pattern;
+use plane_core::plane::transform::PlaceError;
+use plane_core::plane::rule::Rule;
+use std::alloc::Global;
+
+/// Within how many generations a ship has to come back, so that it is taken off the board. All that soups of Life leave
+/// come back within four; what comes back later stays, and is run with the rest.
+const SHORT: u32 = 8;
+
+/// A ship that was taken off a board.
+#[derive(Drop)]
+pub(crate) struct Ship {
+    /// Its cells when it was taken off.
+    pub(crate) cells: Pattern,
+    /// When that was: so many generations had been made on the board.
+    pub(crate) since: u32,
+    /// How it comes back.
+    pub(crate) recurrence: Recurrence,
+}
+
+/// The laws of ships. Under a slow rule, what a ship is ahead of never comes within two cells of it, and a pattern from
+/// which a ship is taken away that is ahead of all the rest goes on as the rest and the ship do alone.
+pub fn ships_are_never_caught()
+    ensures ahead { ShipsStayAhead }
+    ensures alone { ShipsRunAlone }
+{}
+
+/// The ship that a part of the board is, if it comes back, and is ahead of all the rest.
+pub(crate) fn ship_of(
+    alloc: Global,
+    rule: &Rule,
+    limit: u32,
+    board: &Board,
+    part: &Pattern,
+    time: u32,
+    memo: &mut Memo,
+) -> Result<Option<Ship>, OutOfMemory>
+    requires least { 1 ≤ limit }
+    requires most { limit ≤ 64 }
+    requires some { part.now ≢ [] }
+    requires near { lies_within survey_reach part.now ≡ true }
+    requires part { IsPartOf board.now.cells part.now }
+    ensures foremost { IfOk result
+        (λ found. IfSome found (λ ship. IsForemost rule.now board.now.cells ship.recurrence ship.cells)) }
+    ensures cells { IfOk result (λ found. IfSome found (λ ship. ship.cells ≡ part.now)) }
+    ensures since { IfOk result (λ found. IfSome found (λ ship. ship.since ≡ time)) }
+    ensures small { IfOk result (λ found. IfSome found HasSmallNumbers) }
+{
+    // That a pattern's cells stand in order is known of them where they are asked for.
+    let _in_order = part.cells();
+    // Few clusters that change are ships, so this is asked first, and for a short time.
+    if part.is_seen_to_change(rule, limit.min(SHORT)) {
+        return Ok(None);
+    }
+    let Some(sweep) = memo.sweep(alloc, rule, limit, part)? else {
+        return Ok(None);
+    };
+    let way = way_of(sweep.recurrence);
+    let fast = is_fast(way, sweep.recurrence);
+    if !fast {
+        return Ok(None);
+    }
+    let Some(frontier) = board.frontier_without(way, part) else {
+        return Ok(None);
+    };
+    let is_ahead = begins_past(way, frontier, &sweep);
+    if !is_ahead {
+        return Ok(None);
+    }
+    let cells = part.copy(alloc)?;
+    Ok(Some(Ship {
+        cells,
+        since: time,
+        recurrence: sweep.recurrence,
+    }))
+}
+
+/// The orientation that turns the way of a ship to the right and down.
+fn way_of(recurrence: Recurrence) -> Orientation {
+    if recurrence.dx >= 0 {
+        if recurrence.dy >= 0 {
+            Orientation::Same
+        } else {
+            Orientation::Flip
+        }
+    } else if recurrence.dy >= 0 {
+        Orientation::Mirror
+    } else {
+        Orientation::Half
+    }
+}
+
+/// Whether what comes back like this, turned by the orientation, gets at least a cell deeper in two generations.
+fn is_fast(way: Orientation, recurrence: Recurrence) -> bool
+    ensures { IsTrue result
+        → pos recurrence.period ≤ℤ (pos 2 *ℤ depth (turned_cell way (cell_at recurrence.dx recurrence.dy))) }
+{
+    let Recurrence { period, dx, dy } = recurrence;
+    // The cell to which the origin is moved in a period, as a box.
+    let step = Bounds {
+        left: dx,
+        top: dy,
+        right: dx,
+        bottom: dy,
+    };
+    i64::from(period) <= 2 * least_depth(way, step)
+}
+
+/// Whether the box of all phases begins far enough past the frontier.
+fn begins_past(way: Orientation, frontier: i32, sweep: &Sweep) -> bool
+    ensures { IsTrue result → BeginsPast way frontier sweep.now }
+{
+    let Sweep { recurrence, bounds } = *sweep;
+    twice_least(frontier, recurrence.period) <= 2 * least_depth(way, bounds)
+}
+
+/// Twice how deep a ship with this period lies at least, if it is ahead of all that lies up to the frontier.
+fn twice_least(frontier: i32, period: u32) -> i64
+    ensures { result ≡ ((pos 2 *ℤ frontier) +ℤ pos (period + 10)) }
+{
+    2 * i64::from(frontier) + i64::from(period) + 10
+}
+
+/// How deep the cells of a box lie at least, turned by the orientation: by column and row together.
+fn least_depth(way: Orientation, bounds: Bounds) -> i64
+    ensures least { (c : Cell) → IsWithin bounds c → result ≤ℤ depth (turned_cell way c) }
+    ensures small { unsigned_abs result ≤ 2 ^ 33 }
+{
+    let Bounds {
+        left,
+        top,
+        right,
+        bottom,
+    } = bounds;
+    match way {
+        Orientation::Same | Orientation::Diagonal => sum(left, top),
+        Orientation::Quarter | Orientation::Flip => difference(bottom, left),
+        Orientation::ThreeQuarter | Orientation::Mirror => difference(right, top),
+        Orientation::Half | Orientation::AntiDiagonal => -sum(right, bottom),
+    }
+}
+
+/// Both together.
+fn sum(one: i32, other: i32) -> i64
+    ensures sum { result ≡ one +ℤ other }
+    ensures small { unsigned_abs result ≤ 2 ^ 33 }
+{
+    i64::from(one) + i64::from(other)
+}
+
+/// The ship at a time: whole periods are a shift, and the rest is made generation by generation.
+pub(crate) fn at_time(
+    alloc: Global,
+    rule: &Rule,
+    ship: &Ship,
+    time: u32,
+) -> Result<Pattern, OutOfMemory>
+    requires traced { IsTraced rule.now time ship.now }
+    requires early { time ≤ latest_time + 10001 }
+    ensures { IfOk result (λ cells. cells ≡ ship_at rule.now time ship.now) }
+{
+    let age = time - ship.since;
+    let Recurrence { period, dx, dy } = ship.recurrence;
+    let turns = age / period;
+    let phase = run_on(alloc, rule, age % period, &ship.cells)?;
+    match phase.shift(alloc, steps(turns, dx), steps(turns, dy)) {
+        Ok(cells) => Ok(cells),
+        Err(PlaceError::Memory(error)) => Err(error),
+        Err(PlaceError::OutOfPlane) => unreachable!(),
+    }
+}
+
+/// So many steps.
+fn steps(count: u32, step: i32) -> i32
+    requires few { count ≤ 1000000 }
+    requires small { unsigned_abs step ≤ 64 }
+    ensures { result ≡ times count step }
+{
+    count as i32 * step
+}

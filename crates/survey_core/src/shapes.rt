@@ -1,0 +1,10 @@
+//! What is known of the shape of a cluster: how it recurs, the envelope of its phases, and its apgcode.
+
+/// The box round all phases of a cluster that recurs, and how it moves.
+pub mod envelope_bounds;
+/// What a worker remembers of shapes.
+pub mod memo;
+/// The objects of a finding, with how many there are of each.
+pub mod objects;
+/// In which slot of a memo a pattern belongs.
+mod slot;

@@ -1,0 +1,353 @@
+//! What a worker remembers of clusters that came back, since nearly every soup leaves the same few shapes:
+//!
+//! ```text
+//! slot    rule      limit    shape    comes back                     name
+//! 516     b3s23     64       OOO      after 2 generations, in place  xp2_7
+//! 517     -
+//! 518     b3s23     64       OO       after 1 generation, in place   xs4_33
+//!                            OO
+//! ```
+//!
+//! A number that is made of the cells, as they lie from the first one, chooses the slot: so a shape finds its slot
+//! wherever it lies. What stands there is about a cluster if rule and limit are the same, and if some shift makes the
+//! shape into the cluster. Then the cluster comes back as the shape does, has its name, and its sweep is that of the
+//! shape, moved. Else the cluster is run and named, and is what stands in the slot from then on.
+//!
+//! Which slot is chosen and what is kept are free choices: a memo that forgets makes a survey slower, and nothing else.
+//! It also keeps a board for the next pattern, so that its words needn't be made anew each time.
+
+ghost use Rattle.std.specs.Prelude.{◌≡◌, ◌≢◌, ◌+ℤ◌, ◌≤◌, [], All, IfNone, IfOk, IfSome, IsTrue, true};
+ghost use Rattle.plane_core.specs.plane.Cells.{InOrder};
+ghost use Rattle.plane_core.specs.plane.Generations.{lies_within};
+ghost use Rattle.code_core.specs.Names.{IsCode};
+ghost use Rattle.survey_core.specs.shapes.Memos.{IsAbout};
+ghost use Rattle.survey_core.specs.rest.Rest.{ComesBack};
+ghost use Rattle.survey_core.specs.shapes.Envelopes.{AreSweeps, IsSweep};
+ghost use Rattle.survey_core.specs.evolution.UnderWay.{survey_reach};
+
+use crate::shapes::slot::slot_of;
+use crate::shapes::envelope_bounds::Sweep;
+use code_core::apgcode::Apgcode;
+use code_core::name::name;
+use memory::OutOfMemory;
+use plane_core::engine::board::Board;
+use plane_core::plane::bounds::Bounds;
+use plane_core::generation::StepError;
+use plane_core::plane::pattern::Pattern;
+use plane_core::plane::rule::Rule;
+use std::alloc::Global;
+use std::marker::Model;
+
+/// How many slots a memo has. Soups leave some hundred shapes again and again, and some thousand once.
+const SLOTS: usize = 4096;
+
+/// How many cells a shape that is kept has at the most. Larger ones hardly ever come twice, and would take memory.
+const MOST_CELLS: usize = 64;
+
+/// What is remembered of clusters that came back, and a board for the next pattern. It serves any rule and profile, one
+/// after another, and changes no finding: only how long it takes.
+pub struct Memo {
+    slots: Vec<Option<Known>>,
+    /// A board for the next pattern, unless there is none yet, or a pattern is on it.
+    pub(crate) board: Option<Board>,
+    /// How large a board is that is made.
+    size: Size,
+}
+
+/// How large a board is.
+#[derive(Clone, Copy)]
+enum Size {
+    /// Enough for most patterns, and made fast.
+    Small,
+    /// What is made once a pattern has had no room on a small one.
+    Large,
+}
+
+/// What is known of a shape.
+struct Known {
+    rule: Rule,
+    limit: u32,
+    shape: Pattern,
+    sweep: Sweep,
+    code: Apgcode,
+}
+
+impl Model for Known {
+    ghost use Rattle.survey_core.specs.shapes.Memos.{Fact, IsKnown};
+
+    ghost Value = { Fact };
+
+    ghost view = { λ k. record { rule = k.rule; limit = k.limit; shape = k.shape; sweep = k.sweep; code = k.code } };
+
+    ghost invariant = { λ k. IsKnown
+        (record { rule = k.rule; limit = k.limit; shape = k.shape; sweep = k.sweep; code = k.code }) };
+}
+
+// Written out, since a derived drop is proved anew wherever a memo is given up.
+impl Drop for Memo {
+    fn drop(self) {
+        let Memo {
+            slots,
+            board,
+            size: _,
+        } = self;
+        drop(slots);
+        drop(board);
+    }
+}
+
+impl Drop for Known {
+    fn drop(self) {
+        let Known {
+            rule: _,
+            limit: _,
+            shape,
+            sweep: _,
+            code,
+        } = self;
+        drop(shape);
+        drop(code);
+    }
+}
+
+impl Memo {
+    /// A memo that knows nothing yet, with room for 4,096 shapes: half a megabyte, and some three if all of them are
+    /// large. If there is no memory for it, it has no room.
+    pub fn new(alloc: Global) -> Memo {
+        let Ok(mut slots) = Vec::with_capacity(alloc, SLOTS) else {
+            return Memo::without_room(alloc);
+        };
+        for _ in 0..SLOTS {
+            let Ok(()) = slots.push(None) else {
+                return Memo::without_room(alloc);
+            };
+        }
+        Memo {
+            slots,
+            board: None,
+            size: Size::Small,
+        }
+    }
+
+    /// A memo without room, which remembers no shape. It takes no memory.
+    pub fn without_room(alloc: Global) -> Memo {
+        Memo {
+            slots: Vec::new(alloc),
+            board: None,
+            size: Size::Small,
+        }
+    }
+
+    /// A board that shows the pattern: the one that is kept, or a new one. It leaves the memo until `Course::end` or
+    /// `outgrow` gives it back. It is `None` where there is no memory for a board, or the board has no room for the
+    /// pattern.
+    pub(crate) fn board_with(
+        &mut self,
+        alloc: Global,
+        rule: &Rule,
+        pattern: &Pattern,
+    ) -> Result<Option<Board>, OutOfMemory>
+        ensures rule { IfOk result (λ shown. IfSome shown (λ board. board.rule ≡ rule.now)) }
+        ensures cells { IfOk result (λ shown. IfSome shown (λ board. board.cells ≡ pattern.now)) }
+    {
+        let kept = match (self.board.take(), self.size) {
+            (Some(board), _) => Some(board),
+            (None, Size::Small) => Board::small(alloc, rule).ok(),
+            (None, Size::Large) => Board::new(alloc, rule).ok(),
+        };
+        let Some(mut board) = kept else {
+            return Ok(None);
+        };
+        let has_room = board.show(rule, pattern)?;
+        if has_room {
+            return Ok(Some(board));
+        }
+        self.outgrow(board);
+        Ok(None)
+    }
+
+    /// Takes a board back on which a pattern had no room. If it was a small one, the next that is made is large.
+    pub(crate) fn outgrow(&mut self, board: Board) {
+        match self.size {
+            Size::Small => self.size = Size::Large,
+            Size::Large => self.board = Some(board),
+        }
+    }
+
+    /// The sweeps of patterns, or `None` if one of them doesn't come back within so many generations.
+    pub(crate) fn sweeps(
+        &mut self,
+        alloc: Global,
+        rule: &Rule,
+        limit: u32,
+        patterns: &[Pattern],
+    ) -> Result<Option<Vec<Sweep>>, OutOfMemory>
+        requires least { 1 ≤ limit }
+        requires most { limit ≤ 64 }
+        requires order { All InOrder patterns.now }
+        requires some { All (λ pattern. pattern ≢ []) patterns.now }
+        requires near { All (λ pattern. lies_within survey_reach pattern ≡ true) patterns.now }
+        ensures sweeps { IfOk result
+            (λ found. IfSome found (λ sweeps. AreSweeps rule.now limit patterns.now sweeps.items)) }
+        ensures never { IfOk result (λ found. IfNone found (¬ All (ComesBack rule.now limit) patterns.now)) }
+    {
+        // A large pattern takes long to be followed, and mostly a small one says no at a glance.
+        if self.sees_change(rule, limit, patterns) {
+            return Ok(None);
+        }
+        let mut sweeps = Vec::new(alloc);
+        for pattern in patterns {
+            let Some(sweep) = self.sweep(alloc, rule, limit, pattern)? else {
+                return Ok(None);
+            };
+            sweeps.push(sweep)?;
+        }
+        Ok(Some(sweeps))
+    }
+
+    /// Whether it is seen at a glance that one of the patterns doesn't come back within so many generations. One that
+    /// is remembered does.
+    fn sees_change(&self, rule: &Rule, limit: u32, patterns: &[Pattern]) -> bool
+        ensures { IsTrue result → ¬ All (ComesBack rule.now limit) patterns.now }
+    {
+        for pattern in patterns {
+            if self.recalled(rule, limit, pattern).is_some() {
+                continue;
+            }
+            if pattern.is_seen_to_change(rule, limit) {
+                return true;
+            }
+        }
+        false
+    }
+
+    /// The sweep of a pattern, or `None` if it doesn't come back within so many generations. One that does is named,
+    /// and what is known of it is kept in its slot, unless it is large.
+    pub(crate) fn sweep(
+        &mut self,
+        alloc: Global,
+        rule: &Rule,
+        limit: u32,
+        pattern: &Pattern,
+    ) -> Result<Option<Sweep>, OutOfMemory>
+        requires least { 1 ≤ limit }
+        requires most { limit ≤ 64 }
+        requires order { InOrder pattern.now }
+        requires some { pattern.now ≢ [] }
+        requires near { lies_within survey_reach pattern.now ≡ true }
+        ensures sweep { IfOk result (λ found. IfSome found (IsSweep rule.now limit pattern.now)) }
+        ensures never { IfOk result (λ found. IfNone found (¬ ComesBack rule.now limit pattern.now)) }
+    {
+        if let Some(sweep) = self.recalled_sweep(rule, limit, pattern) {
+            return Ok(Some(sweep));
+        }
+        let Some(sweep) = Sweep::find(alloc, rule, limit, pattern)? else {
+            return Ok(None);
+        };
+        let slot = slot_of(pattern, self.slots.len());
+        if slot >= self.slots.len() || pattern.population() > MOST_CELLS {
+            return Ok(Some(sweep));
+        }
+        let code = code_of(alloc, rule, limit, pattern)?;
+        let shape = pattern.copy(alloc)?;
+        self.slots[slot] = Some(Known {
+            rule: *rule,
+            limit,
+            shape,
+            sweep,
+            code,
+        });
+        Ok(Some(sweep))
+    }
+
+    /// The code of a pattern that comes back within so many generations.
+    pub(crate) fn code(
+        &self,
+        alloc: Global,
+        rule: &Rule,
+        limit: u32,
+        pattern: &Pattern,
+    ) -> Result<Apgcode, OutOfMemory>
+        requires least { 1 ≤ limit }
+        requires most { limit ≤ 64 }
+        requires some { pattern.now ≢ [] }
+        requires near { lies_within survey_reach pattern.now ≡ true }
+        requires back { ComesBack rule.now limit pattern.now }
+        ensures { IfOk result (IsCode rule.now pattern.now limit) }
+    {
+        match self.recalled(rule, limit, pattern) {
+            Some((known, _)) => known.code.copy(alloc),
+            None => code_of(alloc, rule, limit, pattern),
+        }
+    }
+
+    /// The sweep of a pattern, if it is remembered: that of the shape, moved, if 32 bits can say its numbers.
+    fn recalled_sweep(&self, rule: &Rule, limit: u32, pattern: &Pattern) -> Option<Sweep>
+        ensures { IfSome result (IsSweep rule.now limit pattern.now) }
+    {
+        let Some((known, shift)) = self.recalled(rule, limit, pattern) else {
+            return None;
+        };
+        let Sweep { recurrence, bounds } = known.sweep;
+        let Some((left, right)) = moved(bounds.left, bounds.right, shift.0) else {
+            return None;
+        };
+        let Some((top, bottom)) = moved(bounds.top, bounds.bottom, shift.1) else {
+            return None;
+        };
+        let bounds = Bounds {
+            left,
+            top,
+            right,
+            bottom,
+        };
+        Some(Sweep { recurrence, bounds })
+    }
+
+    /// What is known of a pattern, if it is remembered, and the shift that makes the shape into the pattern.
+    fn recalled(&self, rule: &Rule, limit: u32, pattern: &Pattern) -> Option<(&Known, (i32, i32))>
+        ensures { IfSome result (λ found. IsAbout rule.now limit pattern.now found.1 found.0.now) }
+    {
+        let slots = self.slots.as_slice();
+        let Some(Some(known)) = slots.get(slot_of(pattern, slots.len())) else {
+            return None;
+        };
+        if known.limit != limit || known.rule != *rule {
+            return None;
+        }
+        let Some(shift) = known.shape.shift_to(pattern) else {
+            return None;
+        };
+        Some((known, shift))
+    }
+}
+
+/// The first and the last column or row, moved.
+fn moved(first: i32, last: i32, by: i32) -> Option<(i32, i32)>
+    ensures first { IfSome result (λ to. to.0 ≡ first +ℤ by) }
+    ensures last { IfSome result (λ to. to.1 ≡ last +ℤ by) }
+{
+    first.checked_add(by).zip(last.checked_add(by))
+}
+
+/// The code of a pattern that comes back within so many generations.
+fn code_of(
+    alloc: Global,
+    rule: &Rule,
+    limit: u32,
+    pattern: &Pattern,
+) -> Result<Apgcode, OutOfMemory>
+    requires least { 1 ≤ limit }
+    requires most { limit ≤ 64 }
+    requires some { pattern.now ≢ [] }
+    requires near { lies_within survey_reach pattern.now ≡ true }
+    requires back { ComesBack rule.now limit pattern.now }
+    ensures { IfOk result (IsCode rule.now pattern.now limit) }
+{
+    match name(alloc, pattern, rule, limit) {
+        Ok(Some(code)) => Ok(code),
+        Ok(None) => unreachable!(),
+        Err(StepError::Memory(error)) => Err(error),
+        Err(StepError::Edge) => unreachable!(),
+    }
+}
