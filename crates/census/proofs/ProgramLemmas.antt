@@ -3,20 +3,20 @@ use Rattle.std.proofs.Common.{◌≡◌, ◌∙◌, ℕ, zero, suc, List, [], tr
 use Rattle.std.proofs.Common.{◌≢◌, Bool, cond, inl, inr, refl, rules, sym, ap, subst, append-nil}
 use Rattle.std.specs.Io.KnownBytes.{Appends, Keeps, append_known}
 use Rattle.std.specs.Prelude.{MatchBool}
-use Rattle.words.specs.Requests.{Text, asked_by, asks_version, called_by}
-use Rattle.words.specs.declared.request.Request.{Request}
-use Rattle.words.specs.declared.request.Request.TheVariants.{Version}
+use Rattle.arguments.specs.Requests.{Text, asked_by, asks_version, called_by}
+use Rattle.arguments.specs.declared.request.Request.{Request}
+use Rattle.arguments.specs.declared.request.Request.TheVariants.{Version}
 use Rattle.pattern_commands.specs.declared.complaint.Complaint.{Complaint}
 use Rattle.pattern_commands.specs.declared.status.Status.{Status}
 use Rattle.pattern_commands.specs.declared.status.Status.TheVariants as statuses
 use Rattle.pattern_commands.specs.Complaints.{status_of}
 use Rattle.pattern_commands.specs.Ends.{Ends, HasLast, Outcome, Reaches, last_line, status_after}
 use Rattle.pattern_commands.specs.Status.{exit_code, has_printed}
-use Rattle.pattern_commands.specs.Streams.{Stream, Has, HasFront, HasLine}
+use Rattle.pattern_commands.specs.Streams.{Stream, Has, HasPrefix, HasLine}
 use Rattle.pattern_commands.specs.Behaviours.{Made}
 use Rattle.pattern_commands.specs.Version.{version_behaviour}
-use Rattle.census.specs.Program.{Complains, IsDone, IsFrontOf, since}
-use Rattle.census.specs.Requests.{DoesRequest, DoesWords, right_for, behaviour_of, tells_lines}
+use Rattle.census.specs.Program.{Complains, IsDone, IsPrefixOf, since}
+use Rattle.census.specs.Requests.{DoesRequest, DoesArguments, right_for, behaviour_of, tells_lines}
 use Rattle.census.proofs.RequestLemmas.{does}
 
 -- ---- bytes
@@ -30,17 +30,17 @@ whole_sent (Some xs) (Some ys) None text wrote kept = absurd kept
 whole_sent (Some xs) (Some ys) (Some zs) text wrote kept = sym (append-nil zs) ∙ kept ∙ wrote
 
 -- what is below a buffer is a front of what was written
-pub front_sent : (written below : Option (List ℕ)) (held : List ℕ) → Keeps written (append_known below held) → IsFrontOf written below
-front_sent None below held kept = tt
-front_sent (Some ys) None held kept = absurd kept
-front_sent (Some ys) (Some zs) held kept = (held, kept)
+pub prefix_sent : (written below : Option (List ℕ)) (held : List ℕ) → Keeps written (append_known below held) → IsPrefixOf written below
+prefix_sent None below held kept = tt
+prefix_sent (Some ys) None held kept = absurd kept
+prefix_sent (Some ys) (Some zs) held kept = (held, kept)
 
 pub append_nothing : (reader : Option (List ℕ)) → append_known reader [] ≡ reader
 append_nothing None = refl
 append_nothing (Some xs) = ap Some (append-nil xs)
 
 -- nothing was written
-pub nothing_written : (before : Option (List ℕ)) → Appends before before [] × IsFrontOf before before
+pub nothing_written : (before : Option (List ℕ)) → Appends before before [] × IsPrefixOf before before
 nothing_written None = (tt, tt)
 nothing_written (Some xs) = (sym (append-nil xs), ([], append-nil xs))
 
@@ -58,12 +58,12 @@ unprinted : (complaint : Complaint) → has_printed (status_of complaint) ≡ fa
 unprinted complaint = search rules
 
 -- only gathering tells of its input
-quiet : (request : Request) (bytes : List ℕ) (made : Made) → tells_lines request ≡ false → right_for request bytes (Ok made) → made.remarks ≡ []
+quiet : (request : Request) (bytes : List ℕ) (made : Made) → tells_lines request ≡ false → right_for request bytes (Ok made) → made.diagnostics ≡ []
 quiet request bytes made mute is = search rules
 
 -- the last line, which is none if nothing is missing
 told_last : (missing : ℕ) (s : Stream) → HasLast (Ok missing) s → HasLine s (last_line (Ok missing))
-told_last zero s last = subst (λ b. MatchBool b (HasFront s []) (Has s [])) (sym last.1) last.0
+told_last zero s last = subst (λ b. MatchBool b (HasPrefix s []) (Has s [])) (sym last.1) last.0
 told_last (suc n) s last = last
 
 told_none : (missing : ℕ) (s : Stream) → missing ≡ 0 → HasLast (Ok missing) s → Has s []
@@ -71,22 +71,22 @@ told_none zero s none last = last.0
 told_none (suc n) s none last = cc
 
 -- what a command printed is with the writer below the buffer, which is empty
-pub record Prints (words : List Text) (reader before below : Option (List ℕ)) (status : Status) (errors : Stream) : Type 0 where
+pub record Prints (arguments : List Text) (reader before below : Option (List ℕ)) (status : Status) (errors : Stream) : Type 0 where
   pub missing : ℕ
   pub status_is : status ≡ status_after (Ok missing)
-  pub done : IsDone words reader before below errors missing
-  pub silent : missing ≡ 0 → IfSome (asked_by words) (λ request. tells_lines request ≡ false → Has errors [])
+  pub done : IsDone arguments reader before below errors missing
+  pub silent : missing ≡ 0 → IfSome (asked_by arguments) (λ request. tells_lines request ≡ false → Has errors [])
 
 some_and : {X : Type 0} {P : X → Type 0} (o : Option X) → IsSomeAnd o P → (x : X) × (o ≡ Some x) × P x
 some_and None h = absurd h
 some_and (Some x) h = (x, refl, h)
 
-module _ (words : List Text) (reader below : Option (List ℕ)) (status : Status) (written errors : Stream) (printed : has_printed status ≡ true)
+module _ (arguments : List Text) (reader below : Option (List ℕ)) (status : Status) (written errors : Stream) (printed : has_printed status ≡ true)
     (kept : Keeps written.after (append_known below [])) where
   abbrev PrintsBelow : Type 0
-  PrintsBelow = Prints words reader written.before below status errors
+  PrintsBelow = Prints arguments reader written.before below status errors
 
-  request_prints : (request : Request) → asked_by words ≡ Some request → DoesRequest reader status written errors request → PrintsBelow
+  request_prints : (request : Request) → asked_by arguments ≡ Some request → DoesRequest reader status written errors request → PrintsBelow
   request_prints request asked does = go does.ends.outcome does.ends.reached does.ends.last does.ends.status_is
     where
       go : (outcome : Outcome) → Reaches (behaviour_of request) reader does.bytes outcome written does.ends.so_far
@@ -94,7 +94,7 @@ module _ (words : List Text) (reader below : Option (List ℕ)) (status : Status
       go (Err complaint) reached last same = let bad : true ≡ false = sym printed ∙ ap has_printed same ∙ unprinted complaint in cc
       go (Ok missing) reached last same =
           let so_far = does.ends.so_far in
-          let remarks = subst (λ b. Appends b so_far.after reached.made.remarks) does.ends.from reached.remarks in
+          let diagnostics = subst (λ b. Appends b so_far.after reached.made.diagnostics) does.ends.from reached.diagnostics in
           record {
             missing = missing;
             status_is = same;
@@ -107,17 +107,17 @@ module _ (words : List Text) (reader below : Option (List ℕ)) (status : Status
               right = reached.is;
               missing_is = reached.missing_is;
               written = whole_sent written.before written.after below reached.made.text reached.text kept;
-              remarks = record { so_far = so_far.after; whole = remarks; last = told_last missing (since so_far errors) last };
+              diagnostics = record { so_far = so_far.after; whole = diagnostics; last = told_last missing (since so_far errors) last };
             };
             silent = λ none. subst (λ o. IfSome o (λ request. tells_lines request ≡ false → Has errors [])) (sym asked)
                 (λ mute. nothing_more errors.before so_far.after errors.after
-                (subst (Appends errors.before so_far.after) (quiet request does.bytes reached.made mute reached.is) remarks) (told_none missing (since so_far errors) none last));
+                (subst (Appends errors.before so_far.after) (quiet request does.bytes reached.made mute reached.is) diagnostics) (told_none missing (since so_far errors) none last));
           }
 
-  pub prints : DoesWords words reader status written errors → PrintsBelow
+  pub prints : DoesArguments arguments reader status written errors → PrintsBelow
   prints (inr lacks) = let bad : true ≡ false = sym printed ∙ ap has_printed lacks.status_is in cc
   prints (inl does) =
-      let (request, asked, done) = some_and (asked_by words) does in
+      let (request, asked, done) = some_and (asked_by arguments) does in
       request_prints request asked done
 
 -- a command that printed was done, or was done but for soups that are missing
@@ -132,7 +132,7 @@ at_incomplete P (suc n) is p = (n, p)
 pub unlike : (P : Status → Type 0) (status : Status) → has_printed status ≡ true → P statuses.Done → P statuses.Incomplete → P status
 unlike P status printed done less = search rules
 
--- ---- words that ask for nothing, and the version
+-- ---- arguments that ask for nothing, and the version
 
 -- a buffer that is sent on changes no usage into another status
 pub still_usage : (status result : Status) → (has_printed status ≡ false → result ≡ status) → (result ≢ status → result ≡ statuses.Failed)
@@ -146,47 +146,47 @@ still_usage statuses.Refused result kept failed is = sym (kept refl) ∙ is
 still_usage statuses.Memory result kept failed is = sym (kept refl) ∙ is
 still_usage statuses.Failed result kept failed is = sym (kept refl) ∙ is
 
--- words that are for the version ask for it
-pub asks_for_version : (words : List Text) → asks_version words ≡ true → asked_by words ≡ Some Version
-asks_for_version words is = ap (λ (b : Bool). cond b (Some Version) (called_by words)) is
+-- arguments that are for the version ask for it
+pub asks_for_version : (arguments : List Text) → asks_version arguments ≡ true → asked_by arguments ≡ Some Version
+asks_for_version arguments is = ap (λ (b : Bool). cond b (Some Version) (called_by arguments)) is
 
 keeps_all : (sent : Option (List ℕ)) → Keeps sent (append_known sent [])
 keeps_all None = tt
 keeps_all (Some xs) = append-nil xs
 
 -- how the program ends where it prints the version without a buffer
-pub record EndsVersion (words : List Text) (reader before after : Option (List ℕ)) (status : Status) (errors : Stream) : Type 0 where
-  pub done : status ≡ statuses.Done → IsDone words reader before after errors 0
-  pub silent : status ≡ statuses.Done → IfSome (asked_by words) (λ request. tells_lines request ≡ false → Has errors [])
-  pub complains : status ≢ statuses.Done → Complains words reader (exit_code status) before after errors
+pub record EndsVersion (arguments : List Text) (reader before after : Option (List ℕ)) (status : Status) (errors : Stream) : Type 0 where
+  pub done : status ≡ statuses.Done → IsDone arguments reader before after errors 0
+  pub silent : status ≡ statuses.Done → IfSome (asked_by arguments) (λ request. tells_lines request ≡ false → Has errors [])
+  pub complains : status ≢ statuses.Done → Complains arguments reader (exit_code status) before after errors
 
-pub ends_version : (words : List Text) (reader before after : Option (List ℕ)) (status : Status) (written errors : Stream)
-    → asks_version words ≡ true → (status ≢ statuses.Done → status ≡ statuses.Failed) → written.before ≡ before → written.after ≡ after
+pub ends_version : (arguments : List Text) (reader before after : Option (List ℕ)) (status : Status) (written errors : Stream)
+    → asks_version arguments ≡ true → (status ≢ statuses.Done → status ≡ statuses.Failed) → written.before ≡ before → written.after ≡ after
     → ((reader : Option (List ℕ)) (bytes : List ℕ) → Ends version_behaviour reader bytes status written errors)
-    → EndsVersion words reader before after status errors
-ends_version words reader before after status written errors asks failed starts stops ends =
-    subst (λ b. EndsVersion words reader b after status errors) starts
-    (subst (λ a. EndsVersion words reader written.before a status errors) stops whole)
+    → EndsVersion arguments reader before after status errors
+ends_version arguments reader before after status written errors asks failed starts stops ends =
+    subst (λ b. EndsVersion arguments reader b after status errors) starts
+    (subst (λ a. EndsVersion arguments reader written.before a status errors) stops whole)
   where
-    does_version : DoesWords words reader status written errors
-    does_version = inl (rw (asks_for_version words asks) (does Version version_behaviour refl ends))
+    does_version : DoesArguments arguments reader status written errors
+    does_version = inl (rw (asks_for_version arguments asks) (does Version version_behaviour refl ends))
 
-    printed : status ≡ statuses.Done → Prints words reader written.before written.after status errors
-    printed is = prints words reader written.after status written errors (ap has_printed is) (keeps_all written.after) does_version
+    printed : status ≡ statuses.Done → Prints arguments reader written.before written.after status errors
+    printed is = prints arguments reader written.after status written errors (ap has_printed is) (keeps_all written.after) does_version
 
-    whole : EndsVersion words reader written.before written.after status errors
+    whole : EndsVersion arguments reader written.before written.after status errors
     whole = record {
       done = λ is. let p = printed is in
-          at_done (IsDone words reader written.before written.after errors) p.missing (sym p.status_is ∙ is) p.done;
+          at_done (IsDone arguments reader written.before written.after errors) p.missing (sym p.status_is ∙ is) p.done;
       silent = λ is. let p = printed is in
           p.silent (at_done (λ n. p.missing ≡ n) p.missing (sym p.status_is ∙ is) refl);
       complains = λ undone. record {
         status = status;
         written = written;
-        remarks = errors;
+        diagnostics = errors;
         does = does_version;
         from = refl;
-        sent = front_sent written.after written.after [] (keeps_all written.after);
+        sent = prefix_sent written.after written.after [] (keeps_all written.after);
         ends = inl (ap has_printed (failed undone), refl, refl);
       };
     }

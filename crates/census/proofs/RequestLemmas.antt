@@ -5,7 +5,7 @@ use Rattle.pattern_commands.specs.Ends.{Ends}
 use Rattle.pattern_commands.specs.Streams.{Stream}
 use Rattle.pattern_commands.specs.Behaviours.{Behaviour}
 use Rattle.pattern_commands.proofs.AnswerLemmas.{some_input}
-use Rattle.words.specs.declared.request.Request.{Request}
+use Rattle.arguments.specs.declared.request.Request.{Request}
 use Rattle.census.specs.Requests.{DoesRequest, behaviour_of}
 
 -- a command that was to do what the request asks for did it, whatever the input

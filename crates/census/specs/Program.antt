@@ -1,4 +1,4 @@
--- How the program ends, from its words to the bytes that it leaves.
+-- How the program ends, from its arguments to the bytes that it leaves.
 use Rattle.std.specs.Prelude.{◌≡◌, ◌++◌, ◌⊎◌, ℕ, true, false, List, Option, None, Some, Ok, ⊤, codes}
 use Rattle.std.specs.Io.KnownBytes.{Appends}
 use Rattle.pattern_commands.specs.declared.status.Status.{Status}
@@ -9,11 +9,11 @@ use Rattle.pattern_commands.specs.Ends.{last_line}
 use Rattle.pattern_commands.specs.Status.{exit_code, has_printed}
 use Rattle.pattern_commands.specs.Streams.{Stream, HasLine}
 use Rattle.pattern_commands.specs.Behaviours.{Made}
-use Rattle.words.specs.declared.request.Request.{Request}
-use Rattle.words.specs.Requests.{Text, asked_by}
-use Rattle.census.specs.Requests.{DoesWords, right_for}
+use Rattle.arguments.specs.declared.request.Request.{Request}
+use Rattle.arguments.specs.Requests.{Text, asked_by}
+use Rattle.census.specs.Requests.{DoesArguments, right_for}
 
--- the line where the words are not text
+-- the line where the arguments are not text
 abbrev pub not_text_line : List ℕ
 not_text_line = codes "census: the words are not UTF-8\n"
 
@@ -32,43 +32,43 @@ pub record HasTextAndLine (errors : Stream) (text line : List ℕ) : Type 0 wher
   pub whole : Appends errors.before so_far text
   pub last : HasLine (record { before = so_far; after = errors.after; failed = errors.failed }) line
 
--- The words ask for something; on this input a text is right for it, and the whole text was added to what the writer held. So many
+-- The arguments ask for something; on this input a text is right for it, and the whole text was added to what the writer held. So many
 -- soups are missing, which is none but for `gather`. Standard error has what `gather` tells of lines, and of what is missing.
-pub record IsDone (words : List Text) (reader before after : Option (List ℕ)) (errors : Stream) (missing : ℕ) : Type 0 where
+pub record IsDone (arguments : List Text) (reader before after : Option (List ℕ)) (errors : Stream) (missing : ℕ) : Type 0 where
   pub request : Request
-  pub asked : asked_by words ≡ Some request
+  pub asked : asked_by arguments ≡ Some request
   pub bytes : List ℕ
   pub input : IsInput reader bytes
   pub made : Made
   pub right : right_for request bytes (Ok made)
   pub missing_is : missing ≡ made.missing
   pub written : Appends before after made.text
-  pub remarks : HasTextAndLine errors made.remarks (last_line (Ok missing))
+  pub diagnostics : HasTextAndLine errors made.diagnostics (last_line (Ok missing))
 
 -- the bytes with a writer are a front of those that were written to its buffer
-abbrev pub IsFrontOf : (written sent : Option (List ℕ)) → Type 0
-IsFrontOf None sent = ⊤
-IsFrontOf (Some xs) None = ⊥
-IsFrontOf (Some xs) (Some ys) = (remainder : List ℕ) × (ys ++ remainder ≡ xs)
+abbrev pub IsPrefixOf : (written sent : Option (List ℕ)) → Type 0
+IsPrefixOf None sent = ⊤
+IsPrefixOf (Some xs) None = ⊥
+IsPrefixOf (Some xs) (Some ys) = (remainder : List ℕ) × (ys ++ remainder ≡ xs)
 
 -- After the remarks of a command, standard error has the line of a failed write, unless it had failed before.
-pub record TellsOfWrite (remarks errors : Stream) : Type 0 where
-  pub line : remarks.failed ≡ false → HasLine (since remarks errors) write_failed_line
-  pub stays : remarks.failed ≡ true → errors.failed ≡ true
+pub record TellsOfWrite (diagnostics errors : Stream) : Type 0 where
+  pub line : diagnostics.failed ≡ false → HasLine (since diagnostics errors) write_failed_line
+  pub stays : diagnostics.failed ≡ true → errors.failed ≡ true
 
 -- a command complained, and the program ends with its number; or the command printed its text, and not all of it could be sent on
 abbrev pub EndsBadly : Status → ℕ → Stream → Stream → Type 0
-EndsBadly status number remarks errors =
-    ((has_printed status ≡ false) × (number ≡ exit_code status) × (errors ≡ remarks))
-    ⊎ ((has_printed status ≡ true) × (number ≡ exit_code Failed) × (errors.before ≡ remarks.before) × TellsOfWrite remarks errors)
+EndsBadly status number diagnostics errors =
+    ((has_printed status ≡ false) × (number ≡ exit_code status) × (errors ≡ diagnostics))
+    ⊎ ((has_printed status ≡ true) × (number ≡ exit_code Failed) × (errors.before ≡ diagnostics.before) × TellsOfWrite diagnostics errors)
 
--- The program complains. What the words ask for was done, or there was no memory to read them, by the rule of all commands: so `written`
--- was left in a buffer and `remarks` on standard error. The writer below the buffer has got a front of it.
-pub record Complains (words : List Text) (reader : Option (List ℕ)) (number : ℕ) (before after : Option (List ℕ)) (errors : Stream) : Type 0 where
+-- The program complains. What the arguments ask for was done, or there was no memory to read them, by the rule of all commands: so `written`
+-- was left in a buffer and `diagnostics` on standard error. The writer below the buffer has got a front of it.
+pub record Complains (arguments : List Text) (reader : Option (List ℕ)) (number : ℕ) (before after : Option (List ℕ)) (errors : Stream) : Type 0 where
   pub status : Status
   pub written : Stream
-  pub remarks : Stream
-  pub does : DoesWords words reader status written remarks
+  pub diagnostics : Stream
+  pub does : DoesArguments arguments reader status written diagnostics
   pub from : written.before ≡ before
-  pub sent : IsFrontOf written.after after
-  pub ends : EndsBadly status number remarks errors
+  pub sent : IsPrefixOf written.after after
+  pub ends : EndsBadly status number diagnostics errors

@@ -17,10 +17,10 @@ use Rattle.commands.specs.Take.{take_behaviour}
 use Rattle.pattern_commands.specs.Behaviours.{Makes, Behaviour}
 use Rattle.pattern_commands.specs.Version.{version_behaviour}
 use Rattle.commands.specs.Work.{work_behaviour}
-use Rattle.words.specs.declared.request.Request.{Request}
-use Rattle.words.specs.declared.request.Request.TheVariants.{Run, Name, Show, Soup, Take, Work, Gather, Version}
-use Rattle.words.specs.Requests.{Text, asked_by, asks_version}
-use Rattle.words.specs.Unasked.{IsUsageText}
+use Rattle.arguments.specs.declared.request.Request.{Request}
+use Rattle.arguments.specs.declared.request.Request.TheVariants.{Run, Name, Show, Soup, Take, Work, Gather, Version}
+use Rattle.arguments.specs.Requests.{Text, asked_by, asks_version}
+use Rattle.arguments.specs.Unasked.{IsUsageText}
 
 -- what a request is to do
 abbrev pub behaviour_of : Request → Behaviour
@@ -76,19 +76,19 @@ pub record DoesRequest (reader : Option (List ℕ)) (status : Status) (output er
   pub input : IsInput reader bytes
   pub ends : Ends (behaviour_of request) reader bytes status output errors
 
--- there was no memory to read the words, or for a buffer, and nothing was done; the version needs none
-pub record LacksMemory (words : List Text) (status : Status) (output errors : Stream) : Type 0 where
-  pub no_version : asks_version words ≡ false
+-- there was no memory to read the arguments, or for a buffer, and nothing was done; the version needs none
+pub record LacksMemory (arguments : List Text) (status : Status) (output errors : Stream) : Type 0 where
+  pub no_version : asks_version arguments ≡ false
   pub status_is : status ≡ Memory
   pub nothing : Has output []
   pub line : HasLine errors (complaint_line (complaint.Memory out_of_memory))
 
--- what the words ask for was done, or there was no memory to read them
-abbrev pub DoesWords : List Text → Option (List ℕ) → Status → Stream → Stream → Type 0
-DoesWords words reader status output errors =
-    IsSomeAnd (asked_by words) (DoesRequest reader status output errors) ⊎ LacksMemory words status output errors
+-- what the arguments ask for was done, or there was no memory to read them
+abbrev pub DoesArguments : List Text → Option (List ℕ) → Status → Stream → Stream → Type 0
+DoesArguments arguments reader status output errors =
+    IsSomeAnd (asked_by arguments) (DoesRequest reader status output errors) ⊎ LacksMemory arguments status output errors
 
--- standard error got a text that says why the words ask for nothing, or a front of it where a write failed
+-- standard error got a text that says why the arguments ask for nothing, or a front of it where a write failed
 pub record TellsUsage (errors : Stream) : Type 0 where
   pub text : List ℕ
   pub says : IsUsageText text

@@ -1,35 +1,35 @@
 //! A census of random soups of Conway's Game of Life and its kin: the program.
 //!
-//! `main` calls [`run_program`](program::run_program) with the process's words and streams. That reads the words into a
-//! request by [`request_of`](words::calls::request_of), and hands its values to the function of the command.
+//! `main` calls [`run_program`](program::run_program) with the process's arguments and streams. That reads the arguments into a
+//! request by [`request_of`](arguments::calls::request_of), and hands its values to the function of the command.
 #![tactic(auto)]
 
 mod program;
 mod request;
 
 use commands::machine::Machine;
-use commands::progress_line::Progress;
+use commands::progress_line::ProgressLine;
 use plane_core::output::Out;
 use program::run_program;
 use std::io::{self, IsTerminal};
 use std::process::ExitCode;
 
 fn main(rt: HostRuntime) -> ExitCode {
-    let words = process_words(&rt);
+    let arguments = process_arguments(&rt);
     let errors = rt.stderr();
-    let watch = Progress::new(rt.alloc(), rt.stderr(), &rt, errors.is_terminal());
+    let observer = ProgressLine::new(rt.alloc(), rt.stderr(), &rt, errors.is_terminal());
     let mut machine = Machine {
         alloc: rt.alloc(),
         threads: &rt,
         errors: Out::new(errors),
-        watch,
+        observer,
     };
-    let ended = run_program(&mut machine, words, &mut rt.stdin(), rt.stdout());
+    let ended = run_program(&mut machine, arguments, &mut rt.stdin(), rt.stdout());
     ExitCode::from(ended.code)
 }
 
-/// The words that the process was started with, of which the first is the program's name.
-fn process_words(rt: &HostRuntime) -> io::Result<Vec<String>> {
-    let words = std::env::args(rt)?.collect(rt.alloc())?;
-    Ok(words)
+/// The arguments that the process was started with, of which the first is the program's name.
+fn process_arguments(rt: &HostRuntime) -> io::Result<Vec<String>> {
+    let arguments = std::env::args(rt)?.collect(rt.alloc())?;
+    Ok(arguments)
 }

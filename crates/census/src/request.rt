@@ -1,7 +1,7 @@
-//! From the words of a call to the command that they ask for.
+//! From the arguments of a call to the command that they ask for.
 //!
 //! ```text
-//! words ── request_of ──┬─ request ── do_request ──┬─ take, work, gather
+//! arguments ── request_of ──┬─ request ── do_request ──┬─ take, work, gather
 //!                       │                          └─ do_pattern_request ── run, name, show, soup, --version
 //!                       └─ a usage text, or want of memory
 //! ```
@@ -11,14 +11,14 @@ ghost use Rattle.clap.specs.Words.{kind_of};
 ghost use Rattle.clap.specs.declared.error.kind.ErrorKind.TheVariants.{OutOfMemory};
 ghost use Rattle.memory.specs.Witness.{out_of_memory};
 ghost use Rattle.pattern_commands.specs.Complaints.{complaint_line};
-ghost use Rattle.words.specs.Requests.{AreInTheirRanges, asked_by};
+ghost use Rattle.arguments.specs.Requests.{AreInTheirRanges, asked_by};
 ghost use Rattle.pattern_commands.specs.Streams.{HasLine, stream};
-ghost use Rattle.census.specs.Requests.{DoesRequest, DoesWords, Spares, TellsUsage, is_over_sets, is_whole};
+ghost use Rattle.census.specs.Requests.{DoesRequest, DoesArguments, Spares, TellsUsage, is_over_sets, is_whole};
 ghost use Rattle.census.specs.Requests.{reads_input, refuses_input};
 
 use commands::gather::do_gather;
 use commands::machine::Machine;
-use commands::progress_line::Progress;
+use commands::progress_line::ProgressLine;
 use commands::take::do_take;
 use commands::work::do_work;
 use pattern_commands::complaint::Complaint;
@@ -35,18 +35,18 @@ use std::io::{Read, Write};
 use std::sync::Wait;
 use std::thread::Threads;
 use std::time::Clock;
-use words::calls::{Unasked, request_of};
-use words::request::Request;
+use arguments::calls::{Unasked, request_of};
+use arguments::request::Request;
 
-/// Does what the words ask for, and returns how that ended. The first word is the program's name.
+/// Does what the arguments ask for, and returns how that ended. The first word is the program's name.
 ///
 /// Neither writer may have failed. Words that ask for nothing end with `Usage` and their text on standard error;
 /// nothing is read then, and nothing is printed. How far a haul has come is said by the machine's watch.
 ///
 /// # Errors
 ///
-/// As of [`do_request`], or `Memory` if there is no memory to read the words.
-pub fn do_words<
+/// As of [`do_request`], or `Memory` if there is no memory to read the arguments.
+pub fn do_arguments<
     T: Threads + Wait + Sync,
     S: AsStr,
     R: Read,
@@ -55,8 +55,8 @@ pub fn do_words<
     P: Write,
     C: Clock,
 >(
-    machine: &mut Machine<'_, T, E, Progress<P, C>>,
-    words: &[S],
+    machine: &mut Machine<'_, T, E, ProgressLine<P, C>>,
+    arguments: &[S],
     input: &mut R,
     output: &mut Out<W>,
 ) -> Status
@@ -64,18 +64,18 @@ pub fn do_words<
     requires errors { machine.old.errors.failed ≡ false }
     ensures usage { result ≡ Status.Usage → (output.new ≡ output.old) × (input.new ≡ input.old) }
     ensures tells_usage { result ≡ Status.Usage → TellsUsage (stream E.contents machine.old.errors machine.new.errors) }
-    ensures understood { is_some (asked_by (map S.text words.now)) ≡ true → result ≢ Status.Usage }
-    ensures command { result ≢ Status.Usage → DoesWords (map S.text words.now) (R.remaining input.old) result
+    ensures understood { is_some (asked_by (map S.text arguments.now)) ≡ true → result ≢ Status.Usage }
+    ensures command { result ≢ Status.Usage → DoesArguments (map S.text arguments.now) (R.remaining input.old) result
         (stream W.contents output.old output.new) (stream E.contents machine.old.errors machine.new.errors) }
-    ensures unread { IfSome (asked_by (map S.text words.now)) (λ request.
+    ensures unread { IfSome (asked_by (map S.text arguments.now)) (λ request.
         reads_input request ≡ false → input.new ≡ input.old) }
-    ensures unread_refused { result ≡ Status.Refused → IfSome (asked_by (map S.text words.now)) (λ request.
+    ensures unread_refused { result ≡ Status.Refused → IfSome (asked_by (map S.text arguments.now)) (λ request.
         refuses_input request ≡ false → input.new ≡ input.old) }
     ensures untouched { result ≡ Status.Refused → output.new ≡ output.old }
-    ensures no_memory { result ≡ Status.Memory → IfSome (asked_by (map S.text words.now)) (λ request.
+    ensures no_memory { result ≡ Status.Memory → IfSome (asked_by (map S.text arguments.now)) (λ request.
         is_whole request ≡ true → output.new ≡ output.old) }
 {
-    match request_of(machine.alloc, words) {
+    match request_of(machine.alloc, arguments) {
         Ok(request) => do_request(machine, &request, input, output),
         Err(Unasked::Usage(text)) => tell_usage(text.as_bytes(), &mut machine.errors),
         Err(Unasked::Unread(error)) => tell_unread(&error, &mut machine.errors),
@@ -93,7 +93,7 @@ fn tell_usage<E: Write>(text: &[u8], errors: &mut Out<E>) -> Status
     Status::Usage
 }
 
-/// Reports that memory ran out while the words were read, which `clap`'s error says.
+/// Reports that memory ran out while the arguments were read, which `clap`'s error says.
 fn tell_unread<E: Write>(error: &clap::Error, errors: &mut Out<E>) -> Status
     requires unread { kind_of error.now ≡ OutOfMemory }
     requires errors { errors.old.failed ≡ false }
@@ -117,7 +117,7 @@ fn tell_unread<E: Write>(error: &clap::Error, errors: &mut Out<E>) -> Status
 /// Those of the request's own function: [`do_run`], [`do_name`], [`do_show`], [`do_soup`], [`do_take`], [`do_work`],
 /// [`do_gather`] or [`do_version`].
 fn do_request<T: Threads + Wait + Sync, R: Read, W: Write, E: Write, P: Write, C: Clock>(
-    machine: &mut Machine<'_, T, E, Progress<P, C>>,
+    machine: &mut Machine<'_, T, E, ProgressLine<P, C>>,
     request: &Request<'_>,
     input: &mut R,
     output: &mut Out<W>,
@@ -136,7 +136,7 @@ fn do_request<T: Threads + Wait + Sync, R: Read, W: Write, E: Write, P: Write, C
             workers,
             progress,
         } => {
-            machine.watch.ask(*progress);
+            machine.observer.ask(*progress);
             do_take(machine, plan, *workers, output)
         }
         Request::Work { plan, worker } => {

@@ -27,18 +27,18 @@ kind_of_name Ship number None = refl
 kind_of_name Ship number (Some t) = refl
 
 -- digits from the front on, up to what is no digit
-digits_in_front : (ds remainder : List ℕ) → AllDigits 10 ds → take_while is_digit remainder ≡ [] → take_while is_digit (ds ++ remainder) ≡ ds
-digits_in_front [] remainder all end = end
-digits_in_front (d ∷ ds) remainder all end =
+digits_in_prefix : (ds remainder : List ℕ) → AllDigits 10 ds → take_while is_digit remainder ≡ [] → take_while is_digit (ds ++ remainder) ≡ ds
+digits_in_prefix [] remainder all end = end
+digits_in_prefix (d ∷ ds) remainder all end =
     let range = digit_from_value d all.0 in
     let is : is_digit d ≡ true = and_from _ _ (le-leb _ _ range.0) (le-leb _ _ range.1) in
-    take_while-cons is_digit d (ds ++ remainder) ∙ rw is (ap (λ (more : List ℕ). d ∷ more) (digits_in_front ds remainder all.1 end))
+    take_while-cons is_digit d (ds ++ remainder) ∙ rw is (ap (λ (more : List ℕ). d ∷ more) (digits_in_prefix ds remainder all.1 end))
 
 -- so the decimal of a number is read as that number
-number_in_front : (n : ℕ) (remainder : List ℕ) → n < 2 ^ 64 → take_while is_digit remainder ≡ [] → digits_value 10 (take_while is_digit (decimal n ++ remainder)) ≡ n
-number_in_front n remainder low end =
+number_in_prefix : (n : ℕ) (remainder : List ℕ) → n < 2 ^ 64 → take_while is_digit remainder ≡ [] → digits_value 10 (take_while is_digit (decimal n ++ remainder)) ≡ n
+number_in_prefix n remainder low end =
     let numeral = decimal_is_IsNumeral n low in
-    ap (digits_value 10) (digits_in_front (decimal n) remainder numeral.0.1 end) ∙ numeral.1
+    ap (digits_value 10) (digits_in_prefix (decimal n) remainder numeral.0.1 end) ∙ numeral.1
 
 no_digits : (text : Option (List ℕ)) → take_while is_digit (ending text) ≡ []
 no_digits None = refl
@@ -56,7 +56,7 @@ after_letter Ship number (Some t) = refl
 
 -- the number that is read off is that of the name
 pub number_of_name : (kind : Kind) (number : ℕ) (text : Option (List ℕ)) → number < 2 ^ 64 → number_in (code_text kind number text) ≡ number
-number_of_name kind number text low = after_letter kind number text ∙ number_in_front number (ending text) low (no_digits text)
+number_of_name kind number text low = after_letter kind number text ∙ number_in_prefix number (ending text) low (no_digits text)
 
 -- ---- the shape of a name
 

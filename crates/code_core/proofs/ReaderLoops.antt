@@ -42,7 +42,7 @@ Passed_more text remainder after token has_cell p b = record {
   each = All-push IsToken p.tokens token p.each b.is_token;
   whole = p.whole ∙ ap (λ (more : List ℕ). flat_map spelling p.tokens ++ more) b.spelled
       ∙ sym (append_assoc (flat_map spelling p.tokens) (spelling token) after)
-      ∙ ap (λ (front : List ℕ). front ++ after) (sym (flat_map-append spelling p.tokens (token ∷ [])
+      ∙ ap (λ (prefix : List ℕ). prefix ++ after) (sym (flat_map-append spelling p.tokens (token ∷ [])
       ∙ ap (λ (more : List ℕ). flat_map spelling p.tokens ++ more) (append-nil (spelling token))));
   columns = sym (list_any-append is_column p.tokens (token ∷ []) ∙ ap (λ (any : Bool). any || (is_column token || false)) (sym p.columns)
       ∙ or-false has_cell (is_column token));

@@ -117,7 +117,7 @@ Stops-IsBadByte text place s = record {
   remainder = slice_index text place ∷ drop (place + 1) text;
   each = s.before.each;
   whole = sym (take-append-drop place text) ∙ ap (λ (remainder : List ℕ). take place text ++ remainder) (drop_more text place 0 s.within)
-      ∙ ap (λ (front : List ℕ). front ++ slice_index text place ∷ drop (place + 1) text) (sym s.before.spelled);
+      ∙ ap (λ (prefix : List ℕ). prefix ++ slice_index text place ∷ drop (place + 1) text) (sym s.before.spelled);
   at_place = omega (arith, length-take-le place text (omega (arith, s.within)), ap length s.before.spelled);
   so = s.bad;
 }
@@ -159,7 +159,7 @@ Stops-IsShortRun text place s = record {
   remainder = slice_index text place ∷ drop (place + 1) text;
   each = s.before.each;
   whole = sym (take-append-drop place text) ∙ ap (λ (remainder : List ℕ). take place text ++ remainder) (drop_more text place 0 s.within)
-      ∙ ap (λ (front : List ℕ). front ++ slice_index text place ∷ drop (place + 1) text) (sym s.before.spelled);
+      ∙ ap (λ (prefix : List ℕ). prefix ++ slice_index text place ∷ drop (place + 1) text) (sym s.before.spelled);
   at_place = omega (arith, length-take-le place text (omega (arith, s.within)), ap length s.before.spelled);
   so = (s.run, after_y (nat_lt (place + 1) (length text)) refl);
 }

@@ -10,7 +10,7 @@ use Rattle.plane_core.specs.declared.generation.StepError.{StepError}
 use Rattle.plane_core.specs.declared.generation.StepError.TheVariants.{Edge, Memory}
 use Rattle.plane_core.specs.plane.Bounds.{shifted}
 use Rattle.plane_core.specs.plane.Cells.{plane_bound}
-use Rattle.plane_core.specs.plane.Generations.{NeverBack, after, lies_within, next, touches_edge}
+use Rattle.plane_core.specs.plane.Generations.{NeverRecurs, after, lies_within, next, touches_edge}
 use Rattle.plane_core.specs.plane.Refusals.{RefusesStep}
 use Rattle.plane_core.specs.plane.Rules.{Numbers}
 use Rattle.plane_core.proofs.lemmas.plane.GenerationLemmas.{after-none, after-more}
@@ -59,7 +59,7 @@ follows-more rule cells n before latest later h off next_is other = record {
     is : later ≡ after rule cells (n + 1)
     is = next_of rule cells latest later n h.latest next_is
 
-    new : NeverBack rule cells (n + 1)
+    new : NeverRecurs rule cells (n + 1)
     new p dx dy some low back = elim (eq-or-lt_of_le low) [
       | inl e ↦ other dx dy (sym (subst (λ (q : ℕ). after rule cells q ≡ shifted dx dy cells) e back) ∙ sym is)
       | inr less ↦ h.new p dx dy some (omega arith) back
@@ -79,7 +79,7 @@ recurs_then rule cells n limit before latest later dx dy h low next_is is = reco
 -- no generation that was stepped on touches the edge
 pub inside_then : (rule : Numbers) (cells : List Cell) (n : ℕ) (before : List (List Cell)) (latest later : List Cell) (dx dy : ℤ)
     → Follows rule cells n before latest
-    → touches_edge latest ≡ false → later ≡ next rule latest → shifted dx dy cells ≡ later → (g : ℕ) → NeverBack rule cells g
+    → touches_edge latest ≡ false → later ≡ next rule latest → shifted dx dy cells ≡ later → (g : ℕ) → NeverRecurs rule cells g
     → touches_edge (after rule cells g) ≡ false
 inside_then rule cells n before latest later dx dy h off next_is is g new =
     elim (le_or_lt (n + 1) g) [
@@ -128,7 +128,7 @@ module _ {X : Type 0} (F : X → Type 0) (rule : Numbers) (cells : List Cell) (l
   }
 
   -- or it sees that no generation is the pattern again
-  pub ends_without : NeverBack rule cells limit → StaysInside rule cells limit → touches_edge cells ≡ false → SearchEnds F rule cells limit (Ok None)
+  pub ends_without : NeverRecurs rule cells limit → StaysInside rule cells limit → touches_edge cells ≡ false → SearchEnds F rule cells limit (Ok None)
   ends_without new inside off = record {
     found = tt;
     never = new;

@@ -192,11 +192,11 @@ pub Begins_long_gap : (c : ℕ) (remainder : List ℕ) → is_character c ≡ tr
 Begins_long_gap c remainder h = record { is_token = IsToken-long_gap c h; spelled = ap (λ (text : List ℕ). text ++ remainder) (sym (spelling-long_gap c h)) }
 
 -- a text begins with a byte that is no character, with a token of one byte, or with `y`
-front_cases : (P : List ℕ → Type 0)
+prefix_cases : (P : List ℕ → Type 0)
     → ((b : ℕ) (remainder : List ℕ) → is_character b ≡ false → P (b ∷ remainder))
     → ((token : Token) (remainder : List ℕ) → IsToken token → P remainder → P (spelling token ++ remainder))
     → (b : ℕ) (remainder : List ℕ) → P remainder → P (121 ∷ remainder) → P (b ∷ remainder)
-front_cases P bad more b remainder after many = go (is_character b) refl (b == 121) refl
+prefix_cases P bad more b remainder after many = go (is_character b) refl (b == 121) refl
   where
     go : (c : Bool) → is_character b ≡ c → (m : Bool) → (b == 121) ≡ m → P (b ∷ remainder)
     go false h m e = bad b remainder h
@@ -220,9 +220,9 @@ pub text_induction : (P : List ℕ → Type 0) → P []
     → ((token : Token) (remainder : List ℕ) → IsToken token → P remainder → P (spelling token ++ remainder))
     → (text : List ℕ) → P text
 text_induction P none bad short more [] = none
-text_induction P none bad short more (b ∷ []) = front_cases P bad more b [] none (short [] refl)
+text_induction P none bad short more (b ∷ []) = prefix_cases P bad more b [] none (short [] refl)
 text_induction P none bad short more (b ∷ c ∷ remainder) =
-    front_cases P bad more b (c ∷ remainder) (text_induction P none bad short more (c ∷ remainder))
+    prefix_cases P bad more b (c ∷ remainder) (text_induction P none bad short more (c ∷ remainder))
     (long_cases P short more c remainder (text_induction P none bad short more remainder))
 
 pub tokens_at-short_run : (place : ℕ) (remainder : List ℕ) → has_character remainder ≡ false → tokens_at place (121 ∷ remainder) ≡ Err (ShortRun place)

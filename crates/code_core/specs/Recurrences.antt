@@ -6,7 +6,7 @@ use Rattle.plane_core.specs.declared.generation.StepError.{StepError}
 use Rattle.plane_core.specs.declared.generation.StepError.TheVariants.{Edge}
 use Rattle.plane_core.specs.plane.Bounds.{shifted}
 use Rattle.plane_core.specs.plane.Cells.{plane_bound}
-use Rattle.plane_core.specs.plane.Generations.{NeverBack, after, lies_within, touches_edge}
+use Rattle.plane_core.specs.plane.Generations.{NeverRecurs, after, lies_within, touches_edge}
 use Rattle.plane_core.specs.plane.Rules.{Numbers}
 use Rattle.code_core.specs.declared.recurrence.Recurrence.{Recurrence}
 
@@ -19,18 +19,18 @@ pub record Recurs (rule : Numbers) (cells : List Cell) (limit : ℕ) (r : Recurr
 
 -- a generation below the limit, up to which the pattern isn't itself again, touches the edge of the plane
 abbrev pub MeetsEdge : Numbers → List Cell → ℕ → Type 0
-MeetsEdge rule cells limit = (g : ℕ) × (g < limit) × NeverBack rule cells g × (touches_edge (after rule cells g) ≡ true)
+MeetsEdge rule cells limit = (g : ℕ) × (g < limit) × NeverRecurs rule cells g × (touches_edge (after rule cells g) ≡ true)
 
 -- no such generation does
 abbrev pub StaysInside : Numbers → List Cell → ℕ → Type 0
-StaysInside rule cells limit = (g : ℕ) → g < limit → NeverBack rule cells g → touches_edge (after rule cells g) ≡ false
+StaysInside rule cells limit = (g : ℕ) → g < limit → NeverRecurs rule cells g → touches_edge (after rule cells g) ≡ false
 
 -- How a search for the first generation that is the pattern again ends. The edge comes before memory where the pattern lies on
 -- it, and never where the pattern lies too far in, since none gets there faster than a cell a generation.
 pub record SearchEnds {X : Type 0} (IsFound : X → Type 0) (rule : Numbers) (cells : List Cell) (limit : ℕ)
     (result : Result (Option X) StepError) : Type 0 where
   pub found : IfOk result (λ o. IfSome o IsFound)
-  pub never : IfOk result (λ o. IfNone o (NeverBack rule cells limit))
+  pub never : IfOk result (λ o. IfNone o (NeverRecurs rule cells limit))
   pub inside : OnOk result (StaysInside rule cells limit)
   pub edge : IsErrOf result Edge → MeetsEdge rule cells limit
   pub edge_first : touches_edge cells ≡ true → result ≡ Err Edge
@@ -44,7 +44,7 @@ phases rule cells n = map (after rule cells) (range_with_len 0 n)
 pub record Follows (rule : Numbers) (cells : List Cell) (n : ℕ) (before : List (List Cell)) (last : List Cell) : Type 0 where
   pub earlier : before ≡ phases rule cells n
   pub latest : last ≡ after rule cells n
-  pub new : NeverBack rule cells n
+  pub new : NeverRecurs rule cells n
   pub inside : (g : ℕ) → g < n → touches_edge (after rule cells g) ≡ false
 
 -- the phases of a pattern that recurs, and how it does

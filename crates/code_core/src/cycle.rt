@@ -68,7 +68,7 @@ pub(crate) fn follow(
         return Err(StepError::Edge);
     }
     // Most patterns that don't come back are small, and seen not to at a fraction of what their phases cost.
-    if pattern.is_seen_to_change(rule, limit) {
+    if pattern.surely_changes(rule, limit) {
         return Ok(None);
     }
     let mut phases = Vec::new(alloc);

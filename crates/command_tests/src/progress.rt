@@ -1,8 +1,8 @@
 //! Tests of the line of progress.
 
 use crate::streams::slow_writer;
-use commands::progress_line::Progress;
-use crew::progress_observer::Watch;
+use commands::progress_line::ProgressLine;
+use crew::progress_observer::ProgressObserver;
 use std::cell::Cell;
 use std::io::{self, Write};
 use std::time::{Clock, Duration};
@@ -28,17 +28,17 @@ pub(crate) fn line_on<W: Write>(
     rt: &impl AllocGlobal,
     writer: W,
     is_shown: bool,
-) -> Progress<W, Ticking> {
-    Progress::new(rt.alloc(), writer, Ticking(Cell::new(0)), is_shown)
+) -> ProgressLine<W, Ticking> {
+    ProgressLine::new(rt.alloc(), writer, Ticking(Cell::new(0)), is_shown)
 }
 
 /// Tells the line of twelve soups, of which some are taken in the first 400 milliseconds, by sixteen workers.
-fn tell(line: &mut impl Watch) {
+fn tell(line: &mut impl ProgressObserver) {
     tell_by(line, 16);
 }
 
 /// The same if so many of sixteen workers were started.
-fn tell_by(line: &mut impl Watch, started: u8) {
+fn tell_by(line: &mut impl ProgressObserver, started: u8) {
     line.begin(12, 16);
     line.started(started);
     for count in [1, 2, 2, 3] {

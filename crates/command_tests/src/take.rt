@@ -8,7 +8,7 @@ use crate::streams::{Left, slow_writer};
 use commands::machine::Machine;
 use commands::take::do_take_with;
 use crew::gate::{Gate, OpenGate, Stop};
-use crew::progress_observer::{Unwatched, Watch};
+use crew::progress_observer::{NoObserver, ProgressObserver};
 use pattern_commands::status::Status;
 use plane_core::output::Out;
 use std::sync::Wait;
@@ -47,12 +47,12 @@ const THREE_OF_EIGHT: &[u8] = b"@VERSION 2\n\
     @SAMPLE_SOUPIDS\n";
 
 /// Takes so many soups by so many workers, under a gate and a watch.
-fn left_by<G: Gate + Sync, R: AllocGlobal + Threads + Wait + Sync, H: Watch + Drop>(
+fn left_by<G: Gate + Sync, R: AllocGlobal + Threads + Wait + Sync, H: ProgressObserver + Drop>(
     rt: &R,
     count: u64,
     workers: u8,
     gate: &G,
-    watch: H,
+    observer: H,
 ) -> Left
     requires { IsWorker workers }
 {
@@ -61,7 +61,7 @@ fn left_by<G: Gate + Sync, R: AllocGlobal + Threads + Wait + Sync, H: Watch + Dr
         alloc: rt.alloc(),
         threads: rt,
         errors: Out::new(slow_writer(rt.alloc(), 0)),
-        watch,
+        observer,
     };
     let plan = plan_of(count, "");
     let status = do_take_with(&mut machine, &plan, workers, gate, &mut output);
@@ -115,7 +115,7 @@ fn prints_what_was_taken_before_a_stop(rt: HostRuntime) {
             AtomicU64::new(0),
         ],
     };
-    let left = left_by(&rt, 8, 3, &gate, Unwatched);
+    let left = left_by(&rt, 8, 3, &gate, NoObserver);
     assert!(rt;
         left.is(
             Status::Incomplete,

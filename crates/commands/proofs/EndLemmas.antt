@@ -72,7 +72,7 @@ gathers_set plan workers bytes reader job (Refused refusal) output errors named 
 gathers_set plan workers bytes reader job (Memory error) output errors named stops silent = record {
   hides = λ _. list_hides plan workers bytes job named stops;
   left = silent.nothing;
-  remarks = inl silent.silent;
+  diagnostics = inl silent.silent;
   fine = silent.fine;
 }
 gathers_set plan workers bytes reader job (ReadFailed error) output errors named stops silent = absurd stops
@@ -99,10 +99,10 @@ is_gathered : (terms : Terms) (held closed : Held) (census : Census) (n : ℕ) (
     → closed.taken ≡ held.taken
     → ((arrivals : List Arrival) → StandsFor arrivals held → StandsFor (arrivals ++ Closing ∷ []) closed)
     → IsCensusOf held census → n ≡ length (missing_of held.terms.ranges held.taken)
-    → IsGathered terms all.all.bytes (record { text = haul_text census; remarks = all.all.remarks; missing = n })
+    → IsGathered terms all.all.bytes (record { text = haul_text census; diagnostics = all.all.diagnostics; missing = n })
 is_gathered terms held closed census n reader left errors all same kept took closes counted many =
     let read = all.all in
-    let P : Terms → Type 0 = λ t. Gathered t (input_lines read.bytes) read.come.arrivals read.remarks in
+    let P : Terms → Type 0 = λ t. Gathered t (input_lines read.bytes) read.come.arrivals read.diagnostics in
     let Q : Terms → Type 0 = λ t. IsCensus t.job t.ranges (numbers_in held.taken) census in
     let stands = closes read.come.arrivals read.come.stands in
     record {
@@ -131,7 +131,7 @@ gathers_memory : (terms : Terms) (bytes : List ℕ) (reader : Option (List ℕ))
 gathers_memory terms bytes reader output errors begun nothing fine = record {
   hides = λ _. long_hides terms bytes;
   left = nothing;
-  remarks = inr (record { terms = terms; opened = refl; begun = begun });
+  diagnostics = inr (record { terms = terms; opened = refl; begun = begun });
   fine = fine;
 }
 
@@ -179,18 +179,18 @@ pub gathers_haul : (terms : Terms) (held closed : Held) (reader left : Option (L
 gathers_haul terms held closed reader left outcome output errors all same kept took closes finishes fine = go outcome finishes
   where
     gathered : (census : Census) (n : ℕ) → IsCensusOf held census → n ≡ length (missing_of held.terms.ranges held.taken)
-        → IsGathered terms all.all.bytes (record { text = haul_text census; remarks = all.all.remarks; missing = n })
+        → IsGathered terms all.all.bytes (record { text = haul_text census; diagnostics = all.all.diagnostics; missing = n })
     gathered census n counted many = is_gathered terms held closed census n reader left errors all same kept took closes
         counted many
 
     go : (outcome : Outcome) → Finishes held outcome output → Reaches (haul_behaviour terms) reader all.all.bytes outcome output errors
     go (Ok missing) is = record {
-      made = record { text = haul_text is.census; remarks = all.all.remarks; missing = missing };
+      made = record { text = haul_text is.census; diagnostics = all.all.diagnostics; missing = missing };
       is = gathered is.census missing is.counted is.missing_is;
       missing_is = refl;
       text = is.text;
       written = is.fine;
-      remarks = all.all.written;
+      diagnostics = all.all.written;
       fine = fine;
     }
     go (Err (Memory error)) nothing =
@@ -199,9 +199,9 @@ gathers_haul terms held closed reader left outcome output errors all same kept t
         nothing fine
     go (Err (WriteFailed error)) is = inl (record {
       left = (
-        record { text = haul_text is.census; remarks = all.all.remarks; missing = length (missing_of held.terms.ranges held.taken) },
+        record { text = haul_text is.census; diagnostics = all.all.diagnostics; missing = length (missing_of held.terms.ranges held.taken) },
         gathered is.census (length (missing_of held.terms.ranges held.taken)) is.counted refl,
-        is.front,
+        is.prefix,
         all.all.written,
       );
       cut = is.cut;
@@ -247,10 +247,10 @@ gathers_over plan workers bytes reader job terms outcome output errors named ove
         → BeginsHaul (gather_opens plan workers) reader errors.before errors.after
     begins is = record { terms = is.terms; opened = opens is.terms is.opened; begun = is.begun }
 
-    remarks : Has errors [] ⊎ BeginsHaul (IsSame terms) reader errors.before errors.after
+    diagnostics : Has errors [] ⊎ BeginsHaul (IsSame terms) reader errors.before errors.after
         → Has errors [] ⊎ BeginsHaul (gather_opens plan workers) reader errors.before errors.after
-    remarks (inl silent) = inl silent
-    remarks (inr is) = inr (begins is)
+    diagnostics (inl silent) = inl silent
+    diagnostics (inr is) = inr (begins is)
 
     listed : IsListText plan.set.also
     listed = record { ranges = over.named.listed; fit = over.named.fit; spelled = over.named.spelled }
@@ -263,14 +263,14 @@ gathers_over plan workers bytes reader job terms outcome output errors named ove
       missing_is = is.missing_is;
       text = is.text;
       written = is.written;
-      remarks = is.remarks;
+      diagnostics = is.diagnostics;
       fine = is.fine;
     }
     go (Err (Refused refusal)) is = absurd (is.0)
     go (Err (Memory error)) is = record {
       hides = λ _. list_hides plan workers bytes job named listed;
       left = is.left;
-      remarks = remarks is.remarks;
+      diagnostics = diagnostics is.diagnostics;
       fine = is.fine;
     }
     go (Err (ReadFailed error)) is = record { reads = rw named refl; begun = begins is.begun; nothing = is.nothing; fine = is.fine }
@@ -279,8 +279,8 @@ gathers_over plan workers bytes reader job terms outcome output errors named ove
       record { reads = rw named refl; begun = begins is.begun; nothing = is.nothing; fine = is.fine },
     )
     go (Err (WriteFailed error)) (inl is) =
-        let (made, gathered, front, remarks) = is.left in
-        inl (record { left = (made, right made gathered, front, remarks); cut = is.cut; fine = is.fine })
+        let (made, gathered, prefix, diagnostics) = is.left in
+        inl (record { left = (made, right made gathered, prefix, diagnostics); cut = is.cut; fine = is.fine })
     go (Err (WriteFailed error)) (inr is) = inr (record { tells = (terms, opens terms refl); nothing = is.nothing; cut = is.cut })
 
 -- ---- how far the input was read

@@ -37,7 +37,7 @@ use Rattle.commands.specs.GatherSteps.{EndsLine, EndsLines, EndsNext, HasGathere
 use Rattle.commands.specs.LinesSoFar.{AreAllEnded, HasBegunUpTo, HasCome, HasComeBy, most_ahead}
 use Rattle.commands.specs.Lines.{HasReadLine, HasReadPart, IsOneLine, MayEnd, input_lines, piece_end, with_end}
 use Rattle.commands.proofs.LineLemmas.{all_lines, all_read, bare_part, ended_more, first_lines, lines_and, lines_bare, lines_ended, long_read, part_lines}
-use Rattle.commands.specs.GatheredLines.{Faulty, Front, Gathered, IsChecked, IsFrontFault, IsLookedAt, IsWrong, ComesOf, Next, Offered, Start, Whole, offer_fault, told_fault}
+use Rattle.commands.specs.GatheredLines.{Faulty, Front, Gathered, IsChecked, IsPrefixFault, IsLookedAt, IsWrong, ComesOf, Next, Offered, Start, Whole, offer_fault, told_fault}
 
 -- nothing arrives by a line with a fault
 pub faulty : {terms : Terms} {line : List ℕ} {fault : LineFault} {held : Held} (arrivals : List Arrival) → IsLookedAt terms.job line (Err fault)
@@ -60,10 +60,10 @@ pub refused : {terms : Terms} {line : List ℕ} {held : Held} (arrivals : List A
     → IsLookedAt terms.job line (Ok report) → IsReply (Some reason) (refusal_of terms arrivals report) → reason ≢ offer_error.Memory out_of_memory
     → fault ≡ offer_fault report (Some reason) → StandsFor (arrivals ++ Offer report ∷ []) held
     → (arrived : List Arrival) × ComesOf terms arrivals line arrived fault × StandsFor (arrivals ++ arrived) held
-refused {terms} {line} arrivals report reason fault is (inl reply) memory remarks stands =
+refused {terms} {line} arrivals report reason fault is (inl reply) memory diagnostics stands =
     let P : Option LineFault → Type 0 = λ fault. ComesOf terms arrivals line (Offer report ∷ []) fault in
-    (Offer report ∷ [], subst P (sym (remarks ∙ ap (offer_fault report) reply)) (Offered report is), stands)
-refused arrivals report reason fault is (inr reply) memory remarks stands = absurd (memory cc)
+    (Offer report ∷ [], subst P (sym (diagnostics ∙ ap (offer_fault report) reply)) (Offered report is), stands)
+refused arrivals report reason fault is (inr reply) memory diagnostics stands = absurd (memory cc)
 
 -- the same for all that the call for the fault gives
 pub refused_told : {E : Type 0} (terms : Terms) (line : List ℕ) (held : Held) (arrivals : List Arrival) (report : Reported) (reason : OfferError)
@@ -71,8 +71,8 @@ pub refused_told : {E : Type 0} (terms : Terms) (line : List ℕ) (held : Held) 
     → IfOk result (λ _. reason ≢ offer_error.Memory out_of_memory) → IfOk result (λ fault. fault ≡ offer_fault report (Some reason))
     → (reason ≢ offer_error.Memory out_of_memory → StandsFor (arrivals ++ Offer report ∷ []) held)
     → IfOk result (λ fault. (arrived : List Arrival) × ComesOf terms arrivals line arrived fault × StandsFor (arrivals ++ arrived) held)
-refused_told terms line held arrivals report reason (Ok fault) is reply memory remarks stands = refused arrivals report reason fault is reply memory remarks (stands memory)
-refused_told terms line held arrivals report reason (Err e) is reply memory remarks stands = tt
+refused_told terms line held arrivals report reason (Ok fault) is reply memory diagnostics stands = refused arrivals report reason fault is reply memory diagnostics (stands memory)
+refused_told terms line held arrivals report reason (Err e) is reply memory diagnostics stands = tt
 
 -- a claim that one finding of its soup contradicts is wrong, since there is no other
 pub wrong : FindingsAreDetermined → (claim : Claimed) (found : Finding) → IsFoundFor claim found → ¬ Agrees claim found → IsWrong claim
@@ -81,20 +81,20 @@ wrong unique claim found is differs finding right agrees =
     differs (ap (said_of claim.version) same ∙ agrees)
 
 -- one line more that has come to the haul
-pub come_more : (lines : List (List ℕ)) (line remarks : List ℕ) (old new : Held) (before : ℕ) (fault : Option LineFault)
-    → before ≡ length lines → (come : HasCome lines old remarks) → new.terms ≡ old.terms
+pub come_more : (lines : List (List ℕ)) (line diagnostics : List ℕ) (old new : Held) (before : ℕ) (fault : Option LineFault)
+    → before ≡ length lines → (come : HasCome lines old diagnostics) → new.terms ≡ old.terms
     → (arrived : List Arrival) × ComesOf old.terms come.arrivals line arrived fault
     × StandsFor (come.arrivals ++ arrived) new
-    → HasCome (lines ++ line ∷ []) new (remarks ++ told_fault (before + 1) fault)
-come_more lines line remarks old new before fault count come same step = record {
+    → HasCome (lines ++ line ∷ []) new (diagnostics ++ told_fault (before + 1) fault)
+come_more lines line diagnostics old new before fault count come same step = record {
   arrivals = come.arrivals ++ step.0;
   gathered =
       let P : ℕ → Type 0 = λ n. Gathered new.terms (lines ++ line ∷ []) (come.arrivals ++ step.0)
-      (remarks ++ told_fault n fault) in
+      (diagnostics ++ told_fault n fault) in
       let Q : Terms → Type 0 = λ t. Gathered t (lines ++ line ∷ []) (come.arrivals ++ step.0)
-      (remarks ++ told_fault (suc (length lines)) fault) in
+      (diagnostics ++ told_fault (suc (length lines)) fault) in
       let number : before + 1 ≡ suc (length lines) = omega (arith, count) in
-      subst P (sym number) (subst Q (sym same) (Next lines come.arrivals remarks line step.0 fault come.gathered step.1));
+      subst P (sym number) (subst Q (sym same) (Next lines come.arrivals diagnostics line step.0 fault come.gathered step.1));
   stands = step.2;
 }
 
@@ -108,7 +108,7 @@ pub none_gathered : (reader : Option (List ℕ)) (ahead : List ℕ) (errors : St
 none_gathered reader ahead errors held none silent stands = record {
   read = [];
   lines = [];
-  remarks = [];
+  diagnostics = [];
   consumed =
       let same : prepend_known ahead reader ≡ reader = ap (λ l. prepend_known l reader) none ∙ prepend_known-nil reader in
       subst (λ (left : Option (List ℕ)). Consumes reader left []) (sym same) (Consumes-nil reader);
@@ -137,12 +137,12 @@ no_more reader left new errors count size held kept line gathered read none = go
     go Feed is = absurd (omega (arith, rw is at short, length-append read.line (10 ∷ [])))
     go Input is =
         let P : List ℕ → Type 0 = λ l. Consumes left new l in
-        let Q : List (List ℕ) → Type 0 = λ lines. HasCome lines held gathered.remarks in record {
+        let Q : List (List ℕ) → Type 0 = λ lines. HasCome lines held gathered.diagnostics in record {
           bytes = gathered.read ++ [];
           input = all_read reader left new gathered.read [] gathered.consumed (subst P (bare (with_end line.end read.line) short) read.consumed) (read.last is);
           consumed = Consumes-trans reader left new gathered.read [] gathered.consumed (subst P (bare (with_end line.end read.line) short) read.consumed);
           size_is = ap (λ n. size + n) none ∙ omega (arith, gathered.size_is, ap length (append-nil gathered.read));
-          remarks = gathered.remarks;
+          diagnostics = gathered.diagnostics;
           come = subst Q (sym (lines_ended gathered.read gathered.lines gathered.ended)) gathered.come;
           written = gathered.written;
         }
@@ -152,7 +152,7 @@ pub goes_on : {V : Type 0} (contents : V → Option (List ℕ)) (reader left new
     (first old later : Output V) (count size : ℕ) (held next : Held) (kept : List ℕ) (line : LineRead)
     → (gathered : HasGatheredLines (passage reader left (stream contents first old) count size) held)
     → (read : HasReadLine left new kept line) → 0 < line.size
-    → HasComeBy (gathered.lines ++ read.line ∷ []) next gathered.remarks (stream contents old later)
+    → HasComeBy (gathered.lines ++ read.line ∷ []) next gathered.diagnostics (stream contents old later)
     → HasGatheredTo (passage reader new (stream contents first later) (count + 1) (size + line.size)) next line.end
 goes_on contents reader left new first old later count size held next kept line gathered read some by = go line.end refl
   where
@@ -162,8 +162,8 @@ goes_on contents reader left new first old later count size held next kept line 
     total : size + line.size ≡ length (gathered.read ++ whole)
     total = ap₂ (λ a b. a + b) gathered.size_is read.size_is ∙ sym (length-append gathered.read whole)
 
-    written : Has (stream contents first later) (gathered.remarks ++ by.more)
-    written = Appends-append (contents first.writer) (contents old.writer) (contents later.writer) gathered.remarks by.more
+    written : Has (stream contents first later) (gathered.diagnostics ++ by.more)
+    written = Appends-append (contents first.writer) (contents old.writer) (contents later.writer) gathered.diagnostics by.more
         gathered.written by.written
 
     go : (end : LineEnd) → line.end ≡ end
@@ -171,7 +171,7 @@ goes_on contents reader left new first old later count size held next kept line 
     go Feed is = record {
       read = gathered.read ++ (read.line ++ 10 ∷ []);
       lines = gathered.lines ++ read.line ∷ [];
-      remarks = gathered.remarks ++ by.more;
+      diagnostics = gathered.diagnostics ++ by.more;
       consumed = Consumes-trans reader left new gathered.read (read.line ++ 10 ∷ []) gathered.consumed (rw is at read.consumed);
       ended = ended_more gathered.read gathered.lines read.line gathered.ended read.one;
       count_is = ap (λ n. n + 1) gathered.count_is ∙ sym (length-append gathered.lines (read.line ∷ []));
@@ -181,13 +181,13 @@ goes_on contents reader left new first old later count size held next kept line 
     }
     go Input is =
         let bare : with_end line.end read.line ≡ read.line = ap (λ e. with_end e read.line) is ∙ append-nil read.line in
-        let Q : List (List ℕ) → Type 0 = λ lines. HasCome lines next (gathered.remarks ++ by.more) in
+        let Q : List (List ℕ) → Type 0 = λ lines. HasCome lines next (gathered.diagnostics ++ by.more) in
         let there : 0 < length read.line = omega (arith, some, read.size_is, ap length bare) in record {
           bytes = gathered.read ++ read.line;
           input = all_read reader left new gathered.read read.line gathered.consumed (subst (Consumes left new) bare read.consumed) (read.last is);
           consumed = Consumes-trans reader left new gathered.read read.line gathered.consumed (subst (Consumes left new) bare read.consumed);
           size_is = total ∙ ap (λ l. length (gathered.read ++ l)) bare;
-          remarks = gathered.remarks ++ by.more;
+          diagnostics = gathered.diagnostics ++ by.more;
           come = subst Q (sym (lines_bare gathered.read gathered.lines read.line gathered.ended read.one there))
               by.come;
           written = written;
@@ -214,13 +214,13 @@ begun_and way held terms new more gathered same consumed few = (
     one = few;
     first = first_lines way.reader way.left gathered.read gathered.lines gathered.consumed gathered.ended;
     arrivals = gathered.come.arrivals;
-    remarks = gathered.remarks;
+    diagnostics = gathered.diagnostics;
     gathered =
-        let P : Terms → Type 0 = λ t. Gathered t gathered.lines gathered.come.arrivals gathered.remarks in
+        let P : Terms → Type 0 = λ t. Gathered t gathered.lines gathered.come.arrivals gathered.diagnostics in
         subst P same gathered.come.gathered;
     written = gathered.written;
   },
-  λ one. record { front = gathered.read; part = more; split = refl; ended = gathered.ended; one = one },
+  λ one. record { prefix = gathered.read; part = more; split = refl; ended = gathered.ended; one = one },
 )
 
 pub begun : (way : Passage) (held : Held) (terms : Terms) → HasGatheredLines way held → held.terms ≡ terms
@@ -258,9 +258,9 @@ all_begun reader left errors size held terms all same = record {
   one = omega arith;
   first = all_lines reader all.bytes all.input;
   arrivals = all.come.arrivals;
-  remarks = all.remarks;
+  diagnostics = all.diagnostics;
   gathered =
-      let P : Terms → Type 0 = λ t. Gathered t (input_lines all.bytes) all.come.arrivals all.remarks in
+      let P : Terms → Type 0 = λ t. Gathered t (input_lines all.bytes) all.come.arrivals all.diagnostics in
       subst P same all.come.gathered;
   written = all.written;
 }
@@ -390,9 +390,9 @@ ok_whole job kept line (Ok outcome) is short checked = looked_whole job kept lin
 ok_whole job kept line (Err e) is short checked = tt
 
 -- a line of which the front is kept
-pub looked_front : (job : Job) (kept line : List ℕ) (place : ℕ) → kept ≡ take (2 ^ 24 + 1) line → 2 ^ 24 < length kept
-    → IsFrontFault (take (2 ^ 24) kept) place → IsLookedAt job line (Err (BadLine place))
-looked_front job kept line place is long fault =
+pub looked_prefix : (job : Job) (kept line : List ℕ) (place : ℕ) → kept ≡ take (2 ^ 24 + 1) line → 2 ^ 24 < length kept
+    → IsPrefixFault (take (2 ^ 24) kept) place → IsLookedAt job line (Err (BadLine place))
+looked_prefix job kept line place is long fault =
     let size = ap length is ∙ length-take (2 ^ 24 + 1) line in
     let same : take (2 ^ 24) kept ≡ take (2 ^ 24) line = ap (take (2 ^ 24)) is ∙ take-take (2 ^ 24) (2 ^ 24 + 1) line (omega arith) in
-    Front place (omega (arith, size, long)) (subst (λ (l : List ℕ). IsFrontFault l place) same fault)
+    Front place (omega (arith, size, long)) (subst (λ (l : List ℕ). IsPrefixFault l place) same fault)

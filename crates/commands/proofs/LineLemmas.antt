@@ -22,32 +22,32 @@ abbrev IsNotFeed : ℕ → Type 0
 IsNotFeed byte = byte ≢ 10
 
 -- what is kept of a line to which a piece is added
-pub kept_more : (n : ℕ) (front piece : List ℕ) → take n (take n front ++ piece) ≡ take n (front ++ piece)
-kept_more zero front piece = refl
+pub kept_more : (n : ℕ) (prefix piece : List ℕ) → take n (take n prefix ++ piece) ≡ take n (prefix ++ piece)
+kept_more zero prefix piece = refl
 kept_more (suc n) [] piece = refl
 kept_more (suc n) (x ∷ xs) piece = ap (λ l. x ∷ l) (kept_more n xs piece)
 
 -- it is no more than is kept
-pub kept_short : (n : ℕ) (kept front : List ℕ) → kept ≡ take n front → length kept ≤ n
-kept_short n kept front is = subst (λ (l : List ℕ). length l ≤ n) (sym is) (omega (arith, length-take n front))
+pub kept_short : (n : ℕ) (kept prefix : List ℕ) → kept ≡ take n prefix → length kept ≤ n
+kept_short n kept prefix is = subst (λ (l : List ℕ). length l ≤ n) (sym is) (omega (arith, length-take n prefix))
 
 -- a piece more of a line of which a front was read
-pub read_more : (start old new : Option (List ℕ)) (kept after front more : List ℕ) (size : ℕ) (piece : Piece)
-    → kept ≡ take (2 ^ 24 + 1) front
-    → IsOneLine front → Consumes start old front → size ≡ length front → after ≡ take (2 ^ 24 + 1) (kept ++ more)
+pub read_more : (start old new : Option (List ℕ)) (kept after prefix more : List ℕ) (size : ℕ) (piece : Piece)
+    → kept ≡ take (2 ^ 24 + 1) prefix
+    → IsOneLine prefix → Consumes start old prefix → size ≡ length prefix → after ≡ take (2 ^ 24 + 1) (kept ++ more)
     → HasPiece old new more piece
-    → (after ≡ take (2 ^ 24 + 1) (front ++ more)) × IsOneLine (front ++ more)
-    × Consumes start new ((front ++ more) ++ piece_end piece.end)
-    × (size + piece.size ≡ length ((front ++ more) ++ piece_end piece.end))
-read_more start old new kept after front more size piece kept_is one consumed size_is after_is read =
+    → (after ≡ take (2 ^ 24 + 1) (prefix ++ more)) × IsOneLine (prefix ++ more)
+    × Consumes start new ((prefix ++ more) ++ piece_end piece.end)
+    × (size + piece.size ≡ length ((prefix ++ more) ++ piece_end piece.end))
+read_more start old new kept after prefix more size piece kept_is one consumed size_is after_is read =
     let n : ℕ = 2 ^ 24 + 1 in
     let bytes = more ++ piece_end piece.end in
-    let flat : front ++ bytes ≡ (front ++ more) ++ piece_end piece.end =
-    sym (append_assoc front more (piece_end piece.end)) in (
-      after_is ∙ ap (λ l. take n (l ++ more)) kept_is ∙ kept_more n front more,
-      All-append IsNotFeed front more one read.one,
-      subst (Consumes start new) flat (Consumes-trans start old new front bytes consumed read.consumed),
-      ap₂ (λ a b. a + b) size_is read.size_is ∙ sym (length-append front bytes) ∙ ap length flat,
+    let flat : prefix ++ bytes ≡ (prefix ++ more) ++ piece_end piece.end =
+    sym (append_assoc prefix more (piece_end piece.end)) in (
+      after_is ∙ ap (λ l. take n (l ++ more)) kept_is ∙ kept_more n prefix more,
+      All-append IsNotFeed prefix more one read.one,
+      subst (Consumes start new) flat (Consumes-trans start old new prefix bytes consumed read.consumed),
+      ap₂ (λ a b. a + b) size_is read.size_is ∙ sym (length-append prefix bytes) ∙ ap length flat,
     )
 
 -- of an input from which many bytes were read, there are many
@@ -58,10 +58,10 @@ long_read (Some xs) None read consumed long = absurd consumed
 long_read (Some xs) (Some ys) read consumed long = let all = ap length consumed ∙ length-append read ys in omega (arith, all, long)
 
 -- an input that ends after a front of it was read
-pub spent_from : (start old new : Option (List ℕ)) (front : List ℕ) → Consumes start old front → IsSpent old new → IsSpent start new
-spent_from None old new front consumed spent = tt
-spent_from (Some all) None new front consumed spent = absurd consumed
-spent_from (Some all) (Some left) new front consumed spent = spent
+pub spent_from : (start old new : Option (List ℕ)) (prefix : List ℕ) → Consumes start old prefix → IsSpent old new → IsSpent start new
+spent_from None old new prefix consumed spent = tt
+spent_from (Some all) None new prefix consumed spent = absurd consumed
+spent_from (Some all) (Some left) new prefix consumed spent = spent
 
 -- a read that was interrupted read nothing
 pub nothing_read : {E : Type 0} (old new : Option (List ℕ)) (kept : List ℕ) (result : Result Piece E) → length kept ≤ 2 ^ 24 + 1 → Keeps old new
@@ -191,13 +191,13 @@ no_end TooLong = tt
 no_end (WriteFailed error) = tt
 
 -- nothing more was read of an input
-pub part_kept : (start old new : Option (List ℕ)) (complaint : Complaint) (front : List ℕ) → IsOneLine front → Consumes start old front
+pub part_kept : (start old new : Option (List ℕ)) (complaint : Complaint) (prefix : List ℕ) → IsOneLine prefix → Consumes start old prefix
     → Keeps old new → HasReadPart start new complaint
-part_kept start old new complaint front one consumed same = record {
-  line = front;
+part_kept start old new complaint prefix one consumed same = record {
+  line = prefix;
   end = None;
   one = one;
-  consumed = subst (Consumes start new) (sym (append-nil front)) (Consumes-kept start old new front consumed same);
+  consumed = subst (Consumes start new) (sym (append-nil prefix)) (Consumes-kept start old new prefix consumed same);
   cut = no_end complaint;
 }
 
@@ -224,11 +224,11 @@ pub piece_taken : (old left : Option (List ℕ)) (ahead shown next : List ℕ) (
     → Keeps old (prepend_known ahead left) → next ≡ drop read.size ahead → (ahead ≡ [] → IsAtEnd left)
     → HasPiece old (prepend_known next left) (take read.length shown) read
 piece_taken old left ahead shown next read same piece kept is end =
-    let front = take read.size shown in
-    let split : ahead ≡ front ++ next =
-    sym same ∙ sym (take-append-drop read.size shown) ∙ ap (λ l. front ++ l) (ap (drop read.size) same ∙ sym is) in
+    let prefix = take read.size shown in
+    let split : ahead ≡ prefix ++ next =
+    sym same ∙ sym (take-append-drop read.size shown) ∙ ap (λ l. prefix ++ l) (ap (drop read.size) same ∙ sym is) in
     let none : ahead ≡ [] → next ≡ [] = λ e. is ∙ ap (drop read.size) e ∙ drop_of_length-le [] {i = read.size} (omega arith) in
-    let moved = prepend_known-read old left ahead next front (ahead ≡ []) kept split (λ e. (none e, end e)) in record {
+    let moved = prepend_known-read old left ahead next prefix (ahead ≡ []) kept split (λ e. (none e, end e)) in record {
       one = piece.one;
       consumed = subst (Consumes old (prepend_known next left)) piece.ended moved.0;
       size_is = sym (length-take-le read.size shown piece.bound) ∙ ap length piece.ended;

@@ -60,9 +60,9 @@ use Rattle.commands.proofs.NumberLemmas.{numbers_within}
 
 -- a refusal of a list that is one needs memory
 refused_needs_memory : (set : SoupSet) (refusal : Refusal) → IsListText set.also → IsRefused set refusal → NeedsMemory (Refused refusal)
-refused_needs_memory set refusal list (Bad_list not_list place fault remarks) = absurd (not_list list)
-refused_needs_memory set refusal list (Too_large ranges named large remarks) = subst (λ (r : Refusal). NeedsMemory (Refused r)) (sym remarks) tt
-refused_needs_memory set refusal list (Overlapping ranges named small overlap remarks) = subst (λ (r : Refusal). NeedsMemory (Refused r)) (sym remarks) tt
+refused_needs_memory set refusal list (Bad_list not_list place fault diagnostics) = absurd (not_list list)
+refused_needs_memory set refusal list (Too_large ranges named large diagnostics) = subst (λ (r : Refusal). NeedsMemory (Refused r)) (sym diagnostics) tt
+refused_needs_memory set refusal list (Overlapping ranges named small overlap diagnostics) = subst (λ (r : Refusal). NeedsMemory (Refused r)) (sym diagnostics) tt
 
 needs_memory : (set : SoupSet) (tells : List Range → List ℕ → Type 0) (complaint : Complaint) → IsListText set.also
     → IsRightForSet set tells (Err complaint) → NeedsMemory complaint
@@ -321,7 +321,7 @@ pub take_stops : (may_stop : ℕ → ℕ → Type 0) (plan : Plan) (reader : Opt
 take_stops may_stop plan reader bytes (Refused refusal) output errors stops nothing still =
     (stops, record { nothing = nothing; silent = still.0; fine = still.1 })
 take_stops may_stop plan reader bytes (Memory error) output errors stops nothing still =
-    record { hides = λ unread complaint is. stops complaint is; left = nothing; remarks = inl still.0; fine = still.1 }
+    record { hides = λ unread complaint is. stops complaint is; left = nothing; diagnostics = inl still.0; fine = still.1 }
 take_stops may_stop plan reader bytes (ReadFailed error) output errors stops nothing still = absurd stops
 take_stops may_stop plan reader bytes TooLong output errors stops nothing still = absurd stops
 take_stops may_stop plan reader bytes (WriteFailed error) output errors stops nothing still = absurd stops
@@ -335,12 +335,12 @@ take_finishes may_stop plan reader bytes held (Ok missing) output errors h none 
     let zero_if : (missing ≡ 0) ↔ IsComplete held.terms.ranges held.taken =
     subst (λ (n : ℕ). (n ≡ 0) ↔ IsComplete held.terms.ranges held.taken) (sym finished.missing_is) none in
     record {
-      made = record { text = haul_text finished.census; remarks = []; missing = missing };
+      made = record { text = haul_text finished.census; diagnostics = []; missing = missing };
       is = (taken_told may_stop plan held finished.census missing h finished.missing_is zero_if finished.counted, refl);
       missing_is = refl;
       text = finished.text;
       written = finished.fine;
-      remarks = still.0;
+      diagnostics = still.0;
       fine = still.1;
     }
 take_finishes may_stop plan reader bytes held (Err (Memory error)) output errors h none nothing still =
@@ -350,9 +350,9 @@ take_finishes may_stop plan reader bytes held (Err (WriteFailed error)) output e
     let many : ℕ = length (missing_of held.terms.ranges held.taken) in
     inl (record {
       left = (
-        record { text = haul_text half.census; remarks = []; missing = many },
+        record { text = haul_text half.census; diagnostics = []; missing = many },
         (taken_told may_stop plan held half.census many h refl none half.counted, refl),
-        half.front,
+        half.prefix,
         still.0,
       );
       cut = half.cut;
@@ -385,7 +385,7 @@ never_right may_stop plan missing text never = go (job_named plan)
   where
     go : (r : Result Job Complaint)
         → IsRightGiven r (λ job. IsRightForSet plan.set (stopped_text may_stop missing job)) (Ok text) → ⊥
-    go (Ok job) remarks = let stops = remarks.is_text.0 in never stops.0 stops.1 stops.3
+    go (Ok job) diagnostics = let stops = diagnostics.is_text.0 in never stops.0 stops.1 stops.3
     go (Err complaint) is = cc
 
 -- so what it makes is a text alone
@@ -426,16 +426,16 @@ never_stopped may_stop plan reader bytes status output errors never ends = recor
       missing_is = is.missing_is;
       text = is.text;
       written = is.written;
-      remarks = is.remarks;
+      diagnostics = is.diagnostics;
       fine = is.fine;
     }
     go (Err (Refused refusal)) is = is
-    go (Err (Memory error)) is = record { hides = is.hides; left = is.left; remarks = is.remarks; fine = is.fine }
+    go (Err (Memory error)) is = record { hides = is.hides; left = is.left; diagnostics = is.diagnostics; fine = is.fine }
     go (Err (ReadFailed error)) is = record { reads = is.reads; begun = is.begun; nothing = is.nothing; fine = is.fine }
     go (Err TooLong) (right, is) = (right, record { reads = is.reads; begun = is.begun; nothing = is.nothing; fine = is.fine })
     go (Err (WriteFailed error)) (inl is) =
-        let (made, right, front, remarks) = is.left in
-        inl (record { left = (made, never_less may_stop plan made never right, front, remarks); cut = is.cut; fine = is.fine })
+        let (made, right, prefix, diagnostics) = is.left in
+        inl (record { left = (made, never_less may_stop plan made never right, prefix, diagnostics); cut = is.cut; fine = is.fine })
     go (Err (WriteFailed error)) (inr is) = absurd is.tells
 
 -- ---- the same without a behaviour of commands
@@ -447,12 +447,12 @@ prints_right plan text before after right grown = go (job_named plan) refl right
   where
     go : (named : Result Job Complaint) → job_named plan ≡ named
         → IsRightGiven named (λ job. IsRightForSet plan.set (TellsAll job)) (Ok text) → PrintsCensus plan before after
-    go (Ok job) is remarks =
-        let tells = remarks.is_text in record {
+    go (Ok job) is diagnostics =
+        let tells = diagnostics.is_text in record {
           job = job;
           job_is = is;
-          ranges = remarks.ranges;
-          named = remarks.named;
+          ranges = diagnostics.ranges;
+          named = diagnostics.named;
           numbers = tells.numbers;
           all = tells.all;
           normal = tells.normal;
@@ -461,7 +461,7 @@ prints_right plan text before after right grown = go (job_named plan) refl right
           counted = tells.counted;
           grown = subst (Appends before after) tells.text_is grown;
         }
-    go (Err complaint) is remarks = cc
+    go (Err complaint) is diagnostics = cc
 
 -- no complaint has the status of a command that was done
 not_done : (complaint : Complaint) → status_of complaint ≡ statuses.Done → ⊥

@@ -8,7 +8,7 @@ use Rattle.std.specs.Io.KnownBytes.{Appends}
 use Rattle.memory.specs.declared.OutOfMemory.{OutOfMemory}
 use Rattle.memory.specs.Witness.{out_of_memory}
 use Rattle.plane_core.specs.declared.output.WriteError.{WriteError}
-use Rattle.plane_core.proofs.lemmas.OutputLemmas.{Appends-append, Appends-nil, AppendsFront-append, AppendsFront-longer}
+use Rattle.plane_core.proofs.lemmas.OutputLemmas.{Appends-append, Appends-nil, AppendsPrefix-append, AppendsPrefix-longer}
 use Rattle.survey_core.specs.declared.job.Job.{Job}
 use Rattle.survey_core.specs.FindingLaws.{FindingsAreDetermined}
 use Rattle.survey_core.specs.Findings.{IsFinding}
@@ -24,7 +24,7 @@ use Rattle.requests.specs.declared.plan.Plan.{Plan}
 use Rattle.requests.specs.declared.soup_set.SoupSet.{SoupSet}
 use Rattle.pattern_commands.specs.Answers.{Answer, Right, output_text}
 use Rattle.commands.specs.SoupSets.{Bad_list, Overlapping, Too_large, IsRightForSet}
-use Rattle.pattern_commands.specs.Streams.{Stream, Has, HasFront}
+use Rattle.pattern_commands.specs.Streams.{Stream, Has, HasPrefix}
 use Rattle.haul_core.specs.Missing.{numbers_of_range, numbers_of}
 use Rattle.commands.specs.TakeSteps.{IsOpened, IsOpenedFor}
 use Rattle.pattern_commands.specs.TextSteps.{ReachesText, TextOutcome}
@@ -69,18 +69,18 @@ puts_one job worker n report output is wrote fine = record {
 }
 
 -- and one that could not be written whole
-pub puts_failed : (job : Job) (worker n : ℕ) (report : Reported) (output : Stream) (error : WriteError) → IsReportOn job worker n report → HasFront output (report_text report)
+pub puts_failed : (job : Job) (worker n : ℕ) (report : Reported) (output : Stream) (error : WriteError) → IsReportOn job worker n report → HasPrefix output (report_text report)
     → output.failed ≡ true → Puts (reports_on job worker (n ∷ [])) (Err (WriteFailed error)) output
-puts_failed job worker n report output error is wrote remarks = (
+puts_failed job worker n report output error is wrote diagnostics = (
   record {
     done = n ∷ [];
     more = [];
     parts = refl;
     reports = report ∷ [];
     each = (is, tt);
-    is_written = subst (HasFront output) (sym (append-nil (report_text report))) wrote;
+    is_written = subst (HasPrefix output) (sym (append-nil (report_text report))) wrote;
   },
-  remarks,
+  diagnostics,
 )
 
 -- reports on some numbers and then on others
@@ -103,17 +103,17 @@ puts_then job worker ns ms (Err (Memory error)) x y z was failed one two = recor
   is_written = subst (Appends x z) (sym (lines-append one.reports two.reports))
       (Appends-append x y z (flat_map report_text one.reports) (flat_map report_text two.reports) one.is_written two.is_written);
 }
-puts_then job worker ns ms (Err (WriteFailed error)) x y z was failed one (two, remarks) = (
+puts_then job worker ns ms (Err (WriteFailed error)) x y z was failed one (two, diagnostics) = (
   record {
     done = ns ++ two.done;
     more = two.more;
     parts = ap (λ (ks : List ℕ). ns ++ ks) two.parts ∙ sym (append_assoc ns two.done two.more);
     reports = one.reports ++ two.reports;
     each = each-append job worker ns two.done one.reports two.reports one.each two.each;
-    is_written = subst (HasFront (over x z failed)) (sym (lines-append one.reports two.reports))
-        (AppendsFront-append x y z (flat_map report_text one.reports) (flat_map report_text two.reports) one.is_written two.is_written);
+    is_written = subst (HasPrefix (over x z failed)) (sym (lines-append one.reports two.reports))
+        (AppendsPrefix-append x y z (flat_map report_text one.reports) (flat_map report_text two.reports) one.is_written two.is_written);
   },
-  remarks,
+  diagnostics,
 )
 puts_then job worker ns ms (Err (ReadFailed error)) x y z was failed one two = absurd two
 puts_then job worker ns ms (Err TooLong) x y z was failed one two = absurd two
@@ -131,7 +131,7 @@ puts_stops job worker ns ms (Memory error) output h = record {
   each = h.each;
   is_written = h.is_written;
 }
-puts_stops job worker ns ms (WriteFailed error) output (h, remarks) = (
+puts_stops job worker ns ms (WriteFailed error) output (h, diagnostics) = (
   record {
     done = h.done;
     more = h.more ++ ms;
@@ -140,7 +140,7 @@ puts_stops job worker ns ms (WriteFailed error) output (h, remarks) = (
     each = h.each;
     is_written = h.is_written;
   },
-  remarks,
+  diagnostics,
 )
 puts_stops job worker ns ms (ReadFailed error) output h = absurd h
 puts_stops job worker ns ms TooLong output h = absurd h
@@ -230,7 +230,7 @@ first_reports determined job worker (n ∷ done) more (r ∷ rs) (s ∷ all) eac
 record Tells (job : Job) (worker : ℕ) (numbers : List ℕ) (answer : Answer) : Type 0 where
   pub reports : List Reported
   pub each : AreReportsOn job worker numbers reports
-  pub remarks : answer ≡ Ok (flat_map report_text reports)
+  pub diagnostics : answer ≡ Ok (flat_map report_text reports)
 
 only_text : {workers : ℕ} → OneNormalForm → (job : Job) (worker : ℕ) (set : SoupSet) (held : Held) → IsOpened job set workers held → (answer : Answer)
     → IsRightForSet set (TellsReports job worker) answer → Tells job worker (numbers_of held.terms.ranges) answer
@@ -243,13 +243,13 @@ only_text one_form job worker set held opened (Ok text) is =
     record {
       reports = tells.reports;
       each = subst (λ (rs : List Range). AreReportsOn job worker (numbers_of rs) tells.reports) forms tells.each;
-      remarks = ap Ok tells.text_is;
+      diagnostics = ap Ok tells.text_is;
     }
-only_text one_form job worker set held opened (Err (Refused refusal)) (Bad_list not_list place fault remarks) = absurd (not_list
+only_text one_form job worker set held opened (Err (Refused refusal)) (Bad_list not_list place fault diagnostics) = absurd (not_list
     (listed set opened.ranges opened.named))
-only_text one_form job worker set held opened (Err (Refused refusal)) (Too_large ranges named large remarks) =
+only_text one_form job worker set held opened (Err (Refused refusal)) (Too_large ranges named large diagnostics) =
     absurd (large (subst AreSmall (sym (opened.only ranges named)) opened.small))
-only_text one_form job worker set held opened (Err (Refused refusal)) (Overlapping ranges named small overlap remarks) =
+only_text one_form job worker set held opened (Err (Refused refusal)) (Overlapping ranges named small overlap diagnostics) =
     absurd (opened.apart (subst Overlap (opened.only ranges named) overlap))
 only_text one_form job worker set held opened (Err (Memory error)) is = absurd is
 only_text one_form job worker set held opened (Err (ReadFailed error)) is = absurd is
@@ -257,21 +257,21 @@ only_text one_form job worker set held opened (Err TooLong) is = absurd is
 only_text one_form job worker set held opened (Err (WriteFailed error)) is = absurd is
 
 -- the lines of the first reports are a front of each right text
-front_of : FindingsAreDetermined → (job : Job) (worker : ℕ) (numbers : List ℕ) (answer : Answer) (output : Stream) → Tells job worker numbers answer
-    → IsBegun (reports_on job worker numbers) (HasFront output) → HasFront output (output_text answer)
-front_of determined job worker numbers answer output tells begun =
+prefix_of : FindingsAreDetermined → (job : Job) (worker : ℕ) (numbers : List ℕ) (answer : Answer) (output : Stream) → Tells job worker numbers answer
+    → IsBegun (reports_on job worker numbers) (HasPrefix output) → HasPrefix output (output_text answer)
+prefix_of determined job worker numbers answer output tells begun =
     let every = subst (λ (ns : List ℕ). AreReportsOn job worker ns tells.reports) begun.parts tells.each in
     let remainder = first_reports determined job worker begun.done begun.more begun.reports tells.reports begun.each every in
     let lines : flat_map report_text tells.reports ≡ flat_map report_text begun.reports ++ flat_map report_text remainder.0 =
     ap (flat_map report_text) remainder.1 ∙ lines-append begun.reports remainder.0 in
-    let is : output_text answer ≡ flat_map report_text begun.reports ++ flat_map report_text remainder.0 = ap output_text tells.remarks ∙ lines in
-    subst (HasFront output) (sym is)
-    (AppendsFront-longer output.before output.after (flat_map report_text begun.reports) (flat_map report_text remainder.0) begun.is_written)
+    let is : output_text answer ≡ flat_map report_text begun.reports ++ flat_map report_text remainder.0 = ap output_text tells.diagnostics ∙ lines in
+    subst (HasPrefix output) (sym is)
+    (AppendsPrefix-longer output.before output.after (flat_map report_text begun.reports) (flat_map report_text remainder.0) begun.is_written)
 
 -- whole lines are a front of themselves
 begun_whole : (job : Job) (worker : ℕ) (numbers : List ℕ) (output : Stream)
     → IsBegun (reports_on job worker numbers) (Has output)
-    → IsBegun (reports_on job worker numbers) (HasFront output)
+    → IsBegun (reports_on job worker numbers) (HasPrefix output)
 begun_whole job worker numbers output begun = record {
   done = begun.done;
   more = begun.more;
@@ -301,29 +301,29 @@ reaches_work determined one_form plan worker held outcome output is puts =
 
     never : (complaint : Complaint) → right (Err complaint) → ⊥
     never complaint is =
-        let remarks = (tells (Err complaint) is).remarks in
+        let diagnostics = (tells (Err complaint) is).diagnostics in
         cc
 
     go : (o : TextOutcome) → Puts (reports_on job worker (numbers_of held.terms.ranges)) o output
         → ReachesText false false right o output
     go (Ok u) put =
         let text : List ℕ = flat_map report_text put.reports in
-        let remarks : IsRightForSet plan.set (TellsReports job worker) (Ok text) = record {
+        let diagnostics : IsRightForSet plan.set (TellsReports job worker) (Ok text) = record {
           ranges = is.opened.ranges;
           named = is.opened.named;
           small = is.opened.small;
           apart = is.opened.apart;
           is_text = record { normal = held.terms.ranges; form = is.opened.form; reports = put.reports; each = put.each; text_is = refl };
         } in
-        ((text, rw is.named remarks, put.is_written), put.fine)
+        ((text, rw is.named diagnostics, put.is_written), put.fine)
     go (Err (Memory error)) begun = (
       λ unread complaint is. absurd (never complaint is),
-      λ answer is. front_of determined job worker (numbers_of held.terms.ranges) answer output (tells answer is)
+      λ answer is. prefix_of determined job worker (numbers_of held.terms.ranges) answer output (tells answer is)
           (begun_whole job worker (numbers_of held.terms.ranges) output begun),
     )
-    go (Err (WriteFailed error)) (begun, remarks) = (
-      (never, λ text is. front_of determined job worker (numbers_of held.terms.ranges) (Ok text) output (tells (Ok text) is) begun),
-      remarks,
+    go (Err (WriteFailed error)) (begun, diagnostics) = (
+      (never, λ text is. prefix_of determined job worker (numbers_of held.terms.ranges) (Ok text) output (tells (Ok text) is) begun),
+      diagnostics,
     )
     go (Err (ReadFailed error)) put = absurd put
     go (Err TooLong) put = absurd put

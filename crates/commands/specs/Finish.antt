@@ -8,7 +8,7 @@ use Rattle.haul_core.specs.Keeping.{numbers_in}
 use Rattle.haul_core.specs.Missing.{missing_of}
 use Rattle.pattern_commands.specs.declared.complaint.Complaint.TheVariants.{Refused, Memory, ReadFailed, TooLong, WriteFailed}
 use Rattle.pattern_commands.specs.Reached.{Outcome}
-use Rattle.pattern_commands.specs.Streams.{Stream, Has, HasFront}
+use Rattle.pattern_commands.specs.Streams.{Stream, Has, HasPrefix}
 
 -- the census of what a haul has taken
 abbrev pub IsCensusOf : Held → Census → Type 0
@@ -26,7 +26,7 @@ pub record IsFinished (held : Held) (missing : ℕ) (output : Stream) : Type 0 w
 pub record IsHalfFinished (held : Held) (output : Stream) : Type 0 where
   pub census : Census
   pub counted : IsCensusOf held census
-  pub front : HasFront output (haul_text census)
+  pub prefix : HasPrefix output (haul_text census)
   pub cut : output.failed ≡ true
 
 -- what became of the haul text; nothing of it was written if memory ran out

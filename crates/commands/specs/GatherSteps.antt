@@ -25,13 +25,13 @@ pub record Passage : Type 0 where
 pub record HasGatheredLines (passage : Passage) (held : Held) : Type 0 where
   pub read : List ℕ
   pub lines : List (List ℕ)
-  pub remarks : List ℕ
+  pub diagnostics : List ℕ
   pub consumed : Consumes passage.reader passage.left read
   pub ended : AreEnded read lines
   pub count_is : passage.count ≡ length lines
   pub size_is : passage.size ≡ length read
-  pub come : HasCome lines held remarks
-  pub written : Has passage.errors remarks
+  pub come : HasCome lines held diagnostics
+  pub written : Has passage.errors diagnostics
 
 -- All lines of an input of so many bytes have come to the haul, and standard error has the remarks on them.
 pub record HasGatheredAll (reader left : Option (List ℕ)) (errors : Stream) (size : ℕ) (held : Held) : Type 0 where
@@ -39,9 +39,9 @@ pub record HasGatheredAll (reader left : Option (List ℕ)) (errors : Stream) (s
   pub input : IsInput reader bytes
   pub consumed : Consumes reader left bytes
   pub size_is : size ≡ length bytes
-  pub remarks : List ℕ
-  pub come : HasCome (input_lines bytes) held remarks
-  pub written : Has errors remarks
+  pub diagnostics : List ℕ
+  pub come : HasCome (input_lines bytes) held diagnostics
+  pub written : Has errors diagnostics
 
 -- the lines up to here have come: after a line feed there may be more, and at the end of the input all have
 abbrev pub HasGatheredTo : Passage → Held → LineEnd → Type 0

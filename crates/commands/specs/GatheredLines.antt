@@ -36,13 +36,13 @@ IsChecked job line (Err _) = ⊥
 
 -- a line that is longer than this front of it is bad at the front's first fault, or where its 2^24 bytes end if they
 -- are a claim's line
-abbrev pub IsFrontFault : List ℕ → ℕ → Type 0
-IsFrontFault front place = IsFirstFaultOf front place ⊎ ((claim : Claimed) × Claims front claim × (place ≡ 2 ^ 24))
+abbrev pub IsPrefixFault : List ℕ → ℕ → Type 0
+IsPrefixFault prefix place = IsFirstFaultOf prefix place ⊎ ((claim : Claimed) × Claims prefix claim × (place ≡ 2 ^ 24))
 
 -- A line of up to 2^24 bytes is looked at whole. A longer one is bad, and only its first 2^24 bytes are looked at.
 pub data IsLookedAt (job : Job) (line : List ℕ) : Result Reported LineFault → Type 0 where
   Whole : {outcome : Result Reported LineFault} → length line ≤ 2 ^ 24 → IsChecked job line outcome → IsLookedAt job line outcome
-  Front : (place : ℕ) → 2 ^ 24 < length line → IsFrontFault (take (2 ^ 24) line) place → IsLookedAt job line (Err (BadLine place))
+  Front : (place : ℕ) → 2 ^ 24 < length line → IsPrefixFault (take (2 ^ 24) line) place → IsLookedAt job line (Err (BadLine place))
 
 -- the fault of a line whose report a haul refuses; a haul that is open refuses no report of its job in other ways
 abbrev pub offer_fault : Reported → Option OfferError → Option LineFault
@@ -77,6 +77,6 @@ told_fault number (Some fault) = fault_line number fault
 -- Lines one after another, at a haul to which nothing has come: what arrives, and the remarks on them.
 pub data Gathered (terms : Terms) : List (List ℕ) → List Arrival → List ℕ → Type 0 where
   Start : Gathered terms [] [] []
-  Next : (lines : List (List ℕ)) (before : List Arrival) (remarks : List ℕ) (line : List ℕ) (arrived : List Arrival) (fault : Option LineFault)
-      → Gathered terms lines before remarks → ComesOf terms before line arrived fault
-      → Gathered terms (lines ++ line ∷ []) (before ++ arrived) (remarks ++ told_fault (suc (length lines)) fault)
+  Next : (lines : List (List ℕ)) (before : List Arrival) (diagnostics : List ℕ) (line : List ℕ) (arrived : List Arrival) (fault : Option LineFault)
+      → Gathered terms lines before diagnostics → ComesOf terms before line arrived fault
+      → Gathered terms (lines ++ line ∷ []) (before ++ arrived) (diagnostics ++ told_fault (suc (length lines)) fault)

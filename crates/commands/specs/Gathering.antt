@@ -42,7 +42,7 @@ gather_opens plan workers terms = IsOkAnd (job_named plan) (λ job. IsHaulOver p
 pub record IsGathered (terms : Terms) (bytes : List ℕ) (gathering : Made) : Type 0 where
   pub short : length bytes ≤ 2 ^ 32
   pub arrivals : List Arrival
-  pub gathered : Gathered terms (input_lines bytes) arrivals gathering.remarks
+  pub gathered : Gathered terms (input_lines bytes) arrivals gathering.diagnostics
   pub taken : List (ℕ × ℕ)
   pub taken_is : taken ≡ taken_of terms (arrivals ++ Closing ∷ [])
   pub census : Census

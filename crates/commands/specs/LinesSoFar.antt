@@ -17,22 +17,22 @@ pub record AreEnded (bytes : List ℕ) (lines : List (List ℕ)) : Type 0 where
 
 -- these are all lines of the bytes that a line feed ends
 pub record AreAllEnded (bytes : List ℕ) (lines : List (List ℕ)) : Type 0 where
-  pub front : List ℕ
+  pub prefix : List ℕ
   pub part : List ℕ
-  pub split : bytes ≡ front ++ part
-  pub ended : AreEnded front lines
+  pub split : bytes ≡ prefix ++ part
+  pub ended : AreEnded prefix lines
   pub one : IsOneLine part
 
 -- the lines have come to the haul, with these remarks on them
-pub record HasCome (lines : List (List ℕ)) (held : Held) (remarks : List ℕ) : Type 0 where
+pub record HasCome (lines : List (List ℕ)) (held : Held) (diagnostics : List ℕ) : Type 0 where
   pub arrivals : List Arrival
-  pub gathered : Gathered held.terms lines arrivals remarks
+  pub gathered : Gathered held.terms lines arrivals diagnostics
   pub stands : StandsFor arrivals held
 
 -- The lines have come to the haul. These were the remarks before, and the others were added to standard error.
-pub record HasComeBy (lines : List (List ℕ)) (held : Held) (remarks : List ℕ) (errors : Stream) : Type 0 where
+pub record HasComeBy (lines : List (List ℕ)) (held : Held) (diagnostics : List ℕ) (errors : Stream) : Type 0 where
   pub more : List ℕ
-  pub come : HasCome lines held (remarks ++ more)
+  pub come : HasCome lines held (diagnostics ++ more)
   pub written : Has errors more
 
 -- An input was read up to here, and its first lines have come to a haul: all of what was read, but perhaps the last, at which it
@@ -46,9 +46,9 @@ pub record HasBegunUpTo (terms : Terms) (reader left before after : Option (List
   pub one : length last ≤ 1
   pub first : IfSome reader (λ bytes. (more : List (List ℕ)) × (input_lines bytes ≡ lines ++ more))
   pub arrivals : List Arrival
-  pub remarks : List ℕ
-  pub gathered : Gathered terms lines arrivals remarks
-  pub written : Appends before after remarks
+  pub diagnostics : List ℕ
+  pub gathered : Gathered terms lines arrivals diagnostics
+  pub written : Appends before after diagnostics
 
 -- the same, wherever it ended
 abbrev pub HasBegun : Terms → (reader before after : Option (List ℕ)) → Type 0

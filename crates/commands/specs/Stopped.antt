@@ -47,7 +47,7 @@ right_if whole stopped (suc n) = stopped (suc n)
 -- what `take` makes under a gate: the haul text, with nothing missing or with what the gate may have to do with
 abbrev pub taken_right : (ℕ → ℕ → Type 0) → Plan → Makes
 taken_right may_stop plan (Ok made) =
-    right_if (take_right plan) (stopped_right may_stop plan) made.missing (Ok made.text) × (made.remarks ≡ [])
+    right_if (take_right plan) (stopped_right may_stop plan) made.missing (Ok made.text) × (made.diagnostics ≡ [])
 taken_right may_stop plan (Err complaint) = take_right plan (Err complaint)
 
 -- to take a set under a gate

@@ -7,7 +7,7 @@ use Rattle.haul_core.specs.Missing.{numbers_of}
 use Rattle.haul_core.specs.ReportLines.{report_text}
 use Rattle.haul_core.specs.Reports.{Reported}
 use Rattle.pattern_commands.specs.declared.complaint.Complaint.TheVariants.{Refused, Memory, ReadFailed, TooLong, WriteFailed}
-use Rattle.pattern_commands.specs.Streams.{Stream, Has, HasFront}
+use Rattle.pattern_commands.specs.Streams.{Stream, Has, HasPrefix}
 use Rattle.pattern_commands.specs.TextSteps.{TextOutcome}
 use Rattle.requests.specs.declared.plan.Plan.{Plan}
 use Rattle.commands.specs.SoupSets.{AreRangesOf, job_named}
@@ -57,7 +57,7 @@ pub record IsPut (wanted : WantedReports) (output : Stream) : Type 0 where
 abbrev pub Puts : WantedReports → TextOutcome → Stream → Type 0
 Puts wanted (Ok _) output = IsPut wanted output
 Puts wanted (Err (Memory error)) output = IsBegun wanted (Has output)
-Puts wanted (Err (WriteFailed error)) output = IsBegun wanted (HasFront output) × (output.failed ≡ true)
+Puts wanted (Err (WriteFailed error)) output = IsBegun wanted (HasPrefix output) × (output.failed ≡ true)
 Puts wanted (Err (ReadFailed error)) output = ⊥
 Puts wanted (Err TooLong) output = ⊥
 Puts wanted (Err (Refused refusal)) output = ⊥

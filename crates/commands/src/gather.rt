@@ -26,7 +26,7 @@ ghost use Rattle.commands.specs.GatherSteps.{EndsLine, EndsLinesAt, EndsNext};
 ghost use Rattle.commands.specs.GatherSteps.{HasGatheredLines, HasGatheredShort, HasGatheredTo};
 ghost use Rattle.commands.specs.Lines.{HasReadPart};
 ghost use Rattle.commands.specs.LinesSoFar.{HasCome, HasComeBy, most_ahead};
-ghost use Rattle.commands.specs.GatheredLines.{IsChecked, IsFrontFault, IsLookedAt, ComesOf, offer_fault};
+ghost use Rattle.commands.specs.GatheredLines.{IsChecked, IsPrefixFault, IsLookedAt, ComesOf, offer_fault};
 ghost use Rattle.haul_core.specs.declared.book.refused.OfferError.TheVariants as offer_error;
 
 use crate::ahead::Ahead;
@@ -241,9 +241,9 @@ fn take_line<E: Write>(
     requires before { before ≤ 2 ^ 32 }
     requires errors { errors.old.failed ≡ false }
     ensures terms { haul.new.terms ≡ haul.old.terms }
-    ensures come { (line : List ℕ) (lines : List (List ℕ)) (remarks : List ℕ) → kept.now ≡ take (2 ^ 24 + 1) line
-        → before ≡ length lines → HasCome lines haul.old remarks
-        → OnOk result (HasComeBy (lines ++ line ∷ []) haul.new remarks (stream E.contents errors.old errors.new)) }
+    ensures come { (line : List ℕ) (lines : List (List ℕ)) (diagnostics : List ℕ) → kept.now ≡ take (2 ^ 24 + 1) line
+        → before ≡ length lines → HasCome lines haul.old diagnostics
+        → OnOk result (HasComeBy (lines ++ line ∷ []) haul.new diagnostics (stream E.contents errors.old errors.new)) }
     ensures fine { OnOk result (errors.new.failed ≡ false) }
     ensures ended { IfErr result (EndsLine errors.old errors.new) }
 {
@@ -289,17 +289,17 @@ fn report_of(
     ensures { (line : List ℕ) → kept.now ≡ take (2 ^ 24 + 1) line → IfOk result (IsLookedAt job.now line) }
 {
     if kept.len() > LINE_LIMIT {
-        let place = front_fault(alloc, &kept[..LINE_LIMIT])?;
+        let place = prefix_fault(alloc, &kept[..LINE_LIMIT])?;
         return Ok(Err(LineFault::BadLine { place }));
     }
     checked_report(alloc, kept, job, memo)
 }
 
 /// Where a line is bad that begins with these 2^24 bytes, and is longer.
-fn front_fault(alloc: Global, front: &[u8]) -> Result<usize, OutOfMemory>
-    ensures { IfOk result (IsFrontFault front.now) }
+fn prefix_fault(alloc: Global, prefix: &[u8]) -> Result<usize, OutOfMemory>
+    ensures { IfOk result (IsPrefixFault prefix.now) }
 {
-    match Claim::read_line(alloc, front) {
+    match Claim::read_line(alloc, prefix) {
         Ok(_) => Ok(LINE_LIMIT),
         Err(LineError::BadLine { place }) => Ok(place),
         Err(LineError::Memory(error)) => Err(error),

@@ -17,5 +17,5 @@ pub struct Machine<'a, T, E: Write, H> {
     /// Standard error.
     pub errors: Out<E>,
     /// Who hears how far a haul has come.
-    pub watch: H,
+    pub observer: H,
 }

@@ -8,7 +8,7 @@
 
 ghost use Rattle.std.specs.Prelude.{◌≡◌, None, false};
 
-use crew::progress_observer::Watch;
+use crew::progress_observer::ProgressObserver;
 use memory::OutOfMemory;
 use plane_core::output::Out;
 use std::alloc::Global;
@@ -25,7 +25,7 @@ const PAUSE: u128 = 200;
 /// line for which there is no memory is left out. After a write that fails nothing more is written, and nothing at all
 /// if the clock can't be read at the beginning.
 #[derive(Drop)]
-pub struct Progress<W: Write, C: Clock> {
+pub struct ProgressLine<W: Write, C: Clock> {
     alloc: Global,
     output: Out<W>,
     clock: C,
@@ -38,13 +38,13 @@ pub struct Progress<W: Write, C: Clock> {
     width: usize,
 }
 
-impl<W: Write, C: Clock> Progress<W, C> {
+impl<W: Write, C: Clock> ProgressLine<W, C> {
     /// The line of this writer, of which nothing is written yet. If it isn't to be shown, nothing ever is.
     pub fn new(alloc: Global, writer: W, clock: C, is_shown: bool) -> Self
         ensures unbegun { result.latest ≡ None }
         ensures shown { result.is_shown ≡ is_shown }
     {
-        Progress {
+        ProgressLine {
             alloc,
             output: Out::new(writer),
             clock,
@@ -115,7 +115,7 @@ impl<W: Write, C: Clock> Progress<W, C> {
     }
 }
 
-impl<W: Write, C: Clock> Watch for Progress<W, C> {
+impl<W: Write, C: Clock> ProgressObserver for ProgressLine<W, C> {
     fn begin(&mut self, whole: u64, workers: u8)
         ensures hidden { self.old.is_shown ≡ false → self.new ≡ self.old }
     {

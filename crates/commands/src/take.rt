@@ -24,8 +24,8 @@ use crate::finish::finish;
 use crate::machine::Machine;
 use crate::opening::open_haul;
 use crew::gate::{Gate, OpenGate};
-use crew::progress_observer::Watch;
-use crew::take::{self, CrewError};
+use crew::progress_observer::ProgressObserver;
+use crew::take::{CrewError, take};
 use haul_core::book::haul::Haul;
 use memory::OutOfMemory;
 use pattern_commands::complaint::Complaint;
@@ -51,7 +51,7 @@ use std::thread::Threads;
 /// range list, ranges that go past 2^40 or have over 2^24 numbers together, or ranges that share a number; `Memory`,
 /// also if a thread could not be started; or `Failed` if the output can't be written. Then one line stands on standard
 /// error; a failure to write that line is not reported.
-pub fn do_take<W: Write, E: Write, T: Threads + Wait + Sync, H: Watch>(
+pub fn do_take<W: Write, E: Write, T: Threads + Wait + Sync, H: ProgressObserver>(
     machine: &mut Machine<'_, T, E, H>,
     plan: &Plan<'_>,
     workers: u8,
@@ -78,7 +78,7 @@ pub fn do_take<W: Write, E: Write, T: Threads + Wait + Sync, H: Watch>(
 ///
 /// As of `do_take`, and `Incomplete` if the gate stopped a worker and soups are missing: then the haul text of what was
 /// taken was written, and a line on standard error says how many are missing.
-pub fn do_take_with<W: Write, E: Write, G: Gate + Sync, T: Threads + Wait + Sync, H: Watch>(
+pub fn do_take_with<W: Write, E: Write, G: Gate + Sync, T: Threads + Wait + Sync, H: ProgressObserver>(
     machine: &mut Machine<'_, T, E, H>,
     plan: &Plan<'_>,
     workers: u8,
@@ -100,7 +100,7 @@ pub fn do_take_with<W: Write, E: Write, G: Gate + Sync, T: Threads + Wait + Sync
 }
 
 /// Opens a haul, completes it as far as the gate lets it, prints it, and says how many soups are missing.
-fn print_haul<W: Write, E: Write, G: Gate + Sync, T: Threads + Wait + Sync, H: Watch>(
+fn print_haul<W: Write, E: Write, G: Gate + Sync, T: Threads + Wait + Sync, H: ProgressObserver>(
     machine: &mut Machine<'_, T, E, H>,
     plan: &Plan<'_>,
     workers: u8,
@@ -126,7 +126,7 @@ fn print_haul<W: Write, E: Write, G: Gate + Sync, T: Threads + Wait + Sync, H: W
 
 /// Lets a crew of workers take what is missing in an open haul, and gives it back. Unless memory ran out it is complete
 /// then, or the gate stopped one of them.
-fn complete_by_crew<E: Write, G: Gate + Sync, T: Threads + Wait + Sync, H: Watch>(
+fn complete_by_crew<E: Write, G: Gate + Sync, T: Threads + Wait + Sync, H: ProgressObserver>(
     machine: &mut Machine<'_, T, E, H>,
     haul: Haul,
     workers: u8,
@@ -139,13 +139,13 @@ fn complete_by_crew<E: Write, G: Gate + Sync, T: Threads + Wait + Sync, H: Watch
     ensures ends { IfOk result.1 (λ _. EndsCrew (G.may_stop gate.now) haul result.0) }
     ensures silent { machine.new.errors ≡ machine.old.errors }
 {
-    let taken = workers::take(
+    let taken = take(
         machine.alloc,
         machine.threads,
         haul,
         workers,
         gate,
-        &mut machine.watch,
+        &mut machine.observer,
     );
     match taken {
         Ok(haul) => (haul, Ok(())),

@@ -30,8 +30,8 @@ use Rattle.crew.specs.declared.note.Note.{Note}
 use Rattle.crew.specs.declared.note.Note.TheVariants.{Done}
 use Rattle.crew.specs.declared.worker.End.{End}
 use Rattle.crew.specs.declared.worker.End.TheVariants.{CalledOff, Drained, Memory, Stopped, Unstarted}
-use Rattle.crew.specs.declared.worker.Shift.{Shift}
-use Rattle.crew.specs.declared.shared.Site.{Site}
+use Rattle.crew.specs.declared.worker.WorkerResult.{WorkerResult}
+use Rattle.crew.specs.declared.shared.Shared.{Shared}
 use Rattle.crew.specs.declared.take.Crew.{Crew}
 use Rattle.crew.specs.CrewSteps.{HasRunAll}
 use Rattle.crew.specs.Takes.{was_missing}
@@ -120,9 +120,9 @@ one_of_each (suc n) got none each all w some le =
 -- ---- all notes of each worker were received
 
 -- what follows the note 'done' in a list that ends by it is nothing
-nothing_after : (front remainder body : List Note) (worker : ℕ) → front ++ remainder ≡ body ++ Done worker ∷ [] → done_in remainder ≡ 0
+nothing_after : (prefix remainder body : List Note) (worker : ℕ) → prefix ++ remainder ≡ body ++ Done worker ∷ [] → done_in remainder ≡ 0
     → remainder ≡ []
-nothing_after front [] body worker is none = refl
+nothing_after prefix [] body worker is none = refl
 nothing_after [] (x ∷ xs) body worker is none =
     let here = ap done_in is ∙ count_append is_done body (Done worker ∷ []) in
     let one : done_in (Done worker ∷ []) ≡ 1 = refl in
@@ -145,64 +145,64 @@ of_worker P worker (m ∷ ms) all =
     (λ apart. subst (λ (notes : List Note). All P (reported notes)) (sym (notes_other m.0 worker m.1 ms apart)) more)
 
 -- what holds of the numbers at the places that each worker drew holds of the one at a place that some worker drew
-drawn_somewhere : (P : ℕ → Type 0) (missing : List ℕ) (t : ℕ) (shifts : List Shift)
-    → All (λ s. All P (map (slice_index missing) s.pass.numbers)) shifts
-    → 1 ≤ count_by (nat_eq t) (drawn_by_all (map (λ s. s.pass) shifts)) → P (slice_index missing t)
+drawn_somewhere : (P : ℕ → Type 0) (missing : List ℕ) (t : ℕ) (results : List WorkerResult)
+    → All (λ s. All P (map (slice_index missing) s.pass.numbers)) results
+    → 1 ≤ count_by (nat_eq t) (drawn_by_all (map (λ s. s.pass) results)) → P (slice_index missing t)
 drawn_somewhere P missing t [] all some = absurd (let none : count_by (nat_eq t) [] ≡ 0 = refl in omega (arith, some, none))
 drawn_somewhere P missing t (s ∷ ss) all some =
-    let Q : Shift → Type 0 = λ u. All P (map (slice_index missing) u.pass.numbers) in
-    let parts = count_append (nat_eq t) s.pass.numbers (drawn_by_all (map (λ (u : Shift). u.pass) ss)) in
+    let Q : WorkerResult → Type 0 = λ u. All P (map (slice_index missing) u.pass.numbers) in
+    let parts = count_append (nat_eq t) s.pass.numbers (drawn_by_all (map (λ (u : WorkerResult). u.pass) ss)) in
     elim (dec_le 1 (count_by (nat_eq t) s.pass.numbers)) [
       | yes here ↦ at_place P missing s.pass.numbers t (All-head Q s ss all) here
       | no not_here ↦ drawn_somewhere P missing t ss (All-tail Q s ss all) (omega (arith, parts, some, not_here))
     ]
 
 -- what is known of a worker that lacked no memory and that its gate didn't stop
-record IsHeard (got : List (ℕ × Note)) (shift : Shift) : Type 0 where
-  few : done_in (notes_of shift.sender.number got) ≤ 1
-  drained : done_in (notes_of shift.sender.number got) ≡ 1 → shift.end ≡ Drained
-  whole : done_in (notes_of shift.sender.number got) ≡ 1 → notes_of shift.sender.number got ≡ shift.sender.notes
+record IsHeard (got : List (ℕ × Note)) (worker_result : WorkerResult) : Type 0 where
+  few : done_in (notes_of worker_result.sender.number got) ≤ 1
+  drained : done_in (notes_of worker_result.sender.number got) ≡ 1 → worker_result.end ≡ Drained
+  whole : done_in (notes_of worker_result.sender.number got) ≡ 1 → notes_of worker_result.sender.number got ≡ worker_result.sender.notes
 
-module _ {may_stop lets : ℕ → ℕ → Type 0} {site : Site} where
-  heard : (got : List (ℕ × Note)) (shift : Shift) → Leaves may_stop lets site shift.sender.number shift
-      → was_stopped shift.end ≡ false → lacks_memory shift.end ≡ false → IsWhole got shift.sender → IsHeard got shift
-  heard got shift left not_stopped not_lacking whole = go shift.end refl
+module _ {may_stop lets : ℕ → ℕ → Type 0} {shared : Shared} where
+  heard : (got : List (ℕ × Note)) (worker_result : WorkerResult) → Leaves may_stop lets shared worker_result.sender.number worker_result
+      → was_stopped worker_result.end ≡ false → lacks_memory worker_result.end ≡ false → IsWhole got worker_result.sender → IsHeard got worker_result
+  heard got worker_result left not_stopped not_lacking whole = go worker_result.end refl
     where
-      front : List Note
-      front = notes_of shift.sender.number got
+      prefix : List Note
+      prefix = notes_of worker_result.sender.number got
 
       remainder : List Note
-      remainder = drop (length front) shift.sender.notes
+      remainder = drop (length prefix) worker_result.sender.notes
 
-      parts : done_in front + done_in remainder ≡ done_in shift.sender.notes
-      parts = sym (count_append is_done front remainder) ∙ ap done_in whole
+      parts : done_in prefix + done_in remainder ≡ done_in worker_result.sender.notes
+      parts = sym (count_append is_done prefix remainder) ∙ ap done_in whole
 
-      ended : shift.end ≡ Drained → IsHeard got shift
+      ended : worker_result.end ≡ Drained → IsHeard got worker_result
       ended is =
-          let e : EndsByDone shift.sender.number shift.sender.notes = left.done (ap has_begun is) in
+          let e : EndsByDone worker_result.sender.number worker_result.sender.notes = left.done (ap has_begun is) in
           let none : done_in e.0 ≡ 0 = count_none is_done e.0 e.1 in
-          let one : done_in (Done shift.sender.number ∷ []) ≡ 1 = refl in
-          let all : done_in shift.sender.notes ≡ done_in e.0 + done_in (Done shift.sender.number ∷ []) =
-          ap done_in e.2 ∙ count_append is_done e.0 (Done shift.sender.number ∷ []) in
+          let one : done_in (Done worker_result.sender.number ∷ []) ≡ 1 = refl in
+          let all : done_in worker_result.sender.notes ≡ done_in e.0 + done_in (Done worker_result.sender.number ∷ []) =
+          ap done_in e.2 ∙ count_append is_done e.0 (Done worker_result.sender.number ∷ []) in
           record {
             few = omega (arith, parts, none, one, all);
             drained = λ _. is;
             whole = λ received.
                 let nothing : remainder ≡ [] =
-                nothing_after front remainder e.0 shift.sender.number (whole ∙ e.2) (omega (arith, parts, none, one, all, received)) in
-                sym (append-nil front) ∙ ap (λ (l : List Note). front ++ l) (sym nothing) ∙ whole;
+                nothing_after prefix remainder e.0 worker_result.sender.number (whole ∙ e.2) (omega (arith, parts, none, one, all, received)) in
+                sym (append-nil prefix) ∙ ap (λ (l : List Note). prefix ++ l) (sym nothing) ∙ whole;
           }
 
-      off : shift.end ≡ CalledOff → IsHeard got shift
+      off : worker_result.end ≡ CalledOff → IsHeard got worker_result
       off is =
-          let none : done_in shift.sender.notes ≡ 0 = ap done_in (left.silent_if is) in
+          let none : done_in worker_result.sender.notes ≡ 0 = ap done_in (left.silent_if is) in
           record {
             few = omega (arith, parts, none);
             drained = λ received. absurd (omega (arith, parts, none, received));
             whole = λ received. absurd (omega (arith, parts, none, received));
           }
 
-      go : (e : End) → shift.end ≡ e → IsHeard got shift
+      go : (e : End) → worker_result.end ≡ e → IsHeard got worker_result
       go Drained is = ended is
       go Stopped is = absurd (true≢false (sym (ap was_stopped is) ∙ not_stopped))
       go (Memory error) is = absurd (true≢false (sym (ap lacks_memory is) ∙ not_lacking))
@@ -211,63 +211,63 @@ module _ {may_stop lets : ℕ → ℕ → Type 0} {site : Site} where
 
 -- ---- from all workers to all soups
 
-module _ {may_stop lets : ℕ → ℕ → Type 0} {site : Site} (workers : ℕ) (got : List (ℕ × Note)) (shifts : List Shift)
-    (numbers : map (λ (s : Shift). s.sender.number) shifts ≡ range_with_len 1 workers)
-    (left : All (λ (s : Shift). Leaves may_stop lets site s.sender.number s) shifts)
-    (not_stopped : All (λ (s : Shift). was_stopped s.end ≡ false) shifts)
-    (not_lacking : All (λ (s : Shift). lacks_memory s.end ≡ false) shifts)
-    (whole : All (λ (s : Shift). IsWhole got s.sender) shifts)
+module _ {may_stop lets : ℕ → ℕ → Type 0} {shared : Shared} (workers : ℕ) (got : List (ℕ × Note)) (results : List WorkerResult)
+    (numbers : map (λ (s : WorkerResult). s.sender.number) results ≡ range_with_len 1 workers)
+    (left : All (λ (s : WorkerResult). Leaves may_stop lets shared s.sender.number s) results)
+    (not_stopped : All (λ (s : WorkerResult). was_stopped s.end ≡ false) results)
+    (not_lacking : All (λ (s : WorkerResult). lacks_memory s.end ≡ false) results)
+    (whole : All (λ (s : WorkerResult). IsWhole got s.sender) results)
     (senders : All (λ (m : ℕ × Note). (1 ≤ m.0) × (m.0 ≤ workers)) got) (done : dones got ≡ workers) where
-  all_heard : All (IsHeard got) shifts
-  all_heard k d lt = heard got (get_or shifts k d) (left k d lt) (not_stopped k d lt) (not_lacking k d lt) (whole k d lt)
+  all_heard : All (IsHeard got) results
+  all_heard k d lt = heard got (get_or results k d) (left k d lt) (not_stopped k d lt) (not_lacking k d lt) (whole k d lt)
 
   one_received : (worker : ℕ) → 1 ≤ worker → worker ≤ workers → done_in (notes_of worker got) ≡ 1
   one_received =
       one_of_each workers got (up_to_none got (λ k d lt. (senders k d lt).0))
-      (each_worker (λ w. done_in (notes_of w got) ≤ 1) workers shifts numbers (λ k d lt. (all_heard k d lt).few))
+      (each_worker (λ w. done_in (notes_of w got) ≤ 1) workers results numbers (λ k d lt. (all_heard k d lt).few))
       (up_to_all workers got (λ k d lt. (senders k d lt).1) ∙ done)
 
-  one_of_shift : All (λ (s : Shift). done_in (notes_of s.sender.number got) ≡ 1) shifts
-  one_of_shift k d lt =
+  one_of_result : All (λ (s : WorkerResult). done_in (notes_of s.sender.number got) ≡ 1) results
+  one_of_result k d lt =
       let P : ℕ → Type 0 = λ w. (1 ≤ w) × (w ≤ workers) in
-      let within = all_unmap P (λ (s : Shift). s.sender.number) shifts
+      let within = all_unmap P (λ (s : WorkerResult). s.sender.number) results
       (subst (All P) (sym numbers) (range_within 1 workers workers (omega arith))) k d lt in
-      one_received (get_or shifts k d).sender.number within.0 within.1
+      one_received (get_or results k d).sender.number within.0 within.1
 
   -- each has heard that no number is left
-  pub all_drained : All (λ (s : Shift). s.end ≡ Drained) shifts
-  all_drained k d lt = (all_heard k d lt).drained (one_of_shift k d lt)
+  pub all_drained : All (λ (s : WorkerResult). s.end ≡ Drained) results
+  all_drained k d lt = (all_heard k d lt).drained (one_of_result k d lt)
 
   -- and all its notes were received
-  all_received : All (λ (s : Shift). notes_of s.sender.number got ≡ s.sender.notes) shifts
-  all_received k d lt = (all_heard k d lt).whole (one_of_shift k d lt)
+  all_received : All (λ (s : WorkerResult). notes_of s.sender.number got ≡ s.sender.notes) results
+  all_received k d lt = (all_heard k d lt).whole (one_of_result k d lt)
 
   -- what holds of all reports that were received holds of the numbers at the places that a worker drew
-  of_shift : (P : ℕ → Type 0) → All (λ (r : Reported). P r.number) (reports_in got)
-      → All (λ (s : Shift). All P (map (slice_index site.missing.items) s.pass.numbers)) shifts
-  of_shift P all k d lt =
-      let s = get_or shifts k d in
+  of_result : (P : ℕ → Type 0) → All (λ (r : Reported). P r.number) (reports_in got)
+      → All (λ (s : WorkerResult). All P (map (slice_index shared.missing.items) s.pass.numbers)) results
+  of_result P all k d lt =
+      let s = get_or results k d in
       let worked = (left k d lt).worked in
       let number : Reported → ℕ = λ r. r.number in
       let reports : All (λ (r : Reported). P r.number) (reported s.sender.notes) =
       subst (λ (notes : List Note). All (λ (r : Reported). P r.number) (reported notes)) (all_received k d lt)
       (of_worker (λ (r : Reported). P r.number) s.sender.number got all) in
-      subst (λ (places : List ℕ). All P (map (slice_index site.missing.items) places)) (sym (worked.all (all_drained k d lt)))
+      subst (λ (places : List ℕ). All P (map (slice_index shared.missing.items) places)) (sym (worked.all (all_drained k d lt)))
       (subst (All P) worked.reports.numbers (All-map P number (reported s.sender.notes) reports))
 
   -- so of all that were drawn by any
   pub of_all_drawn : (P : ℕ → Type 0) → All (λ (r : Reported). P r.number) (reports_in got) → (t : ℕ)
-      → 1 ≤ count_by (nat_eq t) (drawn_by_all (map (λ (s : Shift). s.pass) shifts)) → P (slice_index site.missing.items t)
-  of_all_drawn P all t some = drawn_somewhere P site.missing.items t shifts (of_shift P all) some
+      → 1 ≤ count_by (nat_eq t) (drawn_by_all (map (λ (s : WorkerResult). s.pass) results)) → P (slice_index shared.missing.items t)
+  of_all_drawn P all t some = drawn_somewhere P shared.missing.items t results (of_result P all) some
 
   -- somebody has heard that no number is left
-  pub some_heard : 1 ≤ workers → 0 < how_many_heard (map (λ (s : Shift). s.pass) shifts)
+  pub some_heard : 1 ≤ workers → 0 < how_many_heard (map (λ (s : WorkerResult). s.pass) results)
   some_heard some =
-      let long : length shifts ≡ workers = sym (length-map shifts (λ (s : Shift). s.sender.number)) ∙ ap length numbers ∙ length-range_with_len 1 workers in
-      let heard_all : All (λ (p : Drawn). p.heard_none ≡ true) (map (λ (s : Shift). s.pass) shifts) =
-      All-map (λ (p : Drawn). p.heard_none ≡ true) (λ (s : Shift). s.pass) shifts (λ k d lt. (left k d lt).worked.heard (all_drained k d lt)) in
-      let all = count_all (λ (p : Drawn). p.heard_none) (map (λ (s : Shift). s.pass) shifts) heard_all in
-      let same = length-map shifts (λ (s : Shift). s.pass) in
+      let long : length results ≡ workers = sym (length-map results (λ (s : WorkerResult). s.sender.number)) ∙ ap length numbers ∙ length-range_with_len 1 workers in
+      let heard_all : All (λ (p : Drawn). p.heard_none ≡ true) (map (λ (s : WorkerResult). s.pass) results) =
+      All-map (λ (p : Drawn). p.heard_none ≡ true) (λ (s : WorkerResult). s.pass) results (λ k d lt. (left k d lt).worked.heard (all_drained k d lt)) in
+      let all = count_all (λ (p : Drawn). p.heard_none) (map (λ (s : WorkerResult). s.pass) results) heard_all in
+      let same = length-map results (λ (s : WorkerResult). s.pass) in
       omega (arith, some, long, all, same)
 
 -- ---- what is lawful
@@ -302,51 +302,51 @@ not_lacking_started (Unstarted error) h = absurd (cc)
 -- ---- the whole crew
 
 -- what is known when a crew ends of which no worker was stopped and to which no memory was refused
-module _ {may_stop lets : ℕ → ℕ → Type 0} (site : Site) (workers : ℕ) (old new : Crew) (ran : HasRunAll may_stop lets site old new)
-    (begun : old.receiver ≡ deaf site.belt) (as_many : site.belt.workers ≡ workers)
-    (listed : site.missing.items ≡ was_missing old.haul) (up : IsStrictlyIncreasing site.missing.items)
-    (silents : old.posts.senders.items ≡ map (silent site.belt.name) (range_with_len 1 workers))
+module _ {may_stop lets : ℕ → ℕ → Type 0} (shared : Shared) (workers : ℕ) (old new : Crew) (ran : HasRunAll may_stop lets shared old new)
+    (begun : old.receiver ≡ deaf shared.belt) (as_many : shared.belt.workers ≡ workers)
+    (listed : shared.missing.items ≡ was_missing old.haul) (up : IsStrictlyIncreasing shared.missing.items)
+    (silents : old.endpoints.senders.items ≡ map (silent shared.belt.name) (range_with_len 1 workers))
     (whole : All (IsWhole new.receiver.got) new.back.senders.items)
     (some : 1 ≤ workers) (few : workers ≤ old.haul.terms.workers) (is_open : old.haul.closed ≡ false)
-    (of_haul : site.job ≡ old.haul.terms.job) (nobody : old.away ≡ 0) (tickets : site.tickets.passes ≡ workers)
-    (drawn : length new.back.passes.items ≡ site.tickets.passes → 0 < how_many_heard new.back.passes.items
-    → AreAllBelow site.tickets.count (drawn_by_all new.back.passes.items))
+    (of_haul : shared.job ≡ old.haul.terms.job) (nobody : old.away ≡ 0) (tickets : shared.tickets.passes ≡ workers)
+    (drawn : length new.back.passes.items ≡ shared.tickets.passes → 0 < how_many_heard new.back.passes.items
+    → AreAllBelow shared.tickets.count (drawn_by_all new.back.passes.items))
     (not_stopped : new.stopped ≡ None) (not_lacking : new.lacking ≡ None) where
   abbrev passes : List Drawn
-  passes = map (λ (s : Shift). s.pass) ran.shifts
+  passes = map (λ (s : WorkerResult). s.pass) ran.results
 
-  numbers : map (λ (s : Shift). s.sender.number) ran.shifts ≡ range_with_len 1 workers
-  numbers = all_numbers site workers old new ran begun as_many listed up silents whole
+  numbers : map (λ (s : WorkerResult). s.sender.number) ran.results ≡ range_with_len 1 workers
+  numbers = all_numbers shared workers old new ran begun as_many listed up silents whole
 
-  no_stop : All (λ (s : Shift). was_stopped s.end ≡ false) ran.shifts
-  no_stop = none_stopped ran.shifts (sym ran.stopped ∙ not_stopped)
+  no_stop : All (λ (s : WorkerResult). was_stopped s.end ≡ false) ran.results
+  no_stop = none_stopped ran.results (sym ran.stopped ∙ not_stopped)
 
-  no_lack : All (λ (s : Shift). lacks_memory s.end ≡ false) ran.shifts
+  no_lack : All (λ (s : WorkerResult). lacks_memory s.end ≡ false) ran.results
   no_lack = ran.lacking not_lacking
 
-  long : length ran.shifts ≡ workers
-  long = sym (length-map ran.shifts (λ (s : Shift). s.sender.number)) ∙ ap length numbers ∙ length-range_with_len 1 workers
+  long : length ran.results ≡ workers
+  long = sym (length-map ran.results (λ (s : WorkerResult). s.sender.number)) ∙ ap length numbers ∙ length-range_with_len 1 workers
 
   done : dones new.receiver.got ≡ workers
   done =
-      let started : how_many_started ran.shifts ≡ length ran.shifts =
-      count_all (λ (s : Shift). was_started s.end) ran.shifts (λ k d lt. not_lacking_started (get_or ran.shifts k d).end (no_lack k d lt)) in
-      let waited : dones ran.collected.notes + 0 ≡ old.away + how_many_started ran.shifts = ran.collected.done in
-      ap dones (notes_are site workers old new ran begun as_many listed up silents whole) ∙ omega (arith, started, waited, long, nobody)
+      let started : how_many_started ran.results ≡ length ran.results =
+      count_all (λ (s : WorkerResult). was_started s.end) ran.results (λ k d lt. not_lacking_started (get_or ran.results k d).end (no_lack k d lt)) in
+      let waited : dones ran.collected.notes + 0 ≡ old.away + how_many_started ran.results = ran.collected.done in
+      ap dones (notes_are shared workers old new ran begun as_many listed up silents whole) ∙ omega (arith, started, waited, long, nobody)
 
   -- the soup of each report was taken
   reported_taken : All (λ (r : Reported). is_taken new.haul.taken r.number ≡ true) (reports_in new.receiver.got)
   reported_taken =
       let notes = ran.collected.notes in
-      let of = crew_part site workers old new ran begun as_many listed up silents whole (reports_in notes) (part_all (reports_in notes)) in
+      let of = crew_part shared workers old new ran begun as_many listed up silents whole (reports_in notes) (part_all (reports_in notes)) in
       let soups = ran.collected.soups (ran.heard not_lacking) in
       let terms = ran.collected.added.terms in
       let inside : All (λ (r : Reported). is_in old.haul.terms.ranges r.number ≡ true) (reports_in notes) = λ k d lt.
-      All-contains (λ n. is_in old.haul.terms.ranges n ≡ true) site.missing.items (get_or (reports_in notes) k d).number
+      All-contains (λ n. is_in old.haul.terms.ranges n ≡ true) shared.missing.items (get_or (reports_in notes) k d).number
       (subst (All (λ n. is_in old.haul.terms.ranges n ≡ true)) (sym listed) (missing_in_set old.haul.terms.ranges old.haul.taken))
       (of.listed k d lt) in
       subst (λ (l : List (ℕ × Note)). All (λ (r : Reported). is_taken new.haul.taken r.number ≡ true) (reports_in l))
-      (sym (notes_are site workers old new ran begun as_many listed up silents whole))
+      (sym (notes_are shared workers old new ran begun as_many listed up silents whole))
       (λ k d lt.
       let r = get_or (reports_in notes) k d in
       soups k d lt (ran.collected.added.closed ∙ is_open)
@@ -361,20 +361,20 @@ module _ {may_stop lets : ℕ → ℕ → Type 0} (site : Site) (workers : ℕ) 
   missing_taken : All (λ n. is_taken new.haul.taken n ≡ true) (was_missing old.haul)
   missing_taken =
       let T : ℕ → Type 0 = λ n. is_taken new.haul.taken n ≡ true in
-      let whole_all = all_whole site workers old new ran begun as_many listed up silents whole in
-      let from = all_senders site workers old new ran begun as_many listed up silents whole in
+      let whole_all = all_whole shared workers old new ran begun as_many listed up silents whole in
+      let from = all_senders shared workers old new ran begun as_many listed up silents whole in
       let heard_some : 0 < how_many_heard passes =
-      some_heard workers new.receiver.got ran.shifts numbers ran.left no_stop no_lack whole_all from done some in
-      let all_back : length passes ≡ site.tickets.passes = length-map ran.shifts (λ (s : Shift). s.pass) ∙ long ∙ sym tickets in
-      let all_drawn : AreAllBelow site.tickets.count (drawn_by_all passes) =
-      subst (λ (l : List Drawn). length l ≡ site.tickets.passes → 0 < how_many_heard l → AreAllBelow site.tickets.count (drawn_by_all l))
+      some_heard workers new.receiver.got ran.results numbers ran.left no_stop no_lack whole_all from done some in
+      let all_back : length passes ≡ shared.tickets.passes = length-map ran.results (λ (s : WorkerResult). s.pass) ∙ long ∙ sym tickets in
+      let all_drawn : AreAllBelow shared.tickets.count (drawn_by_all passes) =
+      subst (λ (l : List Drawn). length l ≡ shared.tickets.passes → 0 < how_many_heard l → AreAllBelow shared.tickets.count (drawn_by_all l))
       ran.passes drawn all_back heard_some in
       subst (All T) listed
-      (All-from_get_or T site.missing.items 0 (λ t lt.
-      of_all_drawn workers new.receiver.got ran.shifts numbers ran.left no_stop no_lack whole_all from done T reported_taken t
-      (let once : count_by (nat_eq t) (drawn_by_all passes) ≡ once_below site.tickets.count t = all_drawn t in
-      let one : once_below site.tickets.count t ≡ 1 =
-      ap (λ (b : Bool). cond {A = ℕ} b 1 0) (lt-ltb t site.tickets.count (omega (arith, lt, site.listed))) in
+      (All-from_get_or T shared.missing.items 0 (λ t lt.
+      of_all_drawn workers new.receiver.got ran.results numbers ran.left no_stop no_lack whole_all from done T reported_taken t
+      (let once : count_by (nat_eq t) (drawn_by_all passes) ≡ once_below shared.tickets.count t = all_drawn t in
+      let one : once_below shared.tickets.count t ≡ 1 =
+      ap (λ (b : Bool). cond {A = ℕ} b 1 0) (lt-ltb t shared.tickets.count (omega (arith, lt, shared.listed))) in
       omega (arith, once, one))))
 
   pub nothing_missing : missing_of new.haul.terms.ranges new.haul.taken ≡ []

@@ -12,13 +12,13 @@ use Rattle.haul_core.specs.Books.{Held}
 use Rattle.haul_core.specs.Reports.{IsWorker}
 use Rattle.handover.specs.Belts.{Presented, Received, silent}
 use Rattle.handover.specs.Tickets.{Drawn, fresh}
-use Rattle.crew.specs.CrewSteps.{HasRunAll, HaveRoom, HasAddedPost, IsTakenOut, MayRun, cause_of, collector_of, stopped_with}
+use Rattle.crew.specs.CrewSteps.{HasRunAll, HaveRoom, HasAddedEndpoint, IsTakenOut, MayRun, cause_of, collector_of, stopped_with}
 use Rattle.crew.specs.Crews.{Collected, Collector, collector_with}
 use Rattle.crew.specs.Workers.{Leaves, how_many_started, lacks_memory, sender_numbers, was_started}
 use Rattle.crew.specs.declared.note.Note.{Note}
-use Rattle.crew.specs.declared.endpoints.Posts.{Posts}
-use Rattle.crew.specs.declared.worker.Shift.{Shift}
-use Rattle.crew.specs.declared.shared.Site.{Site}
+use Rattle.crew.specs.declared.endpoints.Endpoints.{Endpoints}
+use Rattle.crew.specs.declared.worker.WorkerResult.{WorkerResult}
+use Rattle.crew.specs.declared.shared.Shared.{Shared}
 use Rattle.crew.specs.declared.take.Crew.{Crew}
 use Rattle.crew.specs.declared.take.CrewError.TheVariants as crew_error
 use Rattle.crew.proofs.ListLemmas.{all_left, all_right, count_append, count_cons}
@@ -26,9 +26,9 @@ use Rattle.crew.proofs.WorkerLemmas.{stopped_more}
 use Rattle.crew.proofs.TakeLemmas.{all_silent, all_workers, silent_length}
 
 -- how a crew stands once only these posts are left, while so many of its workers more are away
-abbrev pub left_with : Crew → Posts → ℕ → Crew
-left_with crew posts started = record {
-  posts = posts;
+abbrev pub left_with : Crew → Endpoints → ℕ → Crew
+left_with crew endpoints started = record {
+  endpoints = endpoints;
   haul = crew.haul;
   receiver = crew.receiver;
   back = crew.back;
@@ -38,18 +38,18 @@ left_with crew posts started = record {
 }
 
 -- at first all posts are there, and nobody is back
-pub ready_first : (site : Site) (crew : Crew) (workers : ℕ)
-    → All (λ p. p ≡ fresh site.tickets) crew.posts.passes.items → length crew.posts.passes.items ≡ workers
-    → crew.posts.senders.items ≡ map (silent site.belt.name) (range_with_len 1 workers) → workers ≤ 16 → crew.away ≡ 0
-    → crew.receiver.belt ≡ site.belt → HaveRoom workers crew.back → crew.stopped ≡ None → MayRun site crew
-ready_first site crew workers passes many senders few away receiver room stopped =
-    let count : length crew.posts.senders.items ≡ workers = ap length senders ∙ silent_length site.belt.name workers in
+pub ready_first : (shared : Shared) (crew : Crew) (workers : ℕ)
+    → All (λ p. p ≡ fresh shared.tickets) crew.endpoints.passes.items → length crew.endpoints.passes.items ≡ workers
+    → crew.endpoints.senders.items ≡ map (silent shared.belt.name) (range_with_len 1 workers) → workers ≤ 16 → crew.away ≡ 0
+    → crew.receiver.belt ≡ shared.belt → HaveRoom workers crew.back → crew.stopped ≡ None → MayRun shared crew
+ready_first shared crew workers passes many senders few away receiver room stopped =
+    let count : length crew.endpoints.senders.items ≡ workers = ap length senders ∙ silent_length shared.belt.name workers in
     record {
       passes = passes;
-      senders = subst (All (λ (s : Presented Note). s ≡ silent site.belt.name s.number)) (sym senders)
-          (all_silent site.belt.name (range_with_len 1 workers));
+      senders = subst (All (λ (s : Presented Note). s ≡ silent shared.belt.name s.number)) (sym senders)
+          (all_silent shared.belt.name (range_with_len 1 workers));
       workers = subst (All (λ (s : Presented Note). IsWorker s.number)) (sym senders)
-          (all_workers site.belt.name 1 workers (omega arith) (omega (arith, few)));
+          (all_workers shared.belt.name 1 workers (omega arith) (omega (arith, few)));
       many = many ∙ sym count;
       few = omega (arith, count, few, away);
       receiver = receiver;
@@ -88,12 +88,12 @@ pub not_more : (a b n : ℕ) → n ≡ a + b → b ≤ n
 not_more a b n is = omega arith
 
 -- one worker more, for whom a thread was started or not
-started_more : (shifts : List Shift) (shift : Shift) (b : Bool) (n : ℕ) → was_started shift.end ≡ b → n ≡ bool_byte b
-    → how_many_started (shifts ++ shift ∷ []) ≡ how_many_started shifts + n
-started_more shifts shift b n is byte =
-    let all = count_append (λ (s : Shift). was_started s.end) shifts (shift ∷ []) in
-    let one = count_cons (λ (s : Shift). was_started s.end) shift [] in
-    let here : cond {A = ℕ} (was_started shift.end) 1 0 ≡ cond {A = ℕ} b 1 0 = ap (λ (t : Bool). cond {A = ℕ} t 1 0) is in
+started_more : (results : List WorkerResult) (worker_result : WorkerResult) (b : Bool) (n : ℕ) → was_started worker_result.end ≡ b → n ≡ bool_byte b
+    → how_many_started (results ++ worker_result ∷ []) ≡ how_many_started results + n
+started_more results worker_result b n is byte =
+    let all = count_append (λ (s : WorkerResult). was_started s.end) results (worker_result ∷ []) in
+    let one = count_cons (λ (s : WorkerResult). was_started s.end) worker_result [] in
+    let here : cond {A = ℕ} (was_started worker_result.end) 1 0 ≡ cond {A = ℕ} b 1 0 = ap (λ (t : Bool). cond {A = ℕ} t 1 0) is in
     let one_if : n ≡ cond {A = ℕ} b 1 0 = byte_is b byte in
     let none : how_many_started [] ≡ 0 = refl in
     omega arith
@@ -102,51 +102,51 @@ started_more shifts shift b n is byte =
     byte_is true e = e
     byte_is false e = e
 
-module _ {site : Site} where
+module _ {shared : Shared} where
   -- the pass of the post that was taken out is fresh
-  pub pass_out : (next : Posts) (crew : Crew) (post : Drawn × Presented Note) → MayRun site crew
-      → IsTakenOut post crew.posts next
-      → post.0 ≡ fresh site.tickets
-  pass_out next crew post may is =
-      let P : Drawn → Type 0 = λ p. p ≡ fresh site.tickets in
-      All-head P post.0 [] (all_right P next.passes.items (post.0 ∷ []) (subst (All P) is.passes may.passes))
+  pub pass_out : (next : Endpoints) (crew : Crew) (endpoint : Drawn × Presented Note) → MayRun shared crew
+      → IsTakenOut endpoint crew.endpoints next
+      → endpoint.0 ≡ fresh shared.tickets
+  pass_out next crew endpoint may is =
+      let P : Drawn → Type 0 = λ p. p ≡ fresh shared.tickets in
+      All-head P endpoint.0 [] (all_right P next.passes.items (endpoint.0 ∷ []) (subst (All P) is.passes may.passes))
 
   -- and its sender has sent nothing
-  pub sender_out : (next : Posts) (crew : Crew) (post : Drawn × Presented Note) → MayRun site crew
-      → IsTakenOut post crew.posts next
-      → post.1 ≡ silent site.belt.name post.1.number
-  sender_out next crew post may is =
-      let P : Presented Note → Type 0 = λ s. s ≡ silent site.belt.name s.number in
-      All-head P post.1 [] (all_right P next.senders.items (post.1 ∷ []) (subst (All P) is.senders may.senders))
+  pub sender_out : (next : Endpoints) (crew : Crew) (endpoint : Drawn × Presented Note) → MayRun shared crew
+      → IsTakenOut endpoint crew.endpoints next
+      → endpoint.1 ≡ silent shared.belt.name endpoint.1.number
+  sender_out next crew endpoint may is =
+      let P : Presented Note → Type 0 = λ s. s ≡ silent shared.belt.name s.number in
+      All-head P endpoint.1 [] (all_right P next.senders.items (endpoint.1 ∷ []) (subst (All P) is.senders may.senders))
 
   -- and it is a worker's
-  pub worker_out : (next : Posts) (crew : Crew) (post : Drawn × Presented Note) → MayRun site crew
-      → IsTakenOut post crew.posts next
-      → IsWorker post.1.number
-  worker_out next crew post may is =
+  pub worker_out : (next : Endpoints) (crew : Crew) (endpoint : Drawn × Presented Note) → MayRun shared crew
+      → IsTakenOut endpoint crew.endpoints next
+      → IsWorker endpoint.1.number
+  worker_out next crew endpoint may is =
       let P : Presented Note → Type 0 = λ s. IsWorker s.number in
-      All-head P post.1 [] (all_right P next.senders.items (post.1 ∷ []) (subst (All P) is.senders may.workers))
+      All-head P endpoint.1 [] (all_right P next.senders.items (endpoint.1 ∷ []) (subst (All P) is.senders may.workers))
 
   -- with the posts that are left the crew may be run
-  pub others_may_run : (next : Posts) (crew : Crew) (post : Drawn × Presented Note) (started : ℕ) → started ≤ 1
-      → MayRun site crew
-      → IsTakenOut post crew.posts next → MayRun site (left_with crew next started)
-  others_may_run next crew post started one may is =
-      let P : Drawn → Type 0 = λ p. p ≡ fresh site.tickets in
-      let S : Presented Note → Type 0 = λ s. s ≡ silent site.belt.name s.number in
-      let passes : length crew.posts.passes.items ≡ length next.passes.items + 1 =
-      ap length is.passes ∙ length-append next.passes.items (post.0 ∷ []) in
-      let senders : length crew.posts.senders.items ≡ length next.senders.items + 1 =
-      ap length is.senders ∙ length-append next.senders.items (post.1 ∷ []) in
+  pub others_may_run : (next : Endpoints) (crew : Crew) (endpoint : Drawn × Presented Note) (started : ℕ) → started ≤ 1
+      → MayRun shared crew
+      → IsTakenOut endpoint crew.endpoints next → MayRun shared (left_with crew next started)
+  others_may_run next crew endpoint started one may is =
+      let P : Drawn → Type 0 = λ p. p ≡ fresh shared.tickets in
+      let S : Presented Note → Type 0 = λ s. s ≡ silent shared.belt.name s.number in
+      let passes : length crew.endpoints.passes.items ≡ length next.passes.items + 1 =
+      ap length is.passes ∙ length-append next.passes.items (endpoint.0 ∷ []) in
+      let senders : length crew.endpoints.senders.items ≡ length next.senders.items + 1 =
+      ap length is.senders ∙ length-append next.senders.items (endpoint.1 ∷ []) in
       let many = may.many in
       let few = may.few in
       let for_passes = may.back.for_passes in
       let for_senders = may.back.for_senders in
       record {
-        passes = all_left P next.passes.items (post.0 ∷ []) (subst (All P) is.passes may.passes);
-        senders = all_left S next.senders.items (post.1 ∷ []) (subst (All S) is.senders may.senders);
+        passes = all_left P next.passes.items (endpoint.0 ∷ []) (subst (All P) is.passes may.passes);
+        senders = all_left S next.senders.items (endpoint.1 ∷ []) (subst (All S) is.senders may.senders);
         workers = let W : Presented Note → Type 0 = λ s. IsWorker s.number in
-            all_left W next.senders.items (post.1 ∷ []) (subst (All W) is.senders may.workers);
+            all_left W next.senders.items (endpoint.1 ∷ []) (subst (All W) is.senders may.workers);
         many = omega (arith, passes, senders, many);
         few = omega (arith, senders, one, few);
         receiver = may.receiver;
@@ -159,103 +159,103 @@ module _ {site : Site} where
         stopped = may.stopped;
       }
 
-module _ {may_stop lets : ℕ → ℕ → Type 0} {site : Site} where
+module _ {may_stop lets : ℕ → ℕ → Type 0} {shared : Shared} where
   -- so many are back as there were posts
-  as_many : (old new : Crew) (ran : HasRunAll may_stop lets site old new) → length ran.shifts ≡ length old.posts.senders.items
+  as_many : (old new : Crew) (ran : HasRunAll may_stop lets shared old new) → length ran.results ≡ length old.endpoints.senders.items
   as_many old new ran =
-      sym (length-map ran.shifts (λ (s : Shift). s.sender.number)) ∙ ap length ran.numbers
-      ∙ length-map old.posts.senders.items (λ (s : Presented Note). s.number)
+      sym (length-map ran.results (λ (s : WorkerResult). s.sender.number)) ∙ ap length ran.numbers
+      ∙ length-map old.endpoints.senders.items (λ (s : Presented Note). s.number)
 
   -- the others are back, and there is room for one pass more
-  pub pass_room : (next : Posts) (crew mid : Crew) (post : Drawn × Presented Note) (started : ℕ) → MayRun site crew
-      → IsTakenOut post crew.posts next → HasRunAll may_stop lets site (left_with crew next started) mid
+  pub pass_room : (next : Endpoints) (crew mid : Crew) (endpoint : Drawn × Presented Note) (started : ℕ) → MayRun shared crew
+      → IsTakenOut endpoint crew.endpoints next → HasRunAll may_stop lets shared (left_with crew next started) mid
       → length mid.back.passes.items < vec_capacity mid.back.passes
-  pass_room next crew mid post started may is ran =
-      let senders : length crew.posts.senders.items ≡ length next.senders.items + 1 =
-      ap length is.senders ∙ length-append next.senders.items (post.1 ∷ []) in
-      let back : length mid.back.passes.items ≡ length ran.shifts = ap length ran.passes ∙ length-map ran.shifts (λ (s : Shift). s.pass) in
+  pass_room next crew mid endpoint started may is ran =
+      let senders : length crew.endpoints.senders.items ≡ length next.senders.items + 1 =
+      ap length is.senders ∙ length-append next.senders.items (endpoint.1 ∷ []) in
+      let back : length mid.back.passes.items ≡ length ran.results = ap length ran.passes ∙ length-map ran.results (λ (s : WorkerResult). s.pass) in
       let all = as_many (left_with crew next started) mid ran in
       let same = ran.for_passes in
       let room = may.back.for_passes in
       omega (arith, senders, back, all, same, room)
 
   -- and for one sender more
-  pub sender_room : (next : Posts) (crew mid : Crew) (post : Drawn × Presented Note) (started : ℕ) → MayRun site crew
-      → IsTakenOut post crew.posts next → HasRunAll may_stop lets site (left_with crew next started) mid
+  pub sender_room : (next : Endpoints) (crew mid : Crew) (endpoint : Drawn × Presented Note) (started : ℕ) → MayRun shared crew
+      → IsTakenOut endpoint crew.endpoints next → HasRunAll may_stop lets shared (left_with crew next started) mid
       → length mid.back.senders.items < vec_capacity mid.back.senders
-  sender_room next crew mid post started may is ran =
-      let senders : length crew.posts.senders.items ≡ length next.senders.items + 1 =
-      ap length is.senders ∙ length-append next.senders.items (post.1 ∷ []) in
-      let back : length mid.back.senders.items ≡ length ran.shifts =
-      ap length ran.senders ∙ length-map ran.shifts (λ (s : Shift). s.sender) in
+  sender_room next crew mid endpoint started may is ran =
+      let senders : length crew.endpoints.senders.items ≡ length next.senders.items + 1 =
+      ap length is.senders ∙ length-append next.senders.items (endpoint.1 ∷ []) in
+      let back : length mid.back.senders.items ≡ length ran.results =
+      ap length ran.senders ∙ length-map ran.results (λ (s : WorkerResult). s.sender) in
       let all = as_many (left_with crew next started) mid ran in
       let same = ran.for_senders in
       let room = may.back.for_senders in
       omega (arith, senders, back, all, same, room)
 
   -- no post is left, and the notes of all that were started are collected
-  pub run_none : (crew new : Crew) (answered : Bool) → MayRun site crew → crew.posts.senders.items ≡ []
+  pub run_none : (crew new : Crew) (answered : Bool) → MayRun shared crew → crew.endpoints.senders.items ≡ []
       → Collected (collector_of crew.away crew) (collector_of 0 new) answered → (new.lacking ≡ None → answered ≡ true)
-      → new.back ≡ crew.back → new.stopped ≡ crew.stopped → new.away ≡ crew.away → HasRunAll may_stop lets site crew new
+      → new.back ≡ crew.back → new.stopped ≡ crew.stopped → new.away ≡ crew.away → HasRunAll may_stop lets shared crew new
   run_none crew new answered may none collected heard back stopped away =
       record {
-        shifts = [];
-        left = All-nil (λ (s : Shift). Leaves may_stop lets site s.sender.number s);
+        results = [];
+        left = All-nil (λ (s : WorkerResult). Leaves may_stop lets shared s.sender.number s);
         numbers = sym (ap sender_numbers none);
-        passes = ap (λ (b : Posts). b.passes.items) back ∙ may.back.no_passes;
-        senders = ap (λ (b : Posts). b.senders.items) back ∙ may.back.no_senders;
-        for_passes = ap (λ (b : Posts). vec_capacity b.passes) back;
-        for_senders = ap (λ (b : Posts). vec_capacity b.senders) back;
+        passes = ap (λ (b : Endpoints). b.passes.items) back ∙ may.back.no_passes;
+        senders = ap (λ (b : Endpoints). b.senders.items) back ∙ may.back.no_senders;
+        for_passes = ap (λ (b : Endpoints). vec_capacity b.passes) back;
+        for_senders = ap (λ (b : Endpoints). vec_capacity b.senders) back;
         away = away;
         stopped = stopped ∙ may.stopped;
         answered = answered;
         heard = heard;
-        lacking = λ _. All-nil (λ (s : Shift). lacks_memory s.end ≡ false);
+        lacking = λ _. All-nil (λ (s : WorkerResult). lacks_memory s.end ≡ false);
         collected = let same : crew.away ≡ crew.away + how_many_started [] = (let zero_is : how_many_started [] ≡ 0 = refl in omega arith) in
             subst (λ (n : ℕ). Collected (collector_of n crew) (collector_of 0 new) answered) same collected;
       }
 
   -- the others are back, and then the worker that was started first of these
-  pub run_more : (next : Posts) (crew mid new : Crew) (post : Drawn × Presented Note) (shift : Shift) (b : Bool) (started : ℕ)
-      → IsTakenOut post crew.posts next → HasRunAll may_stop lets site (left_with crew next started) mid
-      → Leaves may_stop lets site post.1.number shift → was_started shift.end ≡ b → started ≡ bool_byte b
-      → HasAddedPost shift.pass shift.sender mid.back new.back
-      → new.stopped ≡ stopped_with mid.stopped shift.sender.number shift.end
-      → (new.lacking ≡ None → mid.lacking ≡ None) → (new.lacking ≡ None → lacks_memory shift.end ≡ false)
-      → new.haul ≡ mid.haul → new.receiver ≡ mid.receiver → new.away ≡ mid.away - started → HasRunAll may_stop lets site crew new
-  run_more next crew mid new post shift b started is ran leaves with_thread byte back stopped before memory haul receiver away =
+  pub run_more : (next : Endpoints) (crew mid new : Crew) (endpoint : Drawn × Presented Note) (worker_result : WorkerResult) (b : Bool) (started : ℕ)
+      → IsTakenOut endpoint crew.endpoints next → HasRunAll may_stop lets shared (left_with crew next started) mid
+      → Leaves may_stop lets shared endpoint.1.number worker_result → was_started worker_result.end ≡ b → started ≡ bool_byte b
+      → HasAddedEndpoint worker_result.pass worker_result.sender mid.back new.back
+      → new.stopped ≡ stopped_with mid.stopped worker_result.sender.number worker_result.end
+      → (new.lacking ≡ None → mid.lacking ≡ None) → (new.lacking ≡ None → lacks_memory worker_result.end ≡ false)
+      → new.haul ≡ mid.haul → new.receiver ≡ mid.receiver → new.away ≡ mid.away - started → HasRunAll may_stop lets shared crew new
+  run_more next crew mid new endpoint worker_result b started is ran leaves with_thread byte back stopped before memory haul receiver away =
       record {
-        shifts = ran.shifts ++ shift ∷ [];
-        left = All-push L ran.shifts shift ran.left
-            (subst (λ (w : ℕ). Leaves may_stop lets site w shift) (sym leaves.worked.number) leaves);
+        results = ran.results ++ worker_result ∷ [];
+        left = All-push L ran.results worker_result ran.left
+            (subst (λ (w : ℕ). Leaves may_stop lets shared w worker_result) (sym leaves.worked.number) leaves);
         numbers =
-            map-append number ran.shifts (shift ∷ []) ∙ (λ i. ran.numbers i ++ leaves.worked.number i ∷ [])
-            ∙ sym (ap sender_numbers is.senders ∙ map-append (λ (s : Presented Note). s.number) next.senders.items (post.1 ∷ []));
-        passes = back.passes ∙ (λ i. ran.passes i ++ shift.pass ∷ []) ∙ sym (map-append (λ (s : Shift). s.pass) ran.shifts (shift ∷ []));
-        senders = back.senders ∙ (λ i. ran.senders i ++ shift.sender ∷ [])
-            ∙ sym (map-append (λ (s : Shift). s.sender) ran.shifts (shift ∷ []));
+            map-append number ran.results (worker_result ∷ []) ∙ (λ i. ran.numbers i ++ leaves.worked.number i ∷ [])
+            ∙ sym (ap sender_numbers is.senders ∙ map-append (λ (s : Presented Note). s.number) next.senders.items (endpoint.1 ∷ []));
+        passes = back.passes ∙ (λ i. ran.passes i ++ worker_result.pass ∷ []) ∙ sym (map-append (λ (s : WorkerResult). s.pass) ran.results (worker_result ∷ []));
+        senders = back.senders ∙ (λ i. ran.senders i ++ worker_result.sender ∷ [])
+            ∙ sym (map-append (λ (s : WorkerResult). s.sender) ran.results (worker_result ∷ []));
         for_passes = back.for_passes ∙ ran.for_passes;
         for_senders = back.for_senders ∙ ran.for_senders;
         away = away ∙ ap (λ (n : ℕ). n - started) ran.away ∙ omega arith;
         stopped =
-            stopped ∙ ap (λ (o : Option ℕ). stopped_with o shift.sender.number shift.end) ran.stopped
-            ∙ sym (stopped_more ran.shifts shift);
+            stopped ∙ ap (λ (o : Option ℕ). stopped_with o worker_result.sender.number worker_result.end) ran.stopped
+            ∙ sym (stopped_more ran.results worker_result);
         answered = ran.answered;
         heard = λ none. ran.heard (before none);
-        lacking = λ none. All-push (λ (s : Shift). lacks_memory s.end ≡ false) ran.shifts shift (ran.lacking (before none)) (memory none);
+        lacking = λ none. All-push (λ (s : WorkerResult). lacks_memory s.end ≡ false) ran.results worker_result (ran.lacking (before none)) (memory none);
         collected = subst (λ (n : ℕ). Collected (collector_of n crew) (collector_of 0 new) ran.answered) all
             (subst₂ (λ (r : Received Note) (h : Held). Collected awaited (collector_with 0 r h) ran.answered)
             (sym receiver) (sym haul) ran.collected);
       }
     where
-      number : Shift → ℕ
+      number : WorkerResult → ℕ
       number s = s.sender.number
 
-      L : Shift → Type 0
-      L s = Leaves may_stop lets site s.sender.number s
+      L : WorkerResult → Type 0
+      L s = Leaves may_stop lets shared s.sender.number s
 
       awaited : Collector
-      awaited = collector_of (crew.away + started + how_many_started ran.shifts) crew
+      awaited = collector_of (crew.away + started + how_many_started ran.results) crew
 
-      all : crew.away + started + how_many_started ran.shifts ≡ crew.away + how_many_started (ran.shifts ++ shift ∷ [])
-      all = let more = started_more ran.shifts shift b started with_thread byte in omega arith
+      all : crew.away + started + how_many_started ran.results ≡ crew.away + how_many_started (ran.results ++ worker_result ∷ [])
+      all = let more = started_more ran.results worker_result b started with_thread byte in omega arith

@@ -26,8 +26,8 @@ use Rattle.crew.specs.Workers.{HasReported, IsOwnReport, Leaves, StopsAt, report
 use Rattle.crew.specs.Takes.{HasTaken, taken_by, was_missing}
 use Rattle.crew.specs.declared.note.Note.{Note}
 use Rattle.crew.specs.declared.note.Note.TheVariants.{Done, Report}
-use Rattle.crew.specs.declared.worker.Shift.{Shift}
-use Rattle.crew.specs.declared.shared.Site.{Site}
+use Rattle.crew.specs.declared.worker.WorkerResult.{WorkerResult}
+use Rattle.crew.specs.declared.shared.Shared.{Shared}
 use Rattle.crew.specs.declared.take.Crew.{Crew}
 use Rattle.handover.proofs.BeltLemmas.{notes_first, notes_other}
 use Rattle.crew.proofs.CrewLemmas.{added_none}
@@ -51,43 +51,43 @@ both lets job missing worker rs own listed =
     let at = all_unmap (Contains missing) (λ (r : Reported). r.number) rs listed in
     λ k d lt. (own k d lt, at k d lt)
 
-received_of : {lets : ℕ → ℕ → Type 0} (site : Site) (places : List ℕ) (got : List (ℕ × Note)) (sender : Presented Note)
-    → Rises site.missing.items → HasReported lets site places sender
-    → IsWhole got sender → ReceivedOf lets site.job site.missing.items sender.number got
-received_of {lets} site places got sender up h whole =
-    let job = site.job in
-    let missing = site.missing.items in
-    let front = notes_of sender.number got in
-    let remainder = drop (length front) sender.notes in
-    let parts : reported sender.notes ≡ reported front ++ reported remainder =
-    ap reported (sym whole) ∙ flat_map-append report_in front remainder in
+received_of : {lets : ℕ → ℕ → Type 0} (shared : Shared) (places : List ℕ) (got : List (ℕ × Note)) (sender : Presented Note)
+    → Rises shared.missing.items → HasReported lets shared places sender
+    → IsWhole got sender → ReceivedOf lets shared.job shared.missing.items sender.number got
+received_of {lets} shared places got sender up h whole =
+    let job = shared.job in
+    let missing = shared.missing.items in
+    let prefix = notes_of sender.number got in
+    let remainder = drop (length prefix) sender.notes in
+    let parts : reported sender.notes ≡ reported prefix ++ reported remainder =
+    ap reported (sym whole) ∙ flat_map-append report_in prefix remainder in
     let number : Reported → ℕ = λ r. r.number in
-    let numbers : map number (reported front) ++ map number (reported remainder) ≡ map (slice_index missing) places =
-    sym (map-append number (reported front) (reported remainder)) ∙ ap (λ (l : List Reported). map number l) (sym parts) ∙ h.numbers in
+    let numbers : map number (reported prefix) ++ map number (reported remainder) ≡ map (slice_index missing) places =
+    sym (map-append number (reported prefix) (reported remainder)) ∙ ap (λ (l : List Reported). map number l) (sym parts) ∙ h.numbers in
     record {
-      own = both lets job missing sender.number (reported front)
-          (all_left (IsOwnReport lets job sender.number) (reported front) (reported remainder)
+      own = both lets job missing sender.number (reported prefix)
+          (all_left (IsOwnReport lets job sender.number) (reported prefix) (reported remainder)
           (subst (All (IsOwnReport lets job sender.number)) parts h.own))
-          (all_left (Contains missing) (map number (reported front)) (map number (reported remainder))
+          (all_left (Contains missing) (map number (reported prefix)) (map number (reported remainder))
           (subst (All (Contains missing)) (sym numbers) (at_places missing places h.below)));
-      rises = rises_left (map number (reported front)) (map number (reported remainder))
+      rises = rises_left (map number (reported prefix)) (map number (reported remainder))
           (subst Rises (sym numbers) (rises_at missing places up h.ascending h.below));
     }
 
 -- what holds of the number of each shift holds of each worker's
-pub each_worker : (P : ℕ → Type 0) (workers : ℕ) (shifts : List Shift) → map (λ s. s.sender.number) shifts ≡ range_with_len 1 workers
-    → All (λ s. P s.sender.number) shifts → (worker : ℕ) → 1 ≤ worker → worker ≤ workers → P worker
-each_worker P workers shifts numbers all worker le ge =
-    in_range P 1 workers worker (subst (All P) numbers (All-map P (λ (s : Shift). s.sender.number) shifts all)) le (omega (arith, ge))
+pub each_worker : (P : ℕ → Type 0) (workers : ℕ) (results : List WorkerResult) → map (λ s. s.sender.number) results ≡ range_with_len 1 workers
+    → All (λ s. P s.sender.number) results → (worker : ℕ) → 1 ≤ worker → worker ≤ workers → P worker
+each_worker P workers results numbers all worker le ge =
+    in_range P 1 workers worker (subst (All P) numbers (All-map P (λ (s : WorkerResult). s.sender.number) results all)) le (omega (arith, ge))
 
-received_each : {may_stop lets : ℕ → ℕ → Type 0} (site : Site) (got : List (ℕ × Note)) (shifts : List Shift) (workers : ℕ)
-    → Rises site.missing.items → map (λ s. s.sender.number) shifts ≡ range_with_len 1 workers
-    → All (λ s. Leaves may_stop lets site s.sender.number s) shifts → All (λ s. IsWhole got s.sender) shifts
-    → (worker : ℕ) → 1 ≤ worker → worker ≤ workers → ReceivedOf lets site.job site.missing.items worker got
-received_each {lets = lets} site got shifts workers up numbers left whole =
-    each_worker (λ w. ReceivedOf lets site.job site.missing.items w got) workers shifts numbers
+received_each : {may_stop lets : ℕ → ℕ → Type 0} (shared : Shared) (got : List (ℕ × Note)) (results : List WorkerResult) (workers : ℕ)
+    → Rises shared.missing.items → map (λ s. s.sender.number) results ≡ range_with_len 1 workers
+    → All (λ s. Leaves may_stop lets shared s.sender.number s) results → All (λ s. IsWhole got s.sender) results
+    → (worker : ℕ) → 1 ≤ worker → worker ≤ workers → ReceivedOf lets shared.job shared.missing.items worker got
+received_each {lets = lets} shared got results workers up numbers left whole =
+    each_worker (λ w. ReceivedOf lets shared.job shared.missing.items w got) workers results numbers
     (λ k d lt. let worked = (left k d lt).worked in
-    received_of site worked.places got (get_or shifts k d).sender up worked.reports (whole k d lt))
+    received_of shared worked.places got (get_or results k d).sender up worked.reports (whole k d lt))
 
 -- ---- what was received of all workers
 
@@ -176,16 +176,16 @@ pub record OfCrew (lets : ℕ → ℕ → Type 0) (workers : ℕ) (job : Job) (m
   pub let_in : All (λ r. lets r.worker r.number) part
   pub rises : (worker : ℕ) → 1 ≤ worker → worker ≤ workers → Rises (taken_by worker (map entry part))
 
-of_crew : {may_stop lets : ℕ → ℕ → Type 0} (site : Site) (workers : ℕ) (got : List (ℕ × Note)) (shifts : List Shift)
+of_crew : {may_stop lets : ℕ → ℕ → Type 0} (shared : Shared) (workers : ℕ) (got : List (ℕ × Note)) (results : List WorkerResult)
     (part : List Reported)
-    → Rises site.missing.items → map (λ s. s.sender.number) shifts ≡ range_with_len 1 workers
-    → All (λ s. Leaves may_stop lets site s.sender.number s) shifts → All (λ s. IsWhole got s.sender) shifts
+    → Rises shared.missing.items → map (λ s. s.sender.number) results ≡ range_with_len 1 workers
+    → All (λ s. Leaves may_stop lets shared s.sender.number s) results → All (λ s. IsWhole got s.sender) results
     → All (λ m. (1 ≤ m.0) × (m.0 ≤ workers)) got → IsSubsequence part (reports_in got)
-    → OfCrew lets workers site.job site.missing.items part
-of_crew {lets = lets} site workers got shifts part up numbers left whole few is =
-    let job = site.job in
-    let missing = site.missing.items in
-    let each = received_each site got shifts workers up numbers left whole in
+    → OfCrew lets workers shared.job shared.missing.items part
+of_crew {lets = lets} shared workers got results part up numbers left whole few is =
+    let job = shared.job in
+    let missing = shared.missing.items in
+    let each = received_each shared got results workers up numbers left whole in
     let own : All (λ (m : ℕ × Note). All (IsOwn lets job missing m.0) (report_in m.1)) got =
     all_own (IsOwn lets job missing) got workers few (λ w le ge. (each w le ge).own) in
     record {
@@ -203,17 +203,17 @@ of_crew {lets = lets} site workers got shifts part up numbers left whole few is 
     }
   where
     workers_in : (got : List (ℕ × Note)) → All (λ m. (1 ≤ m.0) × (m.0 ≤ workers)) got
-        → All (λ (m : ℕ × Note). All (IsOwn lets site.job site.missing.items m.0) (report_in m.1)) got
+        → All (λ (m : ℕ × Note). All (IsOwn lets shared.job shared.missing.items m.0) (report_in m.1)) got
         → All (λ (r : Reported). (1 ≤ r.worker) × (r.worker ≤ workers)) (reports_in got)
     workers_in [] few own = All-nil (λ (r : Reported). (1 ≤ r.worker) × (r.worker ≤ workers))
     workers_in (m ∷ ms) few own =
         let P : Reported → Type 0 = λ r. (1 ≤ r.worker) × (r.worker ≤ workers) in
         let here = All-head (λ (n : ℕ × Note). (1 ≤ n.0) × (n.0 ≤ workers)) m ms few in
-        let mine = All-head (λ (n : ℕ × Note). All (IsOwn lets site.job site.missing.items n.0) (report_in n.1)) m ms own in
+        let mine = All-head (λ (n : ℕ × Note). All (IsOwn lets shared.job shared.missing.items n.0) (report_in n.1)) m ms own in
         All-append P (report_in m.1) (reports_in ms)
         (λ k d lt. let e = (mine k d lt).0.0 in (omega (arith, here.0, e), omega (arith, here.1, e)))
         (workers_in ms (All-tail (λ (n : ℕ × Note). (1 ≤ n.0) × (n.0 ≤ workers)) m ms few)
-        (All-tail (λ (n : ℕ × Note). All (IsOwn lets site.job site.missing.items n.0) (report_in n.1)) m ms own))
+        (All-tail (λ (n : ℕ × Note). All (IsOwn lets shared.job shared.missing.items n.0) (report_in n.1)) m ms own))
 
 distinct_none : IsDistinct nat_eq []
 unfolding IsDistinct
@@ -255,30 +255,30 @@ silent_length name workers = length-map (range_with_len 1 workers) (silent {N = 
 
 -- ---- what it leaves
 
-module _ {may_stop lets : ℕ → ℕ → Type 0} {site : Site} {old new : Crew} (ran : HasRunAll may_stop lets site old new) where
-  pub belts_of : All (λ (s : Presented Note). s.belt ≡ site.belt.name) new.back.senders.items
+module _ {may_stop lets : ℕ → ℕ → Type 0} {shared : Shared} {old new : Crew} (ran : HasRunAll may_stop lets shared old new) where
+  pub belts_of : All (λ (s : Presented Note). s.belt ≡ shared.belt.name) new.back.senders.items
   belts_of =
-      subst (All (λ (s : Presented Note). s.belt ≡ site.belt.name)) (sym ran.senders)
-      (All-map (λ (s : Presented Note). s.belt ≡ site.belt.name) (λ (s : Shift). s.sender) ran.shifts
+      subst (All (λ (s : Presented Note). s.belt ≡ shared.belt.name)) (sym ran.senders)
+      (All-map (λ (s : Presented Note). s.belt ≡ shared.belt.name) (λ (s : WorkerResult). s.sender) ran.results
       (λ k d lt. (ran.left k d lt).worked.reports.belt))
 
-  pub series_of_all : All (λ (p : Drawn). p.series ≡ site.tickets) new.back.passes.items
+  pub series_of_all : All (λ (p : Drawn). p.series ≡ shared.tickets) new.back.passes.items
   series_of_all =
-      subst (All (λ (p : Drawn). p.series ≡ site.tickets)) (sym ran.passes)
-      (All-map (λ (p : Drawn). p.series ≡ site.tickets) (λ (s : Shift). s.pass) ran.shifts
+      subst (All (λ (p : Drawn). p.series ≡ shared.tickets)) (sym ran.passes)
+      (All-map (λ (p : Drawn). p.series ≡ shared.tickets) (λ (s : WorkerResult). s.pass) ran.results
       (λ k d lt. (ran.left k d lt).worked.series))
 
 -- what is known when a crew ends
-module _ {may_stop lets : ℕ → ℕ → Type 0} (site : Site) (workers : ℕ) (old new : Crew) (ran : HasRunAll may_stop lets site old new)
-    (begun : old.receiver ≡ deaf site.belt) (as_many : site.belt.workers ≡ workers)
-    (listed : site.missing.items ≡ was_missing old.haul) (up : IsStrictlyIncreasing site.missing.items)
-    (silents : old.posts.senders.items ≡ map (silent site.belt.name) (range_with_len 1 workers))
+module _ {may_stop lets : ℕ → ℕ → Type 0} (shared : Shared) (workers : ℕ) (old new : Crew) (ran : HasRunAll may_stop lets shared old new)
+    (begun : old.receiver ≡ deaf shared.belt) (as_many : shared.belt.workers ≡ workers)
+    (listed : shared.missing.items ≡ was_missing old.haul) (up : IsStrictlyIncreasing shared.missing.items)
+    (silents : old.endpoints.senders.items ≡ map (silent shared.belt.name) (range_with_len 1 workers))
     (whole : All (IsWhole new.receiver.got) new.back.senders.items) where
-  pub all_numbers : map (λ (s : Shift). s.sender.number) ran.shifts ≡ range_with_len 1 workers
-  all_numbers = ran.numbers ∙ ap sender_numbers silents ∙ silent_numbers site.belt.name (range_with_len 1 workers)
+  pub all_numbers : map (λ (s : WorkerResult). s.sender.number) ran.results ≡ range_with_len 1 workers
+  all_numbers = ran.numbers ∙ ap sender_numbers silents ∙ silent_numbers shared.belt.name (range_with_len 1 workers)
 
-  pub all_whole : All (λ (s : Shift). IsWhole new.receiver.got s.sender) ran.shifts
-  all_whole = all_unmap (IsWhole new.receiver.got) (λ (s : Shift). s.sender) ran.shifts (subst (All (IsWhole new.receiver.got)) ran.senders whole)
+  pub all_whole : All (λ (s : WorkerResult). IsWhole new.receiver.got s.sender) ran.results
+  all_whole = all_unmap (IsWhole new.receiver.got) (λ (s : WorkerResult). s.sender) ran.results (subst (All (IsWhole new.receiver.got)) ran.senders whole)
 
   pub notes_are : new.receiver.got ≡ ran.collected.notes
   notes_are = ran.collected.got ∙ ap (λ (r : Received Note). r.got ++ ran.collected.notes) begun
@@ -290,13 +290,13 @@ module _ {may_stop lets : ℕ → ℕ → Type 0} (site : Site) (workers : ℕ) 
       (λ k d lt. let s = ran.collected.senders k d lt in (s.0, omega (arith, s.1, bound)))
 
   pub crew_part : (part : List Reported) → IsSubsequence part (reports_in ran.collected.notes)
-      → OfCrew lets workers site.job site.missing.items part
+      → OfCrew lets workers shared.job shared.missing.items part
   crew_part part is =
-      of_crew site workers new.receiver.got ran.shifts part (AllPairs-from_increasing site.missing.items up)
+      of_crew shared workers new.receiver.got ran.results part (AllPairs-from_increasing shared.missing.items up)
       all_numbers ran.left all_whole all_senders
       (subst (λ (l : List (ℕ × Note)). IsSubsequence part (reports_in l)) (sym notes_are) is)
 
-  pub crew_has_taken : (held : Held) → held ≡ new.haul → IsDistinct nat_eq (numbers_in new.haul.taken) → site.job ≡ old.haul.terms.job
+  pub crew_has_taken : (held : Held) → held ≡ new.haul → IsDistinct nat_eq (numbers_in new.haul.taken) → shared.job ≡ old.haul.terms.job
       → HasTaken lets workers old.haul held
   crew_has_taken held same distinct of_haul =
       let c = ran.collected in
@@ -318,15 +318,15 @@ module _ {may_stop lets : ℕ → ℕ → Type 0} (site : Site) (workers : ℕ) 
   pub crew_within : (worker : ℕ) → new.stopped ≡ Some worker → (1 ≤ worker) × (worker ≤ workers)
   crew_within worker is =
       let P : ℕ → Type 0 = λ w. (1 ≤ w) × (w ≤ workers) in
-      let all : All (λ (s : Shift). P s.sender.number) ran.shifts =
-      all_unmap P (λ (s : Shift). s.sender.number) ran.shifts
+      let all : All (λ (s : WorkerResult). P s.sender.number) ran.results =
+      all_unmap P (λ (s : WorkerResult). s.sender.number) ran.results
       (subst (All P) (sym all_numbers) (range_within 1 workers workers (omega arith))) in
-      subst (λ (o : Option ℕ). IfSome o P) (sym ran.stopped ∙ is) (of_first_stopped P ran.shifts (λ k d lt stopped. all k d lt))
+      subst (λ (o : Option ℕ). IfSome o P) (sym ran.stopped ∙ is) (of_first_stopped P ran.results (λ k d lt stopped. all k d lt))
 
   -- and its gate may stop it at what was missing
   pub crew_stops : (worker : ℕ) → new.stopped ≡ Some worker → StopsAt may_stop (was_missing old.haul) worker
   crew_stops worker is =
       let P : ℕ → Type 0 = StopsAt may_stop (was_missing old.haul) in
       subst (λ (o : Option ℕ). IfSome o P) (sym ran.stopped ∙ is)
-      (of_first_stopped P ran.shifts (λ k d lt stopped.
-      subst (λ (l : List ℕ). StopsAt may_stop l (get_or ran.shifts k d).sender.number) listed ((ran.left k d lt).worked.stops stopped)))
+      (of_first_stopped P ran.results (λ k d lt stopped.
+      subst (λ (l : List ℕ). StopsAt may_stop l (get_or ran.results k d).sender.number) listed ((ran.left k d lt).worked.stops stopped)))

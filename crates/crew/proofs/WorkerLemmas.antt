@@ -20,32 +20,32 @@ use Rattle.crew.specs.declared.note.Note.{Note}
 use Rattle.crew.specs.declared.note.Note.TheVariants.{Done, Report}
 use Rattle.crew.specs.declared.worker.End.{End}
 use Rattle.crew.specs.declared.worker.End.TheVariants.{CalledOff, Drained, Memory, Stopped, Unstarted}
-use Rattle.crew.specs.declared.worker.Shift.{Shift}
-use Rattle.crew.specs.declared.shared.Site.{Site}
+use Rattle.crew.specs.declared.worker.WorkerResult.{WorkerResult}
+use Rattle.crew.specs.declared.shared.Shared.{Shared}
 
 -- what a worker leaves, of its parts
-abbrev pub shift_of : Drawn → Presented Note → End → Shift
-shift_of pass sender ended = record { pass = pass; sender = sender; end = ended }
+abbrev pub result_of : Drawn → Presented Note → End → WorkerResult
+result_of pass sender ended = record { pass = pass; sender = sender; end = ended }
 
 reported_push : (notes : List Note) (note : Note) → reported (notes ++ note ∷ []) ≡ reported notes ++ report_in note
 reported_push notes note =
     flat_map-append report_in notes (note ∷ []) ∙ ap (λ (l : List Reported). reported notes ++ l) (append-nil (report_in note))
 
-module _ {lets : ℕ → ℕ → Type 0} (site : Site) where
-  pub reported_none : (worker : ℕ) → HasReported lets site [] (silent site.belt.name worker)
+module _ {lets : ℕ → ℕ → Type 0} (shared : Shared) where
+  pub reported_none : (worker : ℕ) → HasReported lets shared [] (silent shared.belt.name worker)
   reported_none worker = record {
     belt = refl;
     ascending = λ i j d lt below. absurd (omega arith);
-    below = All-nil (λ t. t < length site.missing.items);
+    below = All-nil (λ t. t < length shared.missing.items);
     numbers = refl;
-    own = All-nil (IsOwnReport lets site.job worker);
+    own = All-nil (IsOwnReport lets shared.job worker);
   }
 
-  reported_more : (places : List ℕ) (sender : Presented Note) (n : ℕ) (r : Reported) → HasReported lets site places sender
-      → All (λ m. m < n) places → n < length site.missing.items → IsOwnReport lets site.job sender.number r
-      → r.number ≡ slice_index site.missing.items n → HasReported lets site (places ++ n ∷ []) (with_note (Report r) sender)
+  reported_more : (places : List ℕ) (sender : Presented Note) (n : ℕ) (r : Reported) → HasReported lets shared places sender
+      → All (λ m. m < n) places → n < length shared.missing.items → IsOwnReport lets shared.job sender.number r
+      → r.number ≡ slice_index shared.missing.items n → HasReported lets shared (places ++ n ∷ []) (with_note (Report r) sender)
   reported_more places sender n r h less below own number =
-      let missing = site.missing.items in
+      let missing = shared.missing.items in
       let whole = reported_push sender.notes (Report r) in
       record {
         belt = h.belt;
@@ -56,24 +56,24 @@ module _ {lets : ℕ → ℕ → Type 0} (site : Site) where
             ∙ map-append (λ (s : Reported). s.number) (reported sender.notes) (r ∷ [])
             ∙ (λ i. h.numbers i ++ number i ∷ [])
             ∙ sym (map-append (slice_index missing) places (n ∷ []));
-        own = subst (All (IsOwnReport lets site.job sender.number)) (sym whole)
-            (All-push (IsOwnReport lets site.job sender.number) (reported sender.notes) r h.own own);
+        own = subst (All (IsOwnReport lets shared.job sender.number)) (sym whole)
+            (All-push (IsOwnReport lets shared.job sender.number) (reported sender.notes) r h.own own);
       }
 
   -- the same of a pass and a sender that drew and presented
   pub reported_next : (places now : List ℕ) (sender next : Presented Note) (n : ℕ) (r : Reported)
-      → HasReported lets site places sender
-      → All (λ m. m < n) places → n < length site.missing.items → IsOwnReport lets site.job sender.number r
-      → r.number ≡ slice_index site.missing.items n → now ≡ places ++ n ∷ [] → next ≡ with_note (Report r) sender
-      → HasReported lets site now next
+      → HasReported lets shared places sender
+      → All (λ m. m < n) places → n < length shared.missing.items → IsOwnReport lets shared.job sender.number r
+      → r.number ≡ slice_index shared.missing.items n → now ≡ places ++ n ∷ [] → next ≡ with_note (Report r) sender
+      → HasReported lets shared now next
   reported_next places now sender next n r h less below own number drawn presented =
-      subst (λ (s : Presented Note). HasReported lets site now s) (sym presented)
-      (subst (λ (l : List ℕ). HasReported lets site l (with_note (Report r) sender)) (sym drawn)
+      subst (λ (s : Presented Note). HasReported lets shared now s) (sym presented)
+      (subst (λ (l : List ℕ). HasReported lets shared l (with_note (Report r) sender)) (sym drawn)
       (reported_more places sender n r h less below own number))
 
   -- a worker that says that it is done
-  reported_done : (places : List ℕ) (sender : Presented Note) (worker : ℕ) → HasReported lets site places sender
-      → HasReported lets site places (with_note (Done worker) sender)
+  reported_done : (places : List ℕ) (sender : Presented Note) (worker : ℕ) → HasReported lets shared places sender
+      → HasReported lets shared places (with_note (Done worker) sender)
   reported_done places sender worker h =
       let whole : reported (sender.notes ++ Done worker ∷ []) ≡ reported sender.notes =
       reported_push sender.notes (Done worker) ∙ append-nil (reported sender.notes) in
@@ -82,7 +82,7 @@ module _ {lets : ℕ → ℕ → Type 0} (site : Site) where
         ascending = h.ascending;
         below = h.below;
         numbers = ap (λ (l : List Reported). map (λ (s : Reported). s.number) l) whole ∙ h.numbers;
-        own = subst (All (IsOwnReport lets site.job sender.number)) (sym whole) h.own;
+        own = subst (All (IsOwnReport lets shared.job sender.number)) (sym whole) h.own;
       }
 
 -- a report of what the gate let the worker survey
@@ -96,10 +96,10 @@ not_done_more notes now r none is = subst AreNotDone (sym is) (All-push (λ note
 
 -- ---- how surveys end
 
-module _ {may_stop lets : ℕ → ℕ → Type 0} (site : Site) (worker : ℕ) (old new : Drawn) (sender : Presented Note)
-    (series : old.series ≡ site.tickets) (number : sender.number ≡ worker) (h : HasReported lets site old.numbers sender) where
+module _ {may_stop lets : ℕ → ℕ → Type 0} (shared : Shared) (worker : ℕ) (old new : Drawn) (sender : Presented Note)
+    (series : old.series ≡ shared.tickets) (number : sender.number ≡ worker) (h : HasReported lets shared old.numbers sender) where
   -- none is left
-  pub worked_drained : new ≡ with_none old → HasWorked may_stop lets site worker Drained new sender
+  pub worked_drained : new ≡ with_none old → HasWorked may_stop lets shared worker Drained new sender
   worked_drained is = record {
     number = number;
     series = ap (λ (p : Drawn). p.series) is ∙ series;
@@ -112,8 +112,8 @@ module _ {may_stop lets : ℕ → ℕ → Type 0} (site : Site) (worker : ℕ) (
   }
 
   -- it has drawn a number that it doesn't report: its gate stopped it, or there was no memory
-  pub worked_stopped : (n : ℕ) → new ≡ with_drawn n old → StopsAt may_stop site.missing.items worker
-      → HasWorked may_stop lets site worker Stopped new sender
+  pub worked_stopped : (n : ℕ) → new ≡ with_drawn n old → StopsAt may_stop shared.missing.items worker
+      → HasWorked may_stop lets shared worker Stopped new sender
   worked_stopped n is stops = record {
     number = number;
     series = ap (λ (p : Drawn). p.series) is ∙ series;
@@ -125,7 +125,7 @@ module _ {may_stop lets : ℕ → ℕ → Type 0} (site : Site) (worker : ℕ) (
     stops = λ stopped. stops;
   }
 
-  pub worked_lacking : (n : ℕ) (error : OutOfMemory) → new ≡ with_drawn n old → HasWorked may_stop lets site worker (Memory error) new sender
+  pub worked_lacking : (n : ℕ) (error : OutOfMemory) → new ≡ with_drawn n old → HasWorked may_stop lets shared worker (Memory error) new sender
   worked_lacking n error is = record {
     number = number;
     series = ap (λ (p : Drawn). p.series) is ∙ series;
@@ -146,17 +146,17 @@ begun_started (Memory error) h = refl
 begun_started CalledOff h = refl
 begun_started (Unstarted error) h = absurd (cc)
 
-module _ {may_stop lets : ℕ → ℕ → Type 0} (site : Site) where
+module _ {may_stop lets : ℕ → ℕ → Type 0} (shared : Shared) where
   -- a worker that was called off
-  pub returned_off : (pass : Drawn) (sender : Presented Note) → pass ≡ fresh site.tickets → sender ≡ silent site.belt.name sender.number
-      → Returns may_stop lets site sender.number (shift_of pass sender CalledOff)
+  pub returned_off : (pass : Drawn) (sender : Presented Note) → pass ≡ fresh shared.tickets → sender ≡ silent shared.belt.name sender.number
+      → Returns may_stop lets shared sender.number (result_of pass sender CalledOff)
   returned_off pass sender unused still = record {
     left = record {
       worked = record {
         number = refl;
         series = ap (λ (p : Drawn). p.series) unused;
         places = [];
-        reports = subst (HasReported lets site []) (sym still) (reported_none site sender.number);
+        reports = subst (HasReported lets shared []) (sym still) (reported_none shared sender.number);
         drawn = inl (ap (λ (p : Drawn). p.numbers) unused);
         all = λ drained. ap (λ (p : Drawn). p.numbers) unused;
         heard = λ drained. absurd (let bad : false ≡ true = ap has_begun drained in cc);
@@ -170,18 +170,18 @@ module _ {may_stop lets : ℕ → ℕ → Type 0} (site : Site) where
 
   -- and one that has worked, and then said that it is done
   pub returned : (worker : ℕ) (ended : End) (pass : Drawn) (sender now : Presented Note)
-      → HasWorked may_stop lets site worker ended pass sender
+      → HasWorked may_stop lets shared worker ended pass sender
       → has_begun ended ≡ true → AreNotDone sender.notes → now ≡ with_note (Done worker) sender
-      → Returns may_stop lets site worker (shift_of pass now ended)
+      → Returns may_stop lets shared worker (result_of pass now ended)
   returned worker ended pass sender now h begun none is =
-      subst (λ (s : Presented Note). Returns may_stop lets site worker (shift_of pass s ended)) (sym is)
+      subst (λ (s : Presented Note). Returns may_stop lets shared worker (result_of pass s ended)) (sym is)
       (record {
         left = record {
           worked = record {
             number = h.number;
             series = h.series;
             places = h.places;
-            reports = reported_done site h.places sender worker h.reports;
+            reports = reported_done shared h.places sender worker h.reports;
             drawn = h.drawn;
             all = h.all;
             heard = h.heard;
@@ -194,9 +194,9 @@ module _ {may_stop lets : ℕ → ℕ → Type 0} (site : Site) where
       })
 
   -- the closure of a worker for which no thread could be started was called in its place
-  pub unstarted : (worker : ℕ) (shift : Shift) (error : OutOfMemory) → Returns may_stop lets site worker shift
-      → Leaves may_stop lets site worker (shift_of shift.pass shift.sender (Unstarted error))
-  unstarted worker shift error h =
+  pub unstarted : (worker : ℕ) (worker_result : WorkerResult) (error : OutOfMemory) → Returns may_stop lets shared worker worker_result
+      → Leaves may_stop lets shared worker (result_of worker_result.pass worker_result.sender (Unstarted error))
+  unstarted worker worker_result error h =
       let worked = h.left.worked in
       record {
         worked = record {
@@ -216,21 +216,21 @@ module _ {may_stop lets : ℕ → ℕ → Type 0} (site : Site) where
 -- ---- the first that was stopped
 
 -- one more that is back
-pub stopped_more : (shifts : List Shift) (shift : Shift)
-    → first_stopped (shifts ++ shift ∷ []) ≡ stopped_with (first_stopped shifts) shift.sender.number shift.end
-stopped_more [] shift = go (was_stopped shift.end)
+pub stopped_more : (results : List WorkerResult) (worker_result : WorkerResult)
+    → first_stopped (results ++ worker_result ∷ []) ≡ stopped_with (first_stopped results) worker_result.sender.number worker_result.end
+stopped_more [] worker_result = go (was_stopped worker_result.end)
   where
-    go : (b : Bool) → option_map (λ (s : Shift). s.sender.number) (cond b (Some shift) None) ≡ cond b (Some shift.sender.number) None
+    go : (b : Bool) → option_map (λ (s : WorkerResult). s.sender.number) (cond b (Some worker_result) None) ≡ cond b (Some worker_result.sender.number) None
     go true = refl
     go false = refl
-stopped_more (s ∷ ss) shift = go (was_stopped s.end) (stopped_more ss shift)
+stopped_more (s ∷ ss) worker_result = go (was_stopped s.end) (stopped_more ss worker_result)
   where
-    number : Option Shift → Option ℕ
-    number o = option_map (λ (t : Shift). t.sender.number) o
+    number : Option WorkerResult → Option ℕ
+    number o = option_map (λ (t : WorkerResult). t.sender.number) o
 
-    go : (b : Bool) → first_stopped (ss ++ shift ∷ []) ≡ stopped_with (first_stopped ss) shift.sender.number shift.end
-        → number (cond b (Some s) (find (λ t. was_stopped t.end) (ss ++ shift ∷ [])))
-        ≡ stopped_with (number (cond b (Some s) (find (λ t. was_stopped t.end) ss))) shift.sender.number shift.end
+    go : (b : Bool) → first_stopped (ss ++ worker_result ∷ []) ≡ stopped_with (first_stopped ss) worker_result.sender.number worker_result.end
+        → number (cond b (Some s) (find (λ t. was_stopped t.end) (ss ++ worker_result ∷ [])))
+        ≡ stopped_with (number (cond b (Some s) (find (λ t. was_stopped t.end) ss))) worker_result.sender.number worker_result.end
     go true more = refl
     go false more = more
 
@@ -242,25 +242,25 @@ stopped_is CalledOff h = absurd (cc)
 stopped_is (Unstarted error) h = absurd (cc)
 
 -- what holds of all that were stopped holds of the first
-pub of_first_stopped : (P : ℕ → Type 0) (shifts : List Shift) → All (λ s. s.end ≡ Stopped → P s.sender.number) shifts
-    → IfSome (first_stopped shifts) P
+pub of_first_stopped : (P : ℕ → Type 0) (results : List WorkerResult) → All (λ s. s.end ≡ Stopped → P s.sender.number) results
+    → IfSome (first_stopped results) P
 of_first_stopped P [] h = tt
 of_first_stopped P (s ∷ ss) h =
     go (was_stopped s.end) refl (of_first_stopped P ss (All-tail (λ t. t.end ≡ Stopped → P t.sender.number) s ss h))
   where
     go : (b : Bool) → was_stopped s.end ≡ b → IfSome (first_stopped ss) P
-        → IfSome (option_map (λ (t : Shift). t.sender.number) (cond b (Some s) (find (λ t. was_stopped t.end) ss))) P
+        → IfSome (option_map (λ (t : WorkerResult). t.sender.number) (cond b (Some s) (find (λ t. was_stopped t.end) ss))) P
     go true is more = All-head (λ t. t.end ≡ Stopped → P t.sender.number) s ss h (stopped_is s.end is)
     go false is more = more
 
 -- if none is the first, none was stopped
-pub none_stopped : (shifts : List Shift) → first_stopped shifts ≡ None → All (λ s. was_stopped s.end ≡ false) shifts
+pub none_stopped : (results : List WorkerResult) → first_stopped results ≡ None → All (λ s. was_stopped s.end ≡ false) results
 none_stopped [] none = All-nil (λ s. was_stopped s.end ≡ false)
 none_stopped (s ∷ ss) none = go (was_stopped s.end) refl none
     (λ h. none_stopped ss h)
   where
     go : (b : Bool) → was_stopped s.end ≡ b
-        → option_map (λ (t : Shift). t.sender.number) (cond b (Some s) (find (λ t. was_stopped t.end) ss)) ≡ None
+        → option_map (λ (t : WorkerResult). t.sender.number) (cond b (Some s) (find (λ t. was_stopped t.end) ss)) ≡ None
         → (first_stopped ss ≡ None → All (λ t. was_stopped t.end ≡ false) ss) → All (λ t. was_stopped t.end ≡ false) (s ∷ ss)
     go true is gone more = absurd (let bad : Some s.sender.number ≡ None = gone in cc)
     go false is gone more = All-cons (λ t. was_stopped t.end ≡ false) s ss is (more gone)

@@ -7,10 +7,10 @@ use Rattle.handover.specs.Tickets.{Drawn, fresh}
 use Rattle.crew.specs.Crews.{Collected, Collector, collector_with}
 use Rattle.crew.specs.Workers.{Leaves, first_stopped, how_many_started, lacks_memory, sender_numbers, was_stopped}
 use Rattle.crew.specs.declared.note.Note.{Note}
-use Rattle.crew.specs.declared.endpoints.Posts.{Posts}
+use Rattle.crew.specs.declared.endpoints.Endpoints.{Endpoints}
 use Rattle.crew.specs.declared.worker.End.{End}
-use Rattle.crew.specs.declared.worker.Shift.{Shift}
-use Rattle.crew.specs.declared.shared.Site.{Site}
+use Rattle.crew.specs.declared.worker.WorkerResult.{WorkerResult}
+use Rattle.crew.specs.declared.shared.Shared.{Shared}
 use Rattle.crew.specs.declared.take.Crew.{Crew}
 use Rattle.crew.specs.declared.take.CrewError.{CrewError}
 use Rattle.crew.specs.declared.take.CrewError.TheVariants.{Memory, Stopped}
@@ -20,19 +20,19 @@ abbrev pub collector_of : ℕ → Crew → Collector
 collector_of awaited crew = collector_with awaited crew.receiver crew.haul
 
 -- the last post was removed
-pub record IsTakenOut (post : Drawn × Presented Note) (old new : Posts) : Type 0 where
-  pub passes : old.passes.items ≡ new.passes.items ++ post.0 ∷ []
-  pub senders : old.senders.items ≡ new.senders.items ++ post.1 ∷ []
+pub record IsTakenOut (endpoint : Drawn × Presented Note) (old new : Endpoints) : Type 0 where
+  pub passes : old.passes.items ≡ new.passes.items ++ endpoint.0 ∷ []
+  pub senders : old.senders.items ≡ new.senders.items ++ endpoint.1 ∷ []
 
 -- no post, and room for those of so many workers
-pub record HaveRoom (workers : ℕ) (posts : Posts) : Type 0 where
-  pub no_passes : posts.passes.items ≡ []
-  pub no_senders : posts.senders.items ≡ []
-  pub for_passes : workers ≤ vec_capacity posts.passes
-  pub for_senders : workers ≤ vec_capacity posts.senders
+pub record HaveRoom (workers : ℕ) (endpoints : Endpoints) : Type 0 where
+  pub no_passes : endpoints.passes.items ≡ []
+  pub no_senders : endpoints.senders.items ≡ []
+  pub for_passes : workers ≤ vec_capacity endpoints.passes
+  pub for_senders : workers ≤ vec_capacity endpoints.senders
 
 -- a pass and a sender were put after the others, and there is as much room as before
-pub record HasAddedPost (pass : Drawn) (sender : Presented Note) (old new : Posts) : Type 0 where
+pub record HasAddedEndpoint (pass : Drawn) (sender : Presented Note) (old new : Endpoints) : Type 0 where
   pub passes : new.passes.items ≡ old.passes.items ++ pass ∷ []
   pub senders : new.senders.items ≡ old.senders.items ++ sender ∷ []
   pub for_passes : vec_capacity new.passes ≡ vec_capacity old.passes
@@ -50,29 +50,29 @@ cause_of None (Some error) = Some (Memory error)
 cause_of None None = None
 
 -- a worker can be started with each post: none was used yet, each is a worker's, nobody is back, there is room for all, and a byte counts them
-pub record MayRun (site : Site) (crew : Crew) : Type 0 where
-  pub passes : All (λ p. p ≡ fresh site.tickets) crew.posts.passes.items
-  pub senders : All (λ s. s ≡ silent site.belt.name s.number) crew.posts.senders.items
-  pub workers : All (λ s. IsWorker s.number) crew.posts.senders.items
-  pub many : length crew.posts.passes.items ≡ length crew.posts.senders.items
-  pub few : crew.away + length crew.posts.senders.items ≤ 255
-  pub receiver : crew.receiver.belt ≡ site.belt
-  pub back : HaveRoom (length crew.posts.senders.items) crew.back
+pub record MayRun (shared : Shared) (crew : Crew) : Type 0 where
+  pub passes : All (λ p. p ≡ fresh shared.tickets) crew.endpoints.passes.items
+  pub senders : All (λ s. s ≡ silent shared.belt.name s.number) crew.endpoints.senders.items
+  pub workers : All (λ s. IsWorker s.number) crew.endpoints.senders.items
+  pub many : length crew.endpoints.passes.items ≡ length crew.endpoints.senders.items
+  pub few : crew.away + length crew.endpoints.senders.items ≤ 255
+  pub receiver : crew.receiver.belt ≡ shared.belt
+  pub back : HaveRoom (length crew.endpoints.senders.items) crew.back
   pub stopped : crew.stopped ≡ None
 
 -- All workers of the posts are back, in their order, with what they leave. The collector has waited for those that were started, and
 -- for those that were away before.
-pub record HasRunAll (may_stop lets : ℕ → ℕ → Type 0) (site : Site) (old new : Crew) : Type 0 where
-  pub shifts : List Shift
-  pub left : All (λ s. Leaves may_stop lets site s.sender.number s) shifts
-  pub numbers : map (λ s. s.sender.number) shifts ≡ sender_numbers old.posts.senders.items
-  pub passes : new.back.passes.items ≡ map (λ s. s.pass) shifts
-  pub senders : new.back.senders.items ≡ map (λ s. s.sender) shifts
+pub record HasRunAll (may_stop lets : ℕ → ℕ → Type 0) (shared : Shared) (old new : Crew) : Type 0 where
+  pub results : List WorkerResult
+  pub left : All (λ s. Leaves may_stop lets shared s.sender.number s) results
+  pub numbers : map (λ s. s.sender.number) results ≡ sender_numbers old.endpoints.senders.items
+  pub passes : new.back.passes.items ≡ map (λ s. s.pass) results
+  pub senders : new.back.senders.items ≡ map (λ s. s.sender) results
   pub for_passes : vec_capacity new.back.passes ≡ vec_capacity old.back.passes
   pub for_senders : vec_capacity new.back.senders ≡ vec_capacity old.back.senders
   pub away : new.away ≡ old.away
-  pub stopped : new.stopped ≡ first_stopped shifts
+  pub stopped : new.stopped ≡ first_stopped results
   pub answered : Bool
   pub heard : new.lacking ≡ None → answered ≡ true
-  pub lacking : new.lacking ≡ None → All (λ s. lacks_memory s.end ≡ false) shifts
-  pub collected : Collected (collector_of (old.away + how_many_started shifts) old) (collector_of 0 new) answered
+  pub lacking : new.lacking ≡ None → All (λ s. lacks_memory s.end ≡ false) results
+  pub collected : Collected (collector_of (old.away + how_many_started results) old) (collector_of 0 new) answered

@@ -29,7 +29,7 @@ dones got = count_by (λ m. is_done m.1) got
 
 -- nothing was received, or the last note says that a worker is done
 abbrev pub EndsDone : List (ℕ × Note) → Type 0
-EndsDone got = (got ≡ []) ⊎ ((front : List (ℕ × Note)) × (sender : ℕ) × (worker : ℕ) × (got ≡ front ++ (sender, Done worker) ∷ []))
+EndsDone got = (got ≡ []) ⊎ ((prefix : List (ℕ × Note)) × (sender : ℕ) × (worker : ℕ) × (got ≡ prefix ++ (sender, Done worker) ∷ []))
 
 -- A haul has taken these reports, in this order. Whatever arrivals stood for it, they and then offers of these reports stand for it.
 pub record HasAdded (reports : List Reported) (old new : Held) : Type 0 where

@@ -11,8 +11,8 @@ use Rattle.crew.specs.declared.note.Note.{Note}
 use Rattle.crew.specs.declared.note.Note.TheVariants.{Done}
 use Rattle.crew.specs.declared.worker.End.{End}
 use Rattle.crew.specs.declared.worker.End.TheVariants.{CalledOff, Drained, Memory, Stopped, Unstarted}
-use Rattle.crew.specs.declared.worker.Shift.{Shift}
-use Rattle.crew.specs.declared.shared.Site.{Site}
+use Rattle.crew.specs.declared.worker.WorkerResult.{WorkerResult}
+use Rattle.crew.specs.declared.shared.Shared.{Shared}
 
 -- the reports among a worker's notes, in order
 abbrev pub reported : List Note → List Reported
@@ -23,12 +23,12 @@ abbrev pub IsOwnReport : (ℕ → ℕ → Type 0) → Job → ℕ → Reported �
 IsOwnReport lets job worker r = (r.worker ≡ worker) × (r.job ≡ job) × lets worker r.number
 
 -- The worker has reported its own surveys of the missing numbers at these places, in this order, which ascend
-pub record HasReported (lets : ℕ → ℕ → Type 0) (site : Site) (places : List ℕ) (sender : Presented Note) : Type 0 where
-  pub belt : sender.belt ≡ site.belt.name
+pub record HasReported (lets : ℕ → ℕ → Type 0) (shared : Shared) (places : List ℕ) (sender : Presented Note) : Type 0 where
+  pub belt : sender.belt ≡ shared.belt.name
   pub ascending : AllPairs (λ x y. x < y) places
-  pub below : All (λ t. t < length site.missing.items) places
-  pub numbers : map (λ r. r.number) (reported sender.notes) ≡ map (slice_index site.missing.items) places
-  pub own : All (IsOwnReport lets site.job sender.number) (reported sender.notes)
+  pub below : All (λ t. t < length shared.missing.items) places
+  pub numbers : map (λ r. r.number) (reported sender.notes) ≡ map (slice_index shared.missing.items) places
+  pub own : All (IsOwnReport lets shared.job sender.number) (reported sender.notes)
 
 -- the numbers of senders
 abbrev pub sender_numbers : List (Presented Note) → List ℕ
@@ -40,7 +40,7 @@ AreNotDone notes = All (λ note. is_done note ≡ false) notes
 
 -- the worker's last note says that it is done, and no other
 abbrev pub EndsByDone : ℕ → List Note → Type 0
-EndsByDone worker notes = (front : List Note) × AreNotDone front × (notes ≡ front ++ Done worker ∷ [])
+EndsByDone worker notes = (prefix : List Note) × AreNotDone prefix × (notes ≡ prefix ++ Done worker ∷ [])
 
 -- the gate may stop the worker at a number that is missing
 abbrev pub StopsAt : (ℕ → ℕ → Type 0) → List ℕ → ℕ → Type 0
@@ -52,16 +52,16 @@ AreAllButLast places drawn = (drawn ≡ places) ⊎ ((n : ℕ) × (drawn ≡ pla
 
 -- What the worker with this number has done when its surveys end so. It has reported at each place that it drew, but for the last one
 -- at most; at each, if none was left.
-pub record HasWorked (may_stop lets : ℕ → ℕ → Type 0) (site : Site) (worker : ℕ) (ended : End) (pass : Drawn) (sender : Presented Note)
+pub record HasWorked (may_stop lets : ℕ → ℕ → Type 0) (shared : Shared) (worker : ℕ) (ended : End) (pass : Drawn) (sender : Presented Note)
     : Type 0 where
   pub number : sender.number ≡ worker
-  pub series : pass.series ≡ site.tickets
+  pub series : pass.series ≡ shared.tickets
   pub places : List ℕ
-  pub reports : HasReported lets site places sender
+  pub reports : HasReported lets shared places sender
   pub drawn : AreAllButLast places pass.numbers
   pub all : ended ≡ Drained → pass.numbers ≡ places
   pub heard : ended ≡ Drained → pass.heard_none ≡ true
-  pub stops : ended ≡ Stopped → StopsAt may_stop site.missing.items worker
+  pub stops : ended ≡ Stopped → StopsAt may_stop shared.missing.items worker
 
 -- the worker has begun to work
 abbrev pub has_begun : End → Bool
@@ -86,20 +86,20 @@ lacks_memory _ = false
 
 -- What the worker with this number leaves. Once it has begun to work it ends by saying that it is done; if it was called off it has
 -- said nothing.
-pub record Leaves (may_stop lets : ℕ → ℕ → Type 0) (site : Site) (worker : ℕ) (shift : Shift) : Type 0 where
-  pub worked : HasWorked may_stop lets site worker shift.end shift.pass shift.sender
-  pub done : has_begun shift.end ≡ true → EndsByDone worker shift.sender.notes
-  pub silent_if : shift.end ≡ CalledOff → shift.sender.notes ≡ []
+pub record Leaves (may_stop lets : ℕ → ℕ → Type 0) (shared : Shared) (worker : ℕ) (worker_result : WorkerResult) : Type 0 where
+  pub worked : HasWorked may_stop lets shared worker worker_result.end worker_result.pass worker_result.sender
+  pub done : has_begun worker_result.end ≡ true → EndsByDone worker worker_result.sender.notes
+  pub silent_if : worker_result.end ≡ CalledOff → worker_result.sender.notes ≡ []
 
 -- what the thread of a worker returns
-pub record Returns (may_stop lets : ℕ → ℕ → Type 0) (site : Site) (worker : ℕ) (shift : Shift) : Type 0 where
-  pub left : Leaves may_stop lets site worker shift
-  pub started : was_started shift.end ≡ true
+pub record Returns (may_stop lets : ℕ → ℕ → Type 0) (shared : Shared) (worker : ℕ) (worker_result : WorkerResult) : Type 0 where
+  pub left : Leaves may_stop lets shared worker worker_result
+  pub started : was_started worker_result.end ≡ true
 
 -- for how many workers a thread was started
-abbrev pub how_many_started : List Shift → ℕ
-how_many_started shifts = count_by (λ s. was_started s.end) shifts
+abbrev pub how_many_started : List WorkerResult → ℕ
+how_many_started results = count_by (λ s. was_started s.end) results
 
 -- the first worker that its gate stopped
-abbrev pub first_stopped : List Shift → Option ℕ
-first_stopped shifts = option_map (λ s. s.sender.number) (find (λ s. was_stopped s.end) shifts)
+abbrev pub first_stopped : List WorkerResult → Option ℕ
+first_stopped results = option_map (λ s. s.sender.number) (find (λ s. was_stopped s.end) results)

@@ -11,7 +11,7 @@ ghost use Rattle.haul_core.specs.declared.book.arrival.Arrival.{Arrival};
 ghost use Rattle.crew.specs.Crews.{Collected, HasAdded, HasComeAll, HasSoupOf, collector_with};
 
 use crate::note::Note;
-use crate::progress_observer::Watch;
+use crate::progress_observer::ProgressObserver;
 use handover::belt::{Belt, ReceiverPass};
 use haul_core::book::haul::Haul;
 use haul_core::book::refused::OfferError;
@@ -27,13 +27,13 @@ use std::sync::Wait;
 ///
 /// [`OutOfMemory`] if memory ran out for a report that the haul would have taken. All other reports have been offered
 /// then too.
-pub fn collect<R: Wait, H: Watch>(
+pub fn collect<R: Wait, H: ProgressObserver>(
     rt: &R,
     belt: &Belt<Note>,
     pass: &mut ReceiverPass<Note>,
     haul: &mut Haul,
     started: u8,
-    watch: &mut H,
+    observer: &mut H,
 ) -> Result<(), OutOfMemory>
     requires { pass.old.belt ≡ belt.now }
     ensures { Collected (collector_with started pass.old haul.old) (collector_with 0 pass.new haul.new)
@@ -42,7 +42,7 @@ pub fn collect<R: Wait, H: Watch>(
     let mut left = started;
     let mut answered = Ok(());
     for _ in rt.forever() {
-        watch.taken(haul.taken().len() as u64);
+        observer.taken(haul.taken().len() as u64);
         if left == 0 {
             break;
         }

@@ -8,8 +8,8 @@ ghost use Rattle.crew.specs.CrewSteps.{HaveRoom};
 ghost use Rattle.crew.specs.Takes.{was_missing};
 
 use crate::note::Note;
-use crate::endpoints::Posts;
-use crate::shared::Site;
+use crate::endpoints::Endpoints;
+use crate::shared::Shared;
 use handover::belt::{Belt, ReceiverPass};
 use handover::tickets::{Tickets, TicketsError};
 use haul_core::book::haul::Haul;
@@ -22,32 +22,32 @@ const ROOM: usize = 64;
 
 /// What a crew begins with.
 #[derive(Drop)]
-pub(crate) struct Start {
-    pub(crate) site: Site,
-    pub(crate) posts: Posts,
+pub(crate) struct CrewSetup {
+    pub(crate) shared: Shared,
+    pub(crate) endpoints: Endpoints,
     pub(crate) receiver: ReceiverPass<Note>,
     /// Room for the posts of the workers that come back.
-    pub(crate) back: Posts,
+    pub(crate) back: Endpoints,
 }
 
-impl Start {
+impl CrewSetup {
     /// All that is needed to survey what is missing in a haul.
-    pub(crate) fn new(alloc: Global, haul: &Haul, workers: u8) -> Result<Start, OutOfMemory>
+    pub(crate) fn new(alloc: Global, haul: &Haul, workers: u8) -> Result<CrewSetup, OutOfMemory>
         requires some { 1 ≤ workers }
         requires few { workers ≤ haul.now.terms.workers }
         requires open { haul.now.closed ≡ false }
-        ensures job { IfOk result (λ start. start.site.job ≡ haul.now.terms.job) }
-        ensures missing { IfOk result (λ start. start.site.missing.items ≡ was_missing haul.now) }
-        ensures ascending { IfOk result (λ start. IsStrictlyIncreasing start.site.missing.items) }
-        ensures workers { IfOk result (λ start. start.site.belt.workers ≡ workers) }
-        ensures tickets { IfOk result (λ start. start.site.tickets.passes ≡ workers) }
-        ensures passes { IfOk result (λ start. All (λ p. p ≡ fresh start.site.tickets) start.posts.passes.items) }
+        ensures job { IfOk result (λ setup. setup.shared.job ≡ haul.now.terms.job) }
+        ensures missing { IfOk result (λ setup. setup.shared.missing.items ≡ was_missing haul.now) }
+        ensures ascending { IfOk result (λ setup. IsStrictlyIncreasing setup.shared.missing.items) }
+        ensures workers { IfOk result (λ setup. setup.shared.belt.workers ≡ workers) }
+        ensures tickets { IfOk result (λ setup. setup.shared.tickets.passes ≡ workers) }
+        ensures passes { IfOk result (λ setup. All (λ p. p ≡ fresh setup.shared.tickets) setup.endpoints.passes.items) }
         ensures few { IfOk result (λ _. workers ≤ 16) }
-        ensures many { IfOk result (λ start. length start.posts.passes.items ≡ workers) }
+        ensures many { IfOk result (λ setup. length setup.endpoints.passes.items ≡ workers) }
         ensures senders { IfOk result
-            (λ start. start.posts.senders.items ≡ map (silent start.site.belt.name) (range_with_len 1 workers)) }
-        ensures receiver { IfOk result (λ start. start.receiver ≡ deaf start.site.belt) }
-        ensures back { IfOk result (λ start. HaveRoom workers start.back) }
+            (λ setup. setup.endpoints.senders.items ≡ map (silent setup.shared.belt.name) (range_with_len 1 workers)) }
+        ensures receiver { IfOk result (λ setup. setup.receiver ≡ deaf setup.shared.belt) }
+        ensures back { IfOk result (λ setup. HaveRoom workers setup.back) }
     {
         // For the prover: a haul has at most 16 workers.
         let _ = haul.workers();
@@ -58,17 +58,17 @@ impl Start {
             Err(TicketsError::BadCount | TicketsError::BadPasses) => unreachable!(),
         };
         let (belt, senders, receiver) = Belt::open(alloc, ROOM, workers)?;
-        let back = Posts::with_room(alloc, workers)?;
-        let site = Site {
+        let back = Endpoints::with_room(alloc, workers)?;
+        let shared = Shared {
             job: haul.job(),
             tickets,
             belt,
             missing,
             called_off: AtomicU64::new(0),
         };
-        Ok(Start {
-            site,
-            posts: Posts { passes, senders },
+        Ok(CrewSetup {
+            shared,
+            endpoints: Endpoints { passes, senders },
             receiver,
             back,
         })

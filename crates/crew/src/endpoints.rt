@@ -5,7 +5,7 @@
 //! back            -       -       -       1, 1 2, 1 2 3
 //! ```
 ghost use Rattle.std.specs.Prelude.{◌≡◌, ◌<◌, [], IfNone, IfOk, IfSome, length, vec_capacity};
-ghost use Rattle.crew.specs.CrewSteps.{HaveRoom, HasAddedPost, IsTakenOut};
+ghost use Rattle.crew.specs.CrewSteps.{HaveRoom, HasAddedEndpoint, IsTakenOut};
 
 use crate::note::Note;
 use handover::belt::SenderPass;
@@ -15,26 +15,26 @@ use std::alloc::Global;
 
 /// A pass and a sender for each of some workers.
 #[derive(Drop)]
-pub(crate) struct Posts {
+pub(crate) struct Endpoints {
     pub(crate) passes: Vec<Pass>,
     pub(crate) senders: Vec<SenderPass<Note>>,
 }
 
-impl Posts {
+impl Endpoints {
     /// No posts, and room for those of so many workers.
-    pub(crate) fn with_room(alloc: Global, workers: u8) -> Result<Posts, OutOfMemory>
+    pub(crate) fn with_room(alloc: Global, workers: u8) -> Result<Endpoints, OutOfMemory>
         ensures { IfOk result (HaveRoom workers) }
     {
         let passes = Vec::with_capacity(alloc, usize::from(workers))?;
         let senders = Vec::with_capacity(alloc, usize::from(workers))?;
-        Ok(Posts { passes, senders })
+        Ok(Endpoints { passes, senders })
     }
 
     /// Puts a post after the others. There is room for it.
     pub(crate) fn add(&mut self, pass: Pass, sender: SenderPass<Note>)
         requires passes { length self.old.passes.items < vec_capacity self.old.passes }
         requires senders { length self.old.senders.items < vec_capacity self.old.senders }
-        ensures { HasAddedPost pass sender self.old self.new }
+        ensures { HasAddedEndpoint pass sender self.old self.new }
     {
         self.passes.push_reserved(pass);
         self.senders.push_reserved(sender);
@@ -44,7 +44,7 @@ impl Posts {
     pub(crate) fn remove_last(&mut self) -> Option<(Pass, SenderPass<Note>)>
         requires { length self.old.passes.items ≡ length self.old.senders.items }
         ensures none { IfNone result (self.old.senders.items ≡ []) }
-        ensures taken_out { IfSome result (λ post. IsTakenOut post self.old self.new) }
+        ensures taken_out { IfSome result (λ endpoint. IsTakenOut endpoint self.old self.new) }
     {
         let sender = self.senders.pop()?;
         let Some(pass) = self.passes.pop() else {

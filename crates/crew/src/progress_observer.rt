@@ -3,7 +3,7 @@
 /// Hears how far a haul has come.
 ///
 /// No contract speaks of it, so nothing that a call returns or writes to its output depends on what is heard here.
-pub trait Watch {
+pub trait ProgressObserver {
     /// A haul of so many soups is to be completed, by so many workers.
     fn begin(&mut self, _whole: u64, _workers: u8) {}
 
@@ -19,8 +19,8 @@ pub trait Watch {
 
 /// Hears nothing.
 #[derive(Clone, Copy, Debug)]
-pub struct Unwatched;
+pub struct NoObserver;
 
-impl Watch for Unwatched {
+impl ProgressObserver for NoObserver {
     fn taken(&mut self, _count: u64) {}
 }

@@ -10,7 +10,7 @@ use survey_core::job::Job;
 
 /// What all workers share.
 #[derive(Drop)]
-pub(crate) struct Site {
+pub(crate) struct Shared {
     pub(crate) job: Job,
     pub(crate) tickets: Tickets,
     pub(crate) belt: Belt<Note>,

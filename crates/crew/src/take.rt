@@ -16,7 +16,7 @@ ghost use Rattle.haul_core.specs.Keeping.{numbers_in};
 ghost use Rattle.haul_core.specs.Missing.{AreAll, IsComplete, missing_of};
 ghost use Rattle.haul_core.specs.Reports.{IsWorker};
 ghost use Rattle.handover.specs.Belts.{IsWhole, silent};
-ghost use Rattle.crew.specs.CrewSteps.{HasAddedPost, HasRunAll, MayRun, cause_of, collector_of, stopped_with};
+ghost use Rattle.crew.specs.CrewSteps.{HasAddedEndpoint, HasRunAll, MayRun, cause_of, collector_of, stopped_with};
 ghost use Rattle.crew.specs.Crews.{Collected};
 ghost use Rattle.crew.specs.Workers.{Leaves, Returns, StopsAt, lacks_memory, was_started};
 ghost use Rattle.crew.specs.Takes.{HasTaken, was_missing};
@@ -26,11 +26,11 @@ ghost use Rattle.crew.specs.declared.take.CrewError.TheVariants as CrewError;
 use crate::collector::collect;
 use crate::gate::Gate;
 use crate::note::Note;
-use crate::endpoints::Posts;
-use crate::worker::{End, Shift, work};
-use crate::shared::Site;
-use crate::crew_setup::Start;
-use crate::progress_observer::Watch;
+use crate::endpoints::Endpoints;
+use crate::worker::{End, WorkerResult, run_worker};
+use crate::shared::Shared;
+use crate::crew_setup::CrewSetup;
+use crate::progress_observer::ProgressObserver;
 use handover::belt::{ReceiverPass, SenderPass};
 use handover::tickets::Pass;
 use haul_core::book::haul::Haul;
@@ -71,13 +71,13 @@ pub enum CrewError {
 /// - [`CrewError::Memory`] if memory ran out, or a thread could not be started, and the haul is not complete.
 ///
 /// To call it again goes on with what is missing.
-pub fn take<G: Gate + Sync, R: Threads + Wait + Sync, H: Watch>(
+pub fn take<G: Gate + Sync, R: Threads + Wait + Sync, H: ProgressObserver>(
     alloc: Global,
     rt: &R,
     haul: Haul,
     workers: u8,
     gate: &G,
-    watch: &mut H,
+    observer: &mut H,
 ) -> Result<Haul, (Haul, CrewError)>
     requires some { 1 ≤ workers }
     requires few { workers ≤ haul.terms.workers }
@@ -99,9 +99,9 @@ pub fn take<G: Gate + Sync, R: Threads + Wait + Sync, H: Watch>(
     if haul.is_closed() {
         return Err((haul, CrewError::Closed));
     }
-    watch.begin(haul.count(), workers);
-    let (haul, cause) = complete_haul(alloc, rt, haul, workers, gate, watch);
-    watch.end();
+    observer.begin(haul.count(), workers);
+    let (haul, cause) = complete_haul(alloc, rt, haul, workers, gate, observer);
+    observer.end();
     if haul.is_complete() {
         return Ok(haul);
     }
@@ -111,13 +111,13 @@ pub fn take<G: Gate + Sync, R: Threads + Wait + Sync, H: Watch>(
 
 /// Lets workers survey what is missing in a haul. With it comes what kept them from some soups, if anything did.
 #[tactic(auto, using(crate::proofs::TakeLemmas::taken_none))]
-fn complete_haul<G: Gate + Sync, R: Threads + Wait + Sync, H: Watch>(
+fn complete_haul<G: Gate + Sync, R: Threads + Wait + Sync, H: ProgressObserver>(
     alloc: Global,
     rt: &R,
     haul: Haul,
     workers: u8,
     gate: &G,
-    watch: &mut H,
+    observer: &mut H,
 ) -> (Haul, Option<CrewError>)
     requires some { 1 ≤ workers }
     requires few { workers ≤ haul.terms.workers }
@@ -133,18 +133,18 @@ fn complete_haul<G: Gate + Sync, R: Threads + Wait + Sync, H: Watch>(
     if haul.is_complete() {
         return (haul, None);
     }
-    let start = match Start::new(alloc, &haul, workers) {
-        Ok(start) => start,
+    let setup = match CrewSetup::new(alloc, &haul, workers) {
+        Ok(setup) => setup,
         Err(error) => return (haul, Some(CrewError::Memory(error))),
     };
-    let Start {
-        site,
-        posts,
+    let CrewSetup {
+        shared,
+        endpoints,
         receiver,
         back,
-    } = start;
+    } = setup;
     let crew = Crew {
-        posts,
+        endpoints,
         haul,
         receiver,
         back,
@@ -152,43 +152,43 @@ fn complete_haul<G: Gate + Sync, R: Threads + Wait + Sync, H: Watch>(
         stopped: None,
         lacking: None,
     };
-    let crew = run_in_scope(alloc, rt, &site, gate, crew, watch);
-    end_crew(site, crew)
+    let crew = run_in_scope(alloc, rt, &shared, gate, crew, observer);
+    end_crew(shared, crew)
 }
 
 /// Runs a crew in a scope of threads.
-fn run_in_scope<G: Gate + Sync, R: Threads + Wait + Sync, H: Watch>(
+fn run_in_scope<G: Gate + Sync, R: Threads + Wait + Sync, H: ProgressObserver>(
     alloc: Global,
     rt: &R,
-    site: &Site,
+    shared: &Shared,
     gate: &G,
     crew: Crew,
-    watch: &mut H,
+    observer: &mut H,
 ) -> Crew
-    requires { MayRun site.now crew }
-    ensures { HasRunAll (G.may_stop gate.now) (G.lets gate.now) site.now crew result }
+    requires { MayRun shared.now crew }
+    ensures { HasRunAll (G.may_stop gate.now) (G.lets gate.now) shared.now crew result }
 {
     thread::scope(
         thread::scope_env(),
         rt,
         move |scope| -> Crew
-            requires { MayRun site.now crew }
-            ensures { HasRunAll (G.may_stop gate.entry.now) (G.lets gate.entry.now) site.entry.now crew result }
+            requires { MayRun shared.now crew }
+            ensures { HasRunAll (G.may_stop gate.entry.now) (G.lets gate.entry.now) shared.entry.now crew result }
         {
             let mut crew = crew;
-            run_crew(alloc, rt, scope, site, gate, &mut crew, watch);
+            run_crew(alloc, rt, scope, shared, gate, &mut crew, observer);
             crew
         },
     )
 }
 
 /// What a crew leaves, once all workers are back: its haul, and what kept workers from some soups.
-fn end_crew(site: Site, crew: Crew) -> (Haul, Option<CrewError>)
-    requires passes { All (λ p. p.series ≡ site.tickets) crew.back.passes.items }
-    requires senders { All (λ s. s.belt ≡ site.belt.name) crew.back.senders.items }
-    requires receiver { crew.receiver.belt ≡ site.belt }
-    ensures drawn { length crew.back.passes.items ≡ site.tickets.passes → 0 < how_many_heard crew.back.passes.items
-        → AreAllBelow site.tickets.count (drawn_by_all crew.back.passes.items) }
+fn end_crew(shared: Shared, crew: Crew) -> (Haul, Option<CrewError>)
+    requires passes { All (λ p. p.series ≡ shared.tickets) crew.back.passes.items }
+    requires senders { All (λ s. s.belt ≡ shared.belt.name) crew.back.senders.items }
+    requires receiver { crew.receiver.belt ≡ shared.belt }
+    ensures drawn { length crew.back.passes.items ≡ shared.tickets.passes → 0 < how_many_heard crew.back.passes.items
+        → AreAllBelow shared.tickets.count (drawn_by_all crew.back.passes.items) }
     ensures whole { All (IsWhole crew.receiver.got) crew.back.senders.items }
     ensures haul { result.0 ≡ crew.haul }
     ensures distinct { IsDistinct nat_eq (numbers_in crew.haul.taken) }
@@ -199,12 +199,12 @@ fn end_crew(site: Site, crew: Crew) -> (Haul, Option<CrewError>)
     let Crew {
         haul,
         receiver,
-        back: Posts { passes, senders },
+        back: Endpoints { passes, senders },
         stopped,
         lacking,
         ..
     } = crew;
-    let Site { tickets, belt, .. } = site;
+    let Shared { tickets, belt, .. } = shared;
     // For the prover: all numbers were drawn, if all passes are back and one of them has heard that none is left.
     let _ = tickets.gather(passes);
     // For the prover: what was received of a worker is a front of what it presented.
@@ -231,24 +231,24 @@ fn cause(stopped: Option<u8>, lacking: Option<OutOfMemory>) -> Option<CrewError>
 #[derive(Clone, Copy)]
 struct Duty<'s, G> {
     worker: u8,
-    site: &'s Site,
+    shared: &'s Shared,
     gate: &'s G,
 }
 
-impl<'s, G: Gate> Promise<Shift> for Duty<'s, G> {
-    ghost kept_by = { λ d shift. Returns (G.may_stop d.gate.now) (G.lets d.gate.now) d.site.now d.worker shift };
+impl<'s, G: Gate> Promise<WorkerResult> for Duty<'s, G> {
+    ghost kept_by = { λ d worker_result. Returns (G.may_stop d.gate.now) (G.lets d.gate.now) d.shared.now d.worker worker_result };
 }
 
 /// A crew while it is run.
 #[derive(Drop)]
 struct Crew {
     /// Of the workers that are still to be started.
-    posts: Posts,
+    endpoints: Endpoints,
     haul: Haul,
     /// What its collector receives with.
     receiver: ReceiverPass<Note>,
     /// Of the workers that are back.
-    back: Posts,
+    back: Endpoints,
     /// How many workers have been started and are not back.
     away: u8,
     /// The least worker that came back stopped.
@@ -259,34 +259,34 @@ struct Crew {
 
 /// Starts a worker for each post, from the last on, collects what they report, and waits for them. The first worker
 /// comes back first.
-fn run_crew<'s, E, G: Gate + Sync, R: Threads + Wait + Sync, H: Watch>(
+fn run_crew<'s, E, G: Gate + Sync, R: Threads + Wait + Sync, H: ProgressObserver>(
     alloc: Global,
     rt: &'s R,
     scope: &'s Scope<'s, E>,
-    site: &'s Site,
+    shared: &'s Shared,
     gate: &'s G,
     crew: &mut Crew,
-    watch: &mut H,
+    observer: &mut H,
 )
-    requires { MayRun site.now crew.old }
-    ensures { HasRunAll (G.may_stop gate.now) (G.lets gate.now) site.now crew.old crew.new }
+    requires { MayRun shared.now crew.old }
+    ensures { HasRunAll (G.may_stop gate.now) (G.lets gate.now) shared.now crew.old crew.new }
 {
-    let Some((pass, sender)) = crew.posts.remove_last() else {
-        receive_all(rt, site, crew, watch);
+    let Some((pass, sender)) = crew.endpoints.remove_last() else {
+        receive_all(rt, shared, crew, observer);
         return;
     };
     let worker = sender.number();
-    let begun = begin_shift(alloc, rt, scope, site, gate, pass, sender);
+    let begun = start_worker(alloc, rt, scope, shared, gate, pass, sender);
     let started = u8::from(begun.is_ok());
     crew.away += started;
-    run_crew(alloc, rt, scope, site, gate, crew, watch);
+    run_crew(alloc, rt, scope, shared, gate, crew, observer);
     crew.away -= started;
-    note_shift(crew, end_shift(rt, Duty { worker, site, gate }, begun));
+    note_result(crew, join_worker(rt, Duty { worker, shared, gate }, begun));
 }
 
 /// Collects what the workers report that have been started, until the last of them is done.
-fn receive_all<R: Wait, H: Watch>(rt: &R, site: &Site, crew: &mut Crew, watch: &mut H)
-    requires { crew.old.receiver.belt ≡ site.now.belt }
+fn receive_all<R: Wait, H: ProgressObserver>(rt: &R, shared: &Shared, crew: &mut Crew, observer: &mut H)
+    requires { crew.old.receiver.belt ≡ shared.now.belt }
     ensures collected { Collected (collector_of crew.old.away crew.old) (collector_of 0 crew.new)
         (not (is_some crew.new.lacking)) }
     ensures back { crew.new.back ≡ crew.old.back }
@@ -294,89 +294,89 @@ fn receive_all<R: Wait, H: Watch>(rt: &R, site: &Site, crew: &mut Crew, watch: &
     ensures away { crew.new.away ≡ crew.old.away }
 {
     let away = crew.away;
-    watch.started(away);
+    observer.started(away);
     let collected = collect(
         rt,
-        &site.belt,
+        &shared.belt,
         &mut crew.receiver,
         &mut crew.haul,
         away,
-        watch,
+        observer,
     );
     crew.lacking = collected.err();
 }
 
 /// Begins a worker's shift in a thread of its own. Where none can be started the worker is called off, and its shift
 /// ends here.
-fn begin_shift<'s, E, G: Gate + Sync, R: Threads + Wait + Sync>(
+fn start_worker<'s, E, G: Gate + Sync, R: Threads + Wait + Sync>(
     alloc: Global,
     rt: &'s R,
     scope: &'s Scope<'s, E>,
-    site: &'s Site,
+    shared: &'s Shared,
     gate: &'s G,
     pass: Pass,
     sender: SenderPass<Note>,
-) -> Result<PromisedHandle<Shift, Duty<'s, G>>, Shift>
-    requires pass { pass ≡ fresh site.now.tickets }
-    requires sender { sender ≡ silent site.now.belt.name sender.number }
+) -> Result<PromisedHandle<WorkerResult, Duty<'s, G>>, WorkerResult>
+    requires pass { pass ≡ fresh shared.now.tickets }
+    requires sender { sender ≡ silent shared.now.belt.name sender.number }
     requires worker { IsWorker sender.number }
     ensures worker { IfOk result (λ handle. handle.promise.worker ≡ sender.number) }
-    ensures site { IfOk result (λ handle. handle.promise.site ≡ site.entry) }
+    ensures shared { IfOk result (λ handle. handle.promise.shared ≡ shared.entry) }
     ensures gate { IfOk result (λ handle. handle.promise.gate ≡ gate.entry) }
-    ensures here { IfErr result (Leaves (G.may_stop gate.now) (G.lets gate.now) site.now sender.number) }
-    ensures unstarted { IfErr result (λ shift. was_started shift.end ≡ false) }
+    ensures here { IfErr result (Leaves (G.may_stop gate.now) (G.lets gate.now) shared.now sender.number) }
+    ensures unstarted { IfErr result (λ worker_result. was_started worker_result.end ≡ false) }
 {
     let worker = sender.number();
-    let duty = Duty { worker, site, gate };
-    let shift = move || -> Shift
-        requires { (pass ≡ fresh site.now.tickets) × (sender ≡ silent site.now.belt.name sender.number)
+    let duty = Duty { worker, shared, gate };
+    let worker_result = move || -> WorkerResult
+        requires { (pass ≡ fresh shared.now.tickets) × (sender ≡ silent shared.now.belt.name sender.number)
             × IsWorker sender.number }
-        ensures { Returns (G.may_stop gate.entry.now) (G.lets gate.entry.now) site.entry.now sender.number result }
-    { work(alloc, rt, site, gate, pass, sender) };
-    match scope.spawn_with(duty, shift) {
+        ensures { Returns (G.may_stop gate.entry.now) (G.lets gate.entry.now) shared.entry.now sender.number result }
+    { run_worker(alloc, rt, shared, gate, pass, sender) };
+    match scope.spawn_with(duty, worker_result) {
         Ok(handle) => Ok(handle),
         Err(refused) => {
             let (here, error) = OutOfMemory::of_start(refused);
-            site.called_off.store(u64::from(worker), Ordering::SeqCst);
-            let Shift { pass, sender, .. } = here();
+            shared.called_off.store(u64::from(worker), Ordering::SeqCst);
+            let WorkerResult { pass, sender, .. } = here();
             let end = End::Unstarted(error);
-            Err(Shift { pass, sender, end })
+            Err(WorkerResult { pass, sender, end })
         }
     }
 }
 
 /// What a worker leaves, once its shift has ended.
-fn end_shift<'s, G: Gate, R: Threads>(
+fn join_worker<'s, G: Gate, R: Threads>(
     rt: &R,
     duty: Duty<'s, G>,
-    begun: Result<PromisedHandle<Shift, Duty<'s, G>>, Shift>,
-) -> Shift
+    begun: Result<PromisedHandle<WorkerResult, Duty<'s, G>>, WorkerResult>,
+) -> WorkerResult
     requires thread { IfOk begun (λ handle. handle.promise ≡ duty) }
-    requires here { IfErr begun (Leaves (G.may_stop duty.gate.now) (G.lets duty.gate.now) duty.site.now duty.worker) }
-    requires unstarted { IfErr begun (λ shift. was_started shift.end ≡ false) }
-    ensures left { Leaves (G.may_stop duty.entry.gate.now) (G.lets duty.entry.gate.now) duty.entry.site.now
+    requires here { IfErr begun (Leaves (G.may_stop duty.gate.now) (G.lets duty.gate.now) duty.shared.now duty.worker) }
+    requires unstarted { IfErr begun (λ worker_result. was_started worker_result.end ≡ false) }
+    ensures left { Leaves (G.may_stop duty.entry.gate.now) (G.lets duty.entry.gate.now) duty.entry.shared.now
         duty.entry.worker result }
     ensures started { was_started result.end ≡ is_ok begun.entry }
 {
     match begun {
         Ok(handle) => handle.join(rt),
-        Err(shift) => shift,
+        Err(worker_result) => worker_result,
     }
 }
 
 /// Notes that one worker more is back.
-fn note_shift(crew: &mut Crew, shift: Shift)
+fn note_result(crew: &mut Crew, worker_result: WorkerResult)
     requires passes { length crew.old.back.passes.items < vec_capacity crew.old.back.passes }
     requires senders { length crew.old.back.senders.items < vec_capacity crew.old.back.senders }
-    ensures back { HasAddedPost shift.pass shift.sender crew.old.back crew.new.back }
-    ensures stopped { crew.new.stopped ≡ stopped_with crew.old.stopped shift.sender.number shift.end }
+    ensures back { HasAddedEndpoint worker_result.pass worker_result.sender crew.old.back crew.new.back }
+    ensures stopped { crew.new.stopped ≡ stopped_with crew.old.stopped worker_result.sender.number worker_result.end }
     ensures answered { crew.new.lacking ≡ None → crew.old.lacking ≡ None }
-    ensures memory { crew.new.lacking ≡ None → lacks_memory shift.end ≡ false }
+    ensures memory { crew.new.lacking ≡ None → lacks_memory worker_result.end ≡ false }
     ensures haul { crew.new.haul ≡ crew.old.haul }
     ensures receiver { crew.new.receiver ≡ crew.old.receiver }
     ensures away { crew.new.away ≡ crew.old.away }
 {
-    let Shift { pass, sender, end } = shift;
+    let WorkerResult { pass, sender, end } = worker_result;
     crew.stopped = first_stopped(crew.stopped, sender.number(), end);
     crew.lacking = any_lack(crew.lacking, end);
     crew.back.add(pass, sender);

@@ -13,7 +13,7 @@ ghost use Rattle.handover.specs.Tickets.{fresh};
 
 use crate::gate::{Gate, Stop};
 use crate::note::Note;
-use crate::shared::Site;
+use crate::shared::Shared;
 use handover::belt::SenderPass;
 use handover::tickets::Pass;
 use haul_core::report::{Report, ReportError};
@@ -40,36 +40,36 @@ pub(crate) enum End {
 
 /// What a worker leaves.
 #[derive(Drop)]
-pub(crate) struct Shift {
+pub(crate) struct WorkerResult {
     pub(crate) pass: Pass,
     pub(crate) sender: SenderPass<Note>,
     pub(crate) end: End,
 }
 
 /// A worker's whole shift. It ends with a note that says so, unless the worker was called off.
-pub(crate) fn work<G: Gate, R: Wait>(
+pub(crate) fn run_worker<G: Gate, R: Wait>(
     alloc: Global,
     rt: &R,
-    site: &Site,
+    shared: &Shared,
     gate: &G,
     pass: Pass,
     sender: SenderPass<Note>,
-) -> Shift
-    requires pass { pass ≡ fresh site.now.tickets }
+) -> WorkerResult
+    requires pass { pass ≡ fresh shared.now.tickets }
     requires worker { IsWorker sender.number }
-    requires sender { sender ≡ silent site.now.belt.name sender.number }
-    ensures { Returns (G.may_stop gate.now) (G.lets gate.now) site.now sender.number result }
+    requires sender { sender ≡ silent shared.now.belt.name sender.number }
+    ensures { Returns (G.may_stop gate.now) (G.lets gate.now) shared.now sender.number result }
 {
     let mut pass = pass;
     let mut sender = sender;
     let worker = sender.number();
-    if site.called_off.load(Ordering::SeqCst) == u64::from(worker) {
+    if shared.called_off.load(Ordering::SeqCst) == u64::from(worker) {
         let end = End::CalledOff;
-        return Shift { pass, sender, end };
+        return WorkerResult { pass, sender, end };
     }
-    let end = survey_all(alloc, rt, site, gate, &mut pass, &mut sender);
-    site.belt.present(rt, &mut sender, Note::Done { worker });
-    Shift { pass, sender, end }
+    let end = survey_all(alloc, rt, shared, gate, &mut pass, &mut sender);
+    shared.belt.present(rt, &mut sender, Note::Done { worker });
+    WorkerResult { pass, sender, end }
 }
 
 /// Surveys what is left, with a memo of the worker's own. Each report is presented. A function of its own: a memo is
@@ -77,21 +77,21 @@ pub(crate) fn work<G: Gate, R: Wait>(
 fn survey_all<G: Gate, R: Wait>(
     alloc: Global,
     rt: &R,
-    site: &Site,
+    shared: &Shared,
     gate: &G,
     pass: &mut Pass,
     sender: &mut SenderPass<Note>,
 ) -> End
-    requires pass { pass.old ≡ fresh site.now.tickets }
+    requires pass { pass.old ≡ fresh shared.now.tickets }
     requires worker { IsWorker sender.old.number }
-    requires sender { sender.old ≡ silent site.now.belt.name sender.old.number }
-    ensures worked { HasWorked (G.may_stop gate.now) (G.lets gate.now) site.now sender.old.number result pass.new
+    requires sender { sender.old ≡ silent shared.now.belt.name sender.old.number }
+    ensures worked { HasWorked (G.may_stop gate.now) (G.lets gate.now) shared.now sender.old.number result pass.new
         sender.new }
     ensures begun { has_begun result ≡ true }
     ensures not_done { AreNotDone sender.new.notes }
 {
     let mut memo = Memo::new(alloc);
-    survey_left(alloc, rt, site, gate, pass, sender, &mut memo)
+    survey_left(alloc, rt, shared, gate, pass, sender, &mut memo)
 }
 
 /// Surveys one number after another, until none is left, the gate stops the worker, or memory runs out.
@@ -99,36 +99,36 @@ fn survey_all<G: Gate, R: Wait>(
 fn survey_left<G: Gate, R: Wait>(
     alloc: Global,
     rt: &R,
-    site: &Site,
+    shared: &Shared,
     gate: &G,
     pass: &mut Pass,
     sender: &mut SenderPass<Note>,
     memo: &mut Memo,
 ) -> End
-    requires pass { pass.old ≡ fresh site.now.tickets }
+    requires pass { pass.old ≡ fresh shared.now.tickets }
     requires worker { IsWorker sender.old.number }
-    requires sender { sender.old ≡ silent site.now.belt.name sender.old.number }
-    ensures worked { HasWorked (G.may_stop gate.now) (G.lets gate.now) site.now sender.old.number result pass.new
+    requires sender { sender.old ≡ silent shared.now.belt.name sender.old.number }
+    ensures worked { HasWorked (G.may_stop gate.now) (G.lets gate.now) shared.now sender.old.number result pass.new
         sender.new }
     ensures begun { has_begun result ≡ true }
     ensures not_done { AreNotDone sender.new.notes }
 {
     let worker = sender.number();
     for _ in rt.forever() {
-        let Some(place) = site.tickets.draw(pass) else {
+        let Some(place) = shared.tickets.draw(pass) else {
             return End::Drained;
         };
-        let number = site.missing[place as usize];
+        let number = shared.missing[place as usize];
         match gate.before(worker, number) {
             Ok(()) => {}
             Err(Stop) => return End::Stopped,
         }
-        let report = match Report::make_with(alloc, &site.job, worker, number, memo) {
+        let report = match Report::make_with(alloc, &shared.job, worker, number, memo) {
             Ok(report) => report,
             Err(ReportError::Memory(error)) => return End::Memory(error),
             Err(ReportError::BadWorker) => unreachable!(),
         };
-        site.belt.present(rt, sender, Note::Report(report));
+        shared.belt.present(rt, sender, Note::Report(report));
     }
     unreachable!()
 }

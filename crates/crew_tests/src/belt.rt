@@ -4,7 +4,7 @@ ghost use Rattle.std.specs.Prelude.{◌≡◌, ◌<◌};
 use crate::small::{haul_of, small_job};
 use crew::collector::collect;
 use crew::note::Note;
-use crew::progress_observer::Unwatched;
+use crew::progress_observer::NoObserver;
 use handover::belt::{Belt, SenderPass};
 use haul_core::book::haul::Haul;
 use haul_core::report::Report;
@@ -63,7 +63,7 @@ fn collected<R: Abort + AllocGlobal + Threads + Wait + Sync>(
             join(
                 rt,
                 || present_hundred(alloc, rt, &belt, second, job, 100),
-                || collect(rt, &belt, &mut receiver, haul, 2, &mut Unwatched).is_ok(),
+                || collect(rt, &belt, &mut receiver, haul, 2, &mut NoObserver).is_ok(),
             )
         },
     );

@@ -3,7 +3,7 @@ ghost use Rattle.std.specs.Prelude.{◌≡◌, ◌≤◌};
 
 use crate::small::haul_of;
 use crew::gate::{Gate, OpenGate};
-use crew::progress_observer::{Unwatched, Watch};
+use crew::progress_observer::{NoObserver, ProgressObserver};
 use crew::take::{CrewError, take};
 use haul_core::book::haul::Haul;
 use std::sync::Wait;
@@ -44,18 +44,18 @@ fn counts_in(taken: &[(u8, u64)]) -> [u64; 17] {
 }
 
 /// Lets workers go on with a haul, and returns it with why it is not complete.
-pub(crate) fn go_on<G: Gate + Sync, R: AllocGlobal + Threads + Wait + Sync, H: Watch>(
+pub(crate) fn go_on<G: Gate + Sync, R: AllocGlobal + Threads + Wait + Sync, H: ProgressObserver>(
     rt: &R,
     haul: Haul,
     workers: u8,
     gate: &G,
-    watch: &mut H,
+    observer: &mut H,
 ) -> (Haul, Option<CrewError>)
     requires some { 1 ≤ workers }
     requires few { workers ≤ haul.terms.workers }
     ensures { result.0.terms ≡ haul.terms }
 {
-    match take(rt.alloc(), rt, haul, workers, gate, watch) {
+    match take(rt.alloc(), rt, haul, workers, gate, observer) {
         Ok(haul) => (haul, None),
         Err((haul, fault)) => (haul, Some(fault)),
     }
@@ -72,10 +72,10 @@ pub(crate) fn left_by<G: Gate + Sync, R: AllocGlobal + Threads + Wait + Sync>(
     requires { 1 ≤ workers }
 {
     let haul = haul_of(rt.alloc(), job, count, workers)?;
-    let (haul, fault) = go_on(rt, haul, workers, gate, &mut Unwatched);
+    let (haul, fault) = go_on(rt, haul, workers, gate, &mut NoObserver);
     let missing = haul.missing_count();
     let counts = counts_in(haul.taken());
-    let (_, later) = go_on(rt, haul, workers, &OpenGate, &mut Unwatched);
+    let (_, later) = go_on(rt, haul, workers, &OpenGate, &mut NoObserver);
     Ok(Left {
         fault,
         missing,

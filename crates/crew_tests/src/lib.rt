@@ -15,4 +15,4 @@ mod small;
 #[cfg(test)]
 mod tickets;
 #[cfg(test)]
-mod watch;
+mod observer;

@@ -4,7 +4,7 @@ ghost use Rattle.std.specs.Prelude.{◌≤◌};
 use crate::left::go_on;
 use crate::small::{haul_of, small_job};
 use crew::gate::OpenGate;
-use crew::progress_observer::Watch;
+use crew::progress_observer::ProgressObserver;
 use std::sync::Wait;
 use std::test::Fail;
 use std::thread::Threads;
@@ -16,7 +16,7 @@ struct Roll {
     started: u8,
 }
 
-impl Watch for Roll {
+impl ProgressObserver for Roll {
     fn begin(&mut self, _whole: u64, workers: u8) {
         self.asked = workers;
     }

@@ -17,7 +17,7 @@ use Rattle.std.proofs.Common.{add-zero}
 use Rattle.std.specs.List.{range_with_len}
 use Rattle.atomic_table.specs.Seated.{TableId}
 use Rattle.handover.specs.Belts.{IsWhole, NothingLeft, Presented, left_of, notes_of, silent, with_first}
-use Rattle.handover.specs.BeltRule.{Delivers, GetsNote, IsFront, KnowsItsNotes, PutsNote, TellsWhatIsLeft, both_shares}
+use Rattle.handover.specs.BeltRule.{Delivers, GetsNote, IsPrefix, KnowsItsNotes, PutsNote, TellsWhatIsLeft, both_shares}
 use Rattle.handover.specs.BeltRule.{first_notes, first_share, left_over, new_sender, notes_entry, owners, owns}
 use Rattle.handover.specs.BeltRule.{receives}
 use Rattle.handover.specs.BeltRule.{share, spent_share, with_sender, with_senders}
@@ -184,7 +184,7 @@ module _ {N : Type 0} where
             elim (dec_le 1 x.0) [ yes h ↦ h | no h ↦ absurd (there x.0 refl (mine.unmade may x.0 (inl (omega arith))).0) ],
             elim (dec_le x.0 v.made) [ yes h ↦ h | no h ↦ absurd (there x.0 refl (mine.unmade may x.0 (inr (omega arith))).0) ],
           );
-          fronts = λ k z lt.
+          prefixes = λ k z lt.
               let q : ℕ = (get_or v.senders k z).0 in (
                 notes_of q items,
                 mine.senders k z lt ∙ ap (notes_of q) (same ∙ ap (λ (l : List (ℕ × N)). (l ++ x ∷ []) ++ items) (sym is_got))
@@ -292,23 +292,23 @@ module _ {N : Type 0} where
       ∙ ap (λ (l : List (Presented N)). map notes_entry l ++ v.senders) (sym is))
       ∙ so_far
 
-  drop_front : (front more : List N) → drop (length front) (front ++ more) ≡ more
-  drop_front [] more = refl
-  drop_front (x ∷ xs) more = drop_front xs more
+  drop_prefix : (prefix more : List N) → drop (length prefix) (prefix ++ more) ≡ more
+  drop_prefix [] more = refl
+  drop_prefix (x ∷ xs) more = drop_prefix xs more
 
   -- the passes that are handed back, with what the rule tells of them
   pub told : (passes : List (Presented N)) (v : Share N) (items : List (ℕ × N)) → v.senders ≡ []
       → TellsWhatIsLeft (with_senders passes v) items
-      → All (λ (p : Presented N). IsFront (notes_of p.number v.got) p.notes) passes
+      → All (λ (p : Presented N). IsPrefix (notes_of p.number v.got) p.notes) passes
   told passes v items none tells = go passes (subst (λ (l : List (ℕ × List N)). All (λ (e : ℕ × List N). e.1 ≡ notes_of e.0 (v.got ++ items)) l)
       (ap (λ (l : List (ℕ × List N)). map notes_entry passes ++ l) none ∙ append-nil (map notes_entry passes)) tells)
     where
       go : (passes : List (Presented N))
           → All (λ (e : ℕ × List N). e.1 ≡ notes_of e.0 (v.got ++ items)) (map notes_entry passes)
-          → All (λ (p : Presented N). IsFront (notes_of p.number v.got) p.notes) passes
-      go [] all = All-nil (λ (p : Presented N). IsFront (notes_of p.number v.got) p.notes)
+          → All (λ (p : Presented N). IsPrefix (notes_of p.number v.got) p.notes) passes
+      go [] all = All-nil (λ (p : Presented N). IsPrefix (notes_of p.number v.got) p.notes)
       go (p ∷ ps) all =
-          All-cons (λ (p : Presented N). IsFront (notes_of p.number v.got) p.notes) p ps (
+          All-cons (λ (p : Presented N). IsPrefix (notes_of p.number v.got) p.notes) p ps (
             notes_of p.number items,
             All-head (λ (e : ℕ × List N). e.1 ≡ notes_of e.0 (v.got ++ items)) (notes_entry p) (map notes_entry ps) all
                 ∙ notes-append p.number v.got items,
@@ -316,13 +316,13 @@ module _ {N : Type 0} where
           (go ps (All-tail (λ (e : ℕ × List N). e.1 ≡ notes_of e.0 (v.got ++ items)) (notes_entry p) (map notes_entry ps)
           all))
 
-  pub whole : (got : List (ℕ × N)) (passes : List (Presented N)) → All (λ (p : Presented N). IsFront (notes_of p.number got) p.notes) passes
+  pub whole : (got : List (ℕ × N)) (passes : List (Presented N)) → All (λ (p : Presented N). IsPrefix (notes_of p.number got) p.notes) passes
       → All (IsWhole got) passes
-  whole got passes fronts k z lt =
+  whole got passes prefixes k z lt =
       let p = get_or passes k z in
-      let f = fronts k z lt in
-      let front = notes_of p.number got in
-      ap (λ (l : List N). front ++ l) (ap (λ (l : List N). drop (length front) l) f.1 ∙ drop_front front f.0) ∙ sym f.1
+      let f = prefixes k z lt in
+      let prefix = notes_of p.number got in
+      ap (λ (l : List N). prefix ++ l) (ap (λ (l : List N). drop (length prefix) l) f.1 ∙ drop_prefix prefix f.0) ∙ sym f.1
 
   -- what is seen of the rest, and what it keeps
   pub seen_remainder : (passes : List (Presented N)) (v : Share N) → v.senders ≡ []
@@ -335,55 +335,55 @@ module _ {N : Type 0} where
       go [] = refl
       go (p ∷ ps) = λ i. left_of v.got p ∷ go ps i
 
-  pub fronts_kept : (v : Share N) (items : List (ℕ × N)) → TellsWhatIsLeft v items
-      → All (λ (e : ℕ × List N). IsFront (notes_of e.0 v.got) e.1) v.senders
-  fronts_kept v items tells k z lt =
+  pub prefixes_kept : (v : Share N) (items : List (ℕ × N)) → TellsWhatIsLeft v items
+      → All (λ (e : ℕ × List N). IsPrefix (notes_of e.0 v.got) e.1) v.senders
+  prefixes_kept v items tells k z lt =
       let e = get_or v.senders k z in
       (notes_of e.0 items, tells k z lt ∙ notes-append e.0 v.got items)
 
   -- ---- notes taken out of the rest
 
-  took_one : (got : List (ℕ × N)) (x : ℕ × N) (e : ℕ × List N) → IsFront (notes_of e.0 (got ++ x ∷ [])) e.1
+  took_one : (got : List (ℕ × N)) (x : ℕ × N) (e : ℕ × List N) → IsPrefix (notes_of e.0 (got ++ x ∷ [])) e.1
       → left_over got e ≡ with_first x.0 x.1 (left_over (got ++ x ∷ []) e)
   took_one got x e f =
-      let front = notes_of e.0 got in
+      let prefix = notes_of e.0 got in
       let now : drop (length (notes_of e.0 (got ++ x ∷ []))) e.1 ≡ f.0 =
-      ap (λ (l : List N). drop (length (notes_of e.0 (got ++ x ∷ []))) l) f.1 ∙ drop_front (notes_of e.0 (got ++ x ∷ [])) f.0 in
+      ap (λ (l : List N). drop (length (notes_of e.0 (got ++ x ∷ []))) l) f.1 ∙ drop_prefix (notes_of e.0 (got ++ x ∷ [])) f.0 in
       dite (ℕ_discrete e.0 x.0)
       (λ same.
-      let grown : notes_of e.0 (got ++ x ∷ []) ≡ front ++ x.1 ∷ [] =
-      notes-append e.0 got (x ∷ []) ∙ ap (λ (l : List N). front ++ l) (notes_first x.0 e.0 x.1 [] same) in
-      let was : drop (length front) e.1 ≡ x.1 ∷ f.0 =
-      ap (λ (l : List N). drop (length front) l) (f.1 ∙ ap (λ (l : List N). l ++ f.0) grown ∙ append_assoc front (x.1 ∷ []) f.0)
-      ∙ drop_front front (x.1 ∷ f.0) in
+      let grown : notes_of e.0 (got ++ x ∷ []) ≡ prefix ++ x.1 ∷ [] =
+      notes-append e.0 got (x ∷ []) ∙ ap (λ (l : List N). prefix ++ l) (notes_first x.0 e.0 x.1 [] same) in
+      let was : drop (length prefix) e.1 ≡ x.1 ∷ f.0 =
+      ap (λ (l : List N). drop (length prefix) l) (f.1 ∙ ap (λ (l : List N). l ++ f.0) grown ∙ append_assoc prefix (x.1 ∷ []) f.0)
+      ∙ drop_prefix prefix (x.1 ∷ f.0) in
       λ i. (
         e.0,
         (was ∙ ap (λ (l : List N). x.1 ∷ l) (sym now)
             ∙ sym (ap (λ (b : Bool). cond b (x.1 ∷ drop (length (notes_of e.0 (got ++ x ∷ []))) e.1) (drop (length (notes_of e.0 (got ++ x ∷ []))) e.1)) (eq-eqb e.0 x.0 same))) i,
       ))
       (λ apart.
-      let kept : notes_of e.0 (got ++ x ∷ []) ≡ front = notes_keep x.0 e.0 x.1 got apart in
+      let kept : notes_of e.0 (got ++ x ∷ []) ≡ prefix = notes_keep x.0 e.0 x.1 got apart in
       λ i. (
         e.0,
         (ap (λ (l : List N). drop (length l) e.1) (sym kept)
             ∙ sym (ap (λ (b : Bool). cond b (x.1 ∷ drop (length (notes_of e.0 (got ++ x ∷ []))) e.1) (drop (length (notes_of e.0 (got ++ x ∷ []))) e.1)) (ne_eqb e.0 x.0 apart))) i,
       ))
 
-  pub took : (got : List (ℕ × N)) (x : ℕ × N) (senders : List (ℕ × List N)) → All (λ (e : ℕ × List N). IsFront (notes_of e.0 (got ++ x ∷ [])) e.1) senders
+  pub took : (got : List (ℕ × N)) (x : ℕ × N) (senders : List (ℕ × List N)) → All (λ (e : ℕ × List N). IsPrefix (notes_of e.0 (got ++ x ∷ [])) e.1) senders
       → map (left_over got) senders ≡ map (with_first x.0 x.1) (map (left_over (got ++ x ∷ [])) senders)
-  took got x [] fronts = refl
-  took got x (e ∷ es) fronts = λ i.
-      took_one got x e (All-head (λ (e : ℕ × List N). IsFront (notes_of e.0 (got ++ x ∷ [])) e.1) e es fronts) i
-      ∷ took got x es (All-tail (λ (e : ℕ × List N). IsFront (notes_of e.0 (got ++ x ∷ [])) e.1) e es fronts) i
+  took got x [] prefixes = refl
+  took got x (e ∷ es) prefixes = λ i.
+      took_one got x e (All-head (λ (e : ℕ × List N). IsPrefix (notes_of e.0 (got ++ x ∷ [])) e.1) e es prefixes) i
+      ∷ took got x es (All-tail (λ (e : ℕ × List N). IsPrefix (notes_of e.0 (got ++ x ∷ [])) e.1) e es prefixes) i
 
   left_none : (got : List (ℕ × N)) (senders : List (ℕ × List N)) → All (λ (e : ℕ × List N). e.1 ≡ notes_of e.0 got) senders
       → All (λ (e : ℕ × List N). e.1 ≡ []) (map (left_over got) senders)
   left_none got [] whole = All-nil (λ (e : ℕ × List N). e.1 ≡ [])
   left_none got (e ∷ es) whole =
-      let front = notes_of e.0 got in
-      let is : e.1 ≡ front = All-head (λ (e : ℕ × List N). e.1 ≡ notes_of e.0 got) e es whole in
+      let prefix = notes_of e.0 got in
+      let is : e.1 ≡ prefix = All-head (λ (e : ℕ × List N). e.1 ≡ notes_of e.0 got) e es whole in
       All-cons (λ (e : ℕ × List N). e.1 ≡ []) (left_over got e) (map (left_over got) es)
-      (ap (λ (l : List N). drop (length front) l) (is ∙ sym (append-nil front)) ∙ drop_front front [])
+      (ap (λ (l : List N). drop (length prefix) l) (is ∙ sym (append-nil prefix)) ∙ drop_prefix prefix [])
       (left_none got es (All-tail (λ (e : ℕ × List N). e.1 ≡ notes_of e.0 got) e es whole))
 
   -- an empty queue

@@ -68,14 +68,14 @@ module _ {N : Type 0} where
   abbrev pub PutsNote : Share N → ℕ × N → Share N → Type 0
   PutsNote v x w = w ≡ share ((x.0, first_notes v.senders ++ x.1 ∷ []) ∷ []) v.receives v.made v.got
 
-  abbrev pub IsFront : List N → List N → Type 0
-  IsFront front whole = (remainder : List N) × (whole ≡ front ++ remainder)
+  abbrev pub IsPrefix : List N → List N → Type 0
+  IsPrefix prefix whole = (remainder : List N) × (whole ≡ prefix ++ remainder)
 
   -- a note got
   pub record GetsNote (v : Share N) (x : ℕ × N) (w : Share N) : Type 0 where
     pub got : w ≡ share v.senders v.receives v.made (v.got ++ x ∷ [])
     pub made : (1 ≤ x.0) × (x.0 ≤ v.made)
-    pub fronts : All (λ e. IsFront (notes_of e.0 (v.got ++ x ∷ [])) e.1) v.senders
+    pub prefixes : All (λ e. IsPrefix (notes_of e.0 (v.got ++ x ∷ [])) e.1) v.senders
 
   -- what is left of an entry once these were got
   abbrev pub left_over : List (ℕ × N) → ℕ × List N → ℕ × List N

@@ -13,7 +13,7 @@ ghost use Rattle.handover.specs.Belts.{GotOne, IsWhole, NothingLeft, TookFirst, 
 ghost use Rattle.handover.specs.Belts.{with_note};
 ghost use Rattle.handover.specs.BeltRule.{first_share, share, with_senders};
 
-use crate::event_count::Bell;
+use crate::event_count::EventCount;
 use crossbeam_queue::protocol::{Join, Lesson, Outcome, Protocol, Split};
 use crossbeam_queue::{Pass, RuledArrayQueue};
 use memory::OutOfMemory;
@@ -90,9 +90,9 @@ pub struct Belt<N: Drop> {
     queue: Queue<N>,
     workers: u8,
     /// Rings after each note that is presented.
-    arrived: Bell,
+    arrived: EventCount,
     /// Rings after each note that is received.
-    left: Bell,
+    left: EventCount,
 }
 
 impl<N: Drop> Model for Belt<N> {
@@ -163,7 +163,7 @@ pub struct Remainder<N: Drop> {
 impl<N: Drop> Model for Remainder<N> {
     ghost use Rattle.std.specs.Prelude.{◌≡◌, All, [], map, true};
     ghost use Rattle.handover.specs.Belts.{Left, notes_of};
-    ghost use Rattle.handover.specs.BeltRule.{IsFront, left_over};
+    ghost use Rattle.handover.specs.BeltRule.{IsPrefix, left_over};
 
     ghost Value = { Left N };
 
@@ -174,7 +174,7 @@ impl<N: Drop> Model for Remainder<N> {
 
     ghost invariant = { λ r. (r.pass.table_id ≡ r.queue.table.shared.table_id) × (r.pass.me.1 ≡ [])
         × (r.pass.me.0.client.receives ≡ true)
-        × All (λ e. IsFront (notes_of e.0 r.pass.me.0.client.got) e.1) r.pass.me.0.client.senders };
+        × All (λ e. IsPrefix (notes_of e.0 r.pass.me.0.client.got) e.1) r.pass.me.0.client.senders };
 }
 
 impl<N: Drop> Belt<N> {
@@ -200,8 +200,8 @@ impl<N: Drop> Belt<N> {
         let belt = Belt {
             queue,
             workers,
-            arrived: Bell::new(),
-            left: Bell::new(),
+            arrived: EventCount::new(),
+            left: EventCount::new(),
         };
         Ok((belt, senders, ReceiverPass { pass }))
     }

@@ -17,14 +17,14 @@ use std::sync::atomic::{AtomicU64, Ordering};
 /// A thread that looks how often it has rung before it looks whether it has to wait misses no change after which it
 /// rings.
 #[derive(Drop)]
-pub(crate) struct Bell {
+pub(crate) struct EventCount {
     rings: AtomicU64,
     sleepers: AtomicU64,
 }
 
-impl Bell {
-    pub(crate) fn new() -> Bell {
-        Bell {
+impl EventCount {
+    pub(crate) fn new() -> EventCount {
+        EventCount {
             rings: AtomicU64::new(0),
             sleepers: AtomicU64::new(0),
         }

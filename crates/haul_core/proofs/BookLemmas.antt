@@ -15,7 +15,7 @@ use Rattle.haul_core.specs.declared.book.arrival.Arrival.{Arrival}
 use Rattle.haul_core.specs.declared.book.arrival.Arrival.TheVariants.{Closing, Offer}
 use Rattle.haul_core.specs.declared.book.refused.OfferError.{OfferError}
 use Rattle.haul_core.specs.declared.book.refused.OfferError.TheVariants.{Closed, Memory, OtherJob, OutOfRange, UnknownWorker}
-use Rattle.haul_core.specs.Replies.{IsTakenNext, StandsForFront, refusal_at, worker_in}
+use Rattle.haul_core.specs.Replies.{IsTakenNext, StandsForPrefix, refusal_at, worker_in}
 use Rattle.haul_core.specs.Books.{Held, StandsFor, Terms, eligible, entry, first_of_each}
 use Rattle.haul_core.specs.Refusals.{IsReply, double, first_worker, refusal_of, replies_to, reply_to}
 use Rattle.haul_core.specs.Books.{has_closing, has_number, is_closing, is_lawful, offered, taken_of}
@@ -320,15 +320,15 @@ pub reason_is : {r s : OfferError} → Some r ≡ Some s → r ≡ s
 reason_is e = cc
 
 -- memory ran out for the next arrival, which the book takes
-pub stopped_at : {T E : Type 0} (r : Result T E) (before arrivals front : List Arrival) (next : Arrival) (more : List Arrival) (held new : Held)
-    → arrivals ≡ front ++ next ∷ more → new ≡ held → IsTakenNext held.terms (before ++ front) (next ∷ []) → StandsFor (before ++ front) held
-    → OnErr r (StandsForFront before arrivals new)
-stopped_at r before arrivals front next more held new cut same taken s = on_err_from r (record {
-  front = front;
+pub stopped_at : {T E : Type 0} (r : Result T E) (before arrivals prefix : List Arrival) (next : Arrival) (more : List Arrival) (held new : Held)
+    → arrivals ≡ prefix ++ next ∷ more → new ≡ held → IsTakenNext held.terms (before ++ prefix) (next ∷ []) → StandsFor (before ++ prefix) held
+    → OnErr r (StandsForPrefix before arrivals new)
+stopped_at r before arrivals prefix next more held new cut same taken s = on_err_from r (record {
+  prefix = prefix;
   remainder = next ∷ more;
   cut = cut;
-  stands = subst (StandsFor (before ++ front)) (sym same) s;
-  stopped = inr (subst (λ (h : Held). IsTakenNext h.terms (before ++ front) (next ∷ more)) (sym same) (is_next held.terms (before ++ front) next more taken));
+  stands = subst (StandsFor (before ++ prefix)) (sym same) s;
+  stopped = inr (subst (λ (h : Held). IsTakenNext h.terms (before ++ prefix) (next ∷ more)) (sym same) (is_next held.terms (before ++ prefix) next more taken));
 })
   where
     is_next : (terms : Terms) (before : List Arrival) (next : Arrival) (more : List Arrival) → IsTakenNext terms before (next ∷ [])
@@ -337,7 +337,7 @@ stopped_at r before arrivals front next more held new cut same taken s = on_err_
     is_next terms before Closing more taken = taken
 
 -- what the iterator of a vector has given is a front of its items
-pub taken_front : {X A : Type 0} (s : IntoIter X A) (xs : List X) (t : IntoIter X A) → Yields into_iter_steps s xs t
+pub taken_prefix : {X A : Type 0} (s : IntoIter X A) (xs : List X) (t : IntoIter X A) → Yields into_iter_steps s xs t
     → into_iter_items s ≡ xs ++ into_iter_items t
-taken_front s [] t y = ap into_iter_items y
-taken_front s (x ∷ xs) t y = y.1.0 ∙ ap (λ ys. x ∷ ys) (taken_front y.0 xs t y.2)
+taken_prefix s [] t y = ap into_iter_items y
+taken_prefix s (x ∷ xs) t y = y.1.0 ∙ ap (λ ys. x ∷ ys) (taken_prefix y.0 xs t y.2)

@@ -9,10 +9,10 @@ use Rattle.haul_core.specs.LawfulClaims.{IsCount}
 use Rattle.haul_core.proofs.SpaceLemmas.{code_lacks_star, cut_once, decimal_lacks}
 
 -- a field that is cut at `*` (42) and is that of a count has its code and its number
-pub same_count : (field front text : List ℕ) (object : List ℕ × ℕ) → Cuts 42 field front (Some text) → IsCount object → field ≡ count_field object
-    → (front ≡ object.0) × (text ≡ decimal object.1)
-same_count field front text object cut lawful e =
-    cut_once 42 front object.0 text (decimal object.1) cut.1 (code_lacks_star object.0 lawful.code.bytes) (sym cut.0 ∙ e)
+pub same_count : (field prefix text : List ℕ) (object : List ℕ × ℕ) → Cuts 42 field prefix (Some text) → IsCount object → field ≡ count_field object
+    → (prefix ≡ object.0) × (text ≡ decimal object.1)
+same_count field prefix text object cut lawful e =
+    cut_once 42 prefix object.0 text (decimal object.1) cut.1 (code_lacks_star object.0 lawful.code.bytes) (sym cut.0 ∙ e)
 
 -- the number before a `,` (44) is one, and so is what follows
 pub same_first : (text remainder more : List ℕ) (n m : ℕ) → IsSmall n → IsSmall m → text ≡ decimal n ++ 44 ∷ remainder → text ≡ decimal m ++ 44 ∷ more

@@ -91,21 +91,21 @@ lacks_at line (first ∷ more) there f e b none = inr (record {
 
 -- each text is cut somewhere
 record IsCut (text : List ℕ) : Type 0 where
-  front : List ℕ
+  prefix : List ℕ
   remainder : Option (List ℕ)
-  cut : Cuts 32 text front remainder
+  cut : Cuts 32 text prefix remainder
 
 cut_anywhere : (text : List ℕ) → IsCut text
-cut_anywhere [] = record { front = []; remainder = None; cut = (refl, refl) }
+cut_anywhere [] = record { prefix = []; remainder = None; cut = (refl, refl) }
 cut_anywhere (b ∷ text) = go (b == 32) refl (cut_anywhere text)
   where
     go : (t : Bool) → (b == 32) ≡ t → IsCut text → IsCut (b ∷ text)
-    go true e c = record { front = []; remainder = Some text; cut = (ap (λ (x : ℕ). x ∷ text) (eqb-true b 32 e), refl) }
-    go false e c = more c.front c.remainder c.cut
+    go true e c = record { prefix = []; remainder = Some text; cut = (ap (λ (x : ℕ). x ∷ text) (eqb-true b 32 e), refl) }
+    go false e c = more c.prefix c.remainder c.cut
       where
-        more : (front : List ℕ) (remainder : Option (List ℕ)) → Cuts 32 text front remainder → IsCut (b ∷ text)
-        more front None k = record { front = b ∷ front; remainder = None; cut = (ap (λ (t : List ℕ). b ∷ t) k.0, or_from _ _ e k.1) }
-        more front (Some remainder) k = record { front = b ∷ front; remainder = Some remainder; cut = (ap (λ (t : List ℕ). b ∷ t) k.0, or_from _ _ e k.1) }
+        more : (prefix : List ℕ) (remainder : Option (List ℕ)) → Cuts 32 text prefix remainder → IsCut (b ∷ text)
+        more prefix None k = record { prefix = b ∷ prefix; remainder = None; cut = (ap (λ (t : List ℕ). b ∷ t) k.0, or_from _ _ e k.1) }
+        more prefix (Some remainder) k = record { prefix = b ∷ prefix; remainder = Some remainder; cut = (ap (λ (t : List ℕ). b ∷ t) k.0, or_from _ _ e k.1) }
 
 -- nothing may follow
 pub over_at : (line : List ℕ) (before : List (List ℕ)) (here : List ℕ) → FollowsFields line before (Some here) → BeginClaim before
@@ -113,7 +113,7 @@ pub over_at : (line : List ℕ) (before : List (List ℕ)) (here : List ℕ) →
     → IsFirstFaultOf line (length line - length here)
 over_at line before here f b none =
     let c = cut_anywhere here in
-    bad_at line before here c.front c.remainder f c.cut b (λ claim lawful remainder. none claim lawful c.front remainder)
+    bad_at line before here c.prefix c.remainder f c.cut b (λ claim lawful remainder. none claim lawful c.prefix remainder)
 
 -- ---- the head
 
@@ -136,12 +136,12 @@ pub head_bad : (line : List ℕ) (place : ℕ) (head : LineStart) (here field : 
     → Cuts 32 here field more → ((claim : Claimed) → IsClaim claim → get_or (head_of claim) place [] ≢ field) → IsFirstFaultOf line (length line - length here)
 head_bad line place head here field more within h c none =
     let own = claimed head [] in
-    let front = take place (head_of own) in
-    let count : length front ≡ place = omega (arith, length-take-le place (head_of own) (omega (arith, head_length own))) in
-    bad_at line front here field more h.follows c (begin_head place own h.head.lawful) (λ claim lawful remainder e.
+    let prefix = take place (head_of own) in
+    let count : length prefix ≡ place = omega (arith, length-take-le place (head_of own) (omega (arith, head_length own))) in
+    bad_at line prefix here field more h.follows c (begin_head place own h.head.lawful) (λ claim lawful remainder e.
     none claim lawful (sym (get_or-append (head_of claim) (found_fields claim.found) [] place (omega (arith, head_length claim)))
     ∙ ap (λ (t : List (List ℕ)). get_or t place []) e
-    ∙ ap (λ (k : ℕ). get_or (front ++ field ∷ remainder) k []) (sym count) ∙ get_or-append_seam front field remainder []))
+    ∙ ap (λ (k : ℕ). get_or (prefix ++ field ∷ remainder) k []) (sym count) ∙ get_or-append_seam prefix field remainder []))
 
 pub some_found : (found : Option SaidOfSoup) → length (found_fields found) ≤ 0 → ⊥
 unfolding found_fields

@@ -53,18 +53,18 @@ pub one_number : (name field : List ℕ) (n m : ℕ) → n < 2 ^ 64 → m < 2 ^ 
 one_number name field n m a b e f = decimal_injective n m a b (append_cancel_left name (decimal n) (decimal m) (sym e ∙ f))
 
 -- how far a text goes without the byte
-abbrev front_of : ℕ → List ℕ → ℕ
-front_of byte text = prefix_len (λ b. not (b == byte)) text
+abbrev prefix_of : ℕ → List ℕ → ℕ
+prefix_of byte text = prefix_len (λ b. not (b == byte)) text
 
 abbrev IsCut : ℕ → List ℕ → ℕ → Type 0
 IsCut byte text n = (text ≡ take n text ++ byte ∷ drop (suc n) text) × Lacks byte (take n text)
 
-cut_first : (byte : ℕ) (text : List ℕ) (n : ℕ) → front_of byte text ≡ n → n < length text → IsCut byte text n
+cut_first : (byte : ℕ) (text : List ℕ) (n : ℕ) → prefix_of byte text ≡ n → n < length text → IsCut byte text n
 cut_first byte [] n e h = absurd (omega arith)
 cut_first byte (x ∷ xs) n e h = go (x == byte) refl n e h (cut_first byte xs)
   where
-    go : (t : Bool) → (x == byte) ≡ t → (n : ℕ) → cond (not t) (1 + front_of byte xs) 0 ≡ n → n < length (x ∷ xs)
-        → ((m : ℕ) → front_of byte xs ≡ m → m < length xs → IsCut byte xs m) → IsCut byte (x ∷ xs) n
+    go : (t : Bool) → (x == byte) ≡ t → (n : ℕ) → cond (not t) (1 + prefix_of byte xs) 0 ≡ n → n < length (x ∷ xs)
+        → ((m : ℕ) → prefix_of byte xs ≡ m → m < length xs → IsCut byte xs m) → IsCut byte (x ∷ xs) n
     go true e zero f h more = (ap (λ (b : ℕ). b ∷ xs) (eqb-true x byte e), refl)
     go true e (suc n) f h more = absurd (omega arith)
     go false e zero f h more = absurd (omega arith)
@@ -72,26 +72,26 @@ cut_first byte (x ∷ xs) n e h = go (x == byte) refl n e h (cut_first byte xs)
         let m = more n (omega arith) (omega arith) in
         (ap (λ (ys : List ℕ). x ∷ ys) m.0, ap (λ (t : Bool). t || list_any (λ b. b == byte) (take n xs)) e ∙ m.1)
 
-cut_none : (byte : ℕ) (text : List ℕ) → length text ≤ front_of byte text → Lacks byte text
+cut_none : (byte : ℕ) (text : List ℕ) → length text ≤ prefix_of byte text → Lacks byte text
 cut_none byte [] h = refl
 cut_none byte (x ∷ xs) h = go (x == byte) refl h (cut_none byte xs)
   where
-    go : (t : Bool) → (x == byte) ≡ t → length (x ∷ xs) ≤ cond (not t) (1 + front_of byte xs) 0
-        → (length xs ≤ front_of byte xs → Lacks byte xs) → Lacks byte (x ∷ xs)
+    go : (t : Bool) → (x == byte) ≡ t → length (x ∷ xs) ≤ cond (not t) (1 + prefix_of byte xs) 0
+        → (length xs ≤ prefix_of byte xs → Lacks byte xs) → Lacks byte (x ∷ xs)
     go true e h more = absurd (omega arith)
     go false e h more = ap (λ (t : Bool). t || list_any (λ b. b == byte) xs) e ∙ more (omega arith)
 
 -- where the byte stands first, the text is cut
 pub cut_found : (byte : ℕ) (text : List ℕ) (place : ℕ) → Some place ≡ position (λ b. b == byte) text
     → (text ≡ take place text ++ byte ∷ take (length text - (place + 1)) (drop (place + 1) text)) × Lacks byte (take place text)
-cut_found byte text place e = go (nat_lt (front_of byte text) (length text)) refl e
+cut_found byte text place e = go (nat_lt (prefix_of byte text) (length text)) refl e
   where
-    go : (t : Bool) → nat_lt (front_of byte text) (length text) ≡ t → Some place ≡ cond t (Some (front_of byte text)) None
+    go : (t : Bool) → nat_lt (prefix_of byte text) (length text) ≡ t → Some place ≡ cond t (Some (prefix_of byte text)) None
         → (text ≡ take place text ++ byte ∷ take (length text - (place + 1)) (drop (place + 1) text)) × Lacks byte (take place text)
     go false f e = absurd (cc)
     go true f e =
-        let same : front_of byte text ≡ place = cc in
-        let less : front_of byte text < length text = ltb-true _ _ f in
+        let same : prefix_of byte text ≡ place = cc in
+        let less : prefix_of byte text < length text = ltb-true _ _ f in
         let c = cut_first byte text place same (omega arith) in
         let next : suc place ≡ place + 1 = omega arith in
         let remainder : drop (suc place) text ≡ take (length text - (place + 1)) (drop (place + 1) text) =
@@ -100,9 +100,9 @@ cut_found byte text place e = go (nat_lt (front_of byte text) (length text)) ref
 
 -- where it stands nowhere, the text has no such byte
 pub cut_nowhere : (byte : ℕ) (text : List ℕ) → None ≡ position (λ b. b == byte) text → Lacks byte text
-cut_nowhere byte text e = go (nat_lt (front_of byte text) (length text)) refl e
+cut_nowhere byte text e = go (nat_lt (prefix_of byte text) (length text)) refl e
   where
-    go : (t : Bool) → nat_lt (front_of byte text) (length text) ≡ t → None ≡ cond t (Some (front_of byte text)) None → Lacks byte text
+    go : (t : Bool) → nat_lt (prefix_of byte text) (length text) ≡ t → None ≡ cond t (Some (prefix_of byte text)) None → Lacks byte text
     go true f e = absurd (cc)
     go false f e = cut_none byte text (ltb-false _ _ f)
 

@@ -75,11 +75,11 @@ one_least numbers least l =
     one_up (least ++ ascending l.others) (ascending numbers) (up_both least l.others (up_of least l.ascending) lower) (up_ascending numbers)
     (λ n. sum_by-append (unit n) least (ascending l.others) ∙ ap (λ (m : ℕ). counted n least + m) (sum_ascending (unit n) l.others)
     ∙ sym (sum_by-append (unit n) least l.others) ∙ l.all n ∙ sym (sum_ascending (unit n) numbers)) in
-    sym (front l.three) ∙ ap (take 3) whole
+    sym (prefix l.three) ∙ ap (take 3) whole
   where
-    front : (length least ≡ 3) ⊎ (l.others ≡ []) → take 3 (least ++ ascending l.others) ≡ least
-    front (inl three) = take_at least (ascending l.others) 3 three
-    front (inr none) =
+    prefix : (length least ≡ 3) ⊎ (l.others ≡ []) → take 3 (least ++ ascending l.others) ≡ least
+    prefix (inl three) = take_at least (ascending l.others) 3 three
+    prefix (inr none) =
         ap (λ (ys : List ℕ). take 3 (least ++ ascending ys)) none ∙ ap (take 3) (append-nil least) ∙ take_all 3 least l.few
 
 pub determined : (numbers one other : List ℕ) → AreLeastThree numbers one → AreLeastThree numbers other → one ≡ other

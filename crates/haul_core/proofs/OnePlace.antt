@@ -4,8 +4,8 @@ use Rattle.haul_core.specs.Claims.{BeginClaim, IsBadField, IsFirstFaultOf, Lacks
 use Rattle.haul_core.specs.FieldSteps.{Lacks}
 use Rattle.haul_core.proofs.SpaceLemmas.{AreSpaceless, Stops, begin_spaceless, cut_ends, fields_begin, followed-cons, line_of-lined, stops_after}
 
-begin_front : (before : List (List ℕ)) (field : List ℕ) (more : List (List ℕ)) → BeginClaim (before ++ field ∷ more) → BeginClaim (before ++ field ∷ [])
-begin_front before field more b = record {
+begin_prefix : (before : List (List ℕ)) (field : List ℕ) (more : List (List ℕ)) → BeginClaim (before ++ field ∷ more) → BeginClaim (before ++ field ∷ [])
+begin_prefix before field more b = record {
   claim = b.claim;
   lawful = b.lawful;
   more = more ++ b.more;
@@ -43,14 +43,14 @@ two_bad line p q a b = go (compare a.before b.before a.field b.field a.remainder
   where
     go : (a.before ≡ b.before) ⊎ (Goes a.before a.field b.before ⊎ Goes b.before b.field a.before) → p ≡ q
     go (inl same) = a.is ∙ ap (λ (fields : List (List ℕ)). length (followed fields)) same ∙ sym b.is
-    go (inr (inl m)) = absurd (a.there (begin_front a.before a.field m.0 (subst BeginClaim m.1 b.begins)))
-    go (inr (inr m)) = absurd (b.there (begin_front b.before b.field m.0 (subst BeginClaim m.1 a.begins)))
+    go (inr (inl m)) = absurd (a.there (begin_prefix a.before a.field m.0 (subst BeginClaim m.1 b.begins)))
+    go (inr (inr m)) = absurd (b.there (begin_prefix b.before b.field m.0 (subst BeginClaim m.1 a.begins)))
 
 bad_or_short : (line : List ℕ) (p q : ℕ) → IsBadField line p → LacksField line q → ⊥
 bad_or_short line p q a b =
     let m = fields_begin a.before b.first b.more a.field a.remainder (begin_spaceless (b.first ∷ b.more) b.begins) (begin_spaceless a.before a.begins) a.whole.0
     (stops_after a.remainder a.whole.1) (sym (line_of-lined b.first b.more) ∙ sym b.spelled ∙ a.spelled) in
-    a.there (begin_front a.before a.field m.0 (subst BeginClaim m.1 b.begins))
+    a.there (begin_prefix a.before a.field m.0 (subst BeginClaim m.1 b.begins))
 
 pub one_place : (line : List ℕ) (p q : ℕ) → IsFirstFaultOf line p → IsFirstFaultOf line q → p ≡ q
 one_place line p q (inl a) (inl b) = two_bad line p q a b

@@ -137,9 +137,9 @@ spaceless-append : (fs gs : List (List ℕ)) → AreSpaceless fs → AreSpaceles
 spaceless-append [] gs h k = k
 spaceless-append (f ∷ fs) gs h k = (h.0, spaceless-append fs gs h.1 k)
 
-spaceless-front : (fs gs : List (List ℕ)) → AreSpaceless (fs ++ gs) → AreSpaceless fs
-spaceless-front [] gs h = tt
-spaceless-front (f ∷ fs) gs h = (h.0, spaceless-front fs gs h.1)
+spaceless-prefix : (fs gs : List (List ℕ)) → AreSpaceless (fs ++ gs) → AreSpaceless fs
+spaceless-prefix [] gs h = tt
+spaceless-prefix (f ∷ fs) gs h = (h.0, spaceless-prefix fs gs h.1)
 
 counts_lack : (counts : List (List ℕ × ℕ)) → AllByRecursion IsCount counts → AreSpaceless (map count_field counts)
 counts_lack [] h = tt
@@ -269,7 +269,7 @@ stops_after (b ∷ remainder) (inl e) = absurd (cc)
 stops_after (b ∷ remainder) (inr e) = e
 
 pub begin_spaceless : (before : List (List ℕ)) → BeginClaim before → AreSpaceless before
-begin_spaceless before b = spaceless-front before b.more (subst AreSpaceless b.spelled (fields_lack b.claim b.lawful))
+begin_spaceless before b = spaceless-prefix before b.more (subst AreSpaceless b.spelled (fields_lack b.claim b.lawful))
 
 no_bad_field : (line : List ℕ) (place : ℕ) → IsBadField line place → ¬ IsClaimLine line
 no_bad_field line place bad own =

@@ -17,45 +17,45 @@ use Rattle.haul_core.specs.HaulTexts.{ended, haul_lines, haul_text, head_lines, 
 use Rattle.haul_core.specs.HaulTexts.{sample_lines, spaced, sum_lines, text_of, total_line, total_lines}
 
 -- the text of what is left begins with that of the next item
-pub text_more : {A : Type 0} (text : A → List ℕ) (xs : List A) (i : ℕ) (x : A) (whole front : List ℕ) → i < length xs → x ≡ get_or xs i x
-    → whole ≡ front ++ flat_map text (drop i xs) → whole ≡ (front ++ text x) ++ flat_map text (drop (i + 1) xs)
-text_more text xs i x whole front more here is =
+pub text_more : {A : Type 0} (text : A → List ℕ) (xs : List A) (i : ℕ) (x : A) (whole prefix : List ℕ) → i < length xs → x ≡ get_or xs i x
+    → whole ≡ prefix ++ flat_map text (drop i xs) → whole ≡ (prefix ++ text x) ++ flat_map text (drop (i + 1) xs)
+text_more text xs i x whole prefix more here is =
     let next = drop_more xs i x more ∙ ap (λ y. y ∷ drop (i + 1) xs) (sym here) in
-    is ∙ ap (λ remainder. front ++ flat_map text remainder) next ∙ sym (append_assoc front (text x) (flat_map text (drop (i + 1) xs)))
+    is ∙ ap (λ remainder. prefix ++ flat_map text remainder) next ∙ sym (append_assoc prefix (text x) (flat_map text (drop (i + 1) xs)))
 
 -- the same with the item at its place
-pub text_more_at : {A : Type 0} (text : A → List ℕ) (xs : List A) (i : ℕ) (d : A) (whole front : List ℕ) → i < length xs
-    → whole ≡ front ++ flat_map text (drop i xs) → whole ≡ (front ++ text (get_or xs i d)) ++ flat_map text (drop (i + 1) xs)
-text_more_at text xs i d whole front more is =
-    is ∙ ap (λ remainder. front ++ flat_map text remainder) (drop_more xs i d more) ∙ sym (append_assoc front (text (get_or xs i d)) (flat_map text (drop (i + 1) xs)))
+pub text_more_at : {A : Type 0} (text : A → List ℕ) (xs : List A) (i : ℕ) (d : A) (whole prefix : List ℕ) → i < length xs
+    → whole ≡ prefix ++ flat_map text (drop i xs) → whole ≡ (prefix ++ text (get_or xs i d)) ++ flat_map text (drop (i + 1) xs)
+text_more_at text xs i d whole prefix more is =
+    is ∙ ap (λ remainder. prefix ++ flat_map text remainder) (drop_more xs i d more) ∙ sym (append_assoc prefix (text (get_or xs i d)) (flat_map text (drop (i + 1) xs)))
 
 -- where none is left, all is written
-pub text_done : {A : Type 0} (text : A → List ℕ) (xs : List A) (i : ℕ) (whole front : List ℕ) → length xs ≤ i
-    → whole ≡ front ++ flat_map text (drop i xs) → front ≡ whole
-text_done text xs i whole front past is = sym (is ∙ ap (λ remainder. front ++ flat_map text remainder) (drop_all i xs past) ∙ append-nil front)
+pub text_done : {A : Type 0} (text : A → List ℕ) (xs : List A) (i : ℕ) (whole prefix : List ℕ) → length xs ≤ i
+    → whole ≡ prefix ++ flat_map text (drop i xs) → prefix ≡ whole
+text_done text xs i whole prefix past is = sym (is ∙ ap (λ remainder. prefix ++ flat_map text remainder) (drop_all i xs past) ∙ append-nil prefix)
 
 -- ---- a loop that writes a text for each item
 
 -- the texts of the items that were passed have been written
 abbrev pub HasWritten : {A V : Type 0} → (V → Option (List ℕ)) → Output V → Output V → (A → List ℕ) → List A → ℕ → List ℕ → Type 0
 HasWritten contents old here text xs i whole =
-    (front : List ℕ) × (whole ≡ front ++ flat_map text (drop i xs)) × Writes {E = WriteError} contents old here (Ok tt) front
+    (prefix : List ℕ) × (whole ≡ prefix ++ flat_map text (drop i xs)) × Writes {E = WriteError} contents old here (Ok tt) prefix
 
 module _ {A V : Type 0} {contents : V → Option (List ℕ)} {old here : Output V} (text : A → List ℕ) (xs : List A) (whole : List ℕ) where
   -- one item more
   pub item_more : {new : Output V} (i : ℕ) (x : A) → i < length xs → x ≡ get_or xs i x → HasWritten contents old here text xs i whole
       → Writes {E = WriteError} contents here new (Ok tt) (text x) → HasWritten contents old new text xs (i + 1) whole
-  item_more i x more is (front, left, wrote) wrote_one = (front ++ text x, text_more text xs i x whole front more is left, Writes_then wrote wrote_one)
+  item_more i x more is (prefix, left, wrote) wrote_one = (prefix ++ text x, text_more text xs i x whole prefix more is left, Writes_then wrote wrote_one)
 
   -- an item that could not be written whole
   pub item_stops : {F : Type 0} {new : Output V} {e : WriteError} {r : Result (Unit {0}) F} (i : ℕ) (x : A) → i < length xs → x ≡ get_or xs i x
       → HasWritten contents old here text xs i whole → IsErr r → Writes contents here new (Err e) (text x) → Writes contents old new r whole
-  item_stops i x more is (front, left, wrote) err stopped =
-      Writes_same (sym (text_more text xs i x whole front more is left)) (Writes_stops (flat_map text (drop (i + 1) xs)) err (Writes_then wrote stopped))
+  item_stops i x more is (prefix, left, wrote) err stopped =
+      Writes_same (sym (text_more text xs i x whole prefix more is left)) (Writes_stops (flat_map text (drop (i + 1) xs)) err (Writes_then wrote stopped))
 
   -- no item is left
   pub items_done : (i : ℕ) → length xs ≤ i → HasWritten contents old here text xs i whole → Writes {E = WriteError} contents old here (Ok tt) whole
-  items_done i past (front, left, wrote) = Writes_same (text_done text xs i whole front past left) wrote
+  items_done i past (prefix, left, wrote) = Writes_same (text_done text xs i whole prefix past left) wrote
 
 -- a name and numbers, ended
 pub line_spelled : {A : Type 0} (text : A → List ℕ) (name : List ℕ) (numbers : List A)

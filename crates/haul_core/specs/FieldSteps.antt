@@ -8,8 +8,8 @@ Lacks byte text = list_any (λ b. b == byte) text ≡ false
 
 -- a text up to the first such byte, and the text after the byte, if there is one
 abbrev pub Cuts : ℕ → List ℕ → List ℕ → Option (List ℕ) → Type 0
-Cuts byte text front None = (text ≡ front) × Lacks byte front
-Cuts byte text front (Some remainder) = (text ≡ front ++ byte ∷ remainder) × Lacks byte front
+Cuts byte text prefix None = (text ≡ prefix) × Lacks byte prefix
+Cuts byte text prefix (Some remainder) = (text ≡ prefix ++ byte ∷ remainder) × Lacks byte prefix
 
 -- what a field tells, of those things that may be told; if it tells nothing, it is the field of none of them
 abbrev pub Tells : {A : Type 0} → (A → Type 0) → (A → List ℕ) → List ℕ → Option A → Type 0

@@ -42,9 +42,9 @@ IsTakenNext terms before (Offer report ∷ more) = refusal_of terms before repor
 IsTakenNext terms before (Closing ∷ more) = ⊥
 
 -- memory ran out before any arrival came, or for an offer that the book takes: the arrivals before it have come, and no other
-pub record StandsForFront (before arrivals : List Arrival) (held : Held) : Type 0 where
-  pub front : List Arrival
+pub record StandsForPrefix (before arrivals : List Arrival) (held : Held) : Type 0 where
+  pub prefix : List Arrival
   pub remainder : List Arrival
-  pub cut : arrivals ≡ front ++ remainder
-  pub stands : StandsFor (before ++ front) held
-  pub stopped : (front ≡ []) ⊎ IsTakenNext held.terms (before ++ front) remainder
+  pub cut : arrivals ≡ prefix ++ remainder
+  pub stands : StandsFor (before ++ prefix) held
+  pub stopped : (prefix ≡ []) ⊎ IsTakenNext held.terms (before ++ prefix) remainder

@@ -45,7 +45,7 @@ fn out_with_room(alloc: Global, room: usize) -> Out<Short>
 }
 
 /// Whether so many bytes of the text were taken, and no other.
-fn has_front(out: Out<Short>, room: usize, text: &[u8]) -> bool {
+fn has_prefix(out: Out<Short>, room: usize, text: &[u8]) -> bool {
     let taken = out.into_inner().taken;
     taken.len() == room && text.starts_with(taken.as_slice())
 }
@@ -80,7 +80,7 @@ fn two_of_four(alloc: Global) -> Result<Census, Fail> {
 fn haul_stops(alloc: Global, census: &Census, room: usize) -> bool {
     let mut out = out_with_room(alloc, room);
     let stopped = write_haul(census, &mut out).is_err();
-    stopped && has_front(out, room, TWO_OF_FOUR)
+    stopped && has_prefix(out, room, TWO_OF_FOUR)
 }
 
 #[test]
@@ -98,7 +98,7 @@ const UNSETTLED: &[u8] = b"report 2 rule=b3s23 profile=1,1,1,0 seed= worker=2 so
 fn line_stops(alloc: Global, report: &Report, room: usize) -> bool {
     let mut out = out_with_room(alloc, room);
     let stopped = write_report_line(report, &mut out).is_err();
-    stopped && has_front(out, room, UNSETTLED)
+    stopped && has_prefix(out, room, UNSETTLED)
 }
 
 #[test]

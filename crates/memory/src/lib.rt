@@ -55,7 +55,7 @@ impl OutOfMemory {
     /// The closure for which no thread could be started, and the want of room for one.
     pub fn of_start<F>(failed: SpawnError<F>) -> (F, OutOfMemory)
         ensures closure { result.0 ≡ failed.value }
-        ensures evidence { result.1 ≡ out_of_memory }
+        ensures witness { result.1 ≡ out_of_memory }
     {
         let SpawnError { value } = failed;
         (

@@ -38,7 +38,7 @@ some_input (Some left) = (left, refl)
 pub whole_input : (limit count : ℕ) (reader old : Option (List ℕ)) (before bytes : List ℕ) → count ≡ limit + 1 → old ≡ reader → before ≡ []
     → IfSome (option_map (take count) old) (λ read. bytes ≡ before ++ read) → length bytes ≤ limit → IfSome reader (λ left. bytes ≡ left)
 whole_input limit count reader old before bytes is same none read short =
-    let P : List ℕ → Type 0 = λ front. IfSome (option_map (take (limit + 1)) reader) (λ more. bytes ≡ front ++ more) in
+    let P : List ℕ → Type 0 = λ prefix. IfSome (option_map (take (limit + 1)) reader) (λ more. bytes ≡ prefix ++ more) in
     go reader (subst P none (rw same at (rw is at read)))
   where
     go : (reader : Option (List ℕ)) → IfSome (option_map (take (limit + 1)) reader) (λ more. bytes ≡ [] ++ more) → IfSome reader (λ left. bytes ≡ left)
@@ -51,7 +51,7 @@ whole_input limit count reader old before bytes is same none read short =
 pub long_input : (limit count : ℕ) (reader old : Option (List ℕ)) (before bytes : List ℕ) → count ≡ limit + 1 → old ≡ reader → before ≡ []
     → IfSome (option_map (take count) old) (λ read. bytes ≡ before ++ read) → limit < length bytes → IfSome reader (λ left. limit < length left)
 long_input limit count reader old before bytes is same none read long =
-    let P : List ℕ → Type 0 = λ front. IfSome (option_map (take (limit + 1)) reader) (λ more. bytes ≡ front ++ more) in
+    let P : List ℕ → Type 0 = λ prefix. IfSome (option_map (take (limit + 1)) reader) (λ more. bytes ≡ prefix ++ more) in
     go reader (subst P none (rw same at (rw is at read)))
   where
     go : (reader : Option (List ℕ)) → IfSome (option_map (take (limit + 1)) reader) (λ more. bytes ≡ [] ++ more) → IfSome reader (λ left. limit < length left)
@@ -116,5 +116,5 @@ Reaches_unread reads right answer (WriteFailed error) output read is refused not
 pub Reaches_rule : (reads : Bool) (right : Right) (text : List ℕ) (error : RuleFault) (output : Stream) → rule_read text ≡ Err error
     → ((complaint : Complaint) → rule_named text ≡ Err complaint → right (Err complaint)) → Has output []
     → ReachesText reads true right (Err (rule_complaint error)) output
-Reaches_rule reads right text (rule_error.BadRule place) output is remarks nothing = (remarks _ (rw is refl), nothing)
-Reaches_rule reads right text rule_error.BirthZero output is remarks nothing = (remarks _ (rw is refl), nothing)
+Reaches_rule reads right text (rule_error.BadRule place) output is diagnostics nothing = (diagnostics _ (rw is refl), nothing)
+Reaches_rule reads right text rule_error.BirthZero output is diagnostics nothing = (diagnostics _ (rw is refl), nothing)

@@ -54,8 +54,8 @@ pub right_finding : (numbers : ProfileNumbers) (text bytes : List ℕ) (profile 
 right_finding numbers text bytes profile rule cells finding profiled ruled read is = rw (profiled, ruled, read) (finding, is, refl)
 
 -- the lines of what is left begin with that of the next object
-pub lines_more : {A : Type 0} (line : A → List ℕ) (xs : List A) (i : ℕ) (x : A) (text front : List ℕ) → i < length xs → x ≡ get_or xs i x
-    → text ≡ front ++ flat_map line (drop i xs) → text ≡ (front ++ line x) ++ flat_map line (drop (i + 1) xs)
-lines_more line xs i x text front more here is =
+pub lines_more : {A : Type 0} (line : A → List ℕ) (xs : List A) (i : ℕ) (x : A) (text prefix : List ℕ) → i < length xs → x ≡ get_or xs i x
+    → text ≡ prefix ++ flat_map line (drop i xs) → text ≡ (prefix ++ line x) ++ flat_map line (drop (i + 1) xs)
+lines_more line xs i x text prefix more here is =
     let next = drop_more xs i x more ∙ ap (λ y. y ∷ drop (i + 1) xs) (sym here) in
-    is ∙ ap (λ remainder. front ++ flat_map line remainder) next ∙ sym (append_assoc front (line x) (flat_map line (drop (i + 1) xs)))
+    is ∙ ap (λ remainder. prefix ++ flat_map line remainder) next ∙ sym (append_assoc prefix (line x) (flat_map line (drop (i + 1) xs)))

@@ -10,47 +10,47 @@ use Rattle.pattern_commands.specs.Answers.{Right}
 use Rattle.pattern_commands.specs.Complaints.{status_of}
 use Rattle.pattern_commands.specs.Ends.{Ends, HasLast, status_after}
 use Rattle.pattern_commands.specs.Reached.{WritesBeginning, LeavesPart, Reaches}
-use Rattle.pattern_commands.specs.Streams.{Stream, HasFront, IsUntouched}
+use Rattle.pattern_commands.specs.Streams.{Stream, HasPrefix, IsUntouched}
 use Rattle.pattern_commands.specs.Behaviours.{Made, alone, text_made, text_behaviour}
-use Rattle.pattern_commands.specs.TextSteps.{LeavesTextFront, LeavesTextPart, ReachesText, TextOutcome, none_missing}
+use Rattle.pattern_commands.specs.TextSteps.{LeavesTextPrefix, LeavesTextPart, ReachesText, TextOutcome, none_missing}
 
 -- what is left of a text, as a command's behaviour has it
 part_of : (whole : Bool) (right : Right) (output : Stream) → LeavesTextPart whole right output → LeavesPart whole (alone right) output
 part_of true right output left = left
 part_of false right output left = go
   where
-    go : (answer : Result Made Complaint) → alone right answer → HasFront output (text_made answer)
+    go : (answer : Result Made Complaint) → alone right answer → HasPrefix output (text_made answer)
     go (Ok made) is = left (Ok made.text) is.0
     go (Err complaint) is = left (Err complaint) is
 
-front_of : (whole : Bool) (right : Right) (output errors : Stream) → LeavesTextFront whole right output → IsUntouched errors
+prefix_of : (whole : Bool) (right : Right) (output errors : Stream) → LeavesTextPrefix whole right output → IsUntouched errors
     → WritesBeginning whole (alone right) output errors
-front_of true right output errors (text, is, front) still = (record { text = text; remarks = []; missing = 0 }, (is, refl, refl), front, still.0)
-front_of false right output errors (never, fronts) still = (never, λ made is. fronts made.text is.0, still.0)
+prefix_of true right output errors (text, is, prefix) still = (record { text = text; diagnostics = []; missing = 0 }, (is, refl, refl), prefix, still.0)
+prefix_of false right output errors (never, prefixes) still = (never, λ made is. prefixes made.text is.0, still.0)
 
 -- what stands on the streams after a text, where nothing was told yet
 reaches_text : (reads whole : Bool) (right : List ℕ → Right) (reader : Option (List ℕ)) (bytes : List ℕ) (outcome : TextOutcome) (output errors : Stream)
     → ReachesText reads whole (right bytes) outcome output → IsUntouched errors
     → Reaches (text_behaviour reads whole right) reader bytes (none_missing outcome) output errors
 reaches_text reads whole right reader bytes (Ok _) output errors ((text, is, has), written) still = record {
-  made = record { text = text; remarks = []; missing = 0 };
+  made = record { text = text; diagnostics = []; missing = 0 };
   is = (is, refl, refl);
   missing_is = refl;
   text = has;
   written = written;
-  remarks = still.0;
+  diagnostics = still.0;
   fine = still.1;
 }
 reaches_text reads whole right reader bytes (Err (Refused refusal)) output errors (is, nothing) still =
     (is, record { nothing = nothing; silent = still.0; fine = still.1 })
 reaches_text reads whole right reader bytes (Err (Memory error)) output errors (hides, left) still =
-    record { hides = hides; left = part_of whole (right bytes) output left; remarks = inl still.0; fine = still.1 }
+    record { hides = hides; left = part_of whole (right bytes) output left; diagnostics = inl still.0; fine = still.1 }
 reaches_text reads whole right reader bytes (Err (ReadFailed error)) output errors (read, nothing) still =
     record { reads = read; begun = still.0; nothing = nothing; fine = still.1 }
 reaches_text reads whole right reader bytes (Err TooLong) output errors (read, long, nothing) still =
     (long, record { reads = read; begun = still.0; nothing = nothing; fine = still.1 })
 reaches_text reads whole right reader bytes (Err (WriteFailed error)) output errors (left, cut) still =
-    inl (record { left = front_of whole (right bytes) output errors left still; cut = cut; fine = still.1 })
+    inl (record { left = prefix_of whole (right bytes) output errors left still; cut = cut; fine = still.1 })
 
 -- how a command ends that gives a text alone
 pub text_ends : (reads whole : Bool) (right : List ℕ → Right) (reader : Option (List ℕ)) (bytes : List ℕ) (outcome : TextOutcome) (status : Status)

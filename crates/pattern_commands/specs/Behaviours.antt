@@ -7,7 +7,7 @@ use Rattle.pattern_commands.specs.Answers.{NeedsMemory, Right}
 -- what a command makes: a text for standard output, remarks on its input for standard error, and how many soups are missing
 pub record Made : Type 0 where
   pub text : List ℕ
-  pub remarks : List ℕ
+  pub diagnostics : List ℕ
   pub missing : ℕ
 
 -- what a command makes is right, or what it complains of
@@ -40,7 +40,7 @@ pub record Behaviour : Type 1 where
 
 -- a text alone is right, if it is a right answer
 abbrev pub alone : Right → Makes
-alone right (Ok made) = right (Ok made.text) × (made.remarks ≡ []) × (made.missing ≡ 0)
+alone right (Ok made) = right (Ok made.text) × (made.diagnostics ≡ []) × (made.missing ≡ 0)
 alone right (Err complaint) = right (Err complaint)
 
 -- without remarks: nothing is written to standard error before the last line

@@ -2,7 +2,7 @@
 use Rattle.std.specs.Prelude.{◌≡◌, ◌⊎◌, ℕ, Bool, true, false, List, [], Option, Result, Ok, Err}
 use Rattle.pattern_commands.specs.declared.complaint.Complaint.{Complaint}
 use Rattle.pattern_commands.specs.declared.complaint.Complaint.TheVariants.{Refused, Memory, ReadFailed, TooLong, WriteFailed}
-use Rattle.pattern_commands.specs.Streams.{Stream, Has, HasFront}
+use Rattle.pattern_commands.specs.Streams.{Stream, Has, HasPrefix}
 use Rattle.pattern_commands.specs.Behaviours.{Made, Makes, NeedsMemoryAlone, Behaviour, text_made}
 
 -- how many soups are missing after a command, or its complaint
@@ -16,7 +16,7 @@ pub record IsPrinted (right : Makes) (missing : ℕ) (output errors : Stream) : 
   pub missing_is : missing ≡ made.missing
   pub text : Has output made.text
   pub written : output.failed ≡ false
-  pub remarks : Has errors made.remarks
+  pub diagnostics : Has errors made.diagnostics
   pub fine : errors.failed ≡ false
 
 -- nothing was written to either stream
@@ -36,21 +36,21 @@ pub record IsCutOff (behaviour : Behaviour) (reader : Option (List ℕ)) (output
 -- right one
 abbrev pub LeavesPart : Bool → Makes → Stream → Type 0
 LeavesPart true right output = Has output []
-LeavesPart false right output = (answer : Result Made Complaint) → right answer → HasFront output (text_made answer)
+LeavesPart false right output = (answer : Result Made Complaint) → right answer → HasPrefix output (text_made answer)
 
 -- memory ran out: over the input, or before it was looked at
 pub record HasRunOutOfMemory (behaviour : Behaviour) (reader : Option (List ℕ)) (bytes : List ℕ) (output errors : Stream) : Type 0 where
   pub hides : behaviour.refuses ≡ false → NeedsMemoryAlone (behaviour.right bytes)
   pub left : LeavesPart behaviour.whole (behaviour.right bytes) output
-  pub remarks : Has errors [] ⊎ behaviour.begins reader errors.before errors.after
+  pub diagnostics : Has errors [] ⊎ behaviour.begins reader errors.before errors.after
   pub fine : errors.failed ≡ false
 
 -- What was written if a write of the text failed. Of a text that was whole before that: a front, and all remarks. One that is
 -- written as it is made isn't known to its end: then a front of each right text, and no complaint is right.
 abbrev pub WritesBeginning : Bool → Makes → Stream → Stream → Type 0
-WritesBeginning true right output errors = (made : Made) × right (Ok made) × HasFront output made.text × Has errors made.remarks
+WritesBeginning true right output errors = (made : Made) × right (Ok made) × HasPrefix output made.text × Has errors made.diagnostics
 WritesBeginning false right output errors = ((complaint : Complaint) → right (Err complaint) → ⊥)
-    × ((made : Made) → right (Ok made) → HasFront output made.text) × Has errors []
+    × ((made : Made) → right (Ok made) → HasPrefix output made.text) × Has errors []
 
 -- standard output failed
 pub record IsCutShort (behaviour : Behaviour) (bytes : List ℕ) (output errors : Stream) : Type 0 where

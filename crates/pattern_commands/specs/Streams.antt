@@ -1,7 +1,7 @@
 -- What a command leaves on a stream.
 use Rattle.std.specs.Prelude.{◌≡◌, ℕ, Bool, false, List, [], Option, MatchBool}
 use Rattle.std.specs.Io.KnownBytes.{Appends}
-use Rattle.plane_core.specs.Outputs.{Output, AppendsFront}
+use Rattle.plane_core.specs.Outputs.{Output, AppendsPrefix}
 
 -- A stream over a call: the bytes that stand there before and after, where they are known, and whether a write failed.
 pub record Stream : Type 0 where
@@ -18,12 +18,12 @@ abbrev pub Has : Stream → List ℕ → Type 0
 Has s text = Appends s.before s.after text
 
 -- a front of the text was added, and nothing else
-abbrev pub HasFront : Stream → List ℕ → Type 0
-HasFront s text = AppendsFront s.before s.after text
+abbrev pub HasPrefix : Stream → List ℕ → Type 0
+HasPrefix s text = AppendsPrefix s.before s.after text
 
 -- the line was added, or a front of it where a write failed
 abbrev pub HasLine : Stream → List ℕ → Type 0
-HasLine s line = MatchBool s.failed (HasFront s line) (Has s line)
+HasLine s line = MatchBool s.failed (HasPrefix s line) (Has s line)
 
 -- nothing was added, and no write failed
 abbrev pub IsUntouched : Stream → Type 0

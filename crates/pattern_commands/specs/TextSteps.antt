@@ -4,7 +4,7 @@ use Rattle.pattern_commands.specs.declared.complaint.Complaint.{Complaint}
 use Rattle.pattern_commands.specs.declared.complaint.Complaint.TheVariants.{Refused, Memory, ReadFailed, TooLong, WriteFailed}
 use Rattle.pattern_commands.specs.Answers.{Answer, NeedsMemory, Right, output_text}
 use Rattle.pattern_commands.specs.Reached.{Outcome}
-use Rattle.pattern_commands.specs.Streams.{Stream, Has, HasFront}
+use Rattle.pattern_commands.specs.Streams.{Stream, Has, HasPrefix}
 
 -- the text was written, or there is a complaint
 abbrev pub TextOutcome : Type 0
@@ -20,19 +20,19 @@ abbrev pub HasRight : Right → Stream → Type 0
 HasRight right output = (text : List ℕ) × right (Ok text) × Has output text
 
 -- a front of the text of a right answer was added, and nothing else
-abbrev pub HasFrontOfRight : Right → Stream → Type 0
-HasFrontOfRight right output = (text : List ℕ) × right (Ok text) × HasFront output text
+abbrev pub HasPrefixOfRight : Right → Stream → Type 0
+HasPrefixOfRight right output = (text : List ℕ) × right (Ok text) × HasPrefix output text
 
 -- what is there of a text when a write failed, by whether the text was whole before it was written
-abbrev pub LeavesTextFront : Bool → Right → Stream → Type 0
-LeavesTextFront true right output = HasFrontOfRight right output
-LeavesTextFront false right output =
-    ((complaint : Complaint) → right (Err complaint) → ⊥) × ((text : List ℕ) → right (Ok text) → HasFront output text)
+abbrev pub LeavesTextPrefix : Bool → Right → Stream → Type 0
+LeavesTextPrefix true right output = HasPrefixOfRight right output
+LeavesTextPrefix false right output =
+    ((complaint : Complaint) → right (Err complaint) → ⊥) × ((text : List ℕ) → right (Ok text) → HasPrefix output text)
 
 -- the same if memory ran out
 abbrev pub LeavesTextPart : Bool → Right → Stream → Type 0
 LeavesTextPart true right output = Has output []
-LeavesTextPart false right output = (answer : Answer) → right answer → HasFront output (output_text answer)
+LeavesTextPart false right output = (answer : Answer) → right answer → HasPrefix output (output_text answer)
 
 -- what stands on standard output after the text of a right answer was to be written to it
 abbrev pub ReachesText : Bool → Bool → Right → TextOutcome → Stream → Type 0
@@ -41,5 +41,5 @@ ReachesText reads whole right (Err (Memory error)) output =
     (reads ≡ false → (complaint : Complaint) → right (Err complaint) → NeedsMemory complaint) × LeavesTextPart whole right output
 ReachesText reads whole right (Err (ReadFailed error)) output = (reads ≡ true) × Has output []
 ReachesText reads whole right (Err TooLong) output = (reads ≡ true) × right (Err TooLong) × Has output []
-ReachesText reads whole right (Err (WriteFailed error)) output = LeavesTextFront whole right output × (output.failed ≡ true)
+ReachesText reads whole right (Err (WriteFailed error)) output = LeavesTextPrefix whole right output × (output.failed ≡ true)
 ReachesText reads whole right (Err (Refused refusal)) output = right (Err (Refused refusal)) × Has output []

@@ -94,12 +94,12 @@ fn put_bad_byte<E: Write>(errors: &mut Out<E>, line: usize, column: usize) -> Re
 /// Writes a line that ends with a number.
 fn put_numbered<E: Write>(
     errors: &mut Out<E>,
-    front: &[u8],
+    prefix: &[u8],
     number: usize,
 ) -> Result<(), WriteError>
     requires { errors.old.failed ≡ false }
-    ensures { Writes E.contents errors.old errors.new result (front.now ++ decimal number ++ codes "\n") }
+    ensures { Writes E.contents errors.old errors.new result (prefix.now ++ decimal number ++ codes "\n") }
 {
-    put_number(errors, front, number)?;
+    put_number(errors, prefix, number)?;
     errors.put(b"\n")
 }

@@ -8,12 +8,12 @@ pub record Output (V : Type 0) : Type 0 where
   pub failed : Bool
 
 -- the known bytes grow by a front of the text
-abbrev pub AppendsFront : Option (List ℕ) → Option (List ℕ) → List ℕ → Type 0
-AppendsFront known_old known_new text = (front remainder : List ℕ) × (text ≡ front ++ remainder) × Appends known_old known_new front
+abbrev pub AppendsPrefix : Option (List ℕ) → Option (List ℕ) → List ℕ → Type 0
+AppendsPrefix known_old known_new text = (prefix remainder : List ℕ) × (text ≡ prefix ++ remainder) × Appends known_old known_new prefix
 
 -- A call wrote the text; or it failed, wrote a front of the text, and the `Out` is failed from then on.
 -- `contents` are the bytes that a writer holds, where they are known.
 pub record Writes {V E : Type 0} (contents : V → Option (List ℕ)) (old new : Output V) (result : Result (Unit {0}) E) (text : List ℕ) : Type 0 where
   pub remembers : new.failed ≡ is_err result
   pub whole : OnOk result (Appends (contents old.writer) (contents new.writer) text)
-  pub front : OnErr result (AppendsFront (contents old.writer) (contents new.writer) text)
+  pub prefix : OnErr result (AppendsPrefix (contents old.writer) (contents new.writer) text)

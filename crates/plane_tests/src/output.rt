@@ -51,7 +51,7 @@ fn put_two(alloc: Global, bad: usize, fault: Option<ErrorKind>) -> Out<Faulty> {
 }
 
 /// What was taken before the write with this number. There are four if all goes well.
-const FRONTS: [(usize, &[u8]); 5] = [
+const PREFIXES: [(usize, &[u8]); 5] = [
     (1, b""),
     (2, b"ab"),
     (3, b"abc"),
@@ -61,12 +61,12 @@ const FRONTS: [(usize, &[u8]); 5] = [
 
 #[test]
 fn stops_at_the_first_fault(rt: HostRuntime) {
-    for (bad, front) in FRONTS {
+    for (bad, prefix) in PREFIXES {
         for fault in [Some(ErrorKind::BrokenPipe), None] {
             let out = put_two(rt.alloc(), bad, fault);
             assert!(rt; out.failed() == (bad < 5), "at {bad}");
             let writer = out.into_inner();
-            assert!(rt; writer.taken.as_slice() == front, "at {bad}");
+            assert!(rt; writer.taken.as_slice() == prefix, "at {bad}");
             assert!(rt; writer.writes == bad.min(4), "at {bad}");
             assert!(rt; !writer.flushed, "at {bad}");
         }

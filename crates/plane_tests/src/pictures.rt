@@ -41,7 +41,7 @@ fn turns_in_eight_orientations(rt: HostRuntime) -> Result<(), Fail> {
 #[test]
 fn a_row_of_seven_is_seen_to_change(rt: HostRuntime) -> Result<(), Fail> {
     let seven = Pattern::read_plaintext(rt.alloc(), b"OOOOOOO")?;
-    assert!(rt; seven.is_seen_to_change(&Rule::life(), 1));
-    assert!(rt; seven.is_seen_to_change(&Rule::life(), 64));
+    assert!(rt; seven.surely_changes(&Rule::life(), 1));
+    assert!(rt; seven.surely_changes(&Rule::life(), 64));
     Ok(())
 }

@@ -37,13 +37,13 @@ zero_is [] h z = absurd (let s = h.some in omega arith)
 zero_is (a ∷ []) h z = ap (λ (x : ℕ). x ∷ []) z
 zero_is (a ∷ b ∷ more) h z = absurd (let s = h.plain z in omega arith)
 
-slice_index-front : (xs ys : List ℕ) → 1 ≤ length xs → slice_index (xs ++ ys) 0 ≡ slice_index xs 0
-slice_index-front [] ys some = absurd (omega arith)
-slice_index-front (x ∷ xs) ys some = refl
+slice_index-prefix : (xs ys : List ℕ) → 1 ≤ length xs → slice_index (xs ++ ys) 0 ≡ slice_index xs 0
+slice_index-prefix [] ys some = absurd (omega arith)
+slice_index-prefix (x ∷ xs) ys some = refl
 
 cut_zero : (d e x y : List ℕ) → IsDecimal d → IsDecimal e → slice_index d 0 ≡ 48 → d ++ x ≡ e ++ y → (d ≡ e) × (x ≡ y)
 cut_zero d e x y p q z s =
-    let other : slice_index e 0 ≡ 48 = sym (slice_index-front e y q.some) ∙ sym (ap (λ (t : List ℕ). slice_index t 0) s) ∙ slice_index-front d x p.some ∙ z in
+    let other : slice_index e 0 ≡ 48 = sym (slice_index-prefix e y q.some) ∙ sym (ap (λ (t : List ℕ). slice_index t 0) s) ∙ slice_index-prefix d x p.some ∙ z in
     let f : d ≡ 48 ∷ [] = zero_is d p z in
     let g : e ≡ 48 ∷ [] = zero_is e q other in
     let whole : 48 ∷ x ≡ 48 ∷ y = sym (ap (λ (t : List ℕ). t ++ x) f) ∙ s ∙ ap (λ (t : List ℕ). t ++ y) g in
@@ -97,8 +97,8 @@ pub pair-some : (w : Written) (x : List ℕ) → pair_text w ++ x ≢ []
 pair-some w x h = let e = ap length h in absurd (omega (arith, length-append (pair_text w) x, length-append w.first (43 ∷ w.count)))
 
 -- two lists with one text begin with the same range, and go on alike
-cut_front : (p q : Written) (ps qs : List Written) → IsWritten p → IsWritten q → joined (p ∷ ps) ≡ joined (q ∷ qs) → (p ≡ q) × (tail ps ≡ tail qs)
-cut_front p q ps qs h k s =
+cut_prefix : (p q : Written) (ps qs : List Written) → IsWritten p → IsWritten q → joined (p ∷ ps) ≡ joined (q ∷ qs) → (p ≡ q) × (tail ps ≡ tail qs)
+cut_prefix p q ps qs h k s =
     cut_pair p q (tail ps) (tail qs) h k (tail-ends p.count ps) (tail-ends q.count qs) (sym (joined-cons p ps) ∙ s ∙ joined-cons q qs)
 
 -- a list is known by its text
@@ -106,11 +106,11 @@ pub joined-injective : (ps qs : List Written) → AllByRecursion IsWritten ps �
 joined-injective [] [] h k s = refl
 joined-injective [] (q ∷ qs) h k s = absurd (pair-some q (tail qs) (sym (joined-cons q qs) ∙ sym s))
 joined-injective (p ∷ ps) [] h k s = absurd (pair-some p (tail ps) (sym (joined-cons p ps) ∙ s))
-joined-injective (p ∷ []) (q ∷ []) h k s = ap (λ (w : Written). w ∷ []) (cut_front p q [] [] h.0 k.0 s).0
-joined-injective (p ∷ []) (q ∷ q' ∷ qs) h k s = let c = cut_front p q [] (q' ∷ qs) h.0 k.0 s in absurd (let t = c.1 in cc)
-joined-injective (p ∷ p' ∷ ps) (q ∷ []) h k s = let c = cut_front p q (p' ∷ ps) [] h.0 k.0 s in absurd (let t = c.1 in cc)
+joined-injective (p ∷ []) (q ∷ []) h k s = ap (λ (w : Written). w ∷ []) (cut_prefix p q [] [] h.0 k.0 s).0
+joined-injective (p ∷ []) (q ∷ q' ∷ qs) h k s = let c = cut_prefix p q [] (q' ∷ qs) h.0 k.0 s in absurd (let t = c.1 in cc)
+joined-injective (p ∷ p' ∷ ps) (q ∷ []) h k s = let c = cut_prefix p q (p' ∷ ps) [] h.0 k.0 s in absurd (let t = c.1 in cc)
 joined-injective (p ∷ p' ∷ ps) (q ∷ q' ∷ qs) h k s =
-    let c = cut_front p q (p' ∷ ps) (q' ∷ qs) h.0 k.0 s in
+    let c = cut_prefix p q (p' ∷ ps) (q' ∷ qs) h.0 k.0 s in
     let t : joined (p' ∷ ps) ≡ joined (q' ∷ qs) = (let t' = c.1 in cc) in
     let more = joined-injective (p' ∷ ps) (q' ∷ qs) h.1 k.1 t in
     λ i. c.0 i ∷ more i

@@ -21,9 +21,9 @@ decimal-push n d some fits digit =
     ∙ ap (λ (q : ℕ). decimal q ++ (48 + (10 * n + d) % 10) ∷ []) quotient
     ∙ ap (λ (m : ℕ). decimal n ++ (48 + m) ∷ []) remainder
 
-slice_index-front : (xs ys : List ℕ) → 1 ≤ length xs → slice_index (xs ++ ys) 0 ≡ slice_index xs 0
-slice_index-front [] ys some = absurd (omega arith)
-slice_index-front (x ∷ xs) ys some = refl
+slice_index-prefix : (xs ys : List ℕ) → 1 ≤ length xs → slice_index (xs ++ ys) 0 ≡ slice_index xs 0
+slice_index-prefix [] ys some = absurd (omega arith)
+slice_index-prefix (x ∷ xs) ys some = refl
 
 all_ascii_digits-append : (xs ys : List ℕ) → all_ascii_digits xs ≡ true → all_ascii_digits ys ≡ true → all_ascii_digits (xs ++ ys) ≡ true
 all_ascii_digits-append [] ys h k = k
@@ -44,7 +44,7 @@ IsDecimal-decimal n fits = record {
 pub large : (n d : ℕ) (text remainder : List ℕ) → 1 ≤ n → n < 2 ^ 64 → d ≤ 9 → 2 ^ 64 ≤ 10 * n + d → text ≡ decimal n ++ (48 + d) ∷ remainder → BeginsLargeDecimal text
 large n d text remainder some fits digit big e =
     let m : ℕ = 10 * n + d in
-    let front : IsDecimal (decimal n) = IsDecimal-decimal n fits in
+    let prefix : IsDecimal (decimal n) = IsDecimal-decimal n fits in
     let pushed : decimal m ≡ decimal n ++ (48 + d) ∷ [] = decimal-push n d some fits digit in
     let numeral = decimal_is_IsNumeral_wide m (omega arith) in
     let nonzero : 48 < slice_index (decimal n) 0 = first_decimal n some fits in
@@ -52,10 +52,10 @@ large n d text remainder some fits digit big e =
       number = decimal m;
       remainder = remainder;
       is_decimal = record {
-        digits = ap all_ascii_digits pushed ∙ all_ascii_digits-append (decimal n) ((48 + d) ∷ []) front.digits (search (rules, arith));
+        digits = ap all_ascii_digits pushed ∙ all_ascii_digits-append (decimal n) ((48 + d) ∷ []) prefix.digits (search (rules, arith));
         some = numeral.0.0;
         plain = λ h. let first : slice_index (decimal m) 0 ≡ slice_index (decimal n) 0 =
-            ap (λ (xs : List ℕ). slice_index xs 0) pushed ∙ slice_index-front (decimal n) ((48 + d) ∷ []) front.some in absurd (omega arith);
+            ap (λ (xs : List ℕ). slice_index xs 0) pushed ∙ slice_index-prefix (decimal n) ((48 + d) ∷ []) prefix.some in absurd (omega arith);
       };
       large = subst (λ (v : ℕ). 2 ^ 64 ≤ v) (sym numeral.1) big;
       spelled = e ∙ sym (ap (λ (xs : List ℕ). xs ++ remainder) pushed ∙ append_assoc (decimal n) ((48 + d) ∷ []) remainder);

@@ -77,30 +77,30 @@ walk (r ∷ rs) fit (q ∷ q' ∷ qs) each x s =
 
 -- no list's text goes on as the text does after its front: with the byte there, or by ending there
 abbrev pub Refused : List ℕ → List ℕ → Type 0
-Refused front there = (qs : List Written) → AreWritten qs → (x : List ℕ) → head_of there ≡ head_of x → joined qs ≢ front ++ x
+Refused prefix there = (qs : List Written) → AreWritten qs → (x : List ℕ) → head_of there ≡ head_of x → joined qs ≢ prefix ++ x
 
 -- the same of the first range that is left
 abbrev pub RefusedRange : List ℕ → List ℕ → Type 0
-RefusedRange front there = (w : Written) (ws : List Written) → IsWritten w → (x : List ℕ) → head_of there ≡ head_of x → pair_text w ++ tail ws ≢ front ++ x
+RefusedRange prefix there = (w : Written) (ws : List Written) → IsWritten w → (x : List ℕ) → head_of there ≡ head_of x → pair_text w ++ tail ws ≢ prefix ++ x
 
 empty_parts : (x y : List ℕ) → [] ≡ x ++ y → (x ≡ []) × (y ≡ [])
 empty_parts [] y h = (refl, sym h)
 empty_parts (a ∷ x) y h = absurd (cc)
 
-pub refused_after : (ranges : List Range) (front there : List ℕ) → FitU64 ranges → (ranges_and_commas ranges ++ front) ++ there ≢ [] → RefusedRange front there
-    → Refused (ranges_and_commas ranges ++ front) there
-refused_after ranges front there fit some refused = λ qs each x same s.
-    let w = walk ranges (recursion_from_All FitsU64 ranges fit) qs each (front ++ x) (s ∙ append_assoc (ranges_and_commas ranges) front x) in
+pub refused_after : (ranges : List Range) (prefix there : List ℕ) → FitU64 ranges → (ranges_and_commas ranges ++ prefix) ++ there ≢ [] → RefusedRange prefix there
+    → Refused (ranges_and_commas ranges ++ prefix) there
+refused_after ranges prefix there fit some refused = λ qs each x same s.
+    let w = walk ranges (recursion_from_All FitsU64 ranges fit) qs each (prefix ++ x) (s ∙ append_assoc (ranges_and_commas ranges) prefix x) in
     go qs x same s w.more w.each w.spelled (w.some (λ e. none x same (ap joined (sym e) ∙ s)))
   where
-    none : (x : List ℕ) → head_of there ≡ head_of x → [] ≢ (ranges_and_commas ranges ++ front) ++ x
+    none : (x : List ℕ) → head_of there ≡ head_of x → [] ≢ (ranges_and_commas ranges ++ prefix) ++ x
     none x same s =
-        let p = empty_parts (ranges_and_commas ranges ++ front) x s in
+        let p = empty_parts (ranges_and_commas ranges ++ prefix) x s in
         let t : there ≡ [] = same_end there x same p.1 in
         some (ap (λ (y : List ℕ). y ++ there) p.0 ∙ t)
 
-    go : (qs : List Written) (x : List ℕ) → head_of there ≡ head_of x → joined qs ≡ (ranges_and_commas ranges ++ front) ++ x → (more : List Written) → AreWritten more
-        → joined more ≡ front ++ x → more ≢ [] → ⊥
+    go : (qs : List Written) (x : List ℕ) → head_of there ≡ head_of x → joined qs ≡ (ranges_and_commas ranges ++ prefix) ++ x → (more : List Written) → AreWritten more
+        → joined more ≡ prefix ++ x → more ≢ [] → ⊥
     go qs x same s [] each t some = some refl
     go qs x same s (w ∷ ws) each t some = refused w ws each.0 x same (sym (joined-cons w ws) ∙ t)
 
@@ -132,14 +132,14 @@ cut_first : (w : Written) (ws : List Written) (n : ℕ) (x : List ℕ) → IsWri
 cut_first w ws n x each fits ends s =
     (cut w.first (decimal n) (43 ∷ (w.count ++ tail ws)) x each.0 (IsDecimal-decimal n fits) (λ h. absurd (cc)) ends (sym (pair-append w (tail ws)) ∙ s)).1
 
-has_byte-front : (c : ℕ) (x y : List ℕ) → c ∷ y ≡ x → has_byte c x
-has_byte-front c [] y h = absurd (cc)
-has_byte-front c (b ∷ x) y h = cc
+has_byte-prefix : (c : ℕ) (x y : List ℕ) → c ∷ y ≡ x → has_byte c x
+has_byte-prefix c [] y h = absurd (cc)
+has_byte-prefix c (b ∷ x) y h = cc
 
 -- no `+` stands after a first number
 pub refused_plus : (n : ℕ) (there : List ℕ) → n < 2 ^ 64 → (has_digit there ≡ true → n ≡ 0) → ¬ has_byte 43 there → RefusedRange (decimal n) there
 refused_plus n there fits ends other = λ w ws each x same s.
-    other (same_byte 43 there x same (has_byte-front 43 x (w.count ++ tail ws) (cut_first w ws n x each fits (ends_alike n there x ends same) s)))
+    other (same_byte 43 there x same (has_byte-prefix 43 x (w.count ++ tail ws) (cut_first w ws n x each fits (ends_alike n there x ends same) s)))
 
 -- no digit stands after a `+`
 pub refused_count : (n : ℕ) (there : List ℕ) → n < 2 ^ 64 → has_digit there ≡ false → RefusedRange (decimal n ++ 43 ∷ []) there
@@ -153,7 +153,7 @@ refused_count n there fits none = λ w ws each x same s.
 
 tail-byte : (ws : List Written) (x : List ℕ) → x ≢ [] → tail ws ≡ x → has_byte 44 x
 tail-byte [] x some h = absurd (some (sym h))
-tail-byte (w ∷ ws) x some h = has_byte-front 44 x (joined (w ∷ ws)) h
+tail-byte (w ∷ ws) x some h = has_byte-prefix 44 x (joined (w ∷ ws)) h
 
 -- neither the end nor a `,` stands after a range
 pub refused_comma : (r : Range) (there : List ℕ) → FitsU64 r → (has_digit there ≡ true → r.count ≡ 0) → there ≢ [] → ¬ has_byte 44 there
@@ -163,25 +163,25 @@ refused_comma r there fits ends some other = λ w ws each x same s.
     (ends_alike r.count there x ends same) s in
     other (same_byte 44 there x same (tail-byte ws x (λ e. some (same_end there x same e)) c.1))
 
-all_digits_front : (d e x y : List ℕ) → all_ascii_digits e ≡ true → has_digit x ≡ false → d ++ x ≡ e ++ y → take (length e) d ≡ e
-all_digits_front d [] x y digits none s = refl
-all_digits_front [] (b ∷ e) x y digits none s =
+all_digits_prefix : (d e x y : List ℕ) → all_ascii_digits e ≡ true → has_digit x ≡ false → d ++ x ≡ e ++ y → take (length e) d ≡ e
+all_digits_prefix d [] x y digits none s = refl
+all_digits_prefix [] (b ∷ e) x y digits none s =
     let digit : is_ascii_digit b ≡ true = search (rules) in
     let other : is_ascii_digit b ≡ false = sym (ap has_digit s) ∙ none in
     absurd (cc)
-all_digits_front (a ∷ d) (b ∷ e) x y digits none s =
+all_digits_prefix (a ∷ d) (b ∷ e) x y digits none s =
     let same : a ≡ b = cc in
     let remainder : d ++ x ≡ e ++ y = cc in
-    let more = all_digits_front d e x y (search rules) none remainder in
+    let more = all_digits_prefix d e x y (search rules) none remainder in
     λ i. same i ∷ more i
 
 -- a decimal of 64 bits doesn't begin with one of 2^64 or more
 pub small_decimal : (n : ℕ) (x there : List ℕ) → n < 2 ^ 64 → has_digit x ≡ false → BeginsLargeDecimal there → decimal n ++ x ≢ there
 small_decimal n x there fits none b s =
-    let front = all_digits_front (decimal n) b.number x b.remainder b.is_decimal.digits none (s ∙ b.spelled) in
+    let prefix = all_digits_prefix (decimal n) b.number x b.remainder b.is_decimal.digits none (s ∙ b.spelled) in
     let less = digits_value-take-le 10 (decimal n) (length b.number) (omega arith) in
     let value : digits_value 10 (decimal n) ≡ n = digits_value-decimal ascii n fits in
-    let same : digits_value 10 (take (length b.number) (decimal n)) ≡ digits_value 10 b.number = ap (digits_value 10) front in
+    let same : digits_value 10 (take (length b.number) (decimal n)) ≡ digits_value 10 b.number = ap (digits_value 10) prefix in
     let big = b.large in
     absurd (omega arith)
 
@@ -205,48 +205,48 @@ unfolding list_text
 list_text-joined rs = refl
 
 -- what is refused is no list
-pub not_list : (text front there : List ℕ) → text ≡ front ++ there → Refused front there → ¬ IsListText text
-not_list text front there s refused list =
+pub not_list : (text prefix there : List ℕ) → text ≡ prefix ++ there → Refused prefix there → ¬ IsListText text
+not_list text prefix there s refused list =
     refused (map written list.ranges) (written-all list.ranges (recursion_from_All FitsU64 list.ranges list.fit)) there refl
     (sym (list_text-joined list.ranges) ∙ list.spelled ∙ s)
 
-place-front : (text front there : List ℕ) → text ≡ front ++ there → length text - length there ≡ length front
-place-front text front there s = omega (arith, ap length s, length-append front there)
+place-prefix : (text prefix there : List ℕ) → text ≡ prefix ++ there → length text - length there ≡ length prefix
+place-prefix text prefix there s = omega (arith, ap length s, length-append prefix there)
 
-taken : (text front there : List ℕ) → text ≡ front ++ there → take (length text - length there) text ≡ front
-taken text front there s =
-    ap (λ (n : ℕ). take n text) (place-front text front there s) ∙ ap (λ (t : List ℕ). take (length front) t) s ∙ take-append_seam front there
+taken : (text prefix there : List ℕ) → text ≡ prefix ++ there → take (length text - length there) text ≡ prefix
+taken text prefix there s =
+    ap (λ (n : ℕ). take n text) (place-prefix text prefix there s) ∙ ap (λ (t : List ℕ). take (length prefix) t) s ∙ take-append_seam prefix there
 
-pub bad : (text front there : List ℕ) → text ≡ front ++ there → BeginsList front → Refused front there → IsBadListByte text (length text - length there)
-bad text front [] s begins refused = record {
+pub bad : (text prefix there : List ℕ) → text ≡ prefix ++ there → BeginsList prefix → Refused prefix there → IsBadListByte text (length text - length there)
+bad text prefix [] s begins refused = record {
   within = omega arith;
-  before = subst BeginsList (sym (taken text front [] s)) begins;
+  before = subst BeginsList (sym (taken text prefix [] s)) begins;
   there = λ lt. absurd (omega arith);
-  short = λ e. not_list text front [] s refused;
+  short = λ e. not_list text prefix [] s refused;
 }
-bad text front (b ∷ remainder) s begins refused = record {
+bad text prefix (b ∷ remainder) s begins refused = record {
   within = omega arith;
-  before = subst BeginsList (sym (taken text front (b ∷ remainder) s)) begins;
+  before = subst BeginsList (sym (taken text prefix (b ∷ remainder) s)) begins;
   there = λ lt long.
-      let front' : List ℕ = front ++ b ∷ [] in
-      let s' : text ≡ front' ++ remainder = s ∙ sym (append_assoc front (b ∷ []) remainder) in
+      let front' : List ℕ = prefix ++ b ∷ [] in
+      let s' : text ≡ front' ++ remainder = s ∙ sym (append_assoc prefix (b ∷ []) remainder) in
       let place : length text - length (b ∷ remainder) + 1 ≡ length text - length remainder =
-      omega (arith, ap length s, length-append front (b ∷ remainder)) in
+      omega (arith, ap length s, length-append prefix (b ∷ remainder)) in
       let cut : take (length text - length (b ∷ remainder) + 1) text ≡ front' = ap (λ (n : ℕ). take n text) place ∙ taken text front' remainder s' in
       refused long.ranges (recursion_from_All IsWritten long.ranges long.decimals) (b ∷ long.remainder) refl
-      (long.spelled ∙ ap (λ (t : List ℕ). t ++ long.remainder) cut ∙ append_assoc front (b ∷ []) long.remainder);
-  short = λ e. let l : length text ≡ length front + suc (length remainder) = omega (arith, ap length s, length-append front (b ∷ remainder)) in absurd (omega arith);
+      (long.spelled ∙ ap (λ (t : List ℕ). t ++ long.remainder) cut ∙ append_assoc prefix (b ∷ []) long.remainder);
+  short = λ e. let l : length text ≡ length prefix + suc (length remainder) = omega (arith, ap length s, length-append prefix (b ∷ remainder)) in absurd (omega arith);
 }
 
 -- the text's last byte is no digit
-pub record LastByte (front : List ℕ) : Type 0 where
+pub record LastByte (prefix : List ℕ) : Type 0 where
   pub start : List ℕ
   pub byte : ℕ
-  pub spelled : front ≡ start ++ byte ∷ []
+  pub spelled : prefix ≡ start ++ byte ∷ []
   pub other : is_ascii_digit byte ≡ false
 
 abbrev pub Apart : List ℕ → Type 0
-Apart front = (front ≡ []) ⊎ LastByte front
+Apart prefix = (prefix ≡ []) ⊎ LastByte prefix
 
 pub opening-apart : (rs : List Range) → Apart (ranges_and_commas rs)
 opening-apart [] = inl refl
@@ -261,23 +261,23 @@ opening-apart (r ∷ rs) = go (opening-apart rs)
       other = l.other;
     })
 
-last-apart : (text front there : List ℕ) (place : ℕ) → Apart front → text ≡ front ++ there → place ≡ length front → 1 ≤ place
+last-apart : (text prefix there : List ℕ) (place : ℕ) → Apart prefix → text ≡ prefix ++ there → place ≡ length prefix → 1 ≤ place
     → is_ascii_digit (slice_index text (place - 1)) ≡ false
-last-apart text front there place (inl e) s at some = absurd (let l = ap length e in omega arith)
-last-apart text front there place (inr l) s at some =
+last-apart text prefix there place (inl e) s at some = absurd (let l = ap length e in omega arith)
+last-apart text prefix there place (inr l) s at some =
     let whole : text ≡ l.start ++ l.byte ∷ there = s ∙ ap (λ (t : List ℕ). t ++ there) l.spelled ∙ append_assoc l.start (l.byte ∷ []) there in
     let before : place - 1 ≡ length l.start = omega (arith, ap length l.spelled, length-append l.start (l.byte ∷ [])) in
     let byte : slice_index text (place - 1) ≡ l.byte =
     ap (λ (n : ℕ). slice_index text n) before ∙ ap (λ (t : List ℕ). slice_index t (length l.start)) whole ∙ get_or-append_seam l.start l.byte there 0 in
     ap is_ascii_digit byte ∙ l.other
 
-pub large_at : (text front there : List ℕ) → text ≡ front ++ there → BeginsList front → Apart front → BeginsLargeDecimal there
+pub large_at : (text prefix there : List ℕ) → text ≡ prefix ++ there → BeginsList prefix → Apart prefix → BeginsLargeDecimal there
     → IsLargeDecimal text (length text - length there)
-large_at text front there s begins apart large = record {
-  before = subst BeginsList (sym (taken text front there s)) begins;
-  apart = last-apart text front there (length text - length there) apart s (place-front text front there s);
-  there = subst BeginsLargeDecimal (sym (ap (λ (n : ℕ). drop n text) (place-front text front there s)
-      ∙ ap (λ (t : List ℕ). drop (length front) t) s ∙ drop-append_seam front there)) large;
+large_at text prefix there s begins apart large = record {
+  before = subst BeginsList (sym (taken text prefix there s)) begins;
+  apart = last-apart text prefix there (length text - length there) apart s (place-prefix text prefix there s);
+  there = subst BeginsLargeDecimal (sym (ap (λ (n : ℕ). drop n text) (place-prefix text prefix there s)
+      ∙ ap (λ (t : List ℕ). drop (length prefix) t) s ∙ drop-append_seam prefix there)) large;
 }
 
 -- a list whose next range begins with a number that is too large

@@ -24,12 +24,12 @@ none_last l = let e = ap length l.spelled in omega (arith, length-append l.start
 -- digits begin what ends with another byte
 record Skipped (d x y z : List ℕ) : Type 0 where
   more : List ℕ
-  front : x ≡ d ++ more
+  prefix : x ≡ d ++ more
   remainder : z ≡ more ++ y
   last : LastByte more
 
 skip : (d x y z start : List ℕ) (byte : ℕ) → all_ascii_digits d ≡ true → x ≡ start ++ byte ∷ [] → is_ascii_digit byte ≡ false → d ++ z ≡ x ++ y → Skipped d x y z
-skip [] x y z start byte digits e other s = record { more = x; front = refl; remainder = s; last = record { start = start; byte = byte; spelled = e; other = other } }
+skip [] x y z start byte digits e other s = record { more = x; prefix = refl; remainder = s; last = record { start = start; byte = byte; spelled = e; other = other } }
 skip (a ∷ d) [] y z start byte digits e other s = absurd (none_last (record { start = start; byte = byte; spelled = e; other = other }))
 skip (a ∷ d) (b ∷ x) y z [] byte digits e other s =
     let digit : is_ascii_digit a ≡ true = search (rules) in
@@ -42,25 +42,25 @@ skip (a ∷ d) (b ∷ x) y z (c ∷ start) byte digits e other s =
     let remainder : d ++ z ≡ x ++ y = cc in
     let left : x ≡ start ++ byte ∷ [] = cc in
     let m = skip d x y z start byte (search (rules)) left other remainder in
-    record { more = m.more; front = λ i. sym same i ∷ m.front i; remainder = m.remainder; last = m.last }
+    record { more = m.more; prefix = λ i. sym same i ∷ m.prefix i; remainder = m.remainder; last = m.last }
 
 -- the text is cut where a range begins
 record StartsAt (x y : List ℕ) : Type 0 where
-  front : List Range
+  prefix : List Range
   back : List Range
-  fit : AllByRecursion FitsU64 front
+  fit : AllByRecursion FitsU64 prefix
   more : AllByRecursion FitsU64 back
-  is : x ≡ ranges_and_commas front
+  is : x ≡ ranges_and_commas prefix
   remainder : y ≡ joined (map written back)
 
 -- or where a count does
 record CountsAt (x y : List ℕ) : Type 0 where
-  front : List Range
+  prefix : List Range
   range : Range
   back : List Range
-  fit : AllByRecursion FitsU64 front
+  fit : AllByRecursion FitsU64 prefix
   fits : FitsU64 range
-  is : x ≡ ranges_and_commas front ++ (decimal range.first ++ 43 ∷ [])
+  is : x ≡ ranges_and_commas prefix ++ (decimal range.first ++ 43 ∷ [])
   remainder : y ≡ decimal range.count ++ tail (map written back)
 
 abbrev At : List ℕ → List ℕ → Type 0
@@ -69,7 +69,7 @@ At x y = StartsAt x y ⊎ CountsAt x y
 -- with a range more in front
 consed : (r : Range) → FitsU64 r → (x more y : List ℕ) → x ≡ pair_text (written r) ++ 44 ∷ more → At more y → At x y
 consed r fits x more y e (inl a) = inl (record {
-  front = r ∷ a.front;
+  prefix = r ∷ a.prefix;
   back = a.back;
   fit = (fits, a.fit);
   more = a.more;
@@ -77,13 +77,13 @@ consed r fits x more y e (inl a) = inl (record {
   remainder = a.remainder;
 })
 consed r fits x more y e (inr a) = inr (record {
-  front = r ∷ a.front;
+  prefix = r ∷ a.prefix;
   range = a.range;
   back = a.back;
   fit = (fits, a.fit);
   fits = a.fits;
   is = e ∙ ap (λ (t : List ℕ). pair_text (written r) ++ 44 ∷ t) a.is
-      ∙ sym (append_assoc (pair_text (written r)) (44 ∷ ranges_and_commas a.front) (decimal a.range.first ++ 43 ∷ []));
+      ∙ sym (append_assoc (pair_text (written r)) (44 ∷ ranges_and_commas a.prefix) (decimal a.range.first ++ 43 ∷ []));
   remainder = a.remainder;
 })
 
@@ -112,7 +112,7 @@ after_first r rs fits go x y (b ∷ more) e s last [] f =
     let none : more ≡ [] = cc in
     let remainder : decimal r.count ++ tail (map written rs) ≡ more ++ y = cc in
     inr (record {
-      front = [];
+      prefix = [];
       range = r;
       back = rs;
       fit = tt;
@@ -127,11 +127,11 @@ after_first r rs fits go x y (b ∷ more) e s last (c ∷ start) f =
     let digits = (IsDecimal-decimal r.count fits.1).digits in
     let m = skip (decimal r.count) more y (tail (map written rs)) start last.byte digits left last.other remainder in
     after_count r rs fits go x y m.more
-    (e ∙ (λ i. decimal r.first ++ sym plus i ∷ m.front i) ∙ sym (append_assoc (decimal r.first) (43 ∷ decimal r.count) m.more)) m.remainder m.last
+    (e ∙ (λ i. decimal r.first ++ sym plus i ∷ m.prefix i) ∙ sym (append_assoc (decimal r.first) (43 ∷ decimal r.count) m.more)) m.remainder m.last
 
 at : (rs : List Range) → AllByRecursion FitsU64 rs → (x y : List ℕ) → Apart x → joined (map written rs) ≡ x ++ y → At x y
 at rs fit x y (inl e) s =
-    inl (record { front = []; back = rs; fit = tt; more = fit; is = e; remainder = sym (s ∙ ap (λ (t : List ℕ). t ++ y) e) })
+    inl (record { prefix = []; back = rs; fit = tt; more = fit; is = e; remainder = sym (s ∙ ap (λ (t : List ℕ). t ++ y) e) })
 at [] fit x y (inr l) s =
     let e = ap length s in
     let f = ap length l.spelled in
@@ -141,7 +141,7 @@ at (r ∷ rs) fit x y (inr l) s =
     sym (pair-append (written r) (tail (map written rs))) ∙ sym (joined-cons (written r) (map written rs)) ∙ s in
     let digits = (IsDecimal-decimal r.first fit.0.0).digits in
     let m = skip (decimal r.first) x y (43 ∷ (decimal r.count ++ tail (map written rs))) l.start l.byte digits l.spelled l.other whole in
-    after_first r rs fit.0 (at rs fit.1) x y m.more m.front m.remainder m.last m.last.start m.last.spelled
+    after_first r rs fit.0 (at rs fit.1) x y m.more m.prefix m.remainder m.last m.last.start m.last.spelled
 
 -- ---- what begins a list
 
@@ -163,8 +163,8 @@ no_large x there apart large list = go (begins_at x there apart list)
     go (inl a) = starts a.back a.more a.remainder
     go (inr a) = small_decimal a.range.count (tail (map written a.back)) there a.fits.1 (tail-no_digit (map written a.back)) large (sym a.remainder)
 
-no_large_front : (x number : List ℕ) → Apart x → ((remainder : List ℕ) → BeginsLargeDecimal (number ++ remainder)) → ¬ BeginsList (x ++ number)
-no_large_front x number apart large b =
+no_large_prefix : (x number : List ℕ) → Apart x → ((remainder : List ℕ) → BeginsLargeDecimal (number ++ remainder)) → ¬ BeginsList (x ++ number)
+no_large_prefix x number apart large b =
     no_large x (number ++ b.remainder) apart (large b.remainder) (subst IsListText (append_assoc x number b.remainder) b.whole)
 
 tail-last : (rs : List Range) (w : Written) → tail (map written rs ++ w ∷ []) ≡ 44 ∷ joined (map written rs ++ w ∷ [])
@@ -194,20 +194,20 @@ goes_on x number apart b is = go (begins_at x b.remainder apart b.whole)
     go (inl a) =
         let w : Written = record { first = number; count = 48 ∷ [] } in
         record {
-          ranges = map written a.front ++ w ∷ [];
+          ranges = map written a.prefix ++ w ∷ [];
           remainder = 43 ∷ 48 ∷ [];
-          decimals = are_written a.front w a.fit (is, zero_is_decimal);
-          spelled = joined-last a.front w ∙ ap (λ (t : List ℕ). t ++ (number ++ 43 ∷ 48 ∷ [])) (sym a.is) ∙ sym (append_assoc x number (43 ∷ 48 ∷ []));
+          decimals = are_written a.prefix w a.fit (is, zero_is_decimal);
+          spelled = joined-last a.prefix w ∙ ap (λ (t : List ℕ). t ++ (number ++ 43 ∷ 48 ∷ [])) (sym a.is) ∙ sym (append_assoc x number (43 ∷ 48 ∷ []));
         }
     go (inr a) =
         let w : Written = record { first = decimal a.range.first; count = number } in
         record {
-          ranges = map written a.front ++ w ∷ [];
+          ranges = map written a.prefix ++ w ∷ [];
           remainder = [];
-          decimals = are_written a.front w a.fit (IsDecimal-decimal a.range.first a.fits.0, is);
-          spelled = joined-last a.front w
-              ∙ ap (λ (t : List ℕ). ranges_and_commas a.front ++ t) (sym (append_assoc (decimal a.range.first) (43 ∷ []) number))
-              ∙ sym (append_assoc (ranges_and_commas a.front) (decimal a.range.first ++ 43 ∷ []) number)
+          decimals = are_written a.prefix w a.fit (IsDecimal-decimal a.range.first a.fits.0, is);
+          spelled = joined-last a.prefix w
+              ∙ ap (λ (t : List ℕ). ranges_and_commas a.prefix ++ t) (sym (append_assoc (decimal a.range.first) (43 ∷ []) number))
+              ∙ sym (append_assoc (ranges_and_commas a.prefix) (decimal a.range.first ++ 43 ∷ []) number)
               ∙ ap (λ (t : List ℕ). t ++ number) (sym a.is) ∙ sym (append-nil (x ++ number));
         }
 
@@ -222,15 +222,15 @@ long_of x b = record {
 
 -- ---- fronts of a text
 
-front_of : (text : List ℕ) (m n : ℕ) → m ≤ n → take n text ≡ take m text ++ drop m (take n text)
-front_of text m n le = sym (take-append-drop m (take n text)) ∙ ap (λ (t : List ℕ). t ++ drop m (take n text)) (take-take m n text le)
+prefix_of : (text : List ℕ) (m n : ℕ) → m ≤ n → take n text ≡ take m text ++ drop m (take n text)
+prefix_of text m n le = sym (take-append-drop m (take n text)) ∙ ap (λ (t : List ℕ). t ++ drop m (take n text)) (take-take m n text le)
 
 shorter : (text : List ℕ) (m n : ℕ) → m ≤ n → BeginsList (take n text) → BeginsList (take m text)
 shorter text m n le b =
     let more : List ℕ = drop m (take n text) in
     record {
       remainder = more ++ b.remainder;
-      whole = subst IsListText (ap (λ (t : List ℕ). t ++ b.remainder) (front_of text m n le) ∙ append_assoc (take m text) more b.remainder) b.whole;
+      whole = subst IsListText (ap (λ (t : List ℕ). t ++ b.remainder) (prefix_of text m n le) ∙ append_assoc (take m text) more b.remainder) b.whole;
     }
 
 shorter_long : (text : List ℕ) (m n : ℕ) → m ≤ n → BeginsLongList (take n text) → BeginsLongList (take m text)
@@ -240,7 +240,7 @@ shorter_long text m n le b =
       ranges = b.ranges;
       remainder = more ++ b.remainder;
       decimals = b.decimals;
-      spelled = b.spelled ∙ ap (λ (t : List ℕ). t ++ b.remainder) (front_of text m n le) ∙ append_assoc (take m text) more b.remainder;
+      spelled = b.spelled ∙ ap (λ (t : List ℕ). t ++ b.remainder) (prefix_of text m n le) ∙ append_assoc (take m text) more b.remainder;
     }
 
 -- a text with a large decimal at a place
@@ -251,7 +251,7 @@ record Large (text : List ℕ) (place : ℕ) : Type 0 where
   apart : Apart (take place text)
   number : List ℕ
   long : length number ≡ size
-  front : take (place + size) text ≡ take place text ++ number
+  prefix : take (place + size) text ≡ take place text ++ number
   is : IsDecimal number
   large : (remainder : List ℕ) → BeginsLargeDecimal (number ++ remainder)
   whole : text ≡ take place text ++ (number ++ drop (place + size) text)
@@ -278,10 +278,10 @@ large_in text place l =
     let sizes : length (drop place text) ≡ length n + length l.there.remainder = ap length l.there.spelled ∙ length-append n l.there.remainder in
     let left = length-drop place text in
     let within : place + length n ≤ length text = omega arith in
-    let front : length (take place text) ≡ place = length-take-le place text (omega arith) in
+    let prefix : length (take place text) ≡ place = length-take-le place text (omega arith) in
     let whole : text ≡ (take place text ++ n) ++ l.there.remainder =
     sym (take-append-drop place text) ∙ ap (λ (t : List ℕ). take place text ++ t) l.there.spelled ∙ sym (append_assoc (take place text) n l.there.remainder) in
-    let size : length (take place text ++ n) ≡ place + length n = length-append (take place text) n ∙ ap (λ (m : ℕ). m + length n) front in
+    let size : length (take place text ++ n) ≡ place + length n = length-append (take place text) n ∙ ap (λ (m : ℕ). m + length n) prefix in
     let cut : take (place + length n) text ≡ take place text ++ n =
     ap (take (place + length n)) whole ∙ take_at (take place text ++ n) l.there.remainder (place + length n) size in
     record {
@@ -291,7 +291,7 @@ large_in text place l =
       apart = apart_at text place (omega arith) l.apart;
       number = n;
       long = refl;
-      front = cut;
+      prefix = cut;
       is = l.there.is_decimal;
       large = λ remainder. record { number = n; remainder = remainder; is_decimal = l.there.is_decimal; large = l.there.large; spelled = refl };
       whole = sym (take-append-drop (place + length n) text) ∙ ap (λ (t : List ℕ). t ++ drop (place + length n) text) cut
@@ -313,8 +313,8 @@ large_before text p q less a before l = elim (cases_lt p (q + l.size)) [
   | inl inside ↦
       let within = l.within in
       a.there (omega arith) (shorter_long text (p + 1) (q + l.size) (omega arith)
-      (subst BeginsLongList (sym l.front) (goes_on (take q text) l.number l.apart before l.is)))
-  | inr past ↦ no_large_front (take q text) l.number l.apart l.large (subst BeginsList l.front (shorter text (q + l.size) p past a.before))
+      (subst BeginsLongList (sym l.prefix) (goes_on (take q text) l.number l.apart before l.is)))
+  | inr past ↦ no_large_prefix (take q text) l.number l.apart l.large (subst BeginsList l.prefix (shorter text (q + l.size) p past a.before))
 ]
 
 two_large : (text : List ℕ) (p q : ℕ) → p < q → Large text p → IsLargeDecimal text q → ⊥
@@ -322,15 +322,15 @@ two_large text p q less l m = elim (cases_lt q (p + l.size + 1)) [
   | inl inside ↦
       let within = l.within in
       let long = l.long in
-      let front : length (take p text) ≡ p = length-take-le p text (omega arith) in
+      let prefix : length (take p text) ≡ p = length-take-le p text (omega arith) in
       let there : get_or text (q - 1) 0 ≡ get_or l.number (q - 1 - p) 0 =
       ap (λ (t : List ℕ). get_or t (q - 1) 0) l.whole
-      ∙ get_or-append_right (take p text) (l.number ++ drop (p + l.size) text) p (q - 1) 0 front (omega arith)
+      ∙ get_or-append_right (take p text) (l.number ++ drop (p + l.size) text) p (q - 1) 0 prefix (omega arith)
       ∙ get_or_append_left l.number (drop (p + l.size) text) 0 (q - 1 - p) (omega arith) in
       let digit : is_ascii_digit (get_or text (q - 1) 0) ≡ true = ap is_ascii_digit there ∙ digit_at l.number (q - 1 - p) l.is.digits (omega arith) in
       let none : is_ascii_digit (get_or text (q - 1) 0) ≡ false = m.apart (omega arith) in
       absurd (cc)
-  | inr past ↦ no_large_front (take p text) l.number l.apart l.large (subst BeginsList l.front (shorter text (p + l.size) q (omega arith) m.before))
+  | inr past ↦ no_large_prefix (take p text) l.number l.apart l.large (subst BeginsList l.prefix (shorter text (p + l.size) q (omega arith) m.before))
 ]
 
 large_within : (text : List ℕ) (place : ℕ) → Large text place → place ≤ length text

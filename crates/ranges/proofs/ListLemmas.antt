@@ -35,13 +35,13 @@ opening-push (a ∷ rs) r x =
     ∙ ap (λ (t : List ℕ). pair_text (written a) ++ 44 ∷ t) (opening-push rs r x)
     ∙ sym (append_assoc (pair_text (written a)) (44 ∷ ranges_and_commas rs) (pair_text (written r) ++ 44 ∷ x))
 
-begins : (rs : List Range) (r : Range) (front remainder : List ℕ) → FitU64 rs → FitsU64 r → front ++ remainder ≡ pair_text (written r) → BeginsList (ranges_and_commas rs ++ front)
-begins rs r front remainder fit fits s = record {
+begins : (rs : List Range) (r : Range) (prefix remainder : List ℕ) → FitU64 rs → FitsU64 r → prefix ++ remainder ≡ pair_text (written r) → BeginsList (ranges_and_commas rs ++ prefix)
+begins rs r prefix remainder fit fits s = record {
   remainder = remainder;
   whole = record {
     ranges = rs ++ r ∷ [];
     fit = All-push FitsU64 rs r fit fits;
-    spelled = list_text-push rs r ∙ sym (append_assoc (ranges_and_commas rs) front remainder ∙ ap (λ (t : List ℕ). ranges_and_commas rs ++ t) s);
+    spelled = list_text-push rs r ∙ sym (append_assoc (ranges_and_commas rs) prefix remainder ∙ ap (λ (t : List ℕ). ranges_and_commas rs ++ t) s);
   };
 }
 
@@ -52,37 +52,37 @@ of_first n = record { first = n; count = 0 }
 abbrev pub IsFaulty : List ℕ → ℕ → Type 0
 IsFaulty text place = IsFirstListFault text place × ¬ IsListText text
 
-wrong : (text front there : List ℕ) → text ≡ front ++ there → BeginsList front → Refused front there → IsFaulty text (length text - length there)
-wrong text front there s b refused = (inl (bad text front there s b refused), not_list text front there s refused)
+wrong : (text prefix there : List ℕ) → text ≡ prefix ++ there → BeginsList prefix → Refused prefix there → IsFaulty text (length text - length there)
+wrong text prefix there s b refused = (inl (bad text prefix there s b refused), not_list text prefix there s refused)
 
 no_first : (text remainder : List ℕ) (rs : List Range) → FitU64 rs → text ≡ ranges_and_commas rs ++ remainder → text ≢ [] → BeginsNoDecimal remainder
     → IsFaulty text (length text - length remainder)
 no_first text remainder rs fit s some none = go (has_digit remainder) refl
   where
-    front : List ℕ
-    front = ranges_and_commas rs ++ []
+    prefix : List ℕ
+    prefix = ranges_and_commas rs ++ []
 
-    whole : text ≡ front ++ remainder
+    whole : text ≡ prefix ++ remainder
     whole = s ∙ ap (λ (t : List ℕ). t ++ remainder) (sym (append-nil (ranges_and_commas rs)))
 
-    b : BeginsList front
+    b : BeginsList prefix
     b = begins rs (of_first 0) [] (pair_text (written (of_first 0))) fit (omega arith, omega arith) refl
 
-    apart : Apart front
+    apart : Apart prefix
     apart = subst Apart (sym (append-nil (ranges_and_commas rs))) (opening-apart rs)
 
     go : (d : Bool) → has_digit remainder ≡ d → IsFaulty text (length text - length remainder)
-    go false h = wrong text front remainder whole b (refused_after rs [] remainder fit (λ e. some (whole ∙ e)) (refused_first remainder h))
-    go true h = (inr (large_at text front remainder whole b apart (none h)), refused_large text remainder rs fit s (none h))
+    go false h = wrong text prefix remainder whole b (refused_after rs [] remainder fit (λ e. some (whole ∙ e)) (refused_first remainder h))
+    go true h = (inr (large_at text prefix remainder whole b apart (none h)), refused_large text remainder rs fit s (none h))
 
 no_plus : (text remainder there : List ℕ) (rs : List Range) → FitU64 rs → text ≡ ranges_and_commas rs ++ remainder → text ≢ [] → LacksPlus remainder there
     → IsFaulty text (length text - length there)
 no_plus text remainder there rs fit s some l =
     let n = l.n in
-    let front = ranges_and_commas rs ++ decimal n in
-    let whole : text ≡ front ++ there = s ∙ ap (λ (t : List ℕ). ranges_and_commas rs ++ t) l.begins.spelled ∙ sym (append_assoc (ranges_and_commas rs) (decimal n) there) in
-    let b : BeginsList front = begins rs (of_first n) (decimal n) (43 ∷ decimal 0) fit (l.begins.fits, omega arith) refl in
-    wrong text front there whole b
+    let prefix = ranges_and_commas rs ++ decimal n in
+    let whole : text ≡ prefix ++ there = s ∙ ap (λ (t : List ℕ). ranges_and_commas rs ++ t) l.begins.spelled ∙ sym (append_assoc (ranges_and_commas rs) (decimal n) there) in
+    let b : BeginsList prefix = begins rs (of_first n) (decimal n) (43 ∷ decimal 0) fit (l.begins.fits, omega arith) refl in
+    wrong text prefix there whole b
     (refused_after rs (decimal n) there fit (λ e. some (whole ∙ e)) (refused_plus n there l.begins.fits l.begins.ends l.other))
 
 no_count : (text remainder there : List ℕ) (rs : List Range) → FitU64 rs → text ≡ ranges_and_commas rs ++ remainder → text ≢ [] → LacksCount remainder there
@@ -92,36 +92,36 @@ no_count text remainder there rs fit s some l = go (has_digit there) refl
     piece : List ℕ
     piece = decimal l.n ++ 43 ∷ []
 
-    front : List ℕ
-    front = ranges_and_commas rs ++ piece
+    prefix : List ℕ
+    prefix = ranges_and_commas rs ++ piece
 
     cut : text ≡ ranges_and_commas rs ++ (decimal l.n ++ 43 ∷ there)
     cut = s ∙ ap (λ (t : List ℕ). ranges_and_commas rs ++ t) l.begins.spelled
 
-    whole : text ≡ front ++ there
+    whole : text ≡ prefix ++ there
     whole = cut ∙ ap (λ (t : List ℕ). ranges_and_commas rs ++ t) (sym (append_assoc (decimal l.n) (43 ∷ []) there)) ∙ sym (append_assoc (ranges_and_commas rs) piece there)
 
-    b : BeginsList front
+    b : BeginsList prefix
     b = begins rs (of_first l.n) piece (decimal 0) fit (l.begins.fits, omega arith) (append_assoc (decimal l.n) (43 ∷ []) (decimal 0))
 
-    apart : Apart front
+    apart : Apart prefix
     apart = inr (record { start = ranges_and_commas rs ++ decimal l.n; byte = 43; spelled = sym (append_assoc (ranges_and_commas rs) (decimal l.n) (43 ∷ [])); other = refl })
 
     go : (d : Bool) → has_digit there ≡ d → IsFaulty text (length text - length there)
-    go false h = wrong text front there whole b
+    go false h = wrong text prefix there whole b
         (refused_after rs piece there fit (λ e. some (whole ∙ e)) (refused_count l.n there l.begins.fits h))
-    go true h = (inr (large_at text front there whole b apart (l.none h)), refused_large_count text there rs l.n fit l.begins.fits cut (l.none h))
+    go true h = (inr (large_at text prefix there whole b apart (l.none h)), refused_large_count text there rs l.n fit l.begins.fits cut (l.none h))
 
 no_comma : (text remainder there : List ℕ) (rs : List Range) → FitU64 rs → text ≡ ranges_and_commas rs ++ remainder → text ≢ [] → LacksComma remainder there
     → IsFaulty text (length text - length there)
 no_comma text remainder there rs fit s some l =
     let r = l.range in
     let fits : FitsU64 r = (l.begins.first, l.begins.count) in
-    let front = ranges_and_commas rs ++ pair_text (written r) in
-    let whole : text ≡ front ++ there =
+    let prefix = ranges_and_commas rs ++ pair_text (written r) in
+    let whole : text ≡ prefix ++ there =
     s ∙ ap (λ (t : List ℕ). ranges_and_commas rs ++ t) l.begins.spelled ∙ sym (append_assoc (ranges_and_commas rs) (pair_text (written r)) there) in
-    let b : BeginsList front = begins rs r (pair_text (written r)) [] fit fits (append-nil (pair_text (written r))) in
-    wrong text front there whole b
+    let b : BeginsList prefix = begins rs r (pair_text (written r)) [] fit fits (append-nil (pair_text (written r))) in
+    wrong text prefix there whole b
     (refused_after rs (pair_text (written r)) there fit (λ e. some (whole ∙ e)) (refused_comma r there fits l.begins.ends l.some l.other))
 
 fault_after : (text remainder there : List ℕ) (rs : List Range) → FitU64 rs → text ≡ ranges_and_commas rs ++ remainder → text ≢ [] → IsNoRange remainder there ⊎ LacksComma remainder there

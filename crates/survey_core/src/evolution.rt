@@ -17,7 +17,7 @@ ghost use Rattle.std.specs.Prelude.{◌≡◌, ◌%◌, ◌≤◌, ℕ, IfOk, Is
 ghost use Rattle.plane_core.specs.plane.Generations.{after};
 ghost use Rattle.plane_core.specs.plane.Rules.{Numbers};
 ghost use Rattle.survey_core.specs.evolution.Evolutions.{IsKept, kept};
-ghost use Rattle.survey_core.specs.evolution.SplitPatterns.{IsMoored, whole_of};
+ghost use Rattle.survey_core.specs.evolution.SplitPatterns.{IsSplit, whole_of};
 ghost use Rattle.survey_core.specs.rest.Rest.{IsAtRest};
 ghost use Rattle.survey_core.specs.evolution.UnderWay.{StaysNear};
 
@@ -26,7 +26,7 @@ pub mod escaped_spaceships;
 /// A board, and the spaceships that were removed from it.
 pub(crate) mod split_pattern;
 
-use crate::evolution::split_pattern::{Harbour, LATEST_TIME, whole};
+use crate::evolution::split_pattern::{SplitPattern, LATEST_TIME, whole};
 use crate::patterns::{next, run_on};
 use crate::shapes::memo::Memo;
 use crate::profile::Profile;
@@ -37,24 +37,24 @@ use std::alloc::Global;
 
 /// A pattern on its way under a rule.
 #[derive(Drop)]
-pub(crate) enum Course {
+pub(crate) enum Evolution {
     /// It is in a list of cells.
     Listed(Pattern),
     /// It is on a board, with the ships that have left it, as it was so many generations before: none or one.
-    Shown(Harbour, u32),
+    Shown(SplitPattern, u32),
 }
 
-impl Course {
+impl Evolution {
     /// The pattern as it is now.
-    pub(crate) fn look(&self, alloc: Global, rule: &Rule) -> Result<Pattern, OutOfMemory>
+    pub(crate) fn pattern_now(&self, alloc: Global, rule: &Rule) -> Result<Pattern, OutOfMemory>
         requires { IsKept rule.now self.now }
         ensures { IfOk result (λ pattern. pattern ≡ kept rule.now self.now) }
     {
         match self {
-            Course::Listed(pattern) => pattern.copy(alloc),
-            Course::Shown(harbour, ahead) => {
-                let ships = harbour.ships.as_slice();
-                let pattern = whole(alloc, rule, harbour.time, &harbour.board, ships)?;
+            Evolution::Listed(pattern) => pattern.copy(alloc),
+            Evolution::Shown(split, ahead) => {
+                let spaceships = split.spaceships.as_slice();
+                let pattern = whole(alloc, rule, split.time, &split.board, spaceships)?;
                 if *ahead == 0 {
                     return Ok(pattern);
                 }
@@ -64,15 +64,15 @@ impl Course {
     }
 
     /// Whether the pattern is seen at a glance not to be at rest. `false` says nothing.
-    pub(crate) fn is_seen_to_move(&self, rule: &Rule, profile: &Profile) -> bool
+    pub(crate) fn surely_moves(&self, rule: &Rule, profile: &Profile) -> bool
         requires { IsKept rule.now self.now }
         ensures { IsTrue result → ¬ IsAtRest rule.now profile.now (kept rule.now self.now) }
     {
         let horizon = profile.horizon();
         let period = profile.period();
         match self {
-            Course::Listed(pattern) => pattern.refuses(rule, horizon, period),
-            Course::Shown(harbour, ahead) => harbour.board.refuses(*ahead, horizon, period),
+            Evolution::Listed(pattern) => pattern.rules_out_rest(rule, horizon, period),
+            Evolution::Shown(split, ahead) => split.board.rules_out_rest(*ahead, horizon, period),
         }
     }
 
@@ -82,8 +82,8 @@ impl Course {
             → (n : ℕ) → n % 2 ≡ 0 → after rule (kept rule self.now) n ≡ kept rule self.now }
     {
         match self {
-            Course::Listed(_) => false,
-            Course::Shown(harbour, _) => harbour.ships.is_empty() && harbour.board.is_still(),
+            Evolution::Listed(_) => false,
+            Evolution::Shown(split, _) => split.spaceships.is_empty() && split.board.is_still(),
         }
     }
 
@@ -94,28 +94,28 @@ impl Course {
         rule: &Rule,
         profile: &Profile,
         memo: &mut Memo,
-    ) -> Result<Course, OutOfMemory>
+    ) -> Result<Evolution, OutOfMemory>
         requires kept { IsKept rule.now self }
         requires near { StaysNear rule.now (kept rule.now self) profile.now.stride }
         ensures kept { IfOk result (IsKept rule.now) }
         ensures cells { IfOk result
-            (λ course. kept rule.now course ≡ after rule.now (kept rule.now self) profile.now.stride) }
+            (λ evolution. kept rule.now evolution ≡ after rule.now (kept rule.now self) profile.now.stride) }
     {
         let generations = profile.stride();
         match self {
-            Course::Listed(pattern) => from_list(alloc, rule, &pattern, generations, memo),
-            Course::Shown(mut harbour, ahead) => {
+            Evolution::Listed(pattern) => from_list(alloc, rule, &pattern, generations, memo),
+            Evolution::Shown(mut split, ahead) => {
                 let total = ahead + generations;
-                harbour.send_off(alloc, rule, profile.period(), total, memo)?;
-                on_board(alloc, rule, harbour, total, memo)
+                split.remove_escaped(alloc, rule, profile.period(), total, memo)?;
+                on_board(alloc, rule, split, total, memo)
             }
         }
     }
 
     /// Gives the board back on which the pattern was, for the next one.
     pub(crate) fn end(self, memo: &mut Memo) {
-        if let Course::Shown(harbour, _) = self {
-            memo.board = Some(harbour.board);
+        if let Evolution::Shown(split, _) = self {
+            memo.board = Some(split.board);
         }
     }
 }
@@ -127,24 +127,24 @@ fn from_list(
     pattern: &Pattern,
     generations: u32,
     memo: &mut Memo,
-) -> Result<Course, OutOfMemory>
+) -> Result<Evolution, OutOfMemory>
     requires few { generations ≤ 10001 }
     requires near { StaysNear rule.now pattern.now generations }
     ensures kept { IfOk result (IsKept rule.now) }
-    ensures cells { IfOk result (λ course. kept rule.now course ≡ after rule.now pattern.now generations) }
+    ensures cells { IfOk result (λ evolution. kept rule.now evolution ≡ after rule.now pattern.now generations) }
 {
     // That a pattern's cells stand in order is known of them where they are asked for.
     let _in_order = pattern.cells();
     let Some(board) = memo.board_with(alloc, rule, pattern)? else {
         let later = run_on(alloc, rule, generations, pattern)?;
-        return Ok(Course::Listed(later));
+        return Ok(Evolution::Listed(later));
     };
-    let harbour = Harbour {
+    let split = SplitPattern {
         board,
-        ships: Vec::new(alloc),
+        spaceships: Vec::new(alloc),
         time: 0,
     };
-    on_board(alloc, rule, harbour, generations, memo)
+    on_board(alloc, rule, split, generations, memo)
 }
 
 /// Goes on by so many generations from what a board and its ships are. Where the board has no room, it goes back to the
@@ -152,27 +152,27 @@ fn from_list(
 fn on_board(
     alloc: Global,
     rule: &Rule,
-    mut harbour: Harbour,
+    mut split: SplitPattern,
     generations: u32,
     memo: &mut Memo,
-) -> Result<Course, OutOfMemory>
-    requires moored { IsMoored rule.now harbour }
+) -> Result<Evolution, OutOfMemory>
+    requires is_split { IsSplit rule.now split }
     requires few { generations ≤ 10001 }
-    requires near { StaysNear rule.now (whole_of rule.now harbour) generations }
+    requires near { StaysNear rule.now (whole_of rule.now split) generations }
     ensures kept { IfOk result (IsKept rule.now) }
     ensures cells { IfOk result
-        (λ course. kept rule.now course ≡ after rule.now (whole_of rule.now harbour) generations) }
+        (λ evolution. kept rule.now evolution ≡ after rule.now (whole_of rule.now split) generations) }
 {
     let ahead = generations % 2;
     let most = generations - ahead;
-    let made = harbour.board.advance(most)?;
-    let time = harbour.time + made;
+    let made = split.board.advance(most)?;
+    let time = split.time + made;
     if made == most && time <= LATEST_TIME {
-        harbour.time = time;
-        return Ok(Course::Shown(harbour, ahead));
+        split.time = time;
+        return Ok(Evolution::Shown(split, ahead));
     }
-    let pattern = whole(alloc, rule, time, &harbour.board, harbour.ships.as_slice())?;
+    let pattern = whole(alloc, rule, time, &split.board, split.spaceships.as_slice())?;
     let later = run_on(alloc, rule, generations - made, &pattern)?;
-    memo.outgrow(harbour.board);
-    Ok(Course::Listed(later))
+    memo.outgrow(split.board);
+    Ok(Evolution::Listed(later))
 }

@@ -11,11 +11,11 @@ ghost use Rattle.survey_core.specs.evolution.UnderWay.{survey_reach};
 ghost use Rattle.survey_core.specs.FindingLaws.{CountsAddUp, FindingsAreDetermined, FindingsForGood, FindingsMoved};
 ghost use Rattle.survey_core.specs.FindingLaws.{FindingsOfImages, FindingsTurned};
 ghost use Rattle.survey_core.specs.Findings.{IsFinding, SettlesAt, objects_in};
-ghost use Rattle.survey_core.specs.rest.KnownRestless.{AreNoes};
+ghost use Rattle.survey_core.specs.rest.KnownRestless.{AreKnownRestless};
 ghost use Rattle.survey_core.specs.rest.Rest.{IsAtRest};
 ghost use Rattle.survey_core.specs.Soups.{soup};
 
-use crate::evolution::Course;
+use crate::evolution::Evolution;
 use crate::job::Job;
 use crate::shapes::memo::Memo;
 use crate::shapes::objects::Objects;
@@ -121,20 +121,20 @@ pub fn survey_pattern_with(
 {
     let limit = profile.limit();
     let stride = profile.stride();
-    let mut course = Course::Listed(pattern);
-    let mut noes = [false; 2];
+    let mut evolution = Evolution::Listed(pattern);
+    let mut known_restless = [false; 2];
     let mut checkpoint = 0;
     loop {
-        let found = look_at(alloc, profile, rule, checkpoint, &course, &mut noes, memo)?;
+        let found = examine(alloc, profile, rule, checkpoint, &evolution, &mut known_restless, memo)?;
         if let Some(finding) = found {
-            course.end(memo);
+            evolution.end(memo);
             return Ok(finding);
         }
         if limit - checkpoint < stride {
-            course.end(memo);
+            evolution.end(memo);
             return Ok(Finding::Unsettled);
         }
-        course = course.go_on(alloc, rule, profile, memo)?;
+        evolution = evolution.go_on(alloc, rule, profile, memo)?;
         checkpoint += stride;
     }
 }
@@ -166,43 +166,43 @@ pub fn findings_for_good()
 ///
 /// Where an even number of generations changes nothing, the pattern is the same in every second generation. So a look
 /// that has said no answers for each later one that is an even number of generations on, and that is noted in one of
-/// the `noes`: the first is about even generations, and the second about odd ones.
+/// the `known_restless`: the first is about even generations, and the second about odd ones.
 ///
 /// ```text
 /// generation   404   505   606   707   808
 /// looked at    no    no    -     -     -       From 404 on nothing changes in two generations.
 /// ```
-fn look_at(
+fn examine(
     alloc: Global,
     profile: &Profile,
     rule: &Rule,
     checkpoint: u32,
-    course: &Course,
-    noes: &mut [bool; 2],
+    evolution: &Evolution,
+    known_restless: &mut [bool; 2],
     memo: &mut Memo,
 ) -> Result<Option<Finding>, OutOfMemory>
-    requires kept { IsKept rule.now course.now }
-    requires near { lies_within survey_reach (kept rule.now course.now) ≡ true }
-    requires noes { AreNoes rule.now profile.now (kept rule.now course.now) checkpoint noes.old }
+    requires kept { IsKept rule.now evolution.now }
+    requires near { lies_within survey_reach (kept rule.now evolution.now) ≡ true }
+    requires known_restless { AreKnownRestless rule.now profile.now (kept rule.now evolution.now) checkpoint known_restless.old }
     ensures settled { IfOk result
-        (λ found. IfSome found (SettlesAt rule.now profile.now (kept rule.now course.now) checkpoint)) }
-    ensures moves { IfOk result (λ found. IfNone found (¬ IsAtRest rule.now profile.now (kept rule.now course.now))) }
+        (λ found. IfSome found (SettlesAt rule.now profile.now (kept rule.now evolution.now) checkpoint)) }
+    ensures moves { IfOk result (λ found. IfNone found (¬ IsAtRest rule.now profile.now (kept rule.now evolution.now))) }
     ensures few { IfOk result (λ found. IfSome found (λ finding. objects_in finding < 2 ^ 64)) }
-    ensures noes { OnOk result (AreNoes rule.now profile.now (kept rule.now course.now) checkpoint noes.new) }
+    ensures known_restless { OnOk result (AreKnownRestless rule.now profile.now (kept rule.now evolution.now) checkpoint known_restless.new) }
 {
     let parity = (checkpoint % 2) as usize;
-    if noes[parity] {
+    if known_restless[parity] {
         return Ok(None);
     }
-    if course.is_seen_to_move(rule, profile) {
+    if evolution.surely_moves(rule, profile) {
         return Ok(None);
     }
-    let latest = course.look(alloc, rule)?;
+    let latest = evolution.pattern_now(alloc, rule)?;
     let found = clusters_at_rest(alloc, profile, rule, &latest, memo)?;
     drop(latest);
     let Some(clusters) = found else {
-        if course.is_still() {
-            noes[parity] = true;
+        if evolution.is_still() {
+            known_restless[parity] = true;
         }
         return Ok(None);
     };

@@ -35,7 +35,7 @@ mod alone;
 /// Groups of clusters that may meet.
 mod groups;
 
-use crate::rest::alone::{Alone, are_back, joined, step_each};
+use crate::rest::alone::{Alone, have_recurred, joined, step_each};
 use crate::rest::groups::groups;
 use crate::patterns::{are_same, next};
 use crate::shapes::memo::Memo;
@@ -64,10 +64,10 @@ pub(crate) fn clusters_at_rest(
     let horizon = profile.horizon();
     let clusters = pattern.clusters(alloc)?;
     let parts = clusters.as_slice();
-    let Some(sweeps) = memo.sweeps(alloc, rule, limit, parts)? else {
+    let Some(envelopes) = memo.envelopes(alloc, rule, limit, parts)? else {
         return Ok(None);
     };
-    let groups = groups(alloc, horizon, sweeps.as_slice())?;
+    let groups = groups(alloc, horizon, envelopes.as_slice())?;
     let apart = groups_keep_apart(alloc, rule, horizon, parts, groups.as_slice())?;
     Ok(apart.then_some(clusters))
 }
@@ -175,7 +175,7 @@ fn keep_apart(
         if !same {
             return Ok(false);
         }
-        if are_back(clusters) {
+        if have_recurred(clusters) {
             return Ok(true);
         }
     }

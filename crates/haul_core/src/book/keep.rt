@@ -4,7 +4,7 @@ ghost use Rattle.std.specs.Prelude.{◌≡◌, ◌++◌, ◌∷◌, [], List, If
 ghost use Rattle.haul_core.specs.BookLaws.{WorkersAreTakenInOrder};
 ghost use Rattle.haul_core.specs.Books.{StandsFor};
 ghost use Rattle.haul_core.specs.Refusals.{replies_to, reply_to};
-ghost use Rattle.haul_core.specs.Replies.{IsTakenNext, StandsForFront};
+ghost use Rattle.haul_core.specs.Replies.{IsTakenNext, StandsForPrefix};
 ghost use Rattle.haul_core.specs.declared.book.arrival.Arrival.{Arrival as Arrived};
 
 use crate::book::arrival::{Arrival, Reply};
@@ -34,7 +34,7 @@ pub fn keep_book(
         → OnOk result (StandsFor (before ++ arrivals.items) haul.new) }
     ensures terms { haul.new.terms ≡ haul.old.terms }
     ensures memory { (before : List Arrived) → StandsFor before haul.old
-        → OnErr result (StandsForFront before arrivals.items haul.new) }
+        → OnErr result (StandsForPrefix before arrivals.items haul.new) }
 {
     let mut replies = Vec::with_capacity(alloc, arrivals.len())?;
     for arrival in arrivals {

@@ -13,20 +13,20 @@ use Rattle.plane_core.specs.engine.Listing.{AreAmong}
 use Rattle.plane_core.specs.windows.LonePatterns.{Holds, IsFirstRow}
 use Rattle.plane_core.specs.engine.OnBoard.{cells_on}
 use Rattle.plane_core.specs.engine.WindowIo.{bit_on}
-use Rattle.plane_core.specs.engine.WindowOrigins.{HoldsChange, IsCovered, IsInnerCell, compared_with}
+use Rattle.plane_core.specs.engine.WindowOrigins.{MarksDifferences, IsCovered, IsInnerCell, compared_with}
 use Rattle.plane_core.specs.plane.Rules.{Numbers}
 use Rattle.plane_core.specs.engine.RowSpans.{AreSpans, IsInSpan, LieInSpans}
 use Rattle.plane_core.specs.windows.Windows.{IsShownInside, row_at}
 use Rattle.plane_core.specs.windows.Words.{one_if}
 use Rattle.plane_core.specs.declared.plane.bounds.Bounds.{Bounds}
 use Rattle.plane_core.specs.declared.plane.cell.Cell.{Cell}
-use Rattle.plane_core.specs.declared.engine.difference_box.Change.{Change}
+use Rattle.plane_core.specs.declared.engine.difference_box.DifferenceMask.{DifferenceMask}
 use Rattle.plane_core.specs.declared.clusters.union_find.Cursors.{Cursors}
 use Rattle.plane_core.specs.declared.engine.frame.Frame.{Frame}
 use Rattle.plane_core.specs.declared.windows.lane_sums.Sum.{Sum}
 use Rattle.plane_core.specs.declared.windows.lane_sums.Total.{Total}
-use Rattle.plane_core.specs.declared.engine.window_origin.Place.{Place}
-use Rattle.plane_core.specs.declared.engine.row_spans.Span.{Span}
+use Rattle.plane_core.specs.declared.engine.window_origin.WindowOrigin.{WindowOrigin}
+use Rattle.plane_core.specs.declared.engine.row_spans.RowSpan.{RowSpan}
 use Rattle.std.specs.Int.{bit_at}
 use Rattle.std.specs.Prelude.{All, Bool, List, Option, Some, false, length, negsuc, pos, slice_index, true, ℕ, ℤ, ◌%◌, ◌*◌, ◌+ℤ◌, ◌+◌, ◌-ℤ◌, ◌-◌, ◌<◌, ◌==◌, ◌≡◌, ◌≤ℤ◌, ◌≤◌, ◌⊎◌}
 
@@ -36,7 +36,7 @@ pub record AreRightFor (rule : Numbers) (cells : List Cell) (boxes : List Bounds
   pub odd : n % 2 ≡ 1 → HoldAll boxes cells
 
 -- a board that is ready for a leap of n generations
-pub record IsReady (rule : Numbers) (at : Frame) (n : ℕ) (words : List ℕ) (boxes : List Bounds) (spans : List Span) : Type 0 where
+pub record IsReady (rule : Numbers) (at : Frame) (n : ℕ) (words : List ℕ) (boxes : List Bounds) (spans : List RowSpan) : Type 0 where
   pub frame : IsFrame at
   pub long : FillsFrame at words
   pub sides : All (AreSidesWithin box_bound) boxes
@@ -44,18 +44,18 @@ pub record IsReady (rule : Numbers) (at : Frame) (n : ℕ) (words : List ℕ) (b
   pub spanned : AreSpans at (cells_on at words) spans
 
 -- a board that was led on by n generations, with its boxes and spans
-pub record HasGoneOn (rule : Numbers) (at : Frame) (n : ℕ) (old new : List ℕ) (boxes : List Bounds) (spans : List Span) : Type 0 where
+pub record HasGoneOn (rule : Numbers) (at : Frame) (n : ℕ) (old new : List ℕ) (boxes : List Bounds) (spans : List RowSpan) : Type 0 where
   pub cells : cells_on at new ≡ after rule (cells_on at old) n
   pub sides : All (AreSidesWithin box_bound) boxes
   pub right : AreRightFor rule (cells_on at new) boxes n
   pub live : LieInSpans at spans (cells_on at new)
 
 -- each cell that lies in no inner part is n generations on what it is
-abbrev pub IsStillOutside : Numbers → List Place → List Cell → ℕ → Type 0
+abbrev pub IsStillOutside : Numbers → List WindowOrigin → List Cell → ℕ → Type 0
 IsStillOutside rule places cells n = (c : Cell) → ¬ IsCovered places c → has (after rule cells n) c ≡ has cells c
 
 -- the inner part of a window begins in this column and this row
-pub record BeginsAt (p : Place) (column row : ℤ) : Type 0 where
+pub record BeginsAt (p : WindowOrigin) (column row : ℤ) : Type 0 where
   pub left : p.left ≡ column -ℤ pos 4
   pub top : p.top ≡ row -ℤ pos 4
 
@@ -79,18 +79,18 @@ pub record AreBehind (cells : List Cell) (cursors : Cursors) (place : ℕ) : Typ
 
 -- the box isn't larger than the board, and lies so far from the border of the plane that a board round it lies on the plane
 pub record HasRoom (at : Frame) (b : Bounds) : Type 0 where
-  pub across : distance b.left b.right + 1 ≤ 64 * at.lanes
+  pub across : distance b.left b.right + 1 ≤ 64 * at.word_columns
   pub down : distance b.top b.bottom + 1 ≤ at.rows
-  pub plane : 64 * at.lanes + at.rows ≤ plane_bound
-  pub sides : AreSidesWithin (plane_bound - (64 * at.lanes + at.rows)) b
+  pub plane : 64 * at.word_columns + at.rows ≤ plane_bound
+  pub sides : AreSidesWithin (plane_bound - (64 * at.word_columns + at.rows)) b
 
 -- the cell is so many columns and rows from the first cell of the window
-pub record IsSpot (p : Place) (c : Cell) (across down : ℕ) : Type 0 where
+pub record IsSpot (p : WindowOrigin) (c : Cell) (across down : ℕ) : Type 0 where
   pub across_is : c.x ≡ p.left +ℤ pos across
   pub down_is : c.y ≡ p.top +ℤ pos down
 
 -- 64 rows show which cells of the window the list has
-abbrev pub ShowsRows : Place → List ℕ → List Cell → Type 0
+abbrev pub ShowsRows : WindowOrigin → List ℕ → List Cell → Type 0
 ShowsRows p rows cells =
     (r i : ℕ) → r < 64 → i < 64 → has cells (cell_at (p.left +ℤ pos i) (p.top +ℤ pos r)) ≡ (bit_at (slice_index rows r) i == 1)
 
@@ -106,12 +106,12 @@ AnswersNeighbours rule up beside down now next =
     → bit_of next j i ≡ one_if (lives_by rule (sum_of up j i + (sum_of beside j i + bit_of now j i) + sum_of down j i) (bit_of now j i == 1))
 
 -- The rows of a place are those of the board some generations later, and what has changed is told.
-abbrev pub IsRunAt : Frame → List ℕ → Numbers → ℕ → Place → List ℕ → Change → Type 0
+abbrev pub IsRunAt : Frame → List ℕ → Numbers → ℕ → WindowOrigin → List ℕ → DifferenceMask → Type 0
 IsRunAt at words rule count p rows change = (cells : List Cell) → InOrder cells → Shows at words cells
-    → ShowsInner p rows (after rule cells count) × HoldsChange p (after rule cells count) (compared_with rule cells count) change
+    → ShowsInner p rows (after rule cells count) × MarksDifferences p (after rule cells count) (compared_with rule cells count) change
 
 -- If each cell off all inner parts is some generations later what it was, the board shows the cells of that time.
-abbrev pub HasLeapt : Frame → Numbers → ℕ → List Place → List ℕ → List ℕ → Type 0
+abbrev pub HasLeapt : Frame → Numbers → ℕ → List WindowOrigin → List ℕ → List ℕ → Type 0
 HasLeapt at rule count places old new = (cells : List Cell) → InOrder cells → Shows at old cells
     → ((c : Cell) → ¬ IsCovered places c → has (after rule cells count) c ≡ has cells c) → Shows at new (after rule cells count)
 
@@ -164,5 +164,5 @@ HoldsCluster n whole alone depth =
     → (cluster : List Cell) × IsAlone n left top alone cells cluster
 
 -- each cell of the board in the inner part of a window lies in the span of its lane
-abbrev pub HoldInner : Frame → List Span → Place → Type 0
-HoldInner at spans p = (s r i : ℕ) → s < at.lanes → r < at.rows → i < 64 → IsInnerCell p (board_cell at s r i) → IsInSpan spans s r
+abbrev pub HoldInner : Frame → List RowSpan → WindowOrigin → Type 0
+HoldInner at spans p = (s r i : ℕ) → s < at.word_columns → r < at.rows → i < 64 → IsInnerCell p (board_cell at s r i) → IsInSpan spans s r

@@ -4,7 +4,7 @@ use Rattle.std.proofs.Common.{Ok, Err, IsErr, sym, subst, ◌∙◌, ap, append_
 use Rattle.std.proofs.lemmas.List.{take-append-drop}
 use Rattle.std.proofs.Math.Seq.{take-length}
 use Rattle.std.specs.Io.KnownBytes.{Appends, Keeps}
-use Rattle.plane_core.specs.Outputs.{Output, Writes, AppendsFront}
+use Rattle.plane_core.specs.Outputs.{Output, Writes, AppendsPrefix}
 
 -- known bytes that stay grow by nothing
 pub Appends-nil : (known : Option (List ℕ)) → Appends known known []
@@ -23,42 +23,42 @@ pub take-drop-remainder : {A : Type 0} (n : ℕ) (xs : List A) → take (length 
 take-drop-remainder {A} n xs = ap (λ (k : ℕ). take k (drop n xs)) (sym (length-drop n xs)) ∙ take-length (drop n xs)
 
 -- a rest is the part of it that a write took and the part that is left
-pub cut : (piece front remainder : List ℕ) (n : ℕ) → piece ≡ front ++ remainder → n ≤ length remainder → piece ≡ (front ++ take n remainder) ++ take (length remainder - n) (drop n remainder)
-cut piece front remainder n e h =
-    e ∙ ap (λ (xs : List ℕ). front ++ xs) (sym (take-append-drop n remainder)) ∙ sym (append_assoc front (take n remainder) (drop n remainder))
-    ∙ ap (λ (xs : List ℕ). (front ++ take n remainder) ++ xs) (sym (take-drop-remainder n remainder))
+pub cut : (piece prefix remainder : List ℕ) (n : ℕ) → piece ≡ prefix ++ remainder → n ≤ length remainder → piece ≡ (prefix ++ take n remainder) ++ take (length remainder - n) (drop n remainder)
+cut piece prefix remainder n e h =
+    e ∙ ap (λ (xs : List ℕ). prefix ++ xs) (sym (take-append-drop n remainder)) ∙ sym (append_assoc prefix (take n remainder) (drop n remainder))
+    ∙ ap (λ (xs : List ℕ). (prefix ++ take n remainder) ++ xs) (sym (take-drop-remainder n remainder))
 
 -- a text and then a front of another is a front of the two in a row
-pub AppendsFront-append : (x y z : Option (List ℕ)) (a b : List ℕ) → Appends x y a → AppendsFront y z b → AppendsFront x z (a ++ b)
-AppendsFront-append x y z a b p q =
+pub AppendsPrefix-append : (x y z : Option (List ℕ)) (a b : List ℕ) → Appends x y a → AppendsPrefix y z b → AppendsPrefix x z (a ++ b)
+AppendsPrefix-append x y z a b p q =
     (a ++ q.0, q.1, ap (λ (w : List ℕ). a ++ w) q.2 ∙ sym (append_assoc a q.0 q.1), Appends-append x y z a q.0 p q.3)
 
 -- a front of a text is a front of a longer one
-pub AppendsFront-longer : (x y : Option (List ℕ)) (a b : List ℕ) → AppendsFront x y a → AppendsFront x y (a ++ b)
-AppendsFront-longer x y a b p = (p.0, p.1 ++ b, ap (λ (w : List ℕ). w ++ b) p.2 ∙ append_assoc p.0 p.1 b, p.3)
+pub AppendsPrefix-longer : (x y : Option (List ℕ)) (a b : List ℕ) → AppendsPrefix x y a → AppendsPrefix x y (a ++ b)
+AppendsPrefix-longer x y a b p = (p.0, p.1 ++ b, ap (λ (w : List ℕ). w ++ b) p.2 ∙ append_assoc p.0 p.1 b, p.3)
 
 module _ {V : Type 0} {contents : V → Option (List ℕ)} where
   -- nothing is written
   pub Writes_nothing : {E : Type 0} (x : Output V) → x.failed ≡ false → Writes {E = E} contents x x (Ok tt) []
-  Writes_nothing x e = record { remembers = e; whole = Appends-nil (contents x.writer); front = tt }
+  Writes_nothing x e = record { remembers = e; whole = Appends-nil (contents x.writer); prefix = tt }
 
   -- one text and then another are the two in a row
   pub Writes_then : {E F : Type 0} {x y z : Output V} {r : Result (Unit {0}) F} {a b : List ℕ} → Writes {E = E} contents x y (Ok tt) a
       → Writes contents y z r b → Writes contents x z r (a ++ b)
-  Writes_then {r = Ok _} {a} {b} p q = record { remembers = q.remembers; whole = Appends-append _ _ _ a b p.whole q.whole; front = tt }
-  Writes_then {r = Err _} {a} {b} p q = record { remembers = q.remembers; whole = tt; front = AppendsFront-append _ _ _ a b p.whole q.front }
+  Writes_then {r = Ok _} {a} {b} p q = record { remembers = q.remembers; whole = Appends-append _ _ _ a b p.whole q.whole; prefix = tt }
+  Writes_then {r = Err _} {a} {b} p q = record { remembers = q.remembers; whole = tt; prefix = AppendsPrefix-append _ _ _ a b p.whole q.prefix }
 
   -- a fault in a text's front is a fault in the text, also where it is passed on as another error
   pub Writes_stops : {E F : Type 0} {x y : Output V} {e : E} {r : Result (Unit {0}) F} {a : List ℕ} (b : List ℕ) → IsErr r
       → Writes contents x y (Err e) a → Writes contents x y r (a ++ b)
   Writes_stops {r = Ok _} b h p = cc
-  Writes_stops {r = Err _} {a} b h p = record { remembers = p.remembers; whole = tt; front = AppendsFront-longer _ _ a b p.front }
+  Writes_stops {r = Err _} {a} b h p = record { remembers = p.remembers; whole = tt; prefix = AppendsPrefix-longer _ _ a b p.prefix }
 
   -- the same where nothing of the text follows
   pub Writes_fails : {E F : Type 0} {x y : Output V} {e : E} {r : Result (Unit {0}) F} {a : List ℕ} → IsErr r → Writes contents x y (Err e) a
       → Writes contents x y r a
   Writes_fails {r = Ok _} h p = cc
-  Writes_fails {r = Err _} h p = record { remembers = p.remembers; whole = tt; front = p.front }
+  Writes_fails {r = Err _} h p = record { remembers = p.remembers; whole = tt; prefix = p.prefix }
 
   -- the same where the fault is already this call's
   pub Writes_longer : {E : Type 0} {x y : Output V} {r : Result (Unit {0}) E} {a : List ℕ} (b : List ℕ) → IsErr r → Writes contents x y r a

@@ -3,8 +3,8 @@ use Rattle.std.specs.Prelude.{◌≡◌, ◌≢◌, ◌<◌, ◌≤◌, ℕ, tru
 use Rattle.std.specs.Int.{bit_at}
 use Rattle.plane_core.specs.declared.plane.bounds.Bounds.{Bounds}
 use Rattle.plane_core.specs.declared.plane.cell.Cell.{Cell}
-use Rattle.plane_core.specs.declared.engine.difference_box.Span.{Span}
-use Rattle.plane_core.specs.declared.engine.window_origin.Place.{Place}
+use Rattle.plane_core.specs.declared.engine.difference_box.BitSpan.{BitSpan}
+use Rattle.plane_core.specs.declared.engine.window_origin.WindowOrigin.{WindowOrigin}
 use Rattle.plane_core.specs.plane.Bounds.{IsWithin, enlarged}
 use Rattle.plane_core.specs.plane.Cells.{has}
 use Rattle.plane_core.specs.plane.Generations.{after}
@@ -19,7 +19,7 @@ abbrev pub rectangle_bound : ℕ
 rectangle_bound = 8388612
 
 -- the window begins so near to the origin that a box of its cells has its sides within the bound
-pub record IsInReach (p : Place) : Type 0 where
+pub record IsInReach (p : WindowOrigin) : Type 0 where
   pub left : unsigned_abs p.left ≤ 6291456
   pub top : unsigned_abs p.top ≤ 6291456
 
@@ -44,20 +44,20 @@ abbrev pub HoldAll : List Bounds → List Cell → Type 0
 HoldAll boxes cells = (c : Cell) → has cells c ≡ true → IsInOne boxes c
 
 -- each cell within 4 of a box lies in the inner part of a window
-abbrev pub AreCovered : List Place → List Bounds → Type 0
+abbrev pub AreCovered : List WindowOrigin → List Bounds → Type 0
 AreCovered places boxes = (c : Cell) → IsNearOne 4 boxes c → IsCovered places c
 
 -- each bit that is 1 lies between the first and the last, which are below 64
-pub record HasBits (word : ℕ) (span : Span) : Type 0 where
+pub record HasBits (word : ℕ) (span : BitSpan) : Type 0 where
   pub first : (i : ℕ) → bit_at word i ≡ 1 → span.first ≤ i
   pub last : (i : ℕ) → bit_at word i ≡ 1 → i ≤ span.last
   pub order : span.first ≤ span.last
   pub high : span.last < 64
 
 -- the box, if there is one, has each inner cell of the window in it in which the two patterns differ
-abbrev pub HoldsDifference : Place → List Cell → List Cell → Option Bounds → Type 0
+abbrev pub HoldsDifference : WindowOrigin → List Cell → List Cell → Option Bounds → Type 0
 HoldsDifference p one other found = (c : Cell) → IsInnerCell p c → has one c ≢ has other c → IsSomeAnd found (λ b. IsWithin b c)
 
 -- each cell of an inner part in which the two patterns differ lies in one of the boxes
-abbrev pub HoldDifferences : List Place → List Cell → List Cell → List Bounds → Type 0
+abbrev pub HoldDifferences : List WindowOrigin → List Cell → List Cell → List Bounds → Type 0
 HoldDifferences places one other boxes = (c : Cell) → IsCovered places c → has one c ≢ has other c → IsInOne boxes c

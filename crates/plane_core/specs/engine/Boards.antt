@@ -3,7 +3,7 @@ use Rattle.std.specs.Prelude.{◌≡◌, ℕ, Bool, true, All, List}
 use Rattle.plane_core.specs.declared.plane.bounds.Bounds.{Bounds}
 use Rattle.plane_core.specs.declared.plane.cell.Cell.{Cell}
 use Rattle.plane_core.specs.declared.engine.frame.Frame.{Frame}
-use Rattle.plane_core.specs.declared.engine.row_spans.Span.{Span}
+use Rattle.plane_core.specs.declared.engine.row_spans.RowSpan.{RowSpan}
 use Rattle.plane_core.specs.engine.ActiveBoxes.{HoldAll, IsQuiet, box_bound}
 use Rattle.plane_core.specs.plane.Cells.{plane_bound}
 use Rattle.plane_core.specs.engine.Frames.{FillsFrame, IsFrame, bounds_of}
@@ -27,7 +27,7 @@ pub record IsBoard (at : Frame) (rule : Numbers) (words : List ℕ) (boxes : Lis
 
 -- and the spans of its lanes, which have all live cells; it lies on the plane
 pub record IsSpannedBoard (at : Frame) (rule : Numbers) (words : List ℕ) (boxes : List Bounds) (holds_all : Bool)
-    (spans : List Span) : Type 0 where
+    (spans : List RowSpan) : Type 0 where
   pub board : IsBoard at rule words boxes holds_all
   pub spanned : AreSpans at (cells_on at words) spans
   pub plane : AreSidesWithin plane_bound (bounds_of at)

@@ -3,7 +3,7 @@ use Rattle.std.specs.Prelude.{◌≡◌, ◌+◌, ◌-◌, ◌<◌, ◌≤◌, �
 use Rattle.plane_core.specs.declared.plane.cell.Cell.{Cell}
 use Rattle.plane_core.specs.declared.engine.direction.Direction.{Direction}
 use Rattle.plane_core.specs.declared.engine.frame.Frame.{Frame}
-use Rattle.plane_core.specs.declared.engine.row_spans.Span.{Span}
+use Rattle.plane_core.specs.declared.engine.row_spans.RowSpan.{RowSpan}
 use Rattle.plane_core.specs.plane.Cells.{has}
 use Rattle.plane_core.specs.engine.Frames.{board_cell}
 
@@ -37,20 +37,20 @@ outer_column true = 63
 outer_column false = 0
 
 -- the row so many steps inwards from the outermost of some rows: the last one where rows count downwards, or else the first
-abbrev pub inner_row : Bool → Span → ℕ → ℕ
+abbrev pub inner_row : Bool → RowSpan → ℕ → ℕ
 inner_row true rows step = rows.end - (step + 1)
 inner_row false rows step = rows.from + step
 
 -- no cell in this row of a lane, alive or dead, is deeper than what was found
 abbrev pub NoDeeperRow : Frame → Direction → ℕ → ℕ → Option ℤ → Type 0
-NoDeeperRow at way lane row found = (i : ℕ) → i < 64 → IsReached found (depth_in way (board_cell at lane row i))
+NoDeeperRow at way word_column row found = (i : ℕ) → i < 64 → IsReached found (depth_in way (board_cell at word_column row i))
 
 -- nor in any of these rows, from a step inwards on
-abbrev pub NoDeeper : Frame → Direction → ℕ → Span → ℕ → Option ℤ → Type 0
-NoDeeper at way lane rows first found =
-    (step : ℕ) → first ≤ step → step < rows.end - rows.from → NoDeeperRow at way lane (inner_row way.down rows step) found
+abbrev pub NoDeeper : Frame → Direction → ℕ → RowSpan → ℕ → Option ℤ → Type 0
+NoDeeper at way word_column rows first found =
+    (step : ℕ) → first ≤ step → step < rows.end - rows.from → NoDeeperRow at way word_column (inner_row way.down rows step) found
 
 -- each live cell in this row of a lane has been seen: it is no deeper than what was found
 abbrev pub IsSeen : Frame → Direction → List Cell → ℕ → ℕ → Option ℤ → Type 0
-IsSeen at way cells lane row found =
-    (i : ℕ) → i < 64 → has cells (board_cell at lane row i) ≡ true → IsReached found (depth_in way (board_cell at lane row i))
+IsSeen at way cells word_column row found =
+    (i : ℕ) → i < 64 → has cells (board_cell at word_column row i) ≡ true → IsReached found (depth_in way (board_cell at word_column row i))

@@ -17,14 +17,14 @@ word_of at s r = s * at.rows + r
 
 -- on the board, the bits that are 1 are the cells of the list
 abbrev pub Shows : Frame → List ℕ → List Cell → Type 0
-Shows at words cells = (s r i : ℕ) → s < at.lanes → r < at.rows → i < 64
+Shows at words cells = (s r i : ℕ) → s < at.word_columns → r < at.rows → i < 64
     → has cells (board_cell at s r i) ≡ (bit_at (slice_index words (word_of at s r)) i == 1)
 
 -- a frame round cells of the plane
 pub record IsFrame (at : Frame) : Type 0 where
   pub left : unsigned_abs at.left ≤ 2 ^ 21
   pub top : unsigned_abs at.top ≤ 2 ^ 21
-  pub lanes : at.lanes ≤ 2 ^ 16
+  pub word_columns : at.word_columns ≤ 2 ^ 16
   pub rows : at.rows ≤ 2 ^ 22
   pub bands : at.rows ≡ 8 * (at.rows / 8)
 
@@ -33,7 +33,7 @@ abbrev pub bounds_of : Frame → Bounds
 bounds_of at = record {
   left = at.left;
   top = at.top;
-  right = at.left +ℤ (pos (64 * at.lanes) -ℤ pos 1);
+  right = at.left +ℤ (pos (64 * at.word_columns) -ℤ pos 1);
   bottom = at.top +ℤ (pos at.rows -ℤ pos 1);
 }
 
@@ -41,16 +41,16 @@ bounds_of at = record {
 pub record IsViewFrame (at : Frame) : Type 0 where
   pub frame : IsFrame at
   pub plane : AreSidesWithin plane_bound (bounds_of at)
-  pub lanes : at.lanes ≡ 1
+  pub word_columns : at.word_columns ≡ 1
   pub rows : at.rows ≡ 64
 
 -- a board has a word for each row of each lane
 abbrev pub FillsFrame : Frame → List ℕ → Type 0
-FillsFrame at words = length words ≡ at.lanes * at.rows
+FillsFrame at words = length words ≡ at.word_columns * at.rows
 
 -- There are not many more words than cells: at most 256 a cell, and two megabytes of them and some more.
 abbrev pub HasFewWords : Frame → List Cell → Type 0
-HasFewWords at cells = at.lanes * at.rows ≤ 256 * length cells + 271000
+HasFewWords at cells = at.word_columns * at.rows ≤ 256 * length cells + 271000
 
 -- all cells lie in it
 abbrev pub LieOn : Frame → List Cell → Type 0

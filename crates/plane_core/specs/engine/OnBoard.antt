@@ -21,4 +21,4 @@ lit_before at words (suc k) = if is_live_bit words k then lit_cell at k ∷ lit_
 
 -- all live cells of a board, in order
 unfoldable pub cells_on : Frame → List ℕ → List Cell
-cells_on at words = set_of (lit_before at words (64 * (at.lanes * at.rows)))
+cells_on at words = set_of (lit_before at words (64 * (at.word_columns * at.rows)))

@@ -2,52 +2,52 @@
 use Rattle.std.specs.Prelude.{◌≡◌, ◌<◌, ◌≤◌, ℕ, List, length, slice_index_or, true}
 use Rattle.plane_core.specs.declared.plane.cell.Cell.{Cell}
 use Rattle.plane_core.specs.declared.engine.frame.Frame.{Frame}
-use Rattle.plane_core.specs.declared.engine.window_origin.Place.{Place}
+use Rattle.plane_core.specs.declared.engine.window_origin.WindowOrigin.{WindowOrigin}
 use Rattle.plane_core.specs.declared.engine.row_spans.Hull.{Hull}
-use Rattle.plane_core.specs.declared.engine.row_spans.Span.{Span}
+use Rattle.plane_core.specs.declared.engine.row_spans.RowSpan.{RowSpan}
 use Rattle.plane_core.specs.plane.Cells.{has}
 use Rattle.plane_core.specs.engine.Frames.{board_cell}
 use Rattle.plane_core.specs.engine.WindowOrigins.{IsCovered}
 
 -- the number lies in the span
-pub record HasRow (span : Span) (n : ℕ) : Type 0 where
+pub record HasRow (span : RowSpan) (n : ℕ) : Type 0 where
   pub low : span.from ≤ n
   pub high : n < span.end
 
 -- the span of a lane; a lane that isn't there has no rows
-abbrev pub span_of : List Span → ℕ → Span
+abbrev pub span_of : List RowSpan → ℕ → RowSpan
 span_of spans s = slice_index_or spans s (record { from = 0; end = 0 })
 
 -- the row lies in the span of its lane
-abbrev pub IsInSpan : List Span → ℕ → ℕ → Type 0
+abbrev pub IsInSpan : List RowSpan → ℕ → ℕ → Type 0
 IsInSpan spans s r = HasRow (span_of spans s) r
 
 -- each live cell of the board lies in the span of its lane
-abbrev pub LieInSpans : Frame → List Span → List Cell → Type 0
-LieInSpans at spans cells = (s r i : ℕ) → s < at.lanes → r < at.rows → i < 64 → has cells (board_cell at s r i) ≡ true → IsInSpan spans s r
+abbrev pub LieInSpans : Frame → List RowSpan → List Cell → Type 0
+LieInSpans at spans cells = (s r i : ℕ) → s < at.word_columns → r < at.rows → i < 64 → has cells (board_cell at s r i) ≡ true → IsInSpan spans s r
 
 -- or in one of the inner parts of windows
-abbrev pub HoldCovered : Frame → List Span → List Place → Type 0
-HoldCovered at spans places = (s r i : ℕ) → s < at.lanes → r < at.rows → i < 64 → IsCovered places (board_cell at s r i) → IsInSpan spans s r
+abbrev pub HoldCovered : Frame → List RowSpan → List WindowOrigin → Type 0
+HoldCovered at spans places = (s r i : ℕ) → s < at.word_columns → r < at.rows → i < 64 → IsCovered places (board_cell at s r i) → IsInSpan spans s r
 
 -- what was in the old spans is in the new ones
-abbrev pub AreWidened : List Span → List Span → Type 0
+abbrev pub AreWidened : List RowSpan → List RowSpan → Type 0
 AreWidened old new = (s r : ℕ) → IsInSpan old s r → IsInSpan new s r
 
 -- the spans of a board that shows these cells
-pub record AreSpans (at : Frame) (cells : List Cell) (spans : List Span) : Type 0 where
-  pub lanes : length spans ≡ at.lanes
+pub record AreSpans (at : Frame) (cells : List Cell) (spans : List RowSpan) : Type 0 where
+  pub word_columns : length spans ≡ at.word_columns
   pub live : LieInSpans at spans cells
 
 -- only these lanes have rows in their spans
-abbrev pub LieInLanes : Frame → List Span → Span → Type 0
-LieInLanes at spans lanes = (s r : ℕ) → s < at.lanes → IsInSpan spans s r → HasRow lanes s
+abbrev pub LieInWordColumns : Frame → List RowSpan → RowSpan → Type 0
+LieInWordColumns at spans word_columns = (s r : ℕ) → s < at.word_columns → IsInSpan spans s r → HasRow word_columns s
 
 -- the lane is in the hull, and the row
 pub record IsInHull (hull : Hull) (s r : ℕ) : Type 0 where
-  pub lane : HasRow hull.lanes s
+  pub word_column : HasRow hull.word_columns s
   pub row : HasRow hull.rows r
 
 -- all that the first n spans have is in the hull
-abbrev pub HoldsSpans : List Span → ℕ → Hull → Type 0
+abbrev pub HoldsSpans : List RowSpan → ℕ → Hull → Type 0
 HoldsSpans spans n hull = (s r : ℕ) → s < n → IsInSpan spans s r → IsInHull hull s r

@@ -43,12 +43,12 @@ pub record IsInner (x y end u v : ℕ) : Type 0 where
 
 -- the inner columns of a row have become those of a word, and all other bits are what they were
 abbrev pub IsRowPut : Frame → ℕ → ℕ → ℕ → List ℕ → List ℕ → Type 0
-IsRowPut at x y word old new = (u v : ℕ) → u < 64 * at.lanes → v < at.rows
+IsRowPut at x y word old new = (u v : ℕ) → u < 64 * at.word_columns → v < at.rows
     → ((c : IsInnerColumn x u) × (v ≡ y) × (bit_on at new u v ≡ bit_at word c.i))
     ⊎ ((IsInnerColumn x u → v ≢ y) × (bit_on at new u v ≡ bit_on at old u v))
 
 -- the inner part of a window, down to row end, has become these rows, and all other bits are what they were
 abbrev pub IsPutBack : Frame → ℕ → ℕ → ℕ → List ℕ → List ℕ → List ℕ → Type 0
-IsPutBack at x y end rows old new = (u v : ℕ) → u < 64 * at.lanes → v < at.rows
+IsPutBack at x y end rows old new = (u v : ℕ) → u < 64 * at.word_columns → v < at.rows
     → ((c : IsInner x y end u v) × (bit_on at new u v ≡ bit_at (slice_index rows c.row.r) c.column.i))
     ⊎ ((¬ IsInner x y end u v) × (bit_on at new u v ≡ bit_on at old u v))

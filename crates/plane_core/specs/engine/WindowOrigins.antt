@@ -1,36 +1,36 @@
 -- Windows on the plane, and what of them is right after up to four generations.
 use Rattle.std.specs.Prelude.{◌≡◌, ◌==◌, ◌+◌, ◌-◌, ◌/◌, ◌%◌, ◌<◌, ◌≤◌, ℕ, ◌+ℤ◌, ◌≤ℤ◌, pos, List, [], Any, if◌then◌else◌}
 use Rattle.std.specs.Int.{bit_at}
-use Rattle.plane_core.specs.declared.engine.difference_box.Change.{Change}
+use Rattle.plane_core.specs.declared.engine.difference_box.DifferenceMask.{DifferenceMask}
 use Rattle.plane_core.specs.declared.plane.cell.Cell.{Cell}
 use Rattle.plane_core.specs.declared.engine.frame.Frame.{Frame}
-use Rattle.plane_core.specs.declared.engine.window_origin.Place.{Place}
+use Rattle.plane_core.specs.declared.engine.window_origin.WindowOrigin.{WindowOrigin}
 use Rattle.plane_core.specs.plane.Cells.{cell_at, has}
 use Rattle.plane_core.specs.plane.Generations.{after}
 use Rattle.plane_core.specs.plane.Rules.{Numbers}
 
 -- the cell lies in the inner part of the window: in its columns 4 to 59 and its rows 4 to 35
-pub record IsInnerCell (p : Place) (c : Cell) : Type 0 where
+pub record IsInnerCell (p : WindowOrigin) (c : Cell) : Type 0 where
   pub left : (p.left +ℤ pos 4) ≤ℤ c.x
   pub top : (p.top +ℤ pos 4) ≤ℤ c.y
   pub right : c.x ≤ℤ (p.left +ℤ pos 59)
   pub bottom : c.y ≤ℤ (p.top +ℤ pos 35)
 
 -- the cell lies in one of the inner parts
-abbrev pub IsCovered : List Place → Cell → Type 0
+abbrev pub IsCovered : List WindowOrigin → Cell → Type 0
 IsCovered places c = Any (λ p. IsInnerCell p c) places
 
 -- The whole window lies on the board, with a lane to its right: it is column x and row y of the board at which it begins.
-pub record IsOnBoard (at : Frame) (p : Place) : Type 0 where
+pub record IsOnBoard (at : Frame) (p : WindowOrigin) : Type 0 where
   pub x : ℕ
   pub y : ℕ
   pub left : p.left ≡ at.left +ℤ pos x
   pub top : p.top ≡ at.top +ℤ pos y
-  pub lanes : x / 64 + 1 < at.lanes
+  pub word_columns : x / 64 + 1 < at.word_columns
   pub rows : y + 40 ≤ at.rows
 
 -- two patterns agree in the cell in column i and row r of the window
-abbrev pub IsSameAt : Place → List Cell → List Cell → ℕ → ℕ → Type 0
+abbrev pub IsSameAt : WindowOrigin → List Cell → List Cell → ℕ → ℕ → Type 0
 IsSameAt p one other i r = has one (cell_at (p.left +ℤ pos i) (p.top +ℤ pos r)) ≡ has other (cell_at (p.left +ℤ pos i) (p.top +ℤ pos r))
 
 -- What the last generation of a leap is compared with: the one two before it, or after an odd number of generations nothing.
@@ -38,6 +38,6 @@ abbrev pub compared_with : Numbers → List Cell → ℕ → List Cell
 compared_with rule cells n = if n % 2 == 0 then after rule cells (n - 2) else []
 
 -- Two patterns may differ in an inner cell of the window only where its column and its row are in the change.
-pub record HoldsChange (p : Place) (one other : List Cell) (change : Change) : Type 0 where
+pub record MarksDifferences (p : WindowOrigin) (one other : List Cell) (change : DifferenceMask) : Type 0 where
   pub columns : (i r : ℕ) → 4 ≤ i → i < 60 → 4 ≤ r → r < 36 → bit_at change.columns i ≡ 0 → IsSameAt p one other i r
   pub rows : (i r : ℕ) → 4 ≤ i → i < 60 → 4 ≤ r → r < 36 → bit_at change.rows r ≡ 0 → IsSameAt p one other i r

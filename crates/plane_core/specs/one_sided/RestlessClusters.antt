@@ -4,12 +4,12 @@ use Rattle.std.specs.Int.{bit_at}
 use Rattle.plane_core.specs.declared.plane.cell.Cell.{Cell}
 use Rattle.plane_core.specs.plane.Cells.{InOrder, has}
 use Rattle.plane_core.specs.clusters.Clusters.{IsCluster}
-use Rattle.plane_core.specs.plane.Generations.{NeverBack, after}
+use Rattle.plane_core.specs.plane.Generations.{NeverRecurs, after}
 use Rattle.plane_core.specs.plane.Rules.{Numbers}
 use Rattle.plane_core.specs.windows.Windows.{IsShownInside, row_at}
 
 -- at some generation up to the horizon the cluster, run alone, has a cell that the whole hasn't
-pub record Strays (rule : Numbers) (whole cluster : List Cell) (horizon : ℕ) : Type 0 where
+pub record Diverges (rule : Numbers) (whole cluster : List Cell) (horizon : ℕ) : Type 0 where
   pub generation : ℕ
   pub early : generation ≤ horizon
   pub cell : Cell
@@ -20,25 +20,25 @@ pub record Strays (rule : Numbers) (whole cluster : List Cell) (horizon : ℕ) :
 pub record HasRestlessCluster (rule : Numbers) (cells : List Cell) (horizon period : ℕ) : Type 0 where
   pub cluster : List Cell
   pub is : IsCluster cells cluster
-  pub why : Strays rule cells cluster horizon ⊎ NeverBack rule cluster period
+  pub why : Diverges rule cells cluster horizon ⊎ NeverRecurs rule cluster period
 
 -- each pattern that the window of n vectors shows at this depth has such a cluster
-abbrev pub RefusesAll : Numbers → ℕ → List (List ℕ) → ℕ → ℕ → ℕ → Type 0
-RefusesAll rule n window depth horizon period =
+abbrev pub AreAllRestless : Numbers → ℕ → List (List ℕ) → ℕ → ℕ → ℕ → Type 0
+AreAllRestless rule n window depth horizon period =
     (cells : List Cell) (left top : ℤ) → InOrder cells → IsShownInside n left top depth window cells → HasRestlessCluster rule cells horizon period
 
 -- the other window has the 40 rows of the window from this one on
-abbrev pub IsExcerpt : ℕ → List (List ℕ) → List (List ℕ) → Type 0
-IsExcerpt from window part = (r : ℕ) → r < 40 → row_at 10 part r ≡ row_at 16 window (from + r)
+abbrev pub IsCrop : ℕ → List (List ℕ) → List (List ℕ) → Type 0
+IsCrop from window part = (r : ℕ) → r < 40 → row_at 10 part r ≡ row_at 16 window (from + r)
 
 -- all live cells of the window lie in these rows
-pub record LiesInExcerpt (from : ℕ) (window : List (List ℕ)) : Type 0 where
+pub record LiesInCrop (from : ℕ) (window : List (List ℕ)) : Type 0 where
   pub low : from ≤ 24
   pub above : (r : ℕ) → r < from → row_at 16 window r ≡ 0
   pub below : (r : ℕ) → from + 40 ≤ r → r < 64 → row_at 16 window r ≡ 0
 
 -- At least so deep inside the windows there is a cell alone that the whole hasn't: in column i of row r.
-pub record HasStray (n : ℕ) (whole alone : List (List ℕ)) (depth : ℕ) : Type 0 where
+pub record HasDivergingCell (n : ℕ) (whole alone : List (List ℕ)) (depth : ℕ) : Type 0 where
   pub r : ℕ
   pub i : ℕ
   pub above : depth ≤ r
@@ -49,7 +49,7 @@ pub record HasStray (n : ℕ) (whole alone : List (List ℕ)) (depth : ℕ) : Ty
   pub dark : bit_at (row_at n whole r) i ≡ 0
 
 -- what the one window shows strays from what the other shows
-abbrev pub ShowsStray : Numbers → ℕ → List (List ℕ) → List (List ℕ) → ℕ → ℕ → Type 0
-ShowsStray rule n whole alone depth horizon =
+abbrev pub DivergesFromWhole : Numbers → ℕ → List (List ℕ) → List (List ℕ) → ℕ → ℕ → Type 0
+DivergesFromWhole rule n whole alone depth horizon =
     (cells cluster : List Cell) (left top : ℤ) → InOrder cells → InOrder cluster → IsShownInside n left top depth whole cells
-    → IsShownInside n left top depth alone cluster → Strays rule cells cluster horizon
+    → IsShownInside n left top depth alone cluster → Diverges rule cells cluster horizon

@@ -46,8 +46,8 @@ abbrev pub lies_within : ℕ → List Cell → Bool
 lies_within reach cells = list_all (is_within reach) cells
 
 -- none of the generations from 1 to n is the pattern itself again, moved or not
-abbrev pub NeverBack : Numbers → List Cell → ℕ → Type 0
-NeverBack rule cells n = (p : ℕ) (dx dy : ℤ) → 1 ≤ p → p ≤ n → after rule cells p ≢ shifted dx dy cells
+abbrev pub NeverRecurs : Numbers → List Cell → ℕ → Type 0
+NeverRecurs rule cells n = (p : ℕ) (dx dy : ℤ) → 1 ≤ p → p ≤ n → after rule cells p ≢ shifted dx dy cells
 
 -- the next generation of a pattern moved, or turned, is its next generation, moved or turned
 abbrev pub NextMoved : Type 0

@@ -3,7 +3,7 @@ use Rattle.std.specs.Prelude.{List, [], ◌∷◌, map, neg_ℤ, pos, Option, No
 use Rattle.plane_core.specs.declared.plane.cell.Cell.{Cell}
 use Rattle.plane_core.specs.declared.plane.orientation.Orientation.{Orientation}
 use Rattle.plane_core.specs.declared.plane.orientation.Orientation.TheVariants.{Same, Quarter, Half, ThreeQuarter, Mirror, Flip, Diagonal, AntiDiagonal}
-use Rattle.plane_core.specs.declared.plane.transform.Placement.{Placement}
+use Rattle.plane_core.specs.declared.plane.transform.Transform.{Transform}
 use Rattle.plane_core.specs.declared.plane.bounds.Bounds.{Bounds}
 use Rattle.plane_core.specs.plane.Bounds.{at_corner}
 use Rattle.plane_core.specs.plane.Cells.{cell_at, moved_by, set_of}
@@ -24,13 +24,13 @@ turned_cell Diagonal c = cell_at c.y c.x
 turned_cell AntiDiagonal c = cell_at (neg_ℤ c.y) (neg_ℤ c.x)
 
 -- where a cell lands that is turned, and then moved
-abbrev pub landed : Placement → Cell → Cell
+abbrev pub landed : Transform → Cell → Cell
 landed p c = moved_by p.dx p.dy (turned_cell p.orientation c)
 
 -- the placement that moves an image with this box to the corner; an image without a cell is there
-abbrev pub corner_placement : Orientation → Option Bounds → Placement
-corner_placement o None = record { orientation = o; dx = pos 0; dy = pos 0 }
-corner_placement o (Some b) = record { orientation = o; dx = neg_ℤ b.left; dy = neg_ℤ b.top }
+abbrev pub corner_transform : Orientation → Option Bounds → Transform
+corner_transform o None = record { orientation = o; dx = pos 0; dy = pos 0 }
+corner_transform o (Some b) = record { orientation = o; dx = neg_ℤ b.left; dy = neg_ℤ b.top }
 
 -- the image of a pattern, as it comes and at the corner
 unfoldable pub image : Orientation → List Cell → List Cell

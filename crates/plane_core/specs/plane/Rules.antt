@@ -49,18 +49,18 @@ pub record IsFirstFault (text : List ℕ) (place : ℕ) : Type 0 where
 
 -- numbers read off the front of a text, as a table of answers, and the text after them
 pub record Reading : Type 0 where
-  pub answers : List Bool
+  pub logic : List Bool
   pub remainder : List ℕ
 
 abbrev pub with_answer : Bool → Reading → Reading
-with_answer answer read = record { answers = answer ∷ read.answers; remainder = read.remainder }
+with_answer next_cells read = record { logic = next_cells ∷ read.logic; remainder = read.remainder }
 
 abbrev pub begins : List ℕ → List ℕ → Bool
-begins text front = starts_with nat_eq text front
+begins text prefix = starts_with nat_eq text prefix
 
 -- so many numbers from n on: each is one whose digit stands next in the text
 unfoldable pub numbers_at : ℕ → ℕ → List ℕ → Reading
-numbers_at zero n text = record { answers = []; remainder = text }
+numbers_at zero n text = record { logic = []; remainder = text }
 numbers_at (suc more) n text =
     if begins text ((48 + n) ∷ [])
     then with_answer true (numbers_at more (n + 1) (drop 1 text))
@@ -79,4 +79,4 @@ rule_read text =
     else if begins text (codes "b0") then Err BirthZero
     else if not (begins births.remainder (codes "s")) then rule_fault_at text births.remainder
     else if not (length survivals.remainder == 0) then rule_fault_at text survivals.remainder
-    else Ok (record { births = births.answers; survivals = survivals.answers })
+    else Ok (record { births = births.logic; survivals = survivals.logic })

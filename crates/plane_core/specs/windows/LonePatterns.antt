@@ -3,7 +3,7 @@ use Rattle.std.specs.Prelude.{◌≡◌, ◌-◌, ◌*◌, ◌<◌, ◌≤◌, �
 use Rattle.std.specs.Int.{bit_at}
 use Rattle.plane_core.specs.declared.plane.cell.Cell.{Cell}
 use Rattle.plane_core.specs.plane.Cells.{InOrder, has}
-use Rattle.plane_core.specs.plane.Generations.{NeverBack, after}
+use Rattle.plane_core.specs.plane.Generations.{NeverRecurs, after}
 use Rattle.plane_core.specs.plane.Rules.{Numbers}
 use Rattle.plane_core.specs.windows.Windows.{IsShownInside, row_at}
 
@@ -22,7 +22,7 @@ pub record Holds (n : ℕ) (left top : ℤ) (x : List (List ℕ)) (cells : List 
 
 -- up to generation g the pattern stays in the window, and none of the generations from 1 on is the pattern itself again
 pub record HasChanged (rule : Numbers) (n : ℕ) (left top : ℤ) (cells : List Cell) (g : ℕ) : Type 0 where
-  pub new : NeverBack rule cells g
+  pub new : NeverRecurs rule cells g
   pub inside : (h : ℕ) → h ≤ g → (c : Cell) → has (after rule cells h) c ≡ true → IsInWindow n left top c
 
 -- a vector of four words

@@ -1,9 +1,9 @@
 -- The rule whose answers these are.
-use Rattle.plane_core.specs.declared.windows.rule_logic.Answers.{Answers}
-use Rattle.plane_core.specs.declared.windows.rule_logic.Answers.TheVariants.{Life, Any}
+use Rattle.plane_core.specs.declared.windows.rule_logic.RuleLogic.{RuleLogic}
+use Rattle.plane_core.specs.declared.windows.rule_logic.RuleLogic.TheVariants.{Life, Any}
 use Rattle.plane_core.specs.plane.Rules.{Numbers}
 use Rattle.plane_core.specs.windows.Words.{life}
 
-abbrev pub rule_of : Answers → Numbers
+abbrev pub rule_of : RuleLogic → Numbers
 rule_of Life = life
-rule_of (Any answers) = answers.rule
+rule_of (Any logic) = logic.rule

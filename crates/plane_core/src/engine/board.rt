@@ -27,7 +27,7 @@ mod reach;
 mod removal;
 pub(crate) mod view;
 
-use crate::windows::rule_logic::Answers;
+use crate::windows::rule_logic::RuleLogic;
 use crate::plane::bounds::Bounds;
 use crate::engine::cover::cover;
 use crate::engine::frame::Frame;
@@ -35,24 +35,24 @@ use crate::engine::leap::{put_all, run_all};
 use crate::engine::listing::list;
 use crate::engine::loading::fill;
 use crate::plane::pattern::Pattern;
-use crate::engine::window_origin::Place;
+use crate::engine::window_origin::WindowOrigin;
 use crate::plane::rule::Rule;
 use crate::engine::first_boxes::boxes_round;
-use crate::engine::row_spans::{Span, empty};
+use crate::engine::row_spans::{RowSpan, empty};
 use memory::OutOfMemory;
 use std::alloc::Global;
 use std::marker::Model;
 use std::mem::swap;
 
 /// How many lanes a large board has: 64, and one more, since a window wants a lane to its right.
-const LARGE_LANES: usize = 65;
+const LARGE_WORD_COLUMNS: usize = 65;
 
 /// How many rows it has: as many as columns, and 72 more. A multiple of 512 would bring the same row of several lanes
 /// to one place of the processor's cache.
 const LARGE_ROWS: usize = 4168;
 
 /// How many lanes a small board has, whose words are cleared in no time: 8, and one more.
-const SMALL_LANES: usize = 9;
+const SMALL_WORD_COLUMNS: usize = 9;
 
 /// And how many rows: as many as columns, and 72 more.
 const SMALL_ROWS: usize = 584;
@@ -63,17 +63,17 @@ const ROOM: usize = 128;
 /// A pattern on a board under a rule.
 pub struct Board {
     at: Frame,
-    answers: Answers,
+    logic: RuleLogic,
     words: Vec<u64>,
     /// Which rows of each lane may have a live cell.
-    spans: Vec<Span>,
+    spans: Vec<RowSpan>,
     boxes: Vec<Bounds>,
     /// Whether the boxes hold all live cells.
     holds_all: bool,
     // The lists of a leap. They are kept from one to the next, since new ones each time would cost a tenth of all.
     /// Rectangles, and then the boxes for the next leap.
     next_boxes: Vec<Bounds>,
-    places: Vec<Place>,
+    origins: Vec<WindowOrigin>,
     held: Vec<[u64; 40]>,
 }
 
@@ -84,10 +84,10 @@ impl Model for Board {
 
     ghost Value = { Running };
 
-    ghost view = { λ b. record { rule = rule_of b.answers; cells = cells_on b.at b.words.items } };
+    ghost view = { λ b. record { rule = rule_of b.logic; cells = cells_on b.at b.words.items } };
 
     ghost invariant = { λ b.
-        IsSpannedBoard b.at (rule_of b.answers) b.words.items b.boxes.items b.holds_all b.spans.items };
+        IsSpannedBoard b.at (rule_of b.logic) b.words.items b.boxes.items b.holds_all b.spans.items };
 }
 
 // Written out, since a derived drop is proved anew wherever a board is given up.
@@ -95,20 +95,20 @@ impl Drop for Board {
     fn drop(self) {
         let Board {
             at: _,
-            answers: _,
+            logic: _,
             words,
             spans,
             boxes,
             holds_all: _,
             next_boxes,
-            places,
+            origins,
             held,
         } = self;
         drop(words);
         drop(spans);
         drop(boxes);
         drop(next_boxes);
-        drop(places);
+        drop(origins);
         drop(held);
     }
 }
@@ -127,7 +127,7 @@ impl Board {
         let at = Frame {
             left: -2048,
             top: -2084,
-            lanes: LARGE_LANES,
+            word_columns: LARGE_WORD_COLUMNS,
             rows: LARGE_ROWS,
         };
         Board::blank(alloc, rule, at)
@@ -146,7 +146,7 @@ impl Board {
         let at = Frame {
             left: -256,
             top: -292,
-            lanes: SMALL_LANES,
+            word_columns: SMALL_WORD_COLUMNS,
             rows: SMALL_ROWS,
         };
         Board::blank(alloc, rule, at)
@@ -167,20 +167,20 @@ impl Board {
         ensures cells { IfOk result (λ board. board.cells ≡ pattern.now) }
     {
         let mut words = vec![in alloc; 0u64; at.count()]?;
-        let mut spans = vec![in alloc; Span::empty(); at.lanes]?;
+        let mut spans = vec![in alloc; RowSpan::empty(); at.word_columns]?;
         let mut boxes = Vec::new(alloc);
         let cells = pattern.cells();
         boxes_round(cells, &mut boxes)?;
         fill(at, words.as_mut_slice(), spans.as_mut_slice(), cells);
         Ok(Board {
             at,
-            answers: Answers::new(rule),
+            logic: RuleLogic::new(rule),
             words,
             spans,
             boxes,
             holds_all: true,
             next_boxes: Vec::new(alloc),
-            places: Vec::new(alloc),
+            origins: Vec::new(alloc),
             held: Vec::new(alloc),
         })
     }
@@ -215,7 +215,7 @@ impl Board {
         );
         self.boxes.clear();
         self.holds_all = true;
-        self.answers = Answers::new(rule);
+        self.logic = RuleLogic::new(rule);
         let Some(at) = self.at.centred(pattern) else {
             return Ok(false);
         };
@@ -269,10 +269,10 @@ impl Board {
     }
 
     /// Returns the rule, as operations on words.
-    pub(crate) fn logic(&self) -> &Answers
+    pub(crate) fn logic(&self) -> &RuleLogic
         ensures { rule_of result.now ≡ self.now.rule }
     {
-        &self.answers
+        &self.logic
     }
 
     /// Whether it is seen that no even number of generations changes anything. `false` says nothing.
@@ -297,14 +297,14 @@ impl Board {
         cover(
             self.boxes.as_slice(),
             &mut self.next_boxes,
-            &mut self.places,
+            &mut self.origins,
         )?;
-        let places = self.places.as_slice();
+        let origins = self.origins.as_slice();
         let inside = run_all(
             self.words.as_slice(),
             self.at,
-            places,
-            &self.answers,
+            origins,
+            &self.logic,
             count as usize,
             &mut self.held,
             &mut self.next_boxes,
@@ -317,7 +317,7 @@ impl Board {
             self.words.as_mut_slice(),
             self.spans.as_mut_slice(),
             self.at,
-            places,
+            origins,
             self.held.as_slice(),
         );
         swap(&mut self.boxes, &mut self.next_boxes);

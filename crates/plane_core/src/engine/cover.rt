@@ -22,7 +22,7 @@ ghost use Rattle.plane_core.specs.engine.WindowOrigins.{IsCovered};
 ghost use Rattle.plane_core.specs.declared.plane.cell.Cell.{Cell};
 
 use crate::plane::bounds::Bounds;
-use crate::engine::window_origin::Place;
+use crate::engine::window_origin::WindowOrigin;
 use memory::OutOfMemory;
 
 /// With how many of the last rectangles a box may be united.
@@ -40,15 +40,15 @@ struct Spans {
 pub(crate) fn cover(
     boxes: &[Bounds],
     rectangles: &mut Vec<Bounds>,
-    places: &mut Vec<Place>,
+    origins: &mut Vec<WindowOrigin>,
 ) -> Result<(), OutOfMemory>
     requires { All (AreSidesWithin box_bound) boxes.now }
-    ensures { OnOk result (AreCovered places.new.items boxes.now) }
+    ensures { OnOk result (AreCovered origins.new.items boxes.now) }
 {
     unite(boxes, rectangles)?;
-    places.clear();
+    origins.clear();
     for rectangle in rectangles.as_slice() {
-        lay(*rectangle, places)?;
+        lay(*rectangle, origins)?;
     }
     Ok(())
 }
@@ -117,31 +117,31 @@ fn windows_for(rectangle: Bounds) -> u64 {
 }
 
 /// Lays windows over a rectangle, row by row.
-fn lay(rectangle: Bounds, places: &mut Vec<Place>) -> Result<(), OutOfMemory>
+fn lay(rectangle: Bounds, origins: &mut Vec<WindowOrigin>) -> Result<(), OutOfMemory>
     requires { AreSidesWithin rectangle_bound rectangle }
-    ensures kept { OnOk result ((c : Cell) → IsCovered places.old.items c → IsCovered places.new.items c) }
-    ensures laid { OnOk result ((c : Cell) → IsWithin rectangle c → IsCovered places.new.items c) }
+    ensures kept { OnOk result ((c : Cell) → IsCovered origins.old.items c → IsCovered origins.new.items c) }
+    ensures laid { OnOk result ((c : Cell) → IsWithin rectangle c → IsCovered origins.new.items c) }
 {
     let across = side_by_side(rectangle.left, rectangle.right, 56);
     let down = side_by_side(rectangle.top, rectangle.bottom, 32);
     for i in 0..down.count {
         let row = down.first + 32 * i as i32;
-        lay_row(across, row, places)?;
+        lay_row(across, row, origins)?;
     }
     Ok(())
 }
 
 /// Lays windows side by side, whose inner parts begin in this row.
-fn lay_row(across: Spans, top: i32, places: &mut Vec<Place>) -> Result<(), OutOfMemory>
+fn lay_row(across: Spans, top: i32, origins: &mut Vec<WindowOrigin>) -> Result<(), OutOfMemory>
     requires top { unsigned_abs top ≤ 2 ^ 26 }
     requires first { unsigned_abs across.first ≤ 2 ^ 26 }
     requires count { across.count ≤ 2 ^ 20 }
-    ensures kept { OnOk result ((c : Cell) → IsCovered places.old.items c → IsCovered places.new.items c) }
-    ensures laid { OnOk result ((c : Cell) → IsInRow across top c → IsCovered places.new.items c) }
+    ensures kept { OnOk result ((c : Cell) → IsCovered origins.old.items c → IsCovered origins.new.items c) }
+    ensures laid { OnOk result ((c : Cell) → IsInRow across top c → IsCovered origins.new.items c) }
 {
     for i in 0..across.count {
         let column = across.first + 56 * i as i32;
-        places.push(Place {
+        origins.push(WindowOrigin {
             left: column - 4,
             top: top - 4,
         })?;

@@ -11,11 +11,11 @@ ghost use Rattle.std.specs.Prelude.{◌≡◌, ℕ, IfSome, List, MatchOption};
 ghost use Rattle.std.specs.Int.{bit_at};
 ghost use Rattle.plane_core.specs.engine.ActiveBoxes.{HasBits, HoldsDifference, IsInReach, box_bound};
 ghost use Rattle.plane_core.specs.plane.Bounds.{AreSidesWithin};
-ghost use Rattle.plane_core.specs.engine.WindowOrigins.{HoldsChange};
+ghost use Rattle.plane_core.specs.engine.WindowOrigins.{MarksDifferences};
 ghost use Rattle.plane_core.specs.declared.plane.cell.Cell.{Cell};
 
 use crate::plane::bounds::Bounds;
-use crate::engine::window_origin::Place;
+use crate::engine::window_origin::WindowOrigin;
 
 /// The columns 4 to 59 of a window, which its inner part has.
 const INNER_COLUMNS: u64 = 0x0fff_ffff_ffff_fff0;
@@ -26,25 +26,25 @@ const INNER_ROWS: u64 = 0x0000_000f_ffff_fff0;
 /// In which columns of a window, and in which rows, something differs: a bit for each, counted from the left and from
 /// the top.
 #[derive(Clone, Copy)]
-pub(crate) struct Change {
+pub(crate) struct DifferenceMask {
     pub(crate) columns: u64,
     pub(crate) rows: u64,
 }
 
 /// The first and the last of some bits.
 #[derive(Clone, Copy)]
-struct Span {
+struct BitSpan {
     first: u32,
     last: u32,
 }
 
-impl Change {
+impl DifferenceMask {
     /// A box that has each cell of the window's inner part in it whose column and row are both in the change. It is
     /// `None` if there is no such cell.
-    pub(crate) fn bounds(self, place: Place) -> Option<Bounds>
-        requires { IsInReach place }
-        ensures difference { (one other : List Cell) → HoldsChange place one other self
-            → HoldsDifference place one other result }
+    pub(crate) fn bounds(self, origin: WindowOrigin) -> Option<Bounds>
+        requires { IsInReach origin }
+        ensures difference { (one other : List Cell) → MarksDifferences origin one other self
+            → HoldsDifference origin one other result }
         ensures sides { IfSome result (AreSidesWithin box_bound) }
     {
         let Some(across) = span_of(self.columns & INNER_COLUMNS) else {
@@ -54,10 +54,10 @@ impl Change {
             return None;
         };
         Some(Bounds {
-            left: place.column(across.first),
-            top: place.row(down.first),
-            right: place.column(across.last),
-            bottom: place.row(down.last),
+            left: origin.column(across.first),
+            top: origin.row(down.first),
+            right: origin.column(across.last),
+            bottom: origin.row(down.last),
         })
     }
 }
@@ -65,13 +65,13 @@ impl Change {
 /// The first and the last bit of a word that is 1, if there is one.
 #[inline(always)]
 #[tactic(auto, using(crate::proofs::lemmas::engine::DifferenceBoxLemmas::spans))]
-fn span_of(word: u64) -> Option<Span>
+fn span_of(word: u64) -> Option<BitSpan>
     ensures { MatchOption result ((i : ℕ) → bit_at word i ≡ 0) (HasBits word) }
 {
     if word == 0 {
         return None;
     }
-    Some(Span {
+    Some(BitSpan {
         first: word.trailing_zeros(),
         last: 63 - word.leading_zeros(),
     })

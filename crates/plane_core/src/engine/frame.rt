@@ -29,7 +29,7 @@ use crate::plane::pattern::Pattern;
 pub(crate) struct Frame {
     pub(crate) left: i32,
     pub(crate) top: i32,
-    pub(crate) lanes: usize,
+    pub(crate) word_columns: usize,
     pub(crate) rows: usize,
 }
 
@@ -97,7 +97,7 @@ impl Frame {
         Frame {
             left: back(bounds.left, margin),
             top: back(bounds.top, margin),
-            lanes: (width / 64 + 1) as usize,
+            word_columns: (width / 64 + 1) as usize,
             rows: (height / 8 * 8 + 8) as usize,
         }
     }
@@ -110,7 +110,7 @@ impl Frame {
         ensures frame { IfSome result IsFrame }
         ensures plane { IfSome result (λ at. AreSidesWithin plane_bound (bounds_of at)) }
         ensures on { IfSome result (λ at. LieOn at pattern.now) }
-        ensures lanes { IfSome result (λ at. at.lanes ≡ self.lanes) }
+        ensures word_columns { IfSome result (λ at. at.word_columns ≡ self.word_columns) }
         ensures rows { IfSome result (λ at. at.rows ≡ self.rows) }
     {
         let Some(bounds) = pattern.bounds() else {
@@ -127,10 +127,10 @@ impl Frame {
         ensures frame { IfSome result IsFrame }
         ensures plane { IfSome result (λ at. AreSidesWithin plane_bound (bounds_of at)) }
         ensures on { IfSome result (λ at. (c : Cell) → IsWithin bounds c → IsWithin (bounds_of at) c) }
-        ensures lanes { IfSome result (λ at. at.lanes ≡ self.lanes) }
+        ensures word_columns { IfSome result (λ at. at.word_columns ≡ self.word_columns) }
         ensures rows { IfSome result (λ at. at.rows ≡ self.rows) }
     {
-        let columns = 64 * self.lanes as u32;
+        let columns = 64 * self.word_columns as u32;
         let rows = self.rows as u32;
         let around = columns + rows;
         if around > BOUND {
@@ -151,7 +151,7 @@ impl Frame {
         Some(Frame {
             left: back(bounds.left, (columns - width) / 2),
             top: back(bounds.top, (rows - height) / 2),
-            lanes: self.lanes,
+            word_columns: self.word_columns,
             rows: self.rows,
         })
     }
@@ -159,7 +159,7 @@ impl Frame {
     /// Whether there are many more words than cells: over 262,144, which take 2 megabytes, and 256 a cell.
     fn is_sparse(self, population: usize) -> bool
         requires { IsFrame self }
-        ensures { result ≡ false → self.lanes * self.rows ≤ 256 * population + 262400 }
+        ensures { result ≡ false → self.word_columns * self.rows ≤ 256 * population + 262400 }
     {
         let count = self.count();
         count > 262_144 && (count - 262_144) / 256 > population
@@ -168,34 +168,34 @@ impl Frame {
     /// How many words there are.
     pub(crate) fn count(self) -> usize
         requires { IsFrame self }
-        ensures count { result ≡ self.lanes * self.rows }
+        ensures count { result ≡ self.word_columns * self.rows }
         ensures small { result < 2 ^ 40 }
     {
-        self.lanes * self.rows
+        self.word_columns * self.rows
     }
 
     /// The place of a row of a lane in the list of words.
-    pub(crate) fn index(self, lane: usize, row: usize) -> usize
+    pub(crate) fn index(self, word_column: usize, row: usize) -> usize
         requires frame { IsFrame self }
-        requires lane { lane < self.lanes }
+        requires word_column { word_column < self.word_columns }
         requires row { row < self.rows }
-        ensures index { result ≡ word_of self lane row }
-        ensures inside { result < self.lanes * self.rows }
+        ensures index { result ≡ word_of self word_column row }
+        ensures inside { result < self.word_columns * self.rows }
         ensures small { result < 2 ^ 40 }
     {
-        lane * self.rows + row
+        word_column * self.rows + row
     }
 
     /// The first cell of a row of a lane.
-    pub(crate) fn corner(self, lane: usize, row: usize) -> Cell
+    pub(crate) fn corner(self, word_column: usize, row: usize) -> Cell
         requires frame { IsFrame self }
-        requires lane { lane < self.lanes }
+        requires word_column { word_column < self.word_columns }
         requires row { row < self.rows }
-        ensures corner { result ≡ board_cell self lane row 0 }
+        ensures corner { result ≡ board_cell self word_column row 0 }
         ensures small { unsigned_abs result.x ≤ 2 ^ 24 }
     {
         Cell {
-            x: self.left + (64 * lane) as i32,
+            x: self.left + (64 * word_column) as i32,
             y: self.top + row as i32,
         }
     }
@@ -205,7 +205,7 @@ impl Frame {
         requires { IsFrame self }
         ensures { IsTrue result ↔ IsWithin (bounds_of self) cell }
     {
-        if cell.x < self.left || cell.x >= self.left + (64 * self.lanes) as i32 {
+        if cell.x < self.left || cell.x >= self.left + (64 * self.word_columns) as i32 {
             return false;
         }
         if cell.y < self.top || cell.y >= self.top + self.rows as i32 {

@@ -16,15 +16,15 @@ ghost use Rattle.plane_core.specs.engine.Leaps.{ArePutBack, AreRun, IsRun};
 ghost use Rattle.plane_core.specs.engine.WindowOrigins.{IsOnBoard};
 ghost use Rattle.plane_core.specs.engine.RowSpans.{AreWidened, HoldCovered};
 
-use crate::windows::rule_logic::Answers;
+use crate::windows::rule_logic::RuleLogic;
 use crate::plane::bounds::Bounds;
-use crate::engine::difference_box::Change;
+use crate::engine::difference_box::DifferenceMask;
 use crate::engine::window_difference::difference_of;
 use crate::engine::frame::Frame;
-use crate::engine::window_origin::Place;
+use crate::engine::window_origin::WindowOrigin;
 use crate::engine::window_io::{column_of, read_rows, row_of, write};
 use crate::windows::row_packing::{packed, unpacked};
-use crate::engine::row_spans::{Span, widen};
+use crate::engine::row_spans::{RowSpan, widen};
 use crate::windows::window::generations;
 use memory::OutOfMemory;
 use std::simd::u64x4;
@@ -32,7 +32,7 @@ use std::simd::u64x4;
 /// Runs a window for one to four generations. For an even number it tells where the last one differs from the one two
 /// before it, and for an odd one where it has live cells.
 #[inline(always)]
-fn run(window: &mut [u64x4; 10], rule: &Answers, count: usize) -> Change
+fn run(window: &mut [u64x4; 10], rule: &RuleLogic, count: usize) -> DifferenceMask
     requires some { 1 ≤ count }
     requires few { count ≤ 4 }
     ensures { IsRun (rule_of rule.now) count window.old window.new result }
@@ -54,8 +54,8 @@ fn run(window: &mut [u64x4; 10], rule: &Answers, count: usize) -> Change
 pub(crate) fn run_all(
     words: &[u64],
     at: Frame,
-    places: &[Place],
-    rule: &Answers,
+    origins: &[WindowOrigin],
+    rule: &RuleLogic,
     count: usize,
     held: &mut Vec<[u64; 40]>,
     boxes: &mut Vec<Bounds>,
@@ -64,21 +64,21 @@ pub(crate) fn run_all(
     requires long { FillsFrame at words.now }
     requires some { 1 ≤ count }
     requires few { count ≤ 4 }
-    ensures on_board { IfOk result (λ inside. inside ≡ true → All (IsOnBoard at) places.now) }
+    ensures on_board { IfOk result (λ inside. inside ≡ true → All (IsOnBoard at) origins.now) }
     ensures run { IfOk result (λ inside. inside ≡ true
-        → AreRun at words.now (rule_of rule.now) count places.now held.new.items boxes.new.items) }
+        → AreRun at words.now (rule_of rule.now) count origins.now held.new.items boxes.new.items) }
 {
     held.clear();
     boxes.clear();
-    for place in places {
-        if !place.is_on_board(at) {
+    for origin in origins {
+        if !origin.is_on_board(at) {
             return Ok(false);
         }
-        let rows = read_rows::<40>(words, at, column_of(at, *place), row_of(at, *place));
+        let rows = read_rows::<40>(words, at, column_of(at, *origin), row_of(at, *origin));
         let mut window = packed(&rows);
         let change = run(&mut window, rule, count);
         held.push(unpacked(&window))?;
-        let Some(bounds) = change.bounds(*place) else {
+        let Some(bounds) = change.bounds(*origin) else {
             continue;
         };
         boxes.push(bounds)?;
@@ -89,31 +89,31 @@ pub(crate) fn run_all(
 /// Puts all inner parts back, and widens the spans by them. Each may lie in two lanes.
 pub(crate) fn put_all(
     words: &mut [u64],
-    spans: &mut [Span],
+    spans: &mut [RowSpan],
     at: Frame,
-    places: &[Place],
+    origins: &[WindowOrigin],
     held: &[[u64; 40]],
 )
     requires frame { IsFrame at }
     requires long { FillsFrame at words.old }
-    requires lanes { length spans.old ≡ at.lanes }
-    requires on_board { All (IsOnBoard at) places.now }
-    requires each { length held.now ≡ length places.now }
-    ensures put { ArePutBack at places.now held.now (length places.now) words.old words.new }
+    requires word_columns { length spans.old ≡ at.word_columns }
+    requires on_board { All (IsOnBoard at) origins.now }
+    requires each { length held.now ≡ length origins.now }
+    ensures put { ArePutBack at origins.now held.now (length origins.now) words.old words.new }
     ensures kept { AreWidened spans.old spans.new }
-    ensures covered { HoldCovered at spans.new places.now }
+    ensures covered { HoldCovered at spans.new origins.now }
 {
-    for k in 0..places.len() {
-        let place = places[k];
-        let x = column_of(at, place);
-        let y = row_of(at, place);
+    for k in 0..origins.len() {
+        let origin = origins[k];
+        let x = column_of(at, origin);
+        let y = row_of(at, origin);
         write(words, at, x, y, &held[k]);
-        let rows = Span {
+        let rows = RowSpan {
             from: y + 4,
             end: y + 36,
         };
-        let lane = x / 64;
-        widen(spans, lane, rows);
-        widen(spans, lane + 1, rows);
+        let word_column = x / 64;
+        widen(spans, word_column, rows);
+        widen(spans, word_column + 1, rows);
     }
 }

@@ -17,15 +17,15 @@ ghost use Rattle.plane_core.specs.plane.Bounds.{AreSidesWithin};
 ghost use Rattle.plane_core.specs.plane.Cells.{cell_at, plane_bound};
 ghost use Rattle.plane_core.specs.engine.Frames.{FillsFrame, IsFrame, bounds_of, word_of};
 ghost use Rattle.plane_core.specs.engine.OnBoard.{cells_on};
-ghost use Rattle.plane_core.specs.engine.RowSpans.{HasRow, LieInLanes, LieInSpans};
+ghost use Rattle.plane_core.specs.engine.RowSpans.{HasRow, LieInWordColumns, LieInSpans};
 ghost use Rattle.plane_core.specs.engine.Listing.{HasRead, HasReadRows, IsBandEmpty};
-ghost use Rattle.plane_core.specs.engine.Listing.{IsLaneEmpty};
+ghost use Rattle.plane_core.specs.engine.Listing.{IsWordColumnEmpty};
 ghost use Rattle.plane_core.specs.declared.plane.cell.Cell.{Cell};
 
 use crate::plane::cell::Cell;
 use crate::engine::frame::Frame;
 use crate::plane::pattern::{Pattern, in_order};
-use crate::engine::row_spans::{Span, hull_of};
+use crate::engine::row_spans::{RowSpan, hull_of};
 use memory::OutOfMemory;
 use std::alloc::Global;
 
@@ -35,24 +35,24 @@ pub(crate) fn list(
     alloc: Global,
     at: Frame,
     words: &[u64],
-    spans: &[Span],
+    spans: &[RowSpan],
     room: usize,
 ) -> Result<Pattern, OutOfMemory>
     requires frame { IsFrame at }
     requires plane { AreSidesWithin plane_bound (bounds_of at) }
     requires long { FillsFrame at words.now }
-    requires spans { length spans.now ≡ at.lanes }
+    requires spans { length spans.now ≡ at.word_columns }
     requires live { LieInSpans at spans.now (cells_on at words.now) }
     ensures { IfOk result (λ pattern. pattern ≡ cells_on at words.now) }
 {
     let mut cells = Vec::with_capacity(alloc, room)?;
     let hull = hull_of(at, spans);
-    let lanes = hull.lanes.below(at.lanes);
+    let word_columns = hull.word_columns.below(at.word_columns);
     // The bands that have all rows of the hull.
     let first = hull.rows.from.min(at.rows) / 8;
     let end = (hull.rows.end.min(at.rows) + 7) / 8;
     for band in first..end {
-        read_band(at, words, spans, lanes, band, &mut cells)?;
+        read_band(at, words, spans, word_columns, band, &mut cells)?;
     }
     Ok(Pattern::from_ordered(in_order(cells)))
 }
@@ -88,49 +88,49 @@ pub(crate) fn along(cell: Cell, columns: usize) -> Cell
 }
 
 /// The word of a row of a lane, of which this is the span. Outside of it nothing is alive, and no word is looked at.
-fn word_at(at: Frame, words: &[u64], span: Span, lane: usize, row: usize) -> u64
+fn word_at(at: Frame, words: &[u64], span: RowSpan, word_column: usize, row: usize) -> u64
     requires frame { IsFrame at }
-    requires lane { lane < at.lanes }
+    requires word_column { word_column < at.word_columns }
     requires row { row < at.rows }
     requires long { FillsFrame at words.now }
-    requires live { (i : ℕ) → i < 64 → bit_at (slice_index words.now (word_of at lane row)) i ≡ 1 → HasRow span row }
-    ensures { (i : ℕ) → i < 64 → bit_at result i ≡ bit_at (slice_index words.now (word_of at lane row)) i }
+    requires live { (i : ℕ) → i < 64 → bit_at (slice_index words.now (word_of at word_column row)) i ≡ 1 → HasRow span row }
+    ensures { (i : ℕ) → i < 64 → bit_at result i ≡ bit_at (slice_index words.now (word_of at word_column row)) i }
 {
     if row < span.from || span.end <= row {
         return 0;
     }
-    words[at.index(lane, row)]
+    words[at.index(word_column, row)]
 }
 
 /// Reads the cells of a band of eight rows, row by row, and adds them to a list. All lie in these lanes.
 fn read_band(
     at: Frame,
     words: &[u64],
-    spans: &[Span],
-    lanes: Span,
+    spans: &[RowSpan],
+    word_columns: RowSpan,
     band: usize,
     cells: &mut Vec<Cell>,
 ) -> Result<(), OutOfMemory>
     requires frame { IsFrame at }
     requires band { band < at.rows / 8 }
     requires long { FillsFrame at words.now }
-    requires spans { length spans.now ≡ at.lanes }
+    requires spans { length spans.now ≡ at.word_columns }
     requires live { LieInSpans at spans.now (cells_on at words.now) }
-    requires order { lanes.from ≤ lanes.end }
-    requires most { lanes.end ≤ at.lanes }
-    requires lanes { LieInLanes at spans.now lanes }
+    requires order { word_columns.from ≤ word_columns.end }
+    requires most { word_columns.end ≤ at.word_columns }
+    requires word_columns { LieInWordColumns at spans.now word_columns }
     ensures { OnOk result
         (HasReadRows at words.now (8 * band) cells.old.items
         → HasReadRows at words.now (8 * band + 8) cells.new.items) }
 {
-    let alive = lanes_of_band(at, words, spans, lanes, band);
+    let alive = word_columns_of_band(at, words, spans, word_columns, band);
     if alive.from == alive.end {
         return Ok(());
     }
     for row in 8 * band..8 * band + 8 {
-        for lane in alive.from..alive.end {
-            let word = word_at(at, words, spans[lane], lane, row);
-            read_word(word, at.corner(lane, row), cells)?;
+        for word_column in alive.from..alive.end {
+            let word = word_at(at, words, spans[word_column], word_column, row);
+            read_word(word, at.corner(word_column, row), cells)?;
         }
     }
     Ok(())
@@ -138,48 +138,48 @@ fn read_band(
 
 /// The lanes from the first to the last in which a cell of a band is alive, of these lanes. If there is none, they end
 /// where they begin.
-fn lanes_of_band(at: Frame, words: &[u64], spans: &[Span], lanes: Span, band: usize) -> Span
+fn word_columns_of_band(at: Frame, words: &[u64], spans: &[RowSpan], word_columns: RowSpan, band: usize) -> RowSpan
     requires frame { IsFrame at }
     requires band { band < at.rows / 8 }
     requires long { FillsFrame at words.now }
-    requires spans { length spans.now ≡ at.lanes }
+    requires spans { length spans.now ≡ at.word_columns }
     requires live { LieInSpans at spans.now (cells_on at words.now) }
-    requires order { lanes.from ≤ lanes.end }
-    requires most { lanes.end ≤ at.lanes }
-    requires lanes { LieInLanes at spans.now lanes }
+    requires order { word_columns.from ≤ word_columns.end }
+    requires most { word_columns.end ≤ at.word_columns }
+    requires word_columns { LieInWordColumns at spans.now word_columns }
     ensures order { result.from ≤ result.end }
-    ensures most { result.end ≤ at.lanes }
+    ensures most { result.end ≤ at.word_columns }
     ensures left { IsBandEmpty at words.now band 0 result.from }
-    ensures right { IsBandEmpty at words.now band result.end at.lanes }
+    ensures right { IsBandEmpty at words.now band result.end at.word_columns }
 {
-    let mut from = lanes.from;
-    while from < lanes.end && is_lane_empty(at, words, spans, from, band) {
+    let mut from = word_columns.from;
+    while from < word_columns.end && is_word_column_empty(at, words, spans, from, band) {
         from += 1;
     }
-    let mut end = lanes.end;
-    while end > from && is_lane_empty(at, words, spans, end - 1, band) {
+    let mut end = word_columns.end;
+    while end > from && is_word_column_empty(at, words, spans, end - 1, band) {
         end -= 1;
     }
-    Span { from, end }
+    RowSpan { from, end }
 }
 
 /// Whether no cell of a band is alive in a lane.
-fn is_lane_empty(at: Frame, words: &[u64], spans: &[Span], lane: usize, band: usize) -> bool
+fn is_word_column_empty(at: Frame, words: &[u64], spans: &[RowSpan], word_column: usize, band: usize) -> bool
     requires frame { IsFrame at }
-    requires lane { lane < at.lanes }
+    requires word_column { word_column < at.word_columns }
     requires band { band < at.rows / 8 }
     requires long { FillsFrame at words.now }
-    requires spans { length spans.now ≡ at.lanes }
+    requires spans { length spans.now ≡ at.word_columns }
     requires live { LieInSpans at spans.now (cells_on at words.now) }
-    ensures { IsTrue result → IsLaneEmpty at words.now band lane }
+    ensures { IsTrue result → IsWordColumnEmpty at words.now band word_column }
 {
-    let rows = spans[lane];
+    let rows = spans[word_column];
     let first = 8 * band;
     let is_missed = (rows.end <= first) | (first + 8 <= rows.from);
     if is_missed {
         return true;
     }
-    let from = at.index(lane, first);
+    let from = at.index(word_column, first);
     let mut columns = 0;
     for k in 0..8 {
         columns |= words[from + k];

@@ -6,27 +6,27 @@ ghost use Rattle.plane_core.specs.engine.RowSpans.{LieInSpans};
 
 use crate::plane::cell::Cell;
 use crate::engine::frame::Frame;
-use crate::engine::row_spans::{Span, widen};
+use crate::engine::row_spans::{RowSpan, widen};
 
 /// Puts all cells on an empty board, and widens its spans by them.
-pub(crate) fn fill(at: Frame, words: &mut [u64], spans: &mut [Span], cells: &[Cell])
+pub(crate) fn fill(at: Frame, words: &mut [u64], spans: &mut [RowSpan], cells: &[Cell])
     requires frame { IsFrame at }
     requires on { LieOn at cells.now }
     requires long { FillsFrame at words.old }
-    requires lanes { length spans.old ≡ at.lanes }
+    requires word_columns { length spans.old ≡ at.word_columns }
     requires empty { Shows at words.old [] }
     ensures shown { Shows at words.new cells.now }
     ensures held { LieInSpans at spans.new cells.now }
 {
     for cell in cells {
         let across = at.across(*cell);
-        let lane = across / 64;
+        let word_column = across / 64;
         let row = at.down(*cell);
-        words[at.index(lane, row)] |= 1 << (across % 64);
-        let rows = Span {
+        words[at.index(word_column, row)] |= 1 << (across % 64);
+        let rows = RowSpan {
             from: row,
             end: row + 1,
         };
-        widen(spans, lane, rows);
+        widen(spans, word_column, rows);
     }
 }

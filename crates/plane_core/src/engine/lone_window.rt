@@ -17,10 +17,10 @@ ghost use Rattle.plane_core.specs.engine.LoneWindows.{IsInland};
 ghost use Rattle.plane_core.specs.windows.LonePatterns.{Holds, IsInWindow};
 ghost use Rattle.plane_core.specs.declared.plane.cell.Cell.{Cell};
 
-use crate::windows::rule_logic::Answers;
+use crate::windows::rule_logic::RuleLogic;
 use crate::engine::frame::Frame;
 use crate::engine::frame::farthest;
-use crate::engine::window_origin::Place;
+use crate::engine::window_origin::WindowOrigin;
 use crate::engine::listing::list;
 use crate::windows::window_queries::{columns_of, is_rim_clear};
 use crate::plane::cell::Cell;
@@ -28,7 +28,7 @@ use crate::plane::coordinate::{apart, back};
 use crate::plane::pattern::Pattern;
 use crate::windows::row_packing::{packed, unpacked};
 use crate::plane::rule::Rule;
-use crate::engine::row_spans::Span;
+use crate::engine::row_spans::RowSpan;
 use crate::windows::window::generation;
 use memory::OutOfMemory;
 use std::alloc::Global;
@@ -48,19 +48,19 @@ pub(crate) fn next_in_window(
 ) -> Result<Option<Pattern>, OutOfMemory>
     ensures { IfOk result (λ made. IfSome made (λ later. later ≡ next rule.now pattern.now)) }
 {
-    let Some(place) = place_round(pattern) else {
+    let Some(origin) = origin_round(pattern) else {
         return Ok(None);
     };
-    let mut window = window_of(place, pattern.cells());
+    let mut window = window_of(origin, pattern.cells());
     if !is_rim_clear(&window, columns_of(&window)) {
         return Ok(None);
     }
-    generation(&mut window, &Answers::new(rule));
+    generation(&mut window, &RuleLogic::new(rule));
     // The window as a board, of one lane.
     let at = Frame {
-        left: place.left,
-        top: place.top,
-        lanes: 1,
+        left: origin.left,
+        top: origin.top,
+        word_columns: 1,
         rows: 64,
     };
     let later = pattern_of(alloc, at, &unpacked(&window))?;
@@ -71,19 +71,19 @@ pub(crate) fn next_in_window(
 pub(crate) fn pattern_of(alloc: Global, at: Frame, rows: &[u64; 64]) -> Result<Pattern, OutOfMemory>
     requires frame { IsFrame at }
     requires plane { AreSidesWithin plane_bound (bounds_of at) }
-    requires lanes { at.lanes ≡ 1 }
+    requires word_columns { at.word_columns ≡ 1 }
     requires rows { at.rows ≡ 64 }
     ensures { IfOk result (λ pattern. pattern ≡ cells_on at rows.now) }
 {
-    let spans = [Span { from: 0, end: 64 }];
+    let spans = [RowSpan { from: 0, end: 64 }];
     list(alloc, at, rows, &spans, ROOM)
 }
 
 /// Where a window round a small pattern lies, which is far from the edge of the plane.
-pub(crate) fn place_round(pattern: &Pattern) -> Option<Place>
+pub(crate) fn origin_round(pattern: &Pattern) -> Option<WindowOrigin>
     ensures inland { IfSome result IsInland }
     ensures inside { IfSome result
-        (λ place. (c : Cell) → has pattern.now c ≡ true → IsInWindow 16 place.left place.top c) }
+        (λ origin. (c : Cell) → has pattern.now c ≡ true → IsInWindow 16 origin.left origin.top c) }
 {
     let Some(bounds) = pattern.bounds() else {
         return None;
@@ -96,22 +96,22 @@ pub(crate) fn place_round(pattern: &Pattern) -> Option<Place>
     if width > 61 || height > 61 {
         return None;
     }
-    Some(Place {
+    Some(WindowOrigin {
         left: back(bounds.left, (63 - width) / 2),
         top: back(bounds.top, (63 - height) / 2),
     })
 }
 
 /// The window at this place with these cells.
-pub(crate) fn window_of(place: Place, cells: &[Cell]) -> [u64x4; 16]
+pub(crate) fn window_of(origin: WindowOrigin, cells: &[Cell]) -> [u64x4; 16]
     requires order { InOrder cells.now }
-    requires inside { (c : Cell) → has cells.now c ≡ true → IsInWindow 16 place.left place.top c }
-    ensures { Holds 16 place.left place.top result cells.now }
+    requires inside { (c : Cell) → has cells.now c ≡ true → IsInWindow 16 origin.left origin.top c }
+    ensures { Holds 16 origin.left origin.top result cells.now }
 {
     let mut rows = [0; 64];
     for cell in cells {
-        let across = (cell.x - place.left) as usize;
-        let down = (cell.y - place.top) as usize;
+        let across = (cell.x - origin.left) as usize;
+        let down = (cell.y - origin.top) as usize;
         rows[down] |= 1 << across;
     }
     packed(&rows)

@@ -19,41 +19,41 @@ use crate::engine::frame::Frame;
 
 /// The numbers from one on, and before another: mostly rows.
 #[derive(Clone, Copy)]
-pub(crate) struct Span {
+pub(crate) struct RowSpan {
     pub(crate) from: usize,
     pub(crate) end: usize,
 }
 
-impl Span {
+impl RowSpan {
     /// No numbers.
-    pub(crate) fn empty() -> Span
+    pub(crate) fn empty() -> RowSpan
         ensures { (n : ℕ) → ¬ HasRow result n }
     {
-        Span {
+        RowSpan {
             from: usize::MAX,
             end: 0,
         }
     }
 
     /// The least span that has both.
-    pub(crate) fn joined(self, other: Span) -> Span
+    pub(crate) fn joined(self, other: RowSpan) -> RowSpan
         ensures first { (n : ℕ) → HasRow self n → HasRow result n }
         ensures second { (n : ℕ) → HasRow other n → HasRow result n }
     {
-        Span {
+        RowSpan {
             from: self.from.min(other.from),
             end: self.end.max(other.end),
         }
     }
 
     /// Its numbers below a limit.
-    pub(crate) fn below(self, limit: usize) -> Span
+    pub(crate) fn below(self, limit: usize) -> RowSpan
         ensures order { result.from ≤ result.end }
         ensures most { result.end ≤ limit }
         ensures held { (n : ℕ) → n < limit → HasRow self n → HasRow result n }
     {
         let from = self.from.min(limit);
-        Span {
+        RowSpan {
             from,
             end: self.end.min(limit).max(from),
         }
@@ -61,39 +61,39 @@ impl Span {
 }
 
 /// Widens the span of a lane by these rows.
-pub(crate) fn widen(spans: &mut [Span], lane: usize, rows: Span)
-    requires { lane < length spans.old }
+pub(crate) fn widen(spans: &mut [RowSpan], word_column: usize, rows: RowSpan)
+    requires { word_column < length spans.old }
     ensures kept { AreWidened spans.old spans.new }
-    ensures held { (r : ℕ) → HasRow rows r → IsInSpan spans.new lane r }
+    ensures held { (r : ℕ) → HasRow rows r → IsInSpan spans.new word_column r }
 {
-    spans[lane] = spans[lane].joined(rows);
+    spans[word_column] = spans[word_column].joined(rows);
 }
 
 /// The lanes from the first that has rows to the last, and the rows from the least to the greatest.
 #[derive(Clone, Copy)]
 pub(crate) struct Hull {
-    pub(crate) lanes: Span,
-    pub(crate) rows: Span,
+    pub(crate) word_columns: RowSpan,
+    pub(crate) rows: RowSpan,
 }
 
 /// The lanes and the rows in which spans lie.
-pub(crate) fn hull_of(at: Frame, spans: &[Span]) -> Hull
+pub(crate) fn hull_of(at: Frame, spans: &[RowSpan]) -> Hull
     requires frame { IsFrame at }
-    requires long { length spans.now ≡ at.lanes }
-    ensures { HoldsSpans spans.now at.lanes result }
+    requires long { length spans.now ≡ at.word_columns }
+    ensures { HoldsSpans spans.now at.word_columns result }
 {
     let mut hull = Hull {
-        lanes: Span::empty(),
-        rows: Span::empty(),
+        word_columns: RowSpan::empty(),
+        rows: RowSpan::empty(),
     };
-    for lane in 0..at.lanes {
-        let rows = spans[lane];
+    for word_column in 0..at.word_columns {
+        let rows = spans[word_column];
         if rows.from < rows.end {
-            let here = Span {
-                from: lane,
-                end: lane + 1,
+            let here = RowSpan {
+                from: word_column,
+                end: word_column + 1,
             };
-            hull.lanes = hull.lanes.joined(here);
+            hull.word_columns = hull.word_columns.joined(here);
             hull.rows = hull.rows.joined(rows);
         }
     }
@@ -101,28 +101,28 @@ pub(crate) fn hull_of(at: Frame, spans: &[Span]) -> Hull
 }
 
 /// Empties a board of which all live cells lie in these spans.
-pub(crate) fn empty(at: Frame, words: &mut [u64], spans: &mut [Span])
+pub(crate) fn empty(at: Frame, words: &mut [u64], spans: &mut [RowSpan])
     requires frame { IsFrame at }
     requires long { FillsFrame at words.old }
-    requires lanes { length spans.old ≡ at.lanes }
+    requires word_columns { length spans.old ≡ at.word_columns }
     requires live { LieInSpans at spans.old (cells_on at words.old) }
     ensures { cells_on at words.new ≡ [] }
 {
-    for lane in 0..at.lanes {
-        empty_lane(at, words, lane, spans[lane]);
-        spans[lane] = Span::empty();
+    for word_column in 0..at.word_columns {
+        empty_word_column(at, words, word_column, spans[word_column]);
+        spans[word_column] = RowSpan::empty();
     }
 }
 
 /// Empties the rows of a lane that lie in the span.
-fn empty_lane(at: Frame, words: &mut [u64], lane: usize, span: Span)
+fn empty_word_column(at: Frame, words: &mut [u64], word_column: usize, span: RowSpan)
     requires frame { IsFrame at }
-    requires lane { lane < at.lanes }
+    requires word_column { word_column < at.word_columns }
     requires long { FillsFrame at words.old }
-    ensures dead { (r : ℕ) → r < at.rows → HasRow span r → slice_index words.new (word_of at lane r) ≡ 0 }
+    ensures dead { (r : ℕ) → r < at.rows → HasRow span r → slice_index words.new (word_of at word_column r) ≡ 0 }
     ensures others { (m : ℕ) → slice_index words.new m ≡ slice_index words.old m ⊎ slice_index words.new m ≡ 0 }
 {
     for row in span.from..span.end.min(at.rows) {
-        words[at.index(lane, row)] = 0;
+        words[at.index(word_column, row)] = 0;
     }
 }

@@ -14,7 +14,7 @@ ghost use Rattle.plane_core.specs.windows.LaneSums.{bit_of};
 ghost use Rattle.plane_core.specs.engine.WindowIo.{inner_mask};
 ghost use Rattle.plane_core.specs.engine.WindowDifferences.{DiffersOnlyIn};
 
-use crate::engine::difference_box::Change;
+use crate::engine::difference_box::DifferenceMask;
 use crate::windows::window_queries::{either, in_any_lane};
 use crate::engine::window_io::INNER;
 use std::simd::cmp::SimdPartialEq;
@@ -52,7 +52,7 @@ fn marked(places: u64x4, k: usize) -> u64x4
 
 /// Where two windows differ in their inner parts.
 #[inline(always)]
-pub(crate) fn difference_of(one: &[u64x4; 10], other: &[u64x4; 10]) -> Change
+pub(crate) fn difference_of(one: &[u64x4; 10], other: &[u64x4; 10]) -> DifferenceMask
     ensures { DiffersOnlyIn result one.now other.now }
 {
     let mut columns = u64x4::splat(0);
@@ -62,7 +62,7 @@ pub(crate) fn difference_of(one: &[u64x4; 10], other: &[u64x4; 10]) -> Change
         columns = either(columns, places);
         rows = either(rows, marked(places, k));
     }
-    Change {
+    DifferenceMask {
         columns: in_any_lane(columns),
         rows: in_any_lane(rows),
     }

@@ -15,31 +15,31 @@ ghost use Rattle.plane_core.specs.engine.WindowIo.{AreRowsRead, IsPutBack, IsRow
 ghost use Rattle.plane_core.specs.engine.WindowOrigins.{IsOnBoard};
 
 use crate::engine::frame::Frame;
-use crate::engine::window_origin::Place;
+use crate::engine::window_origin::WindowOrigin;
 
 /// The inner columns of a window, 4 to 59.
 pub(crate) const INNER: u64 = 0x0fff_ffff_ffff_fff0;
 
 /// The column of the board in which a window begins.
 #[inline(always)]
-pub(crate) fn column_of(at: Frame, place: Place) -> usize
+pub(crate) fn column_of(at: Frame, origin: WindowOrigin) -> usize
     requires frame { IsFrame at }
-    requires on_board { IsOnBoard at place }
-    ensures is { place.left ≡ at.left +ℤ pos result }
-    ensures lanes { result / 64 + 1 < at.lanes }
+    requires on_board { IsOnBoard at origin }
+    ensures is { origin.left ≡ at.left +ℤ pos result }
+    ensures word_columns { result / 64 + 1 < at.word_columns }
 {
-    (place.left - at.left) as usize
+    (origin.left - at.left) as usize
 }
 
 /// The row of the board in which a window begins.
 #[inline(always)]
-pub(crate) fn row_of(at: Frame, place: Place) -> usize
+pub(crate) fn row_of(at: Frame, origin: WindowOrigin) -> usize
     requires frame { IsFrame at }
-    requires on_board { IsOnBoard at place }
-    ensures is { place.top ≡ at.top +ℤ pos result }
+    requires on_board { IsOnBoard at origin }
+    ensures is { origin.top ≡ at.top +ℤ pos result }
     ensures rows { result + 40 ≤ at.rows }
 {
-    (place.top - at.top) as usize
+    (origin.top - at.top) as usize
 }
 
 /// Reads the rows of a window that begins in column x and row y of the board: each is the end of a word of the first
@@ -47,7 +47,7 @@ pub(crate) fn row_of(at: Frame, place: Place) -> usize
 #[inline(always)]
 pub(crate) fn read_rows<const R: usize>(words: &[u64], at: Frame, x: usize, y: usize) -> [u64; R]
     requires long { FillsFrame at words.now }
-    requires lanes { x / 64 + 1 < at.lanes }
+    requires word_columns { x / 64 + 1 < at.word_columns }
     requires rows { y + R ≤ at.rows }
     ensures { AreRowsRead at words.now x y R result }
 {
@@ -97,7 +97,7 @@ fn put_word(words: &mut [u64], i: usize, mask: u64, value: u64)
 #[inline(always)]
 fn write_row(words: &mut [u64], at: Frame, x: usize, y: usize, word: u64)
     requires long { FillsFrame at words.old }
-    requires lanes { x / 64 + 1 < at.lanes }
+    requires word_columns { x / 64 + 1 < at.word_columns }
     requires rows { y < at.rows }
     ensures { IsRowPut at x y word words.old words.new }
 {
@@ -116,7 +116,7 @@ fn write_row(words: &mut [u64], at: Frame, x: usize, y: usize, word: u64)
 #[inline(always)]
 pub(crate) fn write(words: &mut [u64], at: Frame, x: usize, y: usize, rows: &[u64; 40])
     requires long { FillsFrame at words.old }
-    requires lanes { x / 64 + 1 < at.lanes }
+    requires word_columns { x / 64 + 1 < at.word_columns }
     requires rows { y + 40 ≤ at.rows }
     ensures { IsPutBack at x y 36 rows.now words.old words.new }
 {

@@ -20,12 +20,12 @@ use crate::engine::frame::Frame;
 
 /// The first column and row of a window.
 #[derive(Clone, Copy)]
-pub(crate) struct Place {
+pub(crate) struct WindowOrigin {
     pub(crate) left: i32,
     pub(crate) top: i32,
 }
 
-impl Place {
+impl WindowOrigin {
     /// Whether the window lies on the board, with a lane to its right.
     #[inline(always)]
     pub(crate) fn is_on_board(self, at: Frame) -> bool
@@ -36,7 +36,7 @@ impl Place {
         }
         let x = self.left.abs_diff(at.left) as usize;
         let y = self.top.abs_diff(at.top) as usize;
-        x / 64 + 1 < at.lanes && y + 40 <= at.rows
+        x / 64 + 1 < at.word_columns && y + 40 <= at.rows
     }
 
     /// The column of the plane that a column of the window is.

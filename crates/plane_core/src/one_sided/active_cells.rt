@@ -6,7 +6,7 @@
 //! . O O . . . . O      . . . . . . . .      are alive.
 //! . . . . . O O O      . . . . . . 1 .
 //! ```
-use crate::windows::rule_logic::Answers;
+use crate::windows::rule_logic::RuleLogic;
 use crate::one_sided::flood::INSIDE;
 use crate::windows::row_packing::unpacked;
 use crate::windows::window::generations;
@@ -23,7 +23,7 @@ pub(crate) struct Spot {
 }
 
 /// The live cells that are dead two generations on, of those in columns 4 to 59, from which a cluster may be grown.
-pub(crate) fn changing_cells(window: &[u64x4; 16], rule: &Answers) -> [u64; 64] {
+pub(crate) fn changing_cells(window: &[u64x4; 16], rule: &RuleLogic) -> [u64; 64] {
     let mut cells = *window;
     generations(&mut cells, rule, 2);
     for k in 0..16 {

@@ -10,7 +10,7 @@
 //!  5  . . . . . . . .
 //! ```
 ghost use Rattle.std.specs.Prelude.{◌≤◌, IfSome};
-ghost use Rattle.plane_core.specs.one_sided.RestlessClusters.{IsExcerpt, LiesInExcerpt};
+ghost use Rattle.plane_core.specs.one_sided.RestlessClusters.{IsCrop, LiesInCrop};
 
 use crate::windows::window_queries::{first_row, last_row, row};
 use crate::windows::row_packing::packed;
@@ -21,8 +21,8 @@ const MOST: usize = 32;
 
 /// The first row of an excerpt that has all of the cluster, with about as many rows above it as below. `None` if it is
 /// too large.
-pub(crate) fn excerpt_round(alone: &[u64x4; 16]) -> Option<usize>
-    ensures { IfSome result (λ from. LiesInExcerpt from alone.now) }
+pub(crate) fn crop_round(alone: &[u64x4; 16]) -> Option<usize>
+    ensures { IfSome result (λ from. LiesInCrop from alone.now) }
 {
     let Some(first) = first_row(alone) else {
         return None;
@@ -37,9 +37,9 @@ pub(crate) fn excerpt_round(alone: &[u64x4; 16]) -> Option<usize>
 }
 
 /// The 40 rows from this one on, as a window of their own.
-pub(crate) fn excerpt(window: &[u64x4; 16], from: usize) -> [u64x4; 10]
+pub(crate) fn crop(window: &[u64x4; 16], from: usize) -> [u64x4; 10]
     requires { from ≤ 24 }
-    ensures { IsExcerpt from window.now result }
+    ensures { IsCrop from window.now result }
 {
     let mut rows = [0; 40];
     for r in 0..40 {

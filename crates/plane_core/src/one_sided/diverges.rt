@@ -11,26 +11,26 @@
 //! Both are run in windows, which are right a cell less far out with each generation.
 ghost use Rattle.std.specs.Prelude.{◌+◌, ◌≤◌, ◌<◌, IsTrue};
 ghost use Rattle.plane_core.specs.windows.RuleLogic.{rule_of};
-ghost use Rattle.plane_core.specs.one_sided.RestlessClusters.{HasStray, ShowsStray};
+ghost use Rattle.plane_core.specs.one_sided.RestlessClusters.{HasDivergingCell, DivergesFromWhole};
 
-use crate::windows::rule_logic::Answers;
+use crate::windows::rule_logic::RuleLogic;
 use crate::windows::window_queries::{are_alike, in_any_lane, row};
 use crate::windows::window::generation;
 use std::simd::u64x4;
 
 /// Whether it is seen within so many generations, and within 15, that what one window shows alone strays from the whole
 /// that the other one shows, both right at this depth. `false` says nothing.
-pub(crate) fn shows_stray<const N: usize>(
+pub(crate) fn diverges_from_whole<const N: usize>(
     whole: &[u64x4; N],
     alone: &[u64x4; N],
-    rule: &Answers,
+    rule: &RuleLogic,
     depth: usize,
     most: u32,
 ) -> bool
     requires some { 10 ≤ N }
     requires few { N ≤ 16 }
     requires depth { depth ≤ 2 }
-    ensures { IsTrue result → ShowsStray (rule_of rule.now) N whole.now alone.now depth most }
+    ensures { IsTrue result → DivergesFromWhole (rule_of rule.now) N whole.now alone.now depth most }
 {
     // Mostly the window has nothing else that the cluster could meet.
     if are_alike(whole, alone) {
@@ -42,7 +42,7 @@ pub(crate) fn shows_stray<const N: usize>(
         generation(&mut whole, rule);
         generation(&mut alone, rule);
         if made % 4 == 2 {
-            if has_stray(&whole, &alone, depth + 1 + made as usize) {
+            if has_diverging_cell(&whole, &alone, depth + 1 + made as usize) {
                 return true;
             }
         }
@@ -51,21 +51,21 @@ pub(crate) fn shows_stray<const N: usize>(
 }
 
 /// Whether so deep inside there is a cell alone that the whole hasn't.
-fn has_stray<const N: usize>(whole: &[u64x4; N], alone: &[u64x4; N], depth: usize) -> bool
+fn has_diverging_cell<const N: usize>(whole: &[u64x4; N], alone: &[u64x4; N], depth: usize) -> bool
     requires some { 10 ≤ N }
     requires few { N ≤ 16 }
     requires depth { depth < 20 }
-    ensures { IsTrue result → HasStray N whole.now alone.now depth }
+    ensures { IsTrue result → HasDivergingCell N whole.now alone.now depth }
 {
     // The columns that are so deep inside.
     let inside = u64::MAX >> (2 * depth) << depth;
-    if columns_astray(whole, alone) & inside == 0 {
+    if diverging_columns(whole, alone) & inside == 0 {
         return false;
     }
     for r in depth..4 * N - depth {
         let here = row(alone, r);
-        let astray = here & (here ^ row(whole, r)) & inside;
-        if astray != 0 {
+        let diverging = here & (here ^ row(whole, r)) & inside;
+        if diverging != 0 {
             return true;
         }
     }
@@ -73,7 +73,7 @@ fn has_stray<const N: usize>(whole: &[u64x4; N], alone: &[u64x4; N], depth: usiz
 }
 
 /// The columns that have a cell alone which the whole hasn't.
-fn columns_astray<const N: usize>(whole: &[u64x4; N], alone: &[u64x4; N]) -> u64 {
+fn diverging_columns<const N: usize>(whole: &[u64x4; N], alone: &[u64x4; N]) -> u64 {
     let mut all = u64x4::splat(0);
     for k in 0..N {
         all = all | (alone[k] & (alone[k] ^ whole[k]));

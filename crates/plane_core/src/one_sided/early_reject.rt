@@ -15,7 +15,7 @@ ghost use Rattle.plane_core.specs.one_sided.RestlessClusters.{HasRestlessCluster
 
 use crate::engine::board::Board;
 use crate::engine::board::view::longer_side;
-use crate::one_sided::rules_out_rest::refuses;
+use crate::one_sided::rules_out_rest::rules_out_rest;
 use crate::windows::row_packing::packed;
 use crate::windows::window::generations;
 
@@ -28,7 +28,7 @@ const TRIES: u32 = 4;
 /// What is asked of the pattern so many generations ahead, at most 1: whether a cluster strays within the horizon, or
 /// is never itself again within the period.
 #[derive(Clone, Copy)]
-struct Look {
+struct RestQuestion {
     ahead: u32,
     horizon: u32,
     period: u32,
@@ -37,29 +37,29 @@ struct Look {
 impl Board {
     /// Whether it is seen that so many generations ahead, at most 1, the pattern is not at rest: one of its clusters
     /// strays from it within the horizon, or is never itself again within the period. `false` says nothing.
-    pub fn refuses(&self, ahead: u32, horizon: u32, period: u32) -> bool
+    pub fn rules_out_rest(&self, ahead: u32, horizon: u32, period: u32) -> bool
         requires { ahead ≤ 1 }
         ensures { IsTrue result
             → HasRestlessCluster self.now.rule (after self.now.rule self.now.cells ahead) horizon period }
     {
-        let look = Look {
+        let asked = RestQuestion {
             ahead,
             horizon,
             period,
         };
         let mut tries = TRIES;
-        if self.refuses_by(look, true, &mut tries) {
+        if self.rules_out_rest_by(asked, true, &mut tries) {
             return true;
         }
-        self.refuses_by(look, false, &mut tries)
+        self.rules_out_rest_by(asked, false, &mut tries)
     }
 
     /// Tries the boxes that are large, or those that aren't, for as long as there are tries left. Of each box the view
     /// is looked at, if it lies on the board.
-    fn refuses_by(&self, look: Look, large: bool, tries: &mut u32) -> bool
-        requires { look.ahead ≤ 1 }
+    fn rules_out_rest_by(&self, asked: RestQuestion, large: bool, tries: &mut u32) -> bool
+        requires { asked.ahead ≤ 1 }
         ensures { IsTrue result → HasRestlessCluster self.now.rule
-            (after self.now.rule self.now.cells look.ahead) look.horizon look.period }
+            (after self.now.rule self.now.cells asked.ahead) asked.horizon asked.period }
     {
         let logic = self.logic();
         for bounds in self.active_boxes() {
@@ -75,9 +75,9 @@ impl Board {
                 continue;
             };
             let mut window = packed(&view.rows);
-            let ahead = look.ahead as usize;
+            let ahead = asked.ahead as usize;
             generations(&mut window, logic, ahead);
-            if refuses(&window, logic, ahead, look.horizon, look.period) {
+            if rules_out_rest(&window, logic, ahead, asked.horizon, asked.period) {
                 return true;
             }
         }

@@ -21,14 +21,14 @@ ghost use Rattle.plane_core.specs.windows.LaneSums.{bit_of};
 ghost use Rattle.plane_core.specs.windows.Windows.{row_at};
 ghost use Rattle.plane_core.specs.declared.plane.cell.Cell.{Cell};
 
-use crate::windows::rule_logic::Answers;
+use crate::windows::rule_logic::RuleLogic;
 use crate::windows::window::generation;
 use crate::windows::window_queries::{are_alike, columns_of, first_row, is_rim_clear, row};
 use std::simd::u64x4;
 
 /// Whether it is seen that no generation from 1 to `most` is the pattern again, moved or not, and that each lies in the
 /// window. The pattern is what `start` shows, and lies in the window whole. `false` says nothing.
-pub(crate) fn never_back<const N: usize>(start: &[u64x4; N], rule: &Answers, most: u32) -> bool
+pub(crate) fn never_recurs<const N: usize>(start: &[u64x4; N], rule: &RuleLogic, most: u32) -> bool
     requires some { 0 < N }
     requires few { N ≤ 16 }
     ensures { IsTrue result → (cells : List Cell) (left top : ℤ) → Holds N left top start.now cells

@@ -10,28 +10,28 @@
 //! Only the 'no' to a rest is sure, and most patterns that aren't at rest are told so by a single cluster.
 ghost use Rattle.std.specs.Prelude.{◌≤◌, IsTrue};
 ghost use Rattle.plane_core.specs.windows.RuleLogic.{rule_of};
-ghost use Rattle.plane_core.specs.one_sided.RestlessClusters.{RefusesAll};
+ghost use Rattle.plane_core.specs.one_sided.RestlessClusters.{AreAllRestless};
 
-use crate::windows::rule_logic::Answers;
+use crate::windows::rule_logic::RuleLogic;
 use crate::one_sided::active_cells::{changing_cells, first_cell};
-use crate::one_sided::crop::{excerpt, excerpt_round};
+use crate::one_sided::crop::{crop, crop_round};
 use crate::one_sided::flood::flood;
-use crate::one_sided::never_recurs::never_back;
+use crate::one_sided::never_recurs::never_recurs;
 use crate::windows::row_packing::{packed, unpacked};
-use crate::one_sided::diverges::shows_stray;
+use crate::one_sided::diverges::diverges_from_whole;
 use std::simd::u64x4;
 
 /// Whether it is seen that no pattern which the window shows at this depth is at rest: one of its clusters strays from
 /// it within the horizon, or is never itself again within the period. `false` says nothing.
-pub(crate) fn refuses(
+pub(crate) fn rules_out_rest(
     window: &[u64x4; 16],
-    rule: &Answers,
+    rule: &RuleLogic,
     depth: usize,
     horizon: u32,
     period: u32,
 ) -> bool
     requires { depth ≤ 2 }
-    ensures { IsTrue result → RefusesAll (rule_of rule.now) 16 window.now depth horizon period }
+    ensures { IsTrue result → AreAllRestless (rule_of rule.now) 16 window.now depth horizon period }
 {
     let Some(spot) = first_cell(&changing_cells(window, rule)) else {
         return false;
@@ -43,15 +43,15 @@ pub(crate) fn refuses(
     }
     // The window with nothing in it but the cluster.
     let alone = packed(&cluster);
-    let Some(from) = excerpt_round(&alone) else {
-        return shows_stray(window, &alone, rule, depth, horizon)
-            || never_back(&alone, rule, period);
+    let Some(from) = crop_round(&alone) else {
+        return diverges_from_whole(window, &alone, rule, depth, horizon)
+            || never_recurs(&alone, rule, period);
     };
     // The cluster lies in these 40 rows, where the same is seen in less time.
-    let whole = excerpt(window, from);
-    let part = excerpt(&alone, from);
-    if shows_stray(&whole, &part, rule, depth, horizon) {
+    let whole = crop(window, from);
+    let part = crop(&alone, from);
+    if diverges_from_whole(&whole, &part, rule, depth, horizon) {
         return true;
     }
-    never_back(&part, rule, period) || never_back(&alone, rule, period)
+    never_recurs(&part, rule, period) || never_recurs(&alone, rule, period)
 }

@@ -36,7 +36,7 @@ const BOXES: u32 = 32;
 
 /// How many columns and rows the box of what changes in a ship has at most: a heavyweight spaceship's has nine. A ship
 /// that has just left a larger group shares its box, and gets one of its own soon.
-const SHIP: u32 = 10;
+const SPACESHIP: u32 = 10;
 
 /// How many clusters are grown for each, at most.
 const FLOODS: u32 = 8;
@@ -61,7 +61,7 @@ impl Board {
                 break;
             }
             // Little else than a ship may change in a small box.
-            if longer_side(*bounds) >= SHIP || !leads_somewhere(boxes, *bounds) {
+            if longer_side(*bounds) >= SPACESHIP || !leads_somewhere(boxes, *bounds) {
                 continue;
             }
             tries -= 1;

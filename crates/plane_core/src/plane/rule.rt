@@ -172,17 +172,17 @@ fn put_numbers(
     place: usize,
     letter: u8,
     least: u8,
-    answers: &[bool],
+    logic: &[bool],
 ) -> usize
-    requires digits { least + length answers.now ≤ 10 }
-    requires room { place + 1 + length answers.now ≤ 19 }
-    ensures end { result ≤ place + 1 + length answers.now }
-    ensures text { take result text.new ≡ take place text.old ++ letter ∷ digits least answers.now }
+    requires digits { least + length logic.now ≤ 10 }
+    requires room { place + 1 + length logic.now ≤ 19 }
+    ensures end { result ≤ place + 1 + length logic.now }
+    ensures text { take result text.new ≡ take place text.old ++ letter ∷ digits least logic.now }
 {
     text[place] = letter;
     let mut end = place + 1;
-    for (i, answer) in answers.iter().enumerate() {
-        if *answer {
+    for (i, next_cells) in logic.iter().enumerate() {
+        if *next_cells {
             text[end] = b'0' + least + i as u8;
             end += 1;
         }
@@ -194,16 +194,16 @@ fn put_numbers(
 /// them.
 fn read_numbers<const N: usize>(text: &[u8], least: u8) -> ([bool; N], &[u8])
     requires { least + N ≤ 10 }
-    ensures answers { result.0 ≡ (numbers_at N least text.now).answers }
+    ensures logic { result.0 ≡ (numbers_at N least text.now).logic }
     ensures remainder { result.1.now ≡ (numbers_at N least text.now).remainder }
 {
-    let mut answers = [false; N];
+    let mut logic = [false; N];
     let mut remainder = text;
     for i in 0..N {
         if remainder.starts_with(&[b'0' + least + i as u8]) {
-            answers[i] = true;
+            logic[i] = true;
             remainder = &remainder[1..];
         }
     }
-    (answers, remainder)
+    (logic, remainder)
 }

@@ -10,7 +10,7 @@ ghost use Rattle.std.specs.Prelude.{IfOk, IfErr, IfSome, OnOk, is_some};
 ghost use Rattle.std.specs.List.{list_all};
 ghost use Rattle.memory.specs.Witness.{out_of_memory};
 ghost use Rattle.plane_core.specs.plane.Bounds.{box_of, shifted};
-ghost use Rattle.plane_core.specs.plane.Orientations.{corner_placement, image, landed, turned, turned_cell};
+ghost use Rattle.plane_core.specs.plane.Orientations.{corner_transform, image, landed, turned, turned_cell};
 ghost use Rattle.plane_core.specs.declared.plane.orientation.Orientation.TheVariants.{Diagonal};
 ghost use Rattle.plane_core.specs.plane.Cells.{IsPattern, on_plane};
 ghost use Rattle.plane_core.specs.plane.Refusals.{RefusesPlace};
@@ -71,18 +71,18 @@ impl Pattern {
         ensures plane { OnOk result (list_all on_plane (shifted dx dy self.now) ≡ true) }
         ensures refused { IfErr result (RefusesPlace (shifted dx dy self.now)) }
     {
-        let placement = Placement {
+        let transform = Transform {
             orientation: Orientation::Same,
             dx,
             dy,
         };
         let cells = self.cells();
         for cell in cells {
-            if !placement.landing(*cell).is_on_plane() {
+            if !transform.landing(*cell).is_on_plane() {
                 return Err(PlaceError::OutOfPlane);
             }
         }
-        let placed = placement.place_all(alloc, cells)?;
+        let placed = transform.transform_all(alloc, cells)?;
         Ok(Pattern::from_ordered(placed))
     }
 
@@ -99,10 +99,10 @@ impl Pattern {
         ensures refused { IfErr result (RefusesPlace (turned orientation self.now)) }
     {
         let cells = self.cells();
-        let Some(placement) = to_corner(cells, orientation) else {
+        let Some(transform) = to_corner(cells, orientation) else {
             return Err(PlaceError::OutOfPlane);
         };
-        let placed = placement.place_all(alloc, cells)?;
+        let placed = transform.transform_all(alloc, cells)?;
         Ok(Pattern::from_ordered(in_order(placed)))
     }
 
@@ -111,25 +111,25 @@ impl Pattern {
         ensures turned { IfOk result (λ pattern. pattern ≡ image Diagonal self.now) }
         ensures pattern { IsPattern self.now }
     {
-        let placement = Placement {
+        let transform = Transform {
             orientation: Orientation::Diagonal,
             dx: 0,
             dy: 0,
         };
-        let placed = placement.place_all(alloc, self.cells())?;
+        let placed = transform.transform_all(alloc, self.cells())?;
         Ok(Pattern::from_ordered(in_order(placed)))
     }
 }
 
 /// How a cell is to lie: turned first, and then moved by (dx, dy).
 #[derive(Clone, Copy)]
-pub(crate) struct Placement {
+pub(crate) struct Transform {
     orientation: Orientation,
     dx: i32,
     dy: i32,
 }
 
-impl Placement {
+impl Transform {
     /// Where the cell lands, or some cell off the plane if it lands off it.
     fn landing(self, cell: Cell) -> Cell
         requires { on_plane cell ≡ true }
@@ -144,7 +144,7 @@ impl Placement {
     }
 
     /// Where the cells land.
-    fn place_all(self, alloc: Global, cells: &[Cell]) -> Result<Vec<Cell>, OutOfMemory>
+    fn transform_all(self, alloc: Global, cells: &[Cell]) -> Result<Vec<Cell>, OutOfMemory>
         requires cells { list_all on_plane cells.now ≡ true }
         requires landed { list_all on_plane (map (landed self) cells.now) ≡ true }
         ensures { IfOk result (λ placed. placed.items ≡ map (landed self) cells.now) }
@@ -158,10 +158,10 @@ impl Placement {
 }
 
 /// How cells are to lie so that their image is at the corner, if it lies on the plane there.
-fn to_corner(cells: &[Cell], orientation: Orientation) -> Option<Placement>
+fn to_corner(cells: &[Cell], orientation: Orientation) -> Option<Transform>
     requires { list_all on_plane cells.now ≡ true }
-    ensures placement { IfSome result
-        (λ placement. placement ≡ corner_placement orientation (box_of (map (turned_cell orientation) cells.now))) }
+    ensures transform { IfSome result
+        (λ transform. transform ≡ corner_transform orientation (box_of (map (turned_cell orientation) cells.now))) }
     ensures plane { is_some result ≡ list_all on_plane (turned orientation cells.now) }
 {
     let mut bounds = None;
@@ -169,7 +169,7 @@ fn to_corner(cells: &[Cell], orientation: Orientation) -> Option<Placement>
         bounds = Some(grown(bounds, orientation.image_of(*cell)));
     }
     let Some(bounds) = bounds else {
-        return Some(Placement {
+        return Some(Transform {
             orientation,
             dx: 0,
             dy: 0,
@@ -177,10 +177,10 @@ fn to_corner(cells: &[Cell], orientation: Orientation) -> Option<Placement>
     };
     let across = bounds.right.abs_diff(bounds.left);
     let down = bounds.bottom.abs_diff(bounds.top);
-    let placement = Placement {
+    let transform = Transform {
         orientation,
         dx: negated(bounds.left),
         dy: negated(bounds.top),
     };
-    (across.max(down) <= BOUND).then_some(placement)
+    (across.max(down) <= BOUND).then_some(transform)
 }

@@ -2,26 +2,26 @@
 ghost use Rattle.std.specs.Prelude.{◌≡◌};
 ghost use Rattle.plane_core.specs.windows.RuleLogic.{rule_of};
 
-use crate::windows::rule_tables::AnyRule;
+use crate::windows::rule_tables::RuleTables;
 use crate::plane::rule::Rule;
 
 /// The answers of a rule.
 #[derive(Clone, Copy)]
-pub(crate) enum Answers {
+pub(crate) enum RuleLogic {
     /// Those of Life.
     Life,
     /// Those of any rule.
-    Any(AnyRule),
+    Any(RuleTables),
 }
 
-impl Answers {
+impl RuleLogic {
     /// The answers of a rule.
-    pub(crate) fn new(rule: &Rule) -> Answers
+    pub(crate) fn new(rule: &Rule) -> RuleLogic
         ensures { rule_of result ≡ rule.now }
     {
         if *rule == Rule::life() {
-            return Answers::Life;
+            return RuleLogic::Life;
         }
-        Answers::Any(AnyRule::new(rule))
+        RuleLogic::Any(RuleTables::new(rule))
     }
 }

@@ -25,11 +25,11 @@ use crate::plane::rule::Rule;
 use std::simd::u64x4;
 
 /// What answers which cells live next.
-pub(crate) trait Answering {
+pub(crate) trait CellLogic {
     ghost rule: { Self → Numbers };
 
     /// The words one generation after `now`, by the sums of the rows above, here and below.
-    fn answer(&self, up: Sum, here: RowSums, down: Sum, now: u64x4) -> u64x4
+    fn next_cells(&self, up: Sum, here: RowSums, down: Sum, now: u64x4) -> u64x4
         requires { AreBeside here now }
         ensures { AnswersRows (rule self.now) up here.all down now result };
 }
@@ -38,11 +38,11 @@ pub(crate) trait Answering {
 #[derive(Clone, Copy)]
 pub(crate) struct Life;
 
-impl Answering for Life {
+impl CellLogic for Life {
     ghost rule = { λ _. life };
 
     #[inline(always)]
-    fn answer(&self, up: Sum, here: RowSums, down: Sum, now: u64x4) -> u64x4 {
+    fn next_cells(&self, up: Sum, here: RowSums, down: Sum, now: u64x4) -> u64x4 {
         // By the eight neighbours: alive for three, and for two if the cell was alive. Their sum is two or three where
         // exactly one of the digits that count twice is 1.
         let low = added(up.ones, down.ones, here.beside.ones);
@@ -52,7 +52,7 @@ impl Answering for Life {
 
 /// The answers of any rule: for each total the answer of a dead cell, and where a live cell's answer differs.
 #[derive(Clone, Copy)]
-pub(crate) struct AnyRule {
+pub(crate) struct RuleTables {
     rule: Rule,
     dead: [u64; 10],
     change: [u64; 10],
@@ -61,9 +61,9 @@ pub(crate) struct AnyRule {
         ≡ (one_if (is_birth rule n) + one_if (is_survival rule (n - 1))) % 2 },
 }
 
-impl AnyRule {
+impl RuleTables {
     /// The answers of a rule.
-    pub(crate) fn new(rule: &Rule) -> AnyRule
+    pub(crate) fn new(rule: &Rule) -> RuleTables
         ensures { result.rule ≡ rule.now }
     {
         let mut dead = [0; 10];
@@ -73,7 +73,7 @@ impl AnyRule {
             dead[n] = word_of(born);
             change[n] = word_of(born != rule.survives((n as u8).saturating_sub(1)));
         }
-        AnyRule {
+        RuleTables {
             rule: *rule,
             dead,
             change,
@@ -115,11 +115,11 @@ impl AnyRule {
     }
 }
 
-impl Answering for AnyRule {
-    ghost rule = { λ answers. answers.rule };
+impl CellLogic for RuleTables {
+    ghost rule = { λ logic. logic.rule };
 
     #[inline(always)]
-    fn answer(&self, up: Sum, here: RowSums, down: Sum, now: u64x4) -> u64x4 {
+    fn next_cells(&self, up: Sum, here: RowSums, down: Sum, now: u64x4) -> u64x4 {
         let total = summed(up, here.all, down);
         let high = self.at_two(8, total.ones, now);
         let low = choice(

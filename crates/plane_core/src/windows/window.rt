@@ -19,26 +19,26 @@ ghost use Rattle.plane_core.specs.plane.Generations.{after};
 ghost use Rattle.plane_core.specs.windows.Windows.{IsNextWindow, IsShownInside};
 ghost use Rattle.plane_core.specs.declared.plane.cell.Cell.{Cell};
 
-use crate::windows::rule_logic::Answers;
-use crate::windows::rule_tables::{Answering, Life};
+use crate::windows::rule_logic::RuleLogic;
+use crate::windows::rule_tables::{CellLogic, Life};
 use crate::windows::lane_sums::{across, earlier_sum, later_sum};
 use std::simd::u64x4;
 
 /// Makes the next generation. Life has a loop of its own.
 #[inline(always)]
-pub(crate) fn generation<const N: usize>(window: &mut [u64x4; N], rule: &Answers)
+pub(crate) fn generation<const N: usize>(window: &mut [u64x4; N], rule: &RuleLogic)
     requires { 0 < N }
     ensures { IsNextWindow (rule_of rule.now) N window.old window.new }
 {
     match rule {
-        Answers::Life => generation_by(window, &Life),
-        Answers::Any(rule) => generation_by(window, rule),
+        RuleLogic::Life => generation_by(window, &Life),
+        RuleLogic::Any(rule) => generation_by(window, rule),
     }
 }
 
 /// Makes the next generation. A vector's sums are made once, and serve the three rows that they lie in.
 #[inline(always)]
-fn generation_by<const N: usize, A: Answering>(window: &mut [u64x4; N], rule: &A)
+fn generation_by<const N: usize, A: CellLogic>(window: &mut [u64x4; N], rule: &A)
     requires { 0 < N }
     ensures { IsNextWindow (A.rule rule.now) N window.old window.new }
 {
@@ -47,16 +47,16 @@ fn generation_by<const N: usize, A: Answering>(window: &mut [u64x4; N], rule: &A
     let mut here = first;
     for k in 0..N - 1 {
         let down = across(window[k + 1]);
-        window[k] = rule.answer(up, here, down.all, window[k]);
+        window[k] = rule.next_cells(up, here, down.all, window[k]);
         up = here.all;
         here = down;
     }
-    window[N - 1] = rule.answer(up, here, earlier_sum(first.all), window[N - 1]);
+    window[N - 1] = rule.next_cells(up, here, earlier_sum(first.all), window[N - 1]);
 }
 
 /// Makes so many generations.
 #[inline(always)]
-pub(crate) fn generations<const N: usize>(window: &mut [u64x4; N], rule: &Answers, count: usize)
+pub(crate) fn generations<const N: usize>(window: &mut [u64x4; N], rule: &RuleLogic, count: usize)
     requires { 0 < N }
     ensures { (cells : List Cell) (left top : ℤ) (depth : ℕ) → InOrder cells
         → IsShownInside N left top depth window.old cells

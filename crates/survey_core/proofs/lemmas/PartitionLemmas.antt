@@ -81,14 +81,14 @@ length-set_of_le (c ∷ cells) =
 -- ---- from disjoint parts to lengths
 
 -- a list in order, before cells that it doesn't share
-front_adds : (front remainder : List Cell) → InOrder front → Disjoint front remainder → length (set_of (front ++ remainder)) ≡ length front + length (set_of remainder)
-front_adds [] remainder order apart = omega arith
-front_adds (c ∷ cs) remainder order apart =
+prefix_adds : (prefix remainder : List Cell) → InOrder prefix → Disjoint prefix remainder → length (set_of (prefix ++ remainder)) ≡ length prefix + length (set_of remainder)
+prefix_adds [] remainder order apart = omega arith
+prefix_adds (c ∷ cs) remainder order apart =
     let new : has (set_of (cs ++ remainder)) c ≡ false = has-set_of (cs ++ remainder) c ∙ has-append cs remainder c
     ∙ (λ i. has-before c cs (in_order-head c cs order) i || apart c (has-head c cs) i) in
     let more : length (put c (set_of (cs ++ remainder))) ≡ suc (length (set_of (cs ++ remainder))) = length-put c (set_of (cs ++ remainder)) new in
     let later : length (set_of (cs ++ remainder)) ≡ length cs + length (set_of remainder) =
-    front_adds cs remainder (in_order-tail c cs order) (λ d h. apart d (or_right (same_cell d c) (has cs d) h)) in
+    prefix_adds cs remainder (in_order-tail c cs order) (λ d h. apart d (or_right (same_cell d c) (has cs d) h)) in
     omega arith
   where
     or_right : (a b : Bool) → b ≡ true → (a || b) ≡ true
@@ -106,8 +106,8 @@ length-joined : (parts : List (List Cell)) → All InOrder parts → AllPairs Di
 length-joined [] orders apart = refl
 length-joined (part ∷ parts) orders apart =
     let head : Disjoint part (joined parts) = apart_from_all part parts (λ k d low. apart 0 (suc k) d (omega arith) (omega arith)) in
-    let front : length (set_of (part ++ joined parts)) ≡ length part + length (set_of (joined parts)) =
-    front_adds part (joined parts) (orders 0 [] (omega arith)) head in
+    let prefix : length (set_of (part ++ joined parts)) ≡ length part + length (set_of (joined parts)) =
+    prefix_adds part (joined parts) (orders 0 [] (omega arith)) head in
     let remainder : length (set_of (joined parts)) ≡ length (joined parts) =
     length-joined parts (λ k d low. orders (suc k) d (omega arith)) (λ i j d lt low. apart (suc i) (suc j) d (omega arith) (omega arith)) in
     let all : length (part ++ joined parts) ≡ length part + length (joined parts) = length-append part (joined parts) in
@@ -116,9 +116,9 @@ length-joined (part ∷ parts) orders apart =
 -- ---- from lengths to disjoint parts
 
 -- where nothing is lost in the union, the front shares no cell with the rest, and nothing is lost in the rest
-front_apart : (front remainder : List Cell) → length (set_of (front ++ remainder)) ≡ length (front ++ remainder) → Disjoint front remainder × (length (set_of remainder) ≡ length remainder)
-front_apart [] remainder same = (λ c h. absurd (false≢true h), same)
-front_apart (c ∷ cs) remainder same = elim (cases_Bool (has (set_of (cs ++ remainder)) c)) [
+prefix_apart : (prefix remainder : List Cell) → length (set_of (prefix ++ remainder)) ≡ length (prefix ++ remainder) → Disjoint prefix remainder × (length (set_of remainder) ≡ length remainder)
+prefix_apart [] remainder same = (λ c h. absurd (false≢true h), same)
+prefix_apart (c ∷ cs) remainder same = elim (cases_Bool (has (set_of (cs ++ remainder)) c)) [
   | inl there ↦
       let e : length (put c (set_of (cs ++ remainder))) ≡ length (set_of (cs ++ remainder)) =
       length-put_again c (set_of (cs ++ remainder)) (in_order-set_of (cs ++ remainder)) there in
@@ -126,7 +126,7 @@ front_apart (c ∷ cs) remainder same = elim (cases_Bool (has (set_of (cs ++ rem
       absurd (omega arith)
   | inr new ↦
       let e : length (put c (set_of (cs ++ remainder))) ≡ suc (length (set_of (cs ++ remainder))) = length-put c (set_of (cs ++ remainder)) new in
-      let later = front_apart cs remainder (omega arith) in (
+      let later = prefix_apart cs remainder (omega arith) in (
         λ d h. elim (has-cases c cs d h) [
           | inl is ↦ subst (λ (x : Cell). has remainder x ≡ false) (sym is)
               (neither (has cs c) (has remainder c) (sym (has-append cs remainder c) ∙ sym (has-set_of (cs ++ remainder) c) ∙ new)).1
@@ -147,7 +147,7 @@ apart_from_each part [] apart k d low = absurd (omega arith)
 disjoint_parts : (parts : List (List Cell)) → length (set_of (joined parts)) ≡ length (joined parts) → AllPairs Disjoint parts
 disjoint_parts [] same = λ i j d lt low. absurd (omega arith)
 disjoint_parts (part ∷ parts) same =
-    let split = front_apart part (joined parts) same in
+    let split = prefix_apart part (joined parts) same in
     AllPairs-cons Disjoint part parts (apart_from_each part parts split.0) (disjoint_parts parts split.1)
 
 -- ---- the two together

@@ -29,7 +29,7 @@ use Rattle.survey_core.specs.FindingLaws.{FindingsMoved, FindingsOfImages, Findi
 use Rattle.survey_core.specs.Findings.{IsFinding, IsSettled}
 use Rattle.survey_core.specs.shapes.Objects.{is_code}
 use Rattle.survey_core.specs.Profiles.{Settling}
-use Rattle.survey_core.specs.rest.Rest.{ComesBack, IsAtRest, KeepApart, RestsAs}
+use Rattle.survey_core.specs.rest.Rest.{RecursWithin, IsAtRest, KeepApart, RestsAs}
 use Rattle.survey_core.proofs.lemmas.ImageLemmas.{after-image, clusters-image, image-back, image_by, images, images-permute, inverse, partition-image}
 use Rattle.survey_core.proofs.lemmas.ImageLemmas.{partition-permuted}
 use Rattle.survey_core.proofs.lemmas.rest.SortedClusters.{first, place, sorted, sorted-permutes}
@@ -113,7 +113,7 @@ sorted_codes R xs ys all = (
 
 module _ (f g : Cell → Cell) (rigid : IsRigid f g) (there : KeepsObjects f) (home : KeepsObjects g) (rule : Numbers) where
   -- what comes back does so in the image
-  back-image : (limit : ℕ) (cells : List Cell) → InOrder cells → ComesBack rule limit cells → ComesBack rule limit (image_by f cells)
+  back-image : (limit : ℕ) (cells : List Cell) → InOrder cells → RecursWithin rule limit cells → RecursWithin rule limit (image_by f cells)
   back-image limit cells order (r, back) =
       let move = there.moves r.dx r.dy cells order in (
         record { period = r.period; dx = move.0; dy = move.1 },
@@ -158,9 +158,9 @@ module _ (f g : Cell → Cell) (rigid : IsRigid f g) (there : KeepsObjects f) (h
         → RestsAs rule profile (image_by f cells) (images f g rigid cells order clusters rest.parts)
     rests-image clusters rest = record {
       parts = clusters-image f g rigid cells order clusters rest.parts;
-      back = All-permutation (ComesBack rule profile.period) (map (image_by f) clusters) (images f g rigid cells order clusters rest.parts)
+      back = All-permutation (RecursWithin rule profile.period) (map (image_by f) clusters) (images f g rigid cells order clusters rest.parts)
           (images-permute f g rigid cells order clusters rest.parts)
-          (All-map (ComesBack rule profile.period) (image_by f) clusters
+          (All-map (RecursWithin rule profile.period) (image_by f) clusters
           (λ k d low. back-image profile.period (get_or clusters k d) (rest.parts.each k d low).in_order (rest.back k d low)));
       apart = λ n low. apart-image clusters rest.parts n (rest.apart n low);
     }

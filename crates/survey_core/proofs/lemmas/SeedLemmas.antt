@@ -45,7 +45,7 @@ padded_more bytes place low short =
     ap (λ (n : ℕ). set (take place bytes ++ replicate n 0) place (get_or bytes place 0)) left
     ∙ set_at (take place bytes) 0 zeros (get_or bytes place 0) place (length-take-le place bytes (omega arith))
     ∙ sym (append_assoc (take place bytes) (get_or bytes place 0 ∷ []) zeros)
-    ∙ ap (λ (front : List ℕ). front ++ zeros) (sym (take_more bytes place 0 low))
+    ∙ ap (λ (prefix : List ℕ). prefix ++ zeros) (sym (take_more bytes place 0 low))
 
 -- all bytes are written
 pub padded_all : (bytes : List ℕ) (place : ℕ) → place ≤ length bytes → length bytes ≤ place

@@ -11,54 +11,54 @@ use Rattle.plane_core.specs.plane.Orientations.{turned_cell}
 use Rattle.plane_core.specs.plane.Rules.{Numbers}
 use Rattle.plane_core.specs.plane.Without.{without}
 use Rattle.code_core.specs.declared.recurrence.Recurrence.{Recurrence}
-use Rattle.survey_core.specs.declared.shapes.envelope_bounds.Sweep.{Sweep}
+use Rattle.survey_core.specs.declared.shapes.envelope_bounds.EnvelopeBounds.{EnvelopeBounds}
 
 -- each cell of the pattern, turned by the orientation, lies at least so deep
 abbrev pub LiesFrom : Orientation → ℤ → List Cell → Type 0
 LiesFrom o m cells = (c : Cell) → has cells c ≡ true → m ≤ℤ depth (turned_cell o c)
 
 -- a pattern in order that comes back like this
-pub record IsShip (rule : Numbers) (r : Recurrence) (cells : List Cell) : Type 0 where
+pub record IsSpaceship (rule : Numbers) (r : Recurrence) (cells : List Cell) : Type 0 where
   pub in_order : InOrder cells
   pub some : 1 ≤ r.period
   pub back : after rule cells r.period ≡ shifted r.dx r.dy cells
 
 -- A ship that is ahead of all that lies up to m in a diagonal direction: it goes there by at least a cell in two generations, and
 -- begins far enough past m.
-pub record IsAheadOf (rule : Numbers) (way : Orientation) (m : ℤ) (r : Recurrence) (ship : List Cell) : Type 0 where
-  pub comes : IsShip rule r ship
+pub record IsAheadOf (rule : Numbers) (way : Orientation) (m : ℤ) (r : Recurrence) (spaceship : List Cell) : Type 0 where
+  pub comes : IsSpaceship rule r spaceship
   pub fast : pos r.period ≤ℤ (pos 2 *ℤ depth (turned_cell way (cell_at r.dx r.dy)))
   pub from : ℤ
-  pub none_behind : (g : ℕ) → g < r.period → LiesFrom way from (after rule ship g)
+  pub none_behind : (g : ℕ) → g < r.period → LiesFrom way from (after rule spaceship g)
   pub room : ((pos 2 *ℤ m) +ℤ pos (r.period + 10)) ≤ℤ (pos 2 *ℤ from)
 
 -- Under a slow rule, what lies up to m now, and what lies up to k further n generations later, where k is at most half of n + 1, stays more
 -- than two cells from the ship.
-abbrev pub ShipsStayAhead : Type 0
-ShipsStayAhead = (rule : Numbers) (way : Orientation) (m : ℤ) (r : Recurrence) (ship cells : List Cell) (n k g : ℕ) → is_slow rule ≡ true
-    → IsAheadOf rule way m r ship → InOrder cells → LiesUpTo way (m +ℤ pos k) cells → 2 * k ≤ n + 1
-    → LieApart (after rule cells g) (after rule ship (n + g))
+abbrev pub SpaceshipsStayAhead : Type 0
+SpaceshipsStayAhead = (rule : Numbers) (way : Orientation) (m : ℤ) (r : Recurrence) (spaceship cells : List Cell) (n k g : ℕ) → is_slow rule ≡ true
+    → IsAheadOf rule way m r spaceship → InOrder cells → LiesUpTo way (m +ℤ pos k) cells → 2 * k ≤ n + 1
+    → LieApart (after rule cells g) (after rule spaceship (n + g))
 
 -- each of the cells is one of the pattern's
 abbrev pub IsPartOf : List Cell → List Cell → Type 0
 IsPartOf whole cells = (c : Cell) → has cells c ≡ true → has whole c ≡ true
 
 -- a part of the pattern that is ahead of all the rest of it
-pub record IsForemost (rule : Numbers) (whole : List Cell) (r : Recurrence) (ship : List Cell) : Type 0 where
-  pub part : IsPartOf whole ship
+pub record IsForemost (rule : Numbers) (whole : List Cell) (r : Recurrence) (spaceship : List Cell) : Type 0 where
+  pub part : IsPartOf whole spaceship
   pub way : Orientation
   pub m : ℤ
-  pub ahead : IsAheadOf rule way m r ship
-  pub behind : LiesUpTo way m (without whole ship)
+  pub ahead : IsAheadOf rule way m r spaceship
+  pub behind : LiesUpTo way m (without whole spaceship)
 
 -- a pattern goes on as such a ship and the rest do alone
-abbrev pub ShipsRunAlone : Type 0
-ShipsRunAlone = (rule : Numbers) (whole : List Cell) (r : Recurrence) (ship : List Cell) → is_slow rule ≡ true → InOrder whole
-    → IsForemost rule whole r ship
-    → (g : ℕ) (c : Cell) → has (after rule whole g) c ≡ (has (after rule (without whole ship) g) c || has (after rule ship g) c)
+abbrev pub SpaceshipsRunAlone : Type 0
+SpaceshipsRunAlone = (rule : Numbers) (whole : List Cell) (r : Recurrence) (spaceship : List Cell) → is_slow rule ≡ true → InOrder whole
+    → IsForemost rule whole r spaceship
+    → (g : ℕ) (c : Cell) → has (after rule whole g) c ≡ (has (after rule (without whole spaceship) g) c || has (after rule spaceship g) c)
 
 -- the box of all phases of a ship begins far enough past m
-pub record BeginsPast (way : Orientation) (m : ℤ) (sweep : Sweep) : Type 0 where
+pub record BeginsPast (way : Orientation) (m : ℤ) (envelope : EnvelopeBounds) : Type 0 where
   pub from : ℤ
-  pub least : (c : Cell) → IsWithin sweep.bounds c → from ≤ℤ depth (turned_cell way c)
-  pub room : ((pos 2 *ℤ m) +ℤ pos (sweep.recurrence.period + 10)) ≤ℤ (pos 2 *ℤ from)
+  pub least : (c : Cell) → IsWithin envelope.bounds c → from ≤ℤ depth (turned_cell way c)
+  pub room : ((pos 2 *ℤ m) +ℤ pos (envelope.recurrence.period + 10)) ≤ℤ (pos 2 *ℤ from)

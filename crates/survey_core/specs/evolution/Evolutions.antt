@@ -3,17 +3,17 @@ use Rattle.std.specs.Prelude.{◌≡◌, ◌≤◌, List, true}
 use Rattle.plane_core.specs.declared.plane.cell.Cell.{Cell}
 use Rattle.plane_core.specs.plane.Generations.{after, lies_within}
 use Rattle.plane_core.specs.plane.Rules.{Numbers}
-use Rattle.survey_core.specs.evolution.SplitPatterns.{IsMoored, whole_of}
+use Rattle.survey_core.specs.evolution.SplitPatterns.{IsSplit, whole_of}
 use Rattle.survey_core.specs.evolution.UnderWay.{survey_reach}
-use Rattle.survey_core.specs.declared.evolution.Course.{Course}
-use Rattle.survey_core.specs.declared.evolution.Course.TheVariants.{Listed, Shown}
+use Rattle.survey_core.specs.declared.evolution.Evolution.{Evolution}
+use Rattle.survey_core.specs.declared.evolution.Evolution.TheVariants.{Listed, Shown}
 
 -- the pattern, wherever it is kept
-abbrev pub kept : Numbers → Course → List Cell
+abbrev pub kept : Numbers → Evolution → List Cell
 kept rule (Listed cells) = cells
-kept rule (Shown harbour ahead) = after rule (whole_of rule harbour) ahead
+kept rule (Shown split ahead) = after rule (whole_of rule split) ahead
 
 -- it lies near the origin; a harbour goes by the rule, and is at most a generation behind
-abbrev pub IsKept : Numbers → Course → Type 0
+abbrev pub IsKept : Numbers → Evolution → Type 0
 IsKept rule (Listed cells) = lies_within survey_reach cells ≡ true
-IsKept rule (Shown harbour ahead) = IsMoored rule harbour × (ahead ≤ 1) × (lies_within survey_reach (whole_of rule harbour) ≡ true)
+IsKept rule (Shown split ahead) = IsSplit rule split × (ahead ≤ 1) × (lies_within survey_reach (whole_of rule split) ≡ true)

@@ -8,8 +8,8 @@ use Rattle.survey_core.specs.rest.Rest.{IsAtRest}
 
 -- the look in generation t is known to say no: the first of the two is about even generations, and the second about odd ones
 abbrev pub is_known : List Bool → ℕ → Bool
-is_known noes t = get_or noes (t % 2) false
+is_known known_restless t = get_or known_restless (t % 2) false
 
 -- and so it does: in generation t the pattern is these cells, and it is at rest in no later one that is known
-abbrev pub AreNoes : Numbers → Settling → List Cell → ℕ → List Bool → Type 0
-AreNoes rule profile cells t noes = (n : ℕ) → is_known noes (t + n) ≡ true → ¬ IsAtRest rule profile (after rule cells n)
+abbrev pub AreKnownRestless : Numbers → Settling → List Cell → ℕ → List Bool → Type 0
+AreKnownRestless rule profile cells t known_restless = (n : ℕ) → is_known known_restless (t + n) ≡ true → ¬ IsAtRest rule profile (after rule cells n)

@@ -9,8 +9,8 @@ use Rattle.code_core.specs.Recurrences.{Recurs}
 use Rattle.survey_core.specs.Profiles.{Settling}
 
 -- the pattern comes back within so many generations, moved or not
-abbrev pub ComesBack : Numbers → ℕ → List Cell → Type 0
-ComesBack rule limit cells = (r : Recurrence) × Recurs rule cells limit r
+abbrev pub RecursWithin : Numbers → ℕ → List Cell → Type 0
+RecursWithin rule limit cells = (r : Recurrence) × Recurs rule cells limit r
 
 -- after g generations the parts, each run alone, share no cell, and together they are the whole
 abbrev pub KeepApart : Numbers → List Cell → List (List Cell) → ℕ → Type 0
@@ -19,7 +19,7 @@ KeepApart rule cells parts g = Partition (after rule cells g) (map (λ part. aft
 -- a pattern with these clusters is at rest: each of them comes back within the period, and up to the horizon they keep apart
 pub record RestsAs (rule : Numbers) (profile : Settling) (cells : List Cell) (clusters : List (List Cell)) : Type 0 where
   pub parts : AreClusters cells clusters
-  pub back : All (ComesBack rule profile.period) clusters
+  pub back : All (RecursWithin rule profile.period) clusters
   pub apart : (g : ℕ) → g ≤ profile.horizon → KeepApart rule cells clusters g
 
 -- the pattern is at rest

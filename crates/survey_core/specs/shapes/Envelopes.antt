@@ -10,7 +10,7 @@ use Rattle.plane_core.specs.clusters.Clusters.{LieApart}
 use Rattle.plane_core.specs.plane.Generations.{after}
 use Rattle.plane_core.specs.plane.Rules.{Numbers}
 use Rattle.code_core.specs.Recurrences.{Recurs}
-use Rattle.survey_core.specs.declared.shapes.envelope_bounds.Sweep.{Sweep}
+use Rattle.survey_core.specs.declared.shapes.envelope_bounds.EnvelopeBounds.{EnvelopeBounds}
 
 -- n steps by d
 abbrev pub times : ℕ → ℤ → ℤ
@@ -18,19 +18,19 @@ times zero d = pos 0
 times (suc n) d = times n d +ℤ d
 
 -- the sweep of a pattern: how it comes back, and a box in which it lies in each generation of its period
-pub record IsSweep (rule : Numbers) (limit : ℕ) (cells : List Cell) (sweep : Sweep) : Type 0 where
+pub record IsEnvelope (rule : Numbers) (limit : ℕ) (cells : List Cell) (envelope : EnvelopeBounds) : Type 0 where
   pub in_order : InOrder cells
-  pub recurs : Recurs rule cells limit sweep.recurrence
-  pub within : (g : ℕ) → g < sweep.recurrence.period → All (IsWithin sweep.bounds) (after rule cells g)
+  pub recurs : Recurs rule cells limit envelope.recurrence
+  pub within : (g : ℕ) → g < envelope.recurrence.period → All (IsWithin envelope.bounds) (after rule cells g)
 
 -- the sweeps of some patterns, one for each
-pub record AreSweeps (rule : Numbers) (limit : ℕ) (parts : List (List Cell)) (sweeps : List Sweep) : Type 0 where
-  pub count : length sweeps ≡ length parts
-  pub each : (i : ℕ) (d : List Cell) (e : Sweep) → i < length parts → IsSweep rule limit (get_or parts i d) (get_or sweeps i e)
+pub record AreEnvelopes (rule : Numbers) (limit : ℕ) (parts : List (List Cell)) (envelopes : List EnvelopeBounds) : Type 0 where
+  pub count : length envelopes ≡ length parts
+  pub each : (i : ℕ) (d : List Cell) (e : EnvelopeBounds) → i < length parts → IsEnvelope rule limit (get_or parts i d) (get_or envelopes i e)
 
 -- turns of so many generations suit a sweep: they are its period, or it doesn't move
-abbrev pub Serves : ℕ → Sweep → Type 0
-Serves period sweep = (period ≡ sweep.recurrence.period) ⊎ ((sweep.recurrence.dx ≡ pos 0) × (sweep.recurrence.dy ≡ pos 0))
+abbrev pub Serves : ℕ → EnvelopeBounds → Type 0
+Serves period envelope = (period ≡ envelope.recurrence.period) ⊎ ((envelope.recurrence.dx ≡ pos 0) × (envelope.recurrence.dy ≡ pos 0))
 
 -- what begins here, moved by s, begins more than two past the end, moved by t
 abbrev pub is_past : ℤ → ℤ → ℤ → ℤ → Bool
@@ -58,16 +58,16 @@ abbrev pub is_clear : Bounds → Bounds → ℤ → ℤ → Bool
 is_clear one other x y = is_gap (gaps_of one other x y)
 
 -- so many turns the boxes are clear of each other
-abbrev pub StayClear : ℕ → Sweep → Sweep → Type 0
-StayClear turns one other = (n : ℕ) → n < turns → is_clear one.bounds other.bounds (times n (other.recurrence.dx -ℤ one.recurrence.dx))
+abbrev pub StayClear : ℕ → EnvelopeBounds → EnvelopeBounds → Type 0
+StayClear cycles one other = (n : ℕ) → n < cycles → is_clear one.bounds other.bounds (times n (other.recurrence.dx -ℤ one.recurrence.dx))
     (times n (other.recurrence.dy -ℤ one.recurrence.dy)) ≡ true
 
 -- Up to the horizon patterns with these sweeps, each run alone, are at king distance 3 or more.
-abbrev pub StayApart : ℕ → Sweep → Sweep → Type 0
-StayApart horizon one other = (rule : Numbers) (limit : ℕ) (cells others : List Cell) → IsSweep rule limit cells one → IsSweep rule limit others other
+abbrev pub StayApart : ℕ → EnvelopeBounds → EnvelopeBounds → Type 0
+StayApart horizon one other = (rule : Numbers) (limit : ℕ) (cells others : List Cell) → IsEnvelope rule limit cells one → IsEnvelope rule limit others other
     → (g : ℕ) → g ≤ horizon → LieApart (after rule cells g) (after rule others g)
 
 -- what comes back moves by its shift each period
-abbrev pub ShipsMoveByTurns : Type 0
-ShipsMoveByTurns = (rule : Numbers) (cells : List Cell) (p : ℕ) (dx dy : ℤ) → InOrder cells → after rule cells p ≡ shifted dx dy cells → (n r : ℕ)
+abbrev pub SpaceshipsMoveByCycles : Type 0
+SpaceshipsMoveByCycles = (rule : Numbers) (cells : List Cell) (p : ℕ) (dx dy : ℤ) → InOrder cells → after rule cells p ≡ shifted dx dy cells → (n r : ℕ)
     → after rule cells (n * p + r) ≡ shifted (times n dx) (times n dy) (after rule cells r)

@@ -4,20 +4,20 @@ use Rattle.plane_core.specs.declared.plane.cell.Cell.{Cell}
 use Rattle.plane_core.specs.plane.Bounds.{shifted}
 use Rattle.plane_core.specs.plane.Rules.{Numbers}
 use Rattle.code_core.specs.Names.{IsCode}
-use Rattle.survey_core.specs.declared.shapes.envelope_bounds.Sweep.{Sweep}
-use Rattle.survey_core.specs.shapes.Envelopes.{IsSweep}
+use Rattle.survey_core.specs.declared.shapes.envelope_bounds.EnvelopeBounds.{EnvelopeBounds}
+use Rattle.survey_core.specs.shapes.Envelopes.{IsEnvelope}
 
 -- what is noted of a shape: under which rule and within how many generations it was seen to come back, its sweep, and its code
 pub record Fact : Type 0 where
   pub rule : Numbers
   pub limit : ℕ
   pub shape : List Cell
-  pub sweep : Sweep
+  pub envelope : EnvelopeBounds
   pub code : List ℕ
 
 -- it is true: the sweep and the code are those of the shape
 pub record IsKnown (fact : Fact) : Type 0 where
-  pub swept : IsSweep fact.rule fact.limit fact.shape fact.sweep
+  pub enveloped : IsEnvelope fact.rule fact.limit fact.shape fact.envelope
   pub named : IsCode fact.rule fact.shape fact.limit fact.code
 
 -- it is about a pattern: rule and limit are the same, and the shape, moved, is the pattern

@@ -20,15 +20,15 @@ ghost use Rattle.plane_core.specs.plane.Generations.{after, lies_within};
 ghost use Rattle.plane_core.specs.plane.Orientations.{turned_cell};
 ghost use Rattle.plane_core.specs.declared.plane.cell.Cell.{Cell};
 ghost use Rattle.survey_core.specs.evolution.SplitPatterns.{HasSmallNumbers, IsTraced};
-ghost use Rattle.survey_core.specs.evolution.EscapedSpaceships.{BeginsPast, IsForemost, IsPartOf, ShipsRunAlone};
-ghost use Rattle.survey_core.specs.evolution.SplitPatterns.{latest_time, ship_at};
-ghost use Rattle.survey_core.specs.evolution.EscapedSpaceships.{ShipsStayAhead};
+ghost use Rattle.survey_core.specs.evolution.EscapedSpaceships.{BeginsPast, IsForemost, IsPartOf, SpaceshipsRunAlone};
+ghost use Rattle.survey_core.specs.evolution.SplitPatterns.{latest_time, spaceship_at};
+ghost use Rattle.survey_core.specs.evolution.EscapedSpaceships.{SpaceshipsStayAhead};
 ghost use Rattle.survey_core.specs.shapes.Envelopes.{times};
 ghost use Rattle.survey_core.specs.evolution.UnderWay.{survey_reach};
 
 use crate::patterns::run_on;
 use crate::shapes::memo::Memo;
-use crate::shapes::envelope_bounds::{Sweep, difference};
+use crate::shapes::envelope_bounds::{EnvelopeBounds, difference};
 use code_core::recurrence::Recurrence;
 use memory::OutOfMemory;
 use plane_core::engine::board::Board;
@@ -45,7 +45,7 @@ const SHORT: u32 = 8;
 
 /// A ship that was taken off a board.
 #[derive(Drop)]
-pub(crate) struct Ship {
+pub(crate) struct Spaceship {
     /// Its cells when it was taken off.
     pub(crate) cells: Pattern,
     /// When that was: so many generations had been made on the board.
@@ -56,13 +56,13 @@ pub(crate) struct Ship {
 
 /// The laws of ships. Under a slow rule, what a ship is ahead of never comes within two cells of it, and a pattern from
 /// which a ship is taken away that is ahead of all the rest goes on as the rest and the ship do alone.
-pub fn ships_are_never_caught()
-    ensures ahead { ShipsStayAhead }
-    ensures alone { ShipsRunAlone }
+pub fn spaceships_are_never_caught()
+    ensures ahead { SpaceshipsStayAhead }
+    ensures alone { SpaceshipsRunAlone }
 {}
 
 /// The ship that a part of the board is, if it comes back, and is ahead of all the rest.
-pub(crate) fn ship_of(
+pub(crate) fn spaceship_of(
     alloc: Global,
     rule: &Rule,
     limit: u32,
@@ -70,44 +70,44 @@ pub(crate) fn ship_of(
     part: &Pattern,
     time: u32,
     memo: &mut Memo,
-) -> Result<Option<Ship>, OutOfMemory>
+) -> Result<Option<Spaceship>, OutOfMemory>
     requires least { 1 ≤ limit }
     requires most { limit ≤ 64 }
     requires some { part.now ≢ [] }
     requires near { lies_within survey_reach part.now ≡ true }
     requires part { IsPartOf board.now.cells part.now }
     ensures foremost { IfOk result
-        (λ found. IfSome found (λ ship. IsForemost rule.now board.now.cells ship.recurrence ship.cells)) }
-    ensures cells { IfOk result (λ found. IfSome found (λ ship. ship.cells ≡ part.now)) }
-    ensures since { IfOk result (λ found. IfSome found (λ ship. ship.since ≡ time)) }
+        (λ found. IfSome found (λ spaceship. IsForemost rule.now board.now.cells spaceship.recurrence spaceship.cells)) }
+    ensures cells { IfOk result (λ found. IfSome found (λ spaceship. spaceship.cells ≡ part.now)) }
+    ensures since { IfOk result (λ found. IfSome found (λ spaceship. spaceship.since ≡ time)) }
     ensures small { IfOk result (λ found. IfSome found HasSmallNumbers) }
 {
     // That a pattern's cells stand in order is known of them where they are asked for.
     let _in_order = part.cells();
     // Few clusters that change are ships, so this is asked first, and for a short time.
-    if part.is_seen_to_change(rule, limit.min(SHORT)) {
+    if part.surely_changes(rule, limit.min(SHORT)) {
         return Ok(None);
     }
-    let Some(sweep) = memo.sweep(alloc, rule, limit, part)? else {
+    let Some(envelope) = memo.envelope(alloc, rule, limit, part)? else {
         return Ok(None);
     };
-    let way = way_of(sweep.recurrence);
-    let fast = is_fast(way, sweep.recurrence);
+    let way = way_of(envelope.recurrence);
+    let fast = is_fast(way, envelope.recurrence);
     if !fast {
         return Ok(None);
     }
     let Some(frontier) = board.frontier_without(way, part) else {
         return Ok(None);
     };
-    let is_ahead = begins_past(way, frontier, &sweep);
+    let is_ahead = begins_past(way, frontier, &envelope);
     if !is_ahead {
         return Ok(None);
     }
     let cells = part.copy(alloc)?;
-    Ok(Some(Ship {
+    Ok(Some(Spaceship {
         cells,
         since: time,
-        recurrence: sweep.recurrence,
+        recurrence: envelope.recurrence,
     }))
 }
 
@@ -143,10 +143,10 @@ fn is_fast(way: Orientation, recurrence: Recurrence) -> bool
 }
 
 /// Whether the box of all phases begins far enough past the frontier.
-fn begins_past(way: Orientation, frontier: i32, sweep: &Sweep) -> bool
-    ensures { IsTrue result → BeginsPast way frontier sweep.now }
+fn begins_past(way: Orientation, frontier: i32, envelope: &EnvelopeBounds) -> bool
+    ensures { IsTrue result → BeginsPast way frontier envelope.now }
 {
-    let Sweep { recurrence, bounds } = *sweep;
+    let EnvelopeBounds { recurrence, bounds } = *envelope;
     twice_least(frontier, recurrence.period) <= 2 * least_depth(way, bounds)
 }
 
@@ -188,18 +188,18 @@ fn sum(one: i32, other: i32) -> i64
 pub(crate) fn at_time(
     alloc: Global,
     rule: &Rule,
-    ship: &Ship,
+    spaceship: &Spaceship,
     time: u32,
 ) -> Result<Pattern, OutOfMemory>
-    requires traced { IsTraced rule.now time ship.now }
+    requires traced { IsTraced rule.now time spaceship.now }
     requires early { time ≤ latest_time + 10001 }
-    ensures { IfOk result (λ cells. cells ≡ ship_at rule.now time ship.now) }
+    ensures { IfOk result (λ cells. cells ≡ spaceship_at rule.now time spaceship.now) }
 {
-    let age = time - ship.since;
-    let Recurrence { period, dx, dy } = ship.recurrence;
-    let turns = age / period;
-    let phase = run_on(alloc, rule, age % period, &ship.cells)?;
-    match phase.shift(alloc, steps(turns, dx), steps(turns, dy)) {
+    let age = time - spaceship.since;
+    let Recurrence { period, dx, dy } = spaceship.recurrence;
+    let cycles = age / period;
+    let phase = run_on(alloc, rule, age % period, &spaceship.cells)?;
+    match phase.shift(alloc, steps(cycles, dx), steps(cycles, dy)) {
         Ok(cells) => Ok(cells),
         Err(PlaceError::Memory(error)) => Err(error),
         Err(PlaceError::OutOfPlane) => unreachable!(),

@@ -13,13 +13,13 @@ ghost use Rattle.std.specs.Prelude.{◌≡◌, ◌+◌, ◌≤◌, All, IfOk, On
 ghost use Rattle.plane_core.specs.plane.Cells.{InOrder};
 ghost use Rattle.plane_core.specs.plane.Frontiers.{is_slow};
 ghost use Rattle.plane_core.specs.plane.Generations.{lies_within};
-ghost use Rattle.survey_core.specs.evolution.SplitPatterns.{AreCandidates, IsHarbour, IsMoored, IsNoneOf, IsTraced, latest_time};
+ghost use Rattle.survey_core.specs.evolution.SplitPatterns.{AreCandidates, IsSplitAt, IsSplit, IsNoneOf, IsTraced, latest_time};
 ghost use Rattle.survey_core.specs.evolution.SplitPatterns.{whole_at, whole_of};
 ghost use Rattle.survey_core.specs.evolution.UnderWay.{survey_reach};
 
 use crate::patterns::{are_same, pattern_of};
 use crate::shapes::memo::Memo;
-use crate::evolution::escaped_spaceships::{Ship, at_time, ship_of};
+use crate::evolution::escaped_spaceships::{Spaceship, at_time, spaceship_of};
 use memory::OutOfMemory;
 use plane_core::engine::board::Board;
 use plane_core::plane::frontier::is_slow;
@@ -40,18 +40,18 @@ const SHORTEST_PERIOD: u32 = 4;
 
 /// A board, and the ships that have left it.
 #[derive(Drop)]
-pub(crate) struct Harbour {
+pub(crate) struct SplitPattern {
     pub(crate) board: Board,
-    pub(crate) ships: Vec<Ship>,
+    pub(crate) spaceships: Vec<Spaceship>,
     /// How many generations were made on the board.
     pub(crate) time: u32,
 }
 
-impl Harbour {
+impl SplitPattern {
     /// Takes ships off the board that are ahead of all the rest, before it goes on by so many generations. They are
     /// looked for only before the board comes past a multiple of `EVERY`. Ships whose period is over the limit, 1 to
     /// 64, stay.
-    pub(crate) fn send_off(
+    pub(crate) fn remove_escaped(
         &mut self,
         alloc: Global,
         rule: &Rule,
@@ -59,11 +59,11 @@ impl Harbour {
         generations: u32,
         memo: &mut Memo,
     ) -> Result<(), OutOfMemory>
-        requires moored { IsMoored rule.now self.old }
+        requires is_split { IsSplit rule.now self.old }
         requires least { 1 ≤ limit }
         requires most { limit ≤ 64 }
         requires near { lies_within survey_reach (whole_of rule.now self.old) ≡ true }
-        ensures moored { OnOk result (IsMoored rule.now self.new) }
+        ensures is_split { OnOk result (IsSplit rule.now self.new) }
         ensures cells { OnOk result (whole_of rule.now self.new ≡ whole_of rule.now self.old) }
     {
         let slow = is_slow(rule);
@@ -76,18 +76,18 @@ impl Harbour {
         let clusters = self.board.small_clusters(alloc)?;
         let clusters = clusters.as_slice();
         for _ in 0..clusters.len() {
-            let count = self.ships.len();
-            leave(
+            let count = self.spaceships.len();
+            remove_ahead(
                 alloc,
                 rule,
                 limit,
                 clusters,
                 self.time,
                 &mut self.board,
-                &mut self.ships,
+                &mut self.spaceships,
                 memo,
             )?;
-            if self.ships.len() == count {
+            if self.spaceships.len() == count {
                 return Ok(());
             }
         }
@@ -97,47 +97,47 @@ impl Harbour {
 
 /// Takes those of the clusters off the board that are ahead of all the rest, one after another. Then another one may be
 /// ahead that was behind one of these.
-fn leave(
+fn remove_ahead(
     alloc: Global,
     rule: &Rule,
     limit: u32,
     clusters: &[Pattern],
     time: u32,
     board: &mut Board,
-    ships: &mut Vec<Ship>,
+    spaceships: &mut Vec<Spaceship>,
     memo: &mut Memo,
 ) -> Result<(), OutOfMemory>
     requires slow { is_slow rule.now ≡ true }
     requires least { 1 ≤ limit }
     requires most { limit ≤ 64 }
-    requires harbour { IsHarbour rule.now time board.old.cells ships.old.items }
-    requires near { lies_within survey_reach (whole_at rule.now time board.old.cells ships.old.items) ≡ true }
-    requires clusters { AreCandidates board.old.cells ships.old.items clusters.now }
+    requires split { IsSplitAt rule.now time board.old.cells spaceships.old.items }
+    requires near { lies_within survey_reach (whole_at rule.now time board.old.cells spaceships.old.items) ≡ true }
+    requires clusters { AreCandidates board.old.cells spaceships.old.items clusters.now }
     ensures rule { OnOk result (board.new.rule ≡ board.old.rule) }
-    ensures harbour { OnOk result (IsHarbour rule.now time board.new.cells ships.new.items) }
-    ensures whole { OnOk result (whole_at rule.now time board.new.cells ships.new.items
-        ≡ whole_at rule.now time board.old.cells ships.old.items) }
-    ensures clusters { OnOk result (AreCandidates board.new.cells ships.new.items clusters.now) }
+    ensures split { OnOk result (IsSplitAt rule.now time board.new.cells spaceships.new.items) }
+    ensures whole { OnOk result (whole_at rule.now time board.new.cells spaceships.new.items
+        ≡ whole_at rule.now time board.old.cells spaceships.old.items) }
+    ensures clusters { OnOk result (AreCandidates board.new.cells spaceships.new.items clusters.now) }
 {
     for cluster in clusters {
-        let has_left = has_left(ships.as_slice(), cluster);
-        if has_left {
+        let has_escaped = has_escaped(spaceships.as_slice(), cluster);
+        if has_escaped {
             continue;
         }
-        let Some(ship) = ship_of(alloc, rule, limit, board, cluster, time, memo)? else {
+        let Some(spaceship) = spaceship_of(alloc, rule, limit, board, cluster, time, memo)? else {
             continue;
         };
-        board.take_out(&ship.cells)?;
-        ships.push(ship)?;
+        board.take_out(&spaceship.cells)?;
+        spaceships.push(spaceship)?;
     }
     Ok(())
 }
 
 /// Whether one of the ships has these cells.
-fn has_left(ships: &[Ship], cells: &Pattern) -> bool
-    ensures { result ≡ false → IsNoneOf ships.now cells.now }
+fn has_escaped(spaceships: &[Spaceship], cells: &Pattern) -> bool
+    ensures { result ≡ false → IsNoneOf spaceships.now cells.now }
 {
-    for other in ships {
+    for other in spaceships {
         let same = are_same(other.cells.cells(), cells.cells());
         if same {
             return true;
@@ -152,23 +152,23 @@ pub(crate) fn whole(
     rule: &Rule,
     time: u32,
     board: &Board,
-    ships: &[Ship],
+    spaceships: &[Spaceship],
 ) -> Result<Pattern, OutOfMemory>
     requires order { InOrder board.now.cells }
-    requires traced { All (IsTraced rule.now time) ships.now }
+    requires traced { All (IsTraced rule.now time) spaceships.now }
     requires early { time ≤ latest_time + 10001 }
-    requires near { lies_within survey_reach (whole_at rule.now time board.now.cells ships.now) ≡ true }
-    ensures { IfOk result (λ pattern. pattern ≡ whole_at rule.now time board.now.cells ships.now) }
+    requires near { lies_within survey_reach (whole_at rule.now time board.now.cells spaceships.now) ≡ true }
+    ensures { IfOk result (λ pattern. pattern ≡ whole_at rule.now time board.now.cells spaceships.now) }
 {
     let pattern = board.pattern(alloc)?;
-    if ships.is_empty() {
+    if spaceships.is_empty() {
         return Ok(pattern);
     }
     let mut cells = Vec::from_slice(alloc, pattern.cells())?;
     drop(pattern);
-    for ship in ships {
-        let ship = at_time(alloc, rule, ship, time)?;
-        cells.extend_from_slice(ship.cells())?;
+    for spaceship in spaceships {
+        let spaceship = at_time(alloc, rule, spaceship, time)?;
+        cells.extend_from_slice(spaceship.cells())?;
     }
     pattern_of(alloc, cells.as_slice())
 }

@@ -65,7 +65,7 @@ pub(crate) fn step_each(
 }
 
 /// Whether each of the clusters is itself again.
-pub(crate) fn are_back(clusters: &[Alone]) -> bool
+pub(crate) fn have_recurred(clusters: &[Alone]) -> bool
     ensures { IsTrue result ↔ (latest_of clusters.now ≡ clusters_of clusters.now) }
 {
     for alone in clusters {

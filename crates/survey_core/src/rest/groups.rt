@@ -15,7 +15,7 @@
 ghost use Rattle.std.specs.Prelude.{◌≢◌, ◌<◌, ◌≤◌, ℕ, IfOk, get_or, length, map};
 ghost use Rattle.survey_core.specs.rest.Grouping.{AreGroups, AreNumbers, AreRenamed, Coarser, PairIsRight};
 
-use crate::shapes::envelope_bounds::{Sweep, stay_apart};
+use crate::shapes::envelope_bounds::{EnvelopeBounds, stay_apart};
 use memory::OutOfMemory;
 use std::alloc::Global;
 
@@ -28,34 +28,34 @@ const MOST_GROUPED: usize = 4096;
 pub(crate) fn groups(
     alloc: Global,
     horizon: u32,
-    sweeps: &[Sweep],
+    envelopes: &[EnvelopeBounds],
 ) -> Result<Vec<usize>, OutOfMemory>
     requires { horizon ≤ 4096 }
-    ensures { IfOk result (λ groups. AreGroups horizon sweeps.now groups.items) }
+    ensures { IfOk result (λ groups. AreGroups horizon envelopes.now groups.items) }
 {
-    let mut groups = vec![in alloc; 0; sweeps.len()]?;
-    if sweeps.len() > MOST_GROUPED {
+    let mut groups = vec![in alloc; 0; envelopes.len()]?;
+    if envelopes.len() > MOST_GROUPED {
         return Ok(groups);
     }
-    for place in 0..sweeps.len() {
+    for place in 0..envelopes.len() {
         // A group of its own, before it is joined with others.
         groups[place] = place;
-        join(horizon, sweeps, place, groups.as_mut_slice());
+        join(horizon, envelopes, place, groups.as_mut_slice());
     }
     Ok(groups)
 }
 
 /// Joins the group of the cluster at this place with those of the clusters before it that it may meet.
-fn join(horizon: u32, sweeps: &[Sweep], place: usize, groups: &mut [usize])
+fn join(horizon: u32, envelopes: &[EnvelopeBounds], place: usize, groups: &mut [usize])
     requires horizon { horizon ≤ 4096 }
-    requires place { place < length sweeps.now }
-    requires numbers { AreNumbers sweeps.now groups.old }
-    ensures numbers { AreNumbers sweeps.now groups.new }
+    requires place { place < length envelopes.now }
+    requires numbers { AreNumbers envelopes.now groups.old }
+    ensures numbers { AreNumbers envelopes.now groups.new }
     ensures coarser { Coarser groups.old groups.new }
-    ensures apart { (j : ℕ) → j < place → PairIsRight horizon sweeps.now groups.new place j }
+    ensures apart { (j : ℕ) → j < place → PairIsRight horizon envelopes.now groups.new place j }
 {
     for other in 0..place {
-        let apart = stay_apart(horizon, &sweeps[place], &sweeps[other]);
+        let apart = stay_apart(horizon, &envelopes[place], &envelopes[other]);
         if apart {
             continue;
         }

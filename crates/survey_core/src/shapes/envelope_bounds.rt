@@ -21,8 +21,8 @@ ghost use Rattle.std.specs.Int.{int_max, int_min};
 ghost use Rattle.plane_core.specs.plane.Bounds.{IsWithin};
 ghost use Rattle.plane_core.specs.plane.Cells.{InOrder};
 ghost use Rattle.plane_core.specs.plane.Generations.{lies_within};
-ghost use Rattle.survey_core.specs.rest.Rest.{ComesBack};
-ghost use Rattle.survey_core.specs.shapes.Envelopes.{IsSweep, Serves, ShipsMoveByTurns, StayApart, StayClear};
+ghost use Rattle.survey_core.specs.rest.Rest.{RecursWithin};
+ghost use Rattle.survey_core.specs.shapes.Envelopes.{IsEnvelope, Serves, SpaceshipsMoveByCycles, StayApart, StayClear};
 ghost use Rattle.survey_core.specs.shapes.Envelopes.{gap_stays, gaps_of, is_past};
 ghost use Rattle.survey_core.specs.evolution.UnderWay.{survey_reach};
 
@@ -37,26 +37,26 @@ use std::alloc::Global;
 
 /// How a cluster comes back, and a box in which all its phases lie.
 #[derive(Clone, Copy)]
-pub(crate) struct Sweep {
+pub(crate) struct EnvelopeBounds {
     pub(crate) recurrence: Recurrence,
     pub(crate) bounds: Bounds,
 }
 
-impl Sweep {
+impl EnvelopeBounds {
     /// The sweep of a pattern, or `None` if it doesn't come back within so many generations.
     pub(crate) fn find(
         alloc: Global,
         rule: &Rule,
         limit: u32,
         pattern: &Pattern,
-    ) -> Result<Option<Sweep>, OutOfMemory>
+    ) -> Result<Option<EnvelopeBounds>, OutOfMemory>
         requires least { 1 ≤ limit }
         requires most { limit ≤ 64 }
         requires order { InOrder pattern.now }
         requires some { pattern.now ≢ [] }
         requires near { lies_within survey_reach pattern.now ≡ true }
-        ensures sweep { IfOk result (λ found. IfSome found (IsSweep rule.now limit pattern.now)) }
-        ensures never { IfOk result (λ found. IfNone found (¬ ComesBack rule.now limit pattern.now)) }
+        ensures envelope { IfOk result (λ found. IfSome found (IsEnvelope rule.now limit pattern.now)) }
+        ensures never { IfOk result (λ found. IfNone found (¬ RecursWithin rule.now limit pattern.now)) }
     {
         let recurrence = match Recurrence::find(alloc, pattern, rule, limit) {
             Ok(Some(recurrence)) => recurrence,
@@ -70,7 +70,7 @@ impl Sweep {
             phase = next(alloc, rule, &phase)?;
             bounds = bounds.joined(box_round(&phase));
         }
-        Ok(Some(Sweep { recurrence, bounds }))
+        Ok(Some(EnvelopeBounds { recurrence, bounds }))
     }
 }
 
@@ -90,7 +90,7 @@ fn box_round(pattern: &Pattern) -> Bounds
 }
 
 /// Whether patterns with these sweeps are seen to stay apart up to the horizon.
-pub(crate) fn stay_apart(horizon: u32, one: &Sweep, other: &Sweep) -> bool
+pub(crate) fn stay_apart(horizon: u32, one: &EnvelopeBounds, other: &EnvelopeBounds) -> bool
     requires { horizon ≤ 4096 }
     ensures { IsTrue result → StayApart horizon one.now other.now }
 {
@@ -103,13 +103,13 @@ pub(crate) fn stay_apart(horizon: u32, one: &Sweep, other: &Sweep) -> bool
     if period == 0 || !serves(period, one) || !serves(period, other) {
         return false;
     }
-    are_clear_for(one, other, turns_in(horizon, period))
+    are_clear_for(one, other, cycles_in(horizon, period))
 }
 
 /// How many turns begin up to the horizon. Most objects come back after 1, 2 or 4 generations, and then nothing need be
 /// divided.
 #[inline(always)]
-fn turns_in(horizon: u32, period: u32) -> u32
+fn cycles_in(horizon: u32, period: u32) -> u32
     requires horizon { horizon ≤ 4096 }
     requires period { 1 ≤ period }
     ensures { result ≡ horizon / period + 1 }
@@ -123,28 +123,28 @@ fn turns_in(horizon: u32, period: u32) -> u32
 }
 
 /// Whether turns of so many generations suit the sweep.
-fn serves(period: u32, sweep: &Sweep) -> bool
-    ensures { IsTrue result → Serves period sweep.now }
+fn serves(period: u32, envelope: &EnvelopeBounds) -> bool
+    ensures { IsTrue result → Serves period envelope.now }
 {
-    period == sweep.recurrence.period || is_still(sweep)
+    period == envelope.recurrence.period || is_still(envelope)
 }
 
 /// Whether the pattern comes back in its place.
-fn is_still(sweep: &Sweep) -> bool
-    ensures { IsTrue result ↔ ((sweep.now.recurrence.dx ≡ pos 0) × (sweep.now.recurrence.dy ≡ pos 0)) }
+fn is_still(envelope: &EnvelopeBounds) -> bool
+    ensures { IsTrue result ↔ ((envelope.now.recurrence.dx ≡ pos 0) × (envelope.now.recurrence.dy ≡ pos 0)) }
 {
-    sweep.recurrence.dx == 0 && sweep.recurrence.dy == 0
+    envelope.recurrence.dx == 0 && envelope.recurrence.dy == 0
 }
 
 /// Whether the boxes are clear of each other for so many turns. Once they part, or where neither moves against the
 /// other, no later turn is looked at.
-fn are_clear_for(one: &Sweep, other: &Sweep, turns: u32) -> bool
-    requires { turns ≤ 4097 }
-    ensures { IsTrue result → StayClear turns one.now other.now }
+fn are_clear_for(one: &EnvelopeBounds, other: &EnvelopeBounds, cycles: u32) -> bool
+    requires { cycles ≤ 4097 }
+    ensures { IsTrue result → StayClear cycles one.now other.now }
 {
     let step = step(one, other);
     let mut offset = Offset { x: 0, y: 0 };
-    for _ in 0..turns {
+    for _ in 0..cycles {
         let gaps = Gaps::between(one.bounds, other.bounds, offset);
         if gaps.stay(step) {
             return true;
@@ -181,7 +181,7 @@ impl Offset {
 }
 
 /// The step of the other against the one in a turn.
-fn step(one: &Sweep, other: &Sweep) -> Offset
+fn step(one: &EnvelopeBounds, other: &EnvelopeBounds) -> Offset
     ensures x { result.x ≡ other.now.recurrence.dx -ℤ one.now.recurrence.dx }
     ensures y { result.y ≡ other.now.recurrence.dy -ℤ one.now.recurrence.dy }
     ensures across { unsigned_abs result.x ≤ 2 ^ 33 }
@@ -264,7 +264,7 @@ fn two_past(at: i64) -> i64
 
 /// A law of all patterns that come back after p generations, moved by a shift: after n times p and r generations they
 /// are what they are after r, moved by n times the shift.
-#[tactic(auto, using(crate::proofs::lemmas::shapes::EnvelopeLemmas::after_turns))]
-pub fn ships_move_by_turns()
-    ensures { ShipsMoveByTurns }
+#[tactic(auto, using(crate::proofs::lemmas::shapes::EnvelopeLemmas::after_cycles))]
+pub fn spaceships_move_by_cycles()
+    ensures { SpaceshipsMoveByCycles }
 {}

@@ -21,12 +21,12 @@ ghost use Rattle.plane_core.specs.plane.Cells.{InOrder};
 ghost use Rattle.plane_core.specs.plane.Generations.{lies_within};
 ghost use Rattle.code_core.specs.Names.{IsCode};
 ghost use Rattle.survey_core.specs.shapes.Memos.{IsAbout};
-ghost use Rattle.survey_core.specs.rest.Rest.{ComesBack};
-ghost use Rattle.survey_core.specs.shapes.Envelopes.{AreSweeps, IsSweep};
+ghost use Rattle.survey_core.specs.rest.Rest.{RecursWithin};
+ghost use Rattle.survey_core.specs.shapes.Envelopes.{AreEnvelopes, IsEnvelope};
 ghost use Rattle.survey_core.specs.evolution.UnderWay.{survey_reach};
 
 use crate::shapes::slot::slot_of;
-use crate::shapes::envelope_bounds::Sweep;
+use crate::shapes::envelope_bounds::EnvelopeBounds;
 use code_core::apgcode::Apgcode;
 use code_core::name::name;
 use memory::OutOfMemory;
@@ -68,7 +68,7 @@ struct Known {
     rule: Rule,
     limit: u32,
     shape: Pattern,
-    sweep: Sweep,
+    envelope: EnvelopeBounds,
     code: Apgcode,
 }
 
@@ -77,10 +77,10 @@ impl Model for Known {
 
     ghost Value = { Fact };
 
-    ghost view = { λ k. record { rule = k.rule; limit = k.limit; shape = k.shape; sweep = k.sweep; code = k.code } };
+    ghost view = { λ k. record { rule = k.rule; limit = k.limit; shape = k.shape; envelope = k.envelope; code = k.code } };
 
     ghost invariant = { λ k. IsKnown
-        (record { rule = k.rule; limit = k.limit; shape = k.shape; sweep = k.sweep; code = k.code }) };
+        (record { rule = k.rule; limit = k.limit; shape = k.shape; envelope = k.envelope; code = k.code }) };
 }
 
 // Written out, since a derived drop is proved anew wherever a memo is given up.
@@ -102,7 +102,7 @@ impl Drop for Known {
             rule: _,
             limit: _,
             shape,
-            sweep: _,
+            envelope: _,
             code,
         } = self;
         drop(shape);
@@ -138,7 +138,7 @@ impl Memo {
         }
     }
 
-    /// A board that shows the pattern: the one that is kept, or a new one. It leaves the memo until `Course::end` or
+    /// A board that shows the pattern: the one that is kept, or a new one. It leaves the memo until `Evolution::end` or
     /// `outgrow` gives it back. It is `None` where there is no memory for a board, or the board has no room for the
     /// pattern.
     pub(crate) fn board_with(
@@ -175,46 +175,46 @@ impl Memo {
     }
 
     /// The sweeps of patterns, or `None` if one of them doesn't come back within so many generations.
-    pub(crate) fn sweeps(
+    pub(crate) fn envelopes(
         &mut self,
         alloc: Global,
         rule: &Rule,
         limit: u32,
         patterns: &[Pattern],
-    ) -> Result<Option<Vec<Sweep>>, OutOfMemory>
+    ) -> Result<Option<Vec<EnvelopeBounds>>, OutOfMemory>
         requires least { 1 ≤ limit }
         requires most { limit ≤ 64 }
         requires order { All InOrder patterns.now }
         requires some { All (λ pattern. pattern ≢ []) patterns.now }
         requires near { All (λ pattern. lies_within survey_reach pattern ≡ true) patterns.now }
-        ensures sweeps { IfOk result
-            (λ found. IfSome found (λ sweeps. AreSweeps rule.now limit patterns.now sweeps.items)) }
-        ensures never { IfOk result (λ found. IfNone found (¬ All (ComesBack rule.now limit) patterns.now)) }
+        ensures envelopes { IfOk result
+            (λ found. IfSome found (λ envelopes. AreEnvelopes rule.now limit patterns.now envelopes.items)) }
+        ensures never { IfOk result (λ found. IfNone found (¬ All (RecursWithin rule.now limit) patterns.now)) }
     {
         // A large pattern takes long to be followed, and mostly a small one says no at a glance.
-        if self.sees_change(rule, limit, patterns) {
+        if self.any_surely_changes(rule, limit, patterns) {
             return Ok(None);
         }
-        let mut sweeps = Vec::new(alloc);
+        let mut envelopes = Vec::new(alloc);
         for pattern in patterns {
-            let Some(sweep) = self.sweep(alloc, rule, limit, pattern)? else {
+            let Some(envelope) = self.envelope(alloc, rule, limit, pattern)? else {
                 return Ok(None);
             };
-            sweeps.push(sweep)?;
+            envelopes.push(envelope)?;
         }
-        Ok(Some(sweeps))
+        Ok(Some(envelopes))
     }
 
     /// Whether it is seen at a glance that one of the patterns doesn't come back within so many generations. One that
     /// is remembered does.
-    fn sees_change(&self, rule: &Rule, limit: u32, patterns: &[Pattern]) -> bool
-        ensures { IsTrue result → ¬ All (ComesBack rule.now limit) patterns.now }
+    fn any_surely_changes(&self, rule: &Rule, limit: u32, patterns: &[Pattern]) -> bool
+        ensures { IsTrue result → ¬ All (RecursWithin rule.now limit) patterns.now }
     {
         for pattern in patterns {
             if self.recalled(rule, limit, pattern).is_some() {
                 continue;
             }
-            if pattern.is_seen_to_change(rule, limit) {
+            if pattern.surely_changes(rule, limit) {
                 return true;
             }
         }
@@ -223,30 +223,30 @@ impl Memo {
 
     /// The sweep of a pattern, or `None` if it doesn't come back within so many generations. One that does is named,
     /// and what is known of it is kept in its slot, unless it is large.
-    pub(crate) fn sweep(
+    pub(crate) fn envelope(
         &mut self,
         alloc: Global,
         rule: &Rule,
         limit: u32,
         pattern: &Pattern,
-    ) -> Result<Option<Sweep>, OutOfMemory>
+    ) -> Result<Option<EnvelopeBounds>, OutOfMemory>
         requires least { 1 ≤ limit }
         requires most { limit ≤ 64 }
         requires order { InOrder pattern.now }
         requires some { pattern.now ≢ [] }
         requires near { lies_within survey_reach pattern.now ≡ true }
-        ensures sweep { IfOk result (λ found. IfSome found (IsSweep rule.now limit pattern.now)) }
-        ensures never { IfOk result (λ found. IfNone found (¬ ComesBack rule.now limit pattern.now)) }
+        ensures envelope { IfOk result (λ found. IfSome found (IsEnvelope rule.now limit pattern.now)) }
+        ensures never { IfOk result (λ found. IfNone found (¬ RecursWithin rule.now limit pattern.now)) }
     {
-        if let Some(sweep) = self.recalled_sweep(rule, limit, pattern) {
-            return Ok(Some(sweep));
+        if let Some(envelope) = self.recalled_envelope(rule, limit, pattern) {
+            return Ok(Some(envelope));
         }
-        let Some(sweep) = Sweep::find(alloc, rule, limit, pattern)? else {
+        let Some(envelope) = EnvelopeBounds::find(alloc, rule, limit, pattern)? else {
             return Ok(None);
         };
         let slot = slot_of(pattern, self.slots.len());
         if slot >= self.slots.len() || pattern.population() > MOST_CELLS {
-            return Ok(Some(sweep));
+            return Ok(Some(envelope));
         }
         let code = code_of(alloc, rule, limit, pattern)?;
         let shape = pattern.copy(alloc)?;
@@ -254,10 +254,10 @@ impl Memo {
             rule: *rule,
             limit,
             shape,
-            sweep,
+            envelope,
             code,
         });
-        Ok(Some(sweep))
+        Ok(Some(envelope))
     }
 
     /// The code of a pattern that comes back within so many generations.
@@ -272,7 +272,7 @@ impl Memo {
         requires most { limit ≤ 64 }
         requires some { pattern.now ≢ [] }
         requires near { lies_within survey_reach pattern.now ≡ true }
-        requires back { ComesBack rule.now limit pattern.now }
+        requires recurs { RecursWithin rule.now limit pattern.now }
         ensures { IfOk result (IsCode rule.now pattern.now limit) }
     {
         match self.recalled(rule, limit, pattern) {
@@ -282,13 +282,13 @@ impl Memo {
     }
 
     /// The sweep of a pattern, if it is remembered: that of the shape, moved, if 32 bits can say its numbers.
-    fn recalled_sweep(&self, rule: &Rule, limit: u32, pattern: &Pattern) -> Option<Sweep>
-        ensures { IfSome result (IsSweep rule.now limit pattern.now) }
+    fn recalled_envelope(&self, rule: &Rule, limit: u32, pattern: &Pattern) -> Option<EnvelopeBounds>
+        ensures { IfSome result (IsEnvelope rule.now limit pattern.now) }
     {
         let Some((known, shift)) = self.recalled(rule, limit, pattern) else {
             return None;
         };
-        let Sweep { recurrence, bounds } = known.sweep;
+        let EnvelopeBounds { recurrence, bounds } = known.envelope;
         let Some((left, right)) = moved(bounds.left, bounds.right, shift.0) else {
             return None;
         };
@@ -301,7 +301,7 @@ impl Memo {
             right,
             bottom,
         };
-        Some(Sweep { recurrence, bounds })
+        Some(EnvelopeBounds { recurrence, bounds })
     }
 
     /// What is known of a pattern, if it is remembered, and the shift that makes the shape into the pattern.
@@ -341,7 +341,7 @@ fn code_of(
     requires most { limit ≤ 64 }
     requires some { pattern.now ≢ [] }
     requires near { lies_within survey_reach pattern.now ≡ true }
-    requires back { ComesBack rule.now limit pattern.now }
+    requires recurs { RecursWithin rule.now limit pattern.now }
     ensures { IfOk result (IsCode rule.now pattern.now limit) }
 {
     match name(alloc, pattern, rule, limit) {

@@ -9,7 +9,7 @@ ghost use Rattle.code_core.specs.Names.{IsCode};
 ghost use Rattle.code_core.specs.declared.apgcode.Kind.TheVariants.{Ship};
 ghost use Rattle.survey_core.specs.shapes.Objects.{AreObjects, AreObjectsOf, IsCommonMultiple};
 ghost use Rattle.survey_core.specs.shapes.Objects.{StayForGood};
-ghost use Rattle.survey_core.specs.rest.Rest.{ComesBack};
+ghost use Rattle.survey_core.specs.rest.Rest.{RecursWithin};
 ghost use Rattle.survey_core.specs.evolution.UnderWay.{survey_reach};
 
 use crate::shapes::memo::Memo;
@@ -60,7 +60,7 @@ impl Objects {
         requires most { limit ≤ 64 }
         requires some { All (λ cluster. cluster ≢ []) clusters.now }
         requires near { All (λ cluster. lies_within survey_reach cluster ≡ true) clusters.now }
-        requires back { All (ComesBack rule.now limit) clusters.now }
+        requires recurs { All (RecursWithin rule.now limit) clusters.now }
         ensures objects { IfOk result (AreObjectsOf rule.now limit clusters.now) }
         ensures number { IfOk result (λ objects. sum (values_of objects) ≡ length clusters.now) }
     {
@@ -80,7 +80,7 @@ impl Objects {
         ensures { IsTrue result ↔ StayForGood horizon self.now }
     {
         let objects = self.as_slice();
-        if !none_is_ship(objects) {
+        if !none_is_spaceship(objects) {
             return false;
         }
         for below in 0..horizon {
@@ -93,7 +93,7 @@ impl Objects {
 }
 
 /// Whether none of the objects is a spaceship.
-fn none_is_ship(objects: &[(Apgcode, u64)]) -> bool
+fn none_is_spaceship(objects: &[(Apgcode, u64)]) -> bool
     ensures { IsTrue result ↔ All (λ object. kind_in object.0 ≢ Ship) objects.now }
 {
     for object in objects {

@@ -5,14 +5,14 @@ use Rattle.commands.proofs.gather.do_gather.Goals as goal
 
 pub returns-clause-ends : goal.returns-clause-ends
 returns-clause-ends g c =
-    let remarks = c.gather-outcome.ensures.gathers in (
-      remarks.0,
-      remarks.1,
+    let diagnostics = c.gather-outcome.ensures.gathers in (
+      diagnostics.0,
+      diagnostics.1,
       record {
         outcome = c.gather-outcome.result;
         so_far = stream g.E.Write.contents c.args.errors.now c.gather-outcome.new.errors;
         from = refl;
-        reached = remarks.2;
+        reached = diagnostics.2;
         stays = c.tell_end.ensures.stays;
         last = c.tell_end.ensures.last;
         status_is = c.tell_end.ensures.status;

@@ -22,10 +22,10 @@ gather_into-requires-clause-haul g c = c.in_ok-haul.ensures.opened.opened.stands
 pub returns-clause-gathers : goal.returns-clause-gathers
 returns-clause-gathers g c =
     let is = c.in_ok-haul.ensures.opened in
-    let remarks = c.gather_into.ensures.gathers in (
-      remarks.0,
-      remarks.1,
-      gathers_over c.args.plan.now c.args.workers remarks.0 _ is.job _ _ _ _ is.named (is_over _ _ _ _ is.opened) remarks.2,
+    let diagnostics = c.gather_into.ensures.gathers in (
+      diagnostics.0,
+      diagnostics.1,
+      gathers_over c.args.plan.now c.args.workers diagnostics.0 _ is.job _ _ _ _ is.named (is_over _ _ _ _ is.opened) diagnostics.2,
     )
 
 pub returns-in_err-haul-clause-place : goal.returns-in_err-haul-clause-place

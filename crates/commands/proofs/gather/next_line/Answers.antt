@@ -11,7 +11,7 @@ returns-in_ok-take_line-clause-short g c = c.in_ok-read.ensures.read.short
 pub returns-in_ok-take_line-clause-going : goal.returns-in_ok-take_line-clause-going
 returns-in_ok-take_line-clause-going g c reader first size gathered =
     let read = c.in_ok-read.ensures.read in
-    let by = c.in_ok-take_line.ensures.come read.line gathered.lines gathered.remarks (c.as_slice.ensures.value ∙ read.kept_is) gathered.count_is gathered.come in
+    let by = c.in_ok-take_line.ensures.come read.line gathered.lines gathered.diagnostics (c.as_slice.ensures.value ∙ read.kept_is) gathered.count_is gathered.come in
     goes_on g.E.Write.contents reader _ _ first c.args.errors.now c.take_line.new.errors _ size _ _ _ c.in_ok-read.read
     gathered read c.if-read-gt0.true by
 

@@ -9,7 +9,7 @@ invariant-loop-before g l = record {
   counted : l.reads ≡ l.before;
   short : l.size ≤ 2 ^ 32;
   used : 0 < l.before → l.ahead ≡ [];
-  read : (front : List ℕ) × (l.line.items ≡ take (2 ^ 24 + 1) front) × IsOneLine front
-      × Consumes (prepend_known l.fn.ahead (g.R.Read.remaining l.fn.input)) (prepend_known l.ahead (g.R.Read.remaining l.input)) front
-      × (l.size ≡ length front);
+  read : (prefix : List ℕ) × (l.line.items ≡ take (2 ^ 24 + 1) prefix) × IsOneLine prefix
+      × Consumes (prepend_known l.fn.ahead (g.R.Read.remaining l.fn.input)) (prepend_known l.ahead (g.R.Read.remaining l.input)) prefix
+      × (l.size ≡ length prefix);
 }

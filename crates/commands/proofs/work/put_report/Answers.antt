@@ -13,7 +13,7 @@ returns-in_err-put_line g c =
     rw (err_of _ _ c.from_residual.ensures.1)
     (puts_failed c.args.job.now c.args.worker c.args.number c.in-Ok.report (stream g.W.Write.contents c.args.output.now c.put_line.new.output) c.in_err-put_line.field-0.0
     (record { job_is = made.job; worker_is = made.worker; number_is = made.number; found = made.report })
-    c.in_err-put_line.ensures.front c.in_err-put_line.ensures.remembers)
+    c.in_err-put_line.ensures.prefix c.in_err-put_line.ensures.remembers)
 
 pub returns : goal.returns
 returns g c =

@@ -13,18 +13,18 @@ returns-in_default g t c =
     run_none c.args.crew.now c.receive_all.new.crew _ c.requires c.in_default.ensures.none all.collected
     (heard_if c.receive_all.new.crew.lacking) all.back all.stopped all.away
 
-pub begin_shift-begun-requires-clause-pass : goal.begin_shift-begun-requires-clause-pass
-begin_shift-begun-requires-clause-pass g t c κs within =
+pub start_worker-begun-requires-clause-pass : goal.start_worker-begun-requires-clause-pass
+start_worker-begun-requires-clause-pass g t c κs within =
     pass_out c.remove_last.new.self c.args.crew.now (c.in-Some.pass, c.in-Some.sender) c.requires
     c.in-Some.ensures.taken_out
 
-pub begin_shift-begun-requires-clause-sender : goal.begin_shift-begun-requires-clause-sender
-begin_shift-begun-requires-clause-sender g t c κs within =
+pub start_worker-begun-requires-clause-sender : goal.start_worker-begun-requires-clause-sender
+start_worker-begun-requires-clause-sender g t c κs within =
     sender_out c.remove_last.new.self c.args.crew.now (c.in-Some.pass, c.in-Some.sender) c.requires
     c.in-Some.ensures.taken_out
 
-pub begin_shift-begun-requires-clause-worker : goal.begin_shift-begun-requires-clause-worker
-begin_shift-begun-requires-clause-worker g t c κs within =
+pub start_worker-begun-requires-clause-worker : goal.start_worker-begun-requires-clause-worker
+start_worker-begun-requires-clause-worker g t c κs within =
     worker_out c.remove_last.new.self c.args.crew.now (c.in-Some.pass, c.in-Some.sender) c.requires
     c.in-Some.ensures.taken_out
 
@@ -36,23 +36,23 @@ run_crew-requires-after_bounds g t c κs within =
 pub overflow_sub-crew : goal.overflow_sub-crew
 overflow_sub-crew g t c = not_more c.args.crew.now.away c.from-started.result c.run_crew.new.crew.away c.run_crew.ensures.away
 
-pub note_shift-requires-clause-passes : goal.note_shift-requires-clause-passes
-note_shift-requires-clause-passes g t c =
+pub note_result-requires-clause-passes : goal.note_result-requires-clause-passes
+note_result-requires-clause-passes g t c =
     pass_room c.remove_last.new.self c.args.crew.now c.run_crew.new.crew (c.in-Some.pass, c.in-Some.sender)
     c.from-started.result c.requires c.in-Some.ensures.taken_out c.run_crew.ensures
 
-pub note_shift-requires-clause-senders : goal.note_shift-requires-clause-senders
-note_shift-requires-clause-senders g t c =
+pub note_result-requires-clause-senders : goal.note_result-requires-clause-senders
+note_result-requires-clause-senders g t c =
     sender_room c.remove_last.new.self c.args.crew.now c.run_crew.new.crew (c.in-Some.pass, c.in-Some.sender)
     c.from-started.result c.requires c.in-Some.ensures.taken_out c.run_crew.ensures
 
 pub returns : goal.returns
 returns g t c =
-    let noted = c.note_shift.ensures in
-    run_more c.remove_last.new.self c.args.crew.now c.run_crew.new.crew c.note_shift.new.crew
-    (c.in-Some.pass, c.in-Some.sender) c.end_shift.result c.is_ok.result c.from-started.result c.in-Some.ensures.taken_out
+    let noted = c.note_result.ensures in
+    run_more c.remove_last.new.self c.args.crew.now c.run_crew.new.crew c.note_result.new.crew
+    (c.in-Some.pass, c.in-Some.sender) c.join_worker.result c.is_ok.result c.from-started.result c.in-Some.ensures.taken_out
     c.run_crew.ensures
-    (subst (λ w. Leaves (g.G.Gate.may_stop c.args.gate.now) (g.G.Gate.lets c.args.gate.now) c.args.site.now w c.end_shift.result)
-    c.number-worker.ensures c.end_shift.ensures.left)
-    (c.end_shift.ensures.started ∙ sym c.is_ok.ensures.value) c.from-started.ensures
+    (subst (λ w. Leaves (g.G.Gate.may_stop c.args.gate.now) (g.G.Gate.lets c.args.gate.now) c.args.shared.now w c.join_worker.result)
+    c.number-worker.ensures c.join_worker.ensures.left)
+    (c.join_worker.ensures.started ∙ sym c.is_ok.ensures.value) c.from-started.ensures
     noted.back noted.stopped noted.answered noted.memory noted.haul noted.receiver noted.away

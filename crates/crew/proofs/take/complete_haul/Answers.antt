@@ -10,9 +10,9 @@ use Rattle.crew.proofs.take.complete_haul.Goals as goal
 
 pub run_in_scope-crew-requires-after_bounds : goal.run_in_scope-crew-requires-after_bounds
 run_in_scope-crew-requires-after_bounds g c κs within =
-    let start = c.in-Ok.ensures in
-    ready_first c.in-Ok.start.site _ c.args.workers start.passes start.many start.senders start.few refl
-    (ap (λ (r : Received Note). r.belt) start.receiver) start.back refl
+    let setup = c.in-Ok.ensures in
+    ready_first c.in-Ok.setup.shared _ c.args.workers setup.passes setup.many setup.senders setup.few refl
+    (ap (λ (r : Received Note). r.belt) setup.receiver) setup.back refl
 
 pub end_crew-requires-clause-passes : goal.end_crew-requires-clause-passes
 end_crew-requires-clause-passes g c = series_of_all c.run_in_scope-crew.ensures
@@ -26,38 +26,38 @@ end_crew-requires-clause-receiver g c =
 
 pub returns-clause-taken : goal.returns-clause-taken
 returns-clause-taken g c =
-    let start = c.in-Ok.ensures in
+    let setup = c.in-Ok.ensures in
     let ended = c.end_crew.ensures in
-    crew_has_taken c.in-Ok.start.site c.args.workers _ c.run_in_scope-crew.result c.run_in_scope-crew.ensures start.receiver
-    start.workers start.missing start.ascending start.senders ended.whole c.end_crew.result.0 ended.haul ended.distinct start.job
+    crew_has_taken c.in-Ok.setup.shared c.args.workers _ c.run_in_scope-crew.result c.run_in_scope-crew.ensures setup.receiver
+    setup.workers setup.missing setup.ascending setup.senders ended.whole c.end_crew.result.0 ended.haul ended.distinct setup.job
 
 pub returns-clause-complete : goal.returns-clause-complete
 returns-clause-complete g c none =
-    let start = c.in-Ok.ensures in
+    let setup = c.in-Ok.ensures in
     let ended = c.end_crew.ensures in
     let crew = c.run_in_scope-crew.result in
     let both = cause_none crew.stopped crew.lacking (sym ended.cause ∙ none) in
-    let nothing = nothing_missing c.in-Ok.start.site c.args.workers _ crew c.run_in_scope-crew.ensures start.receiver
-    start.workers start.missing start.ascending start.senders ended.whole c.requires.some c.requires.few c.requires.«open» start.job
-    refl start.tickets ended.drawn both.0 both.1 in
+    let nothing = nothing_missing c.in-Ok.setup.shared c.args.workers _ crew c.run_in_scope-crew.ensures setup.receiver
+    setup.workers setup.missing setup.ascending setup.senders ended.whole c.requires.some c.requires.few c.requires.«open» setup.job
+    refl setup.tickets ended.drawn both.0 both.1 in
     subst (λ (h : Held). IsComplete h.terms.ranges h.taken) (sym ended.haul) (ended.none.0 (ap length nothing))
 
 pub returns-clause-stopped : goal.returns-clause-stopped
 returns-clause-stopped g c worker is =
-    let start = c.in-Ok.ensures in
+    let setup = c.in-Ok.ensures in
     let ended = c.end_crew.ensures in
     let crew = c.run_in_scope-crew.result in
-    crew_stops c.in-Ok.start.site c.args.workers _ crew c.run_in_scope-crew.ensures start.receiver
-    start.workers start.missing start.ascending start.senders ended.whole worker
+    crew_stops c.in-Ok.setup.shared c.args.workers _ crew c.run_in_scope-crew.ensures setup.receiver
+    setup.workers setup.missing setup.ascending setup.senders ended.whole worker
     (cause_stopped crew.stopped crew.lacking worker (sym ended.cause ∙ is))
 
 pub returns-clause-within : goal.returns-clause-within
 returns-clause-within g c worker is =
-    let start = c.in-Ok.ensures in
+    let setup = c.in-Ok.ensures in
     let ended = c.end_crew.ensures in
     let crew = c.run_in_scope-crew.result in
-    crew_within c.in-Ok.start.site c.args.workers _ crew c.run_in_scope-crew.ensures start.receiver
-    start.workers start.missing start.ascending start.senders ended.whole worker
+    crew_within c.in-Ok.setup.shared c.args.workers _ crew c.run_in_scope-crew.ensures setup.receiver
+    setup.workers setup.missing setup.ascending setup.senders ended.whole worker
     (cause_stopped crew.stopped crew.lacking worker (sym ended.cause ∙ is))
 
 pub returns-clause-open : goal.returns-clause-open

@@ -8,14 +8,14 @@ use Rattle.crew.proofs.worker.survey_left.Goals as goal
 
 pub loop-preserved : goal.loop-preserved
 loop-preserved g c =
-    let site = c.args.site.now in
-    let missing = site.missing.items in
+    let shared = c.args.shared.now in
+    let missing = shared.missing.items in
     let place = c.in-Some-draw.place in
     let so_far = c.loop.invariant in
-    let below : place < length missing = omega (arith, c.in-Some-draw.ensures.below, site.listed) in (
+    let below : place < length missing = omega (arith, c.in-Some-draw.ensures.below, shared.listed) in (
       c.draw.ensures.series ∙ so_far.0,
       ap (λ (s : Presented Note). s.number) c.present.ensures ∙ so_far.1,
-      reported_next site c.loop.pass.numbers c.draw.new.pass.numbers c.loop.sender c.present.new.pass place
+      reported_next shared c.loop.pass.numbers c.draw.new.pass.numbers c.loop.sender c.present.new.pass place
           c.in-Ok-make_with.report so_far.2 c.in-Some-draw.ensures.greater below
           (own_report (g.G.Gate.lets c.args.gate.now) c.in-Ok-make_with.report (sym (c.number-worker.ensures ∙ sym so_far.1))
           c.in-Ok-make_with.ensures.worker c.in-Ok-make_with.ensures.job

@@ -156,10 +156,10 @@ fn profile_of(text: &[u8]) -> Option<Profile>
 fn first_number(text: &[u8]) -> Option<(u32, &[u8])>
     ensures { BeginsNumber text.now (option_map (λ first. (first.0, first.1.now)) result) }
 {
-    let (front, Some(remainder)) = cut_at(b',', text) else {
+    let (prefix, Some(remainder)) = cut_at(b',', text) else {
         return None;
     };
-    let number = small_number_in(front)?;
+    let number = small_number_in(prefix)?;
     Some((number, remainder))
 }
 

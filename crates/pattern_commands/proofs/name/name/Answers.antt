@@ -78,7 +78,7 @@ returns-in_err-put_finding-clause-reached g c =
       read.0,
       read.1,
       rw (err_of _ _ c.from_residual-in_err-put_finding.ensures.1)
-          ((finding_text finding, right, c.in_err-put_finding.ensures.front), c.in_err-put_finding.ensures.remembers),
+          ((finding_text finding, right, c.in_err-put_finding.ensures.prefix), c.in_err-put_finding.ensures.remembers),
     )
 
 pub returns-in_err-profile-clause-untouched : goal.returns-in_err-profile-clause-untouched

@@ -6,19 +6,19 @@ use Rattle.pattern_commands.proofs.name.put_objects.Goals as goal
 
 pub loop-object-preserved : goal.loop-object-preserved
 loop-object-preserved g c =
-    let front = c.loop-object.invariant in
+    let prefix = c.loop-object.invariant in
     let objects = c.args.objects.now in
     let i = c.loop-object.object-index in (
-      front.0 ++ object_line c.object-item.result,
-      lines_more object_line objects i c.object-item.result (flat_map object_line objects) front.0 c.loop-object-test.true c.object-item.is front.1,
-      Writes_then front.2 c.in_ok-put_object.ensures,
+      prefix.0 ++ object_line c.object-item.result,
+      lines_more object_line objects i c.object-item.result (flat_map object_line objects) prefix.0 c.loop-object-test.true c.object-item.is prefix.1,
+      Writes_then prefix.2 c.in_ok-put_object.ensures,
     )
 
 pub returns-in_err-put_object : goal.returns-in_err-put_object
 returns-in_err-put_object g c =
-    let front = c.loop-object.invariant in
+    let prefix = c.loop-object.invariant in
     let objects = c.args.objects.now in
     let i = c.loop-object.object-index in
-    let more = lines_more object_line objects i c.object-item.result (flat_map object_line objects) front.0 c.loop-object-test.true c.object-item.is front.1 in
+    let more = lines_more object_line objects i c.object-item.result (flat_map object_line objects) prefix.0 c.loop-object-test.true c.object-item.is prefix.1 in
     Writes_same (sym more) (Writes_stops (flat_map object_line (drop (i + 1) objects)) c.from_residual.ensures.0
-    (Writes_then front.2 c.in_err-put_object.ensures))
+    (Writes_then prefix.2 c.in_err-put_object.ensures))

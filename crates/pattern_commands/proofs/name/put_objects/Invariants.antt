@@ -7,5 +7,5 @@ use Rattle.pattern_commands.proofs.name.put_objects.Given as goal
 -- the lines of the objects that were passed have been written
 abbrev pub invariant-loop-object : goal.invariant-loop-object
 invariant-loop-object g l =
-    (front : List ℕ) × (flat_map object_line l.fn.objects ≡ front ++ flat_map object_line (drop l.object-index l.objects))
-    × Writes {E = WriteError} g.W.Write.contents l.fn.output l.output (Ok tt) front
+    (prefix : List ℕ) × (flat_map object_line l.fn.objects ≡ prefix ++ flat_map object_line (drop l.object-index l.objects))
+    × Writes {E = WriteError} g.W.Write.contents l.fn.output l.output (Ok tt) prefix

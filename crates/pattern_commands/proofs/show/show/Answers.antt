@@ -13,4 +13,4 @@ pub returns-in_err-write_plaintext-clause-reached : goal.returns-in_err-write_pl
 returns-in_err-write_plaintext-clause-reached g c =
     let answer = show_answer-pattern c.args.code.now c.in_ok-text.text.now c.in_ok-pattern.pattern c.in_ok-text.ensures.ok c.in_ok-pattern.ensures.pattern in
     rw (err_of _ _ c.from_residual-in_err-write_plaintext.ensures.1)
-    ((plain c.in_ok-pattern.pattern, answer, c.in_err-write_plaintext.ensures.front), c.in_err-write_plaintext.ensures.remembers)
+    ((plain c.in_ok-pattern.pattern, answer, c.in_err-write_plaintext.ensures.prefix), c.in_err-write_plaintext.ensures.remembers)

@@ -9,7 +9,7 @@ returns-in_err-write_plaintext-clause-reached g c =
     let answer : soup_answer c.args.seed_text.now c.args.number ≡ Ok (plain c.in_ok-pattern.pattern) =
     rw (← c.in_ok-seed.ensures, c.in_ok-pattern.ensures.soup) refl in
     rw (err_of _ _ c.from_residual-in_err-write_plaintext.ensures.1)
-    ((plain c.in_ok-pattern.pattern, answer, c.in_err-write_plaintext.ensures.front), c.in_err-write_plaintext.ensures.remembers)
+    ((plain c.in_ok-pattern.pattern, answer, c.in_err-write_plaintext.ensures.prefix), c.in_err-write_plaintext.ensures.remembers)
 
 pub returns-in_err-seed-clause-untouched : goal.returns-in_err-seed-clause-untouched
 returns-in_err-seed-clause-untouched g c = rw (err_of _ _ c.from_residual.ensures.1) (λ is. refl)

@@ -8,8 +8,8 @@ use Rattle.std.proofs.lemmas.List.Elements.{All-nil}
 use Rattle.plane_core.specs.declared.plane.bounds.Bounds.{Bounds}
 use Rattle.plane_core.specs.declared.plane.cell.Cell.{Cell}
 use Rattle.plane_core.specs.declared.engine.frame.Frame.{Frame}
-use Rattle.plane_core.specs.declared.engine.window_origin.Place.{Place}
-use Rattle.plane_core.specs.declared.engine.row_spans.Span.{Span}
+use Rattle.plane_core.specs.declared.engine.window_origin.WindowOrigin.{WindowOrigin}
+use Rattle.plane_core.specs.declared.engine.row_spans.RowSpan.{RowSpan}
 use Rattle.plane_core.specs.plane.Bounds.{IsWithin}
 use Rattle.plane_core.specs.engine.ActiveBoxes.{AreCovered, HoldAll, HoldDifferences, IsNearOne, IsQuiet, box_bound}
 use Rattle.plane_core.specs.plane.Cells.{InOrder, IsPattern, on_plane, plane_bound}
@@ -46,11 +46,11 @@ within_unless b c h = record {
     off x y low high = omega (arith, ints)
 
 -- an inner part lies on the board
-inner_on : (at : Frame) (p : Place) (c : Cell) → IsOnBoard at p → IsInnerCell p c → IsWithin (bounds_of at) c
+inner_on : (at : Frame) (p : WindowOrigin) (c : Cell) → IsOnBoard at p → IsInnerCell p c → IsWithin (bounds_of at) c
 inner_on at p c on inner =
     let l = on.left in
     let t = on.top in
-    let lanes = on.lanes in
+    let word_columns = on.word_columns in
     let rows = on.rows in
     record {
       left = let h = inner.left in omega (arith, ints);
@@ -60,14 +60,14 @@ inner_on at p c on inner =
     }
 
 -- what lives after a leap lies on the board: in an inner part, or where it was alive before
-stays_on : (rule : Numbers) (at : Frame) (places : List Place) (S : List Cell) (n : ℕ) → ((c : Cell) → IsCovered places c → IsWithin (bounds_of at) c)
+stays_on : (rule : Numbers) (at : Frame) (places : List WindowOrigin) (S : List Cell) (n : ℕ) → ((c : Cell) → IsCovered places c → IsWithin (bounds_of at) c)
     → IsStillOutside rule places S n → LieOn at S → LieOn at (after rule S n)
 stays_on rule at places S n inside still on c e =
     within_unless (bounds_of at) c (λ out. out (on c (sym (still c (λ covered. out (inside c covered))) ∙ e)))
 
 -- what windows on the board cover lies on it
-pub covered_on : (at : Frame) (places : List Place) → All (IsOnBoard at) places → (c : Cell) → IsCovered places c → IsWithin (bounds_of at) c
-covered_on at places on c (k, p, low, same, inner) = inner_on at p c (subst (λ (q : Place). IsOnBoard at q) same (on k p low)) inner
+pub covered_on : (at : Frame) (places : List WindowOrigin) → All (IsOnBoard at) places → (c : Cell) → IsCovered places c → IsWithin (bounds_of at) c
+covered_on at places on c (k, p, low, same, inner) = inner_on at p c (subst (λ (q : WindowOrigin). IsOnBoard at q) same (on k p low)) inner
 
 -- ---- a leap
 
@@ -79,7 +79,7 @@ odd_or_even n = go (same_or_not (n % 2) 0)
     go (inr odd) = inr (omega arith)
 
 -- what lies in no inner part stays as it is
-pub still_for_leap : (rule : Numbers) (S : List Cell) (boxes : List Bounds) (places : List Place) (n : ℕ) → InOrder S → AreRightFor rule S boxes n
+pub still_for_leap : (rule : Numbers) (S : List Cell) (boxes : List Bounds) (places : List WindowOrigin) (n : ℕ) → InOrder S → AreRightFor rule S boxes n
     → AreCovered places boxes → 1 ≤ n → n ≤ 4 → IsStillOutside rule places S n
 still_for_leap rule S boxes places n o right covered low high = elim (odd_or_even n) [
   | inl even ↦ still_outside-quiet rule S boxes places n o (right.even even) covered low high even
@@ -87,7 +87,7 @@ still_for_leap rule S boxes places n o right covered low high = elim (odd_or_eve
 ]
 
 -- so a board whose windows were put back has gone on, with what differs as its boxes, and spans that hold the windows
-pub has_gone_on : (rule : Numbers) (at : Frame) (n : ℕ) (old new : List ℕ) (boxes later : List Bounds) (before wide : List Span) (places : List Place)
+pub has_gone_on : (rule : Numbers) (at : Frame) (n : ℕ) (old new : List ℕ) (boxes later : List Bounds) (before wide : List RowSpan) (places : List WindowOrigin)
     → IsReady rule at n old boxes before → AreCovered places boxes → 1 ≤ n → n ≤ 4 → All (IsOnBoard at) places → AreWidened before wide
     → HoldCovered at wide places → HasLeapt at rule n places old new → All (AreSidesWithin box_bound) later
     → HoldDifferences places (after rule (cells_on at old) n) (compared_with rule (cells_on at old) n) later
@@ -155,7 +155,7 @@ laid_board at rule words boxes frame long sides all = record {
 }
 
 -- the boxes of a board are right for a leap
-pub is_ready : (rule : Numbers) (at : Frame) (n : ℕ) (words : List ℕ) (boxes : List Bounds) (holds_all : Bool) (spans : List Span)
+pub is_ready : (rule : Numbers) (at : Frame) (n : ℕ) (words : List ℕ) (boxes : List Bounds) (holds_all : Bool) (spans : List RowSpan)
     → IsSpannedBoard at rule words boxes holds_all spans → (n % 2 ≡ 1 → holds_all ≡ true) → IsReady rule at n words boxes spans
 is_ready rule at n words boxes holds_all spans spanned enough = record {
   frame = spanned.board.frame;
@@ -167,7 +167,7 @@ is_ready rule at n words boxes holds_all spans spanned enough = record {
 
 -- and after it
 pub leapt_board : (rule : Numbers) (at : Frame) (n : ℕ) (old new : List ℕ) (boxes later : List Bounds) (holds_all : Bool)
-    (before spans : List Span) → IsSpannedBoard at rule old boxes holds_all before → length new ≡ length old
+    (before spans : List RowSpan) → IsSpannedBoard at rule old boxes holds_all before → length new ≡ length old
     → length spans ≡ length before → HasGoneOn rule at n old new later spans → IsSpannedBoard at rule new later (n % 2 == 1) spans
 leapt_board rule at n old new boxes later holds_all before spans was long wide leapt = record {
   board = record {
@@ -180,7 +180,7 @@ leapt_board rule at n old new boxes later holds_all before spans was long wide l
     ];
     all = λ e. leapt.right.odd (eqb-true (n % 2) 1 e);
   };
-  spanned = record { lanes = wide ∙ was.spanned.lanes; live = leapt.live };
+  spanned = record { word_columns = wide ∙ was.spanned.word_columns; live = leapt.live };
   plane = was.plane;
 }
 
@@ -196,16 +196,16 @@ pub no_sides : (n : ℕ) (boxes : List Bounds) → boxes ≡ [] → All (AreSide
 no_sides n boxes is = subst (λ (bs : List Bounds). All (AreSidesWithin n) bs) (sym is) (All-nil (AreSidesWithin n))
 
 -- a board on which a pattern was laid, and what it shows
-pub laid_spanned : (rule : Numbers) (at : Frame) (words : List ℕ) (boxes : List Bounds) (spans : List Span) (S cells : List Cell)
+pub laid_spanned : (rule : Numbers) (at : Frame) (words : List ℕ) (boxes : List Bounds) (spans : List RowSpan) (S cells : List Cell)
     → cells ≡ S → IsPattern S → IsFrame at → AreSidesWithin plane_bound (bounds_of at) → FillsFrame at words
-    → length spans ≡ at.lanes → LieOn at S → Shows at words cells → LieInSpans at spans cells → HoldAll boxes cells
+    → length spans ≡ at.word_columns → LieOn at S → Shows at words cells → LieInSpans at spans cells → HoldAll boxes cells
     → ((n : ℕ) → lies_within n cells ≡ true → All (AreSidesWithin n) boxes)
     → IsSpannedBoard at rule words boxes true spans × (cells_on at words ≡ S)
 laid_spanned rule at words boxes spans S cells same pattern frame plane long wide on shown live held sides = (
   record {
     board = laid_board at rule words boxes frame long (box_sides S cells boxes same pattern sides)
         (subst (λ (T : List Cell). HoldAll boxes T) (same ∙ sym shows) held);
-    spanned = record { lanes = wide; live = subst (λ (T : List Cell). LieInSpans at spans T) (same ∙ sym shows) live };
+    spanned = record { word_columns = wide; live = subst (λ (T : List Cell). LieInSpans at spans T) (same ∙ sym shows) live };
     plane = plane;
   },
   shows,

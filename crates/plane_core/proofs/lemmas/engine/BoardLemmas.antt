@@ -31,10 +31,10 @@ blank_board at rule words boxes holds_all frame long sides empty = record {
     all c e = absurd (false≢true (sym (ap (λ (S : List Cell). has S c) empty) ∙ e))
 
 -- nor does it matter where it lies
-pub moved_empty : (at new : Frame) (words : List ℕ) → new.lanes ≡ at.lanes → new.rows ≡ at.rows → cells_on at words ≡ [] → Shows new words []
-moved_empty at new words lanes rows empty s r i hs hr hi =
+pub moved_empty : (at new : Frame) (words : List ℕ) → new.word_columns ≡ at.word_columns → new.rows ≡ at.rows → cells_on at words ≡ [] → Shows new words []
+moved_empty at new words word_columns rows empty s r i hs hr hi =
     sym (ap (λ (S : List Cell). has S (board_cell at s r i)) empty)
-    ∙ shows_cells at words s r i (omega (arith, hs, lanes)) (omega (arith, hr, rows)) hi
+    ∙ shows_cells at words s r i (omega (arith, hs, word_columns)) (omega (arith, hr, rows)) hi
     ∙ ap (λ (n : ℕ). bit_at (slice_index words (s * n + r)) i == 1) (sym rows)
 
 -- what a board shows that lies on the plane is a pattern

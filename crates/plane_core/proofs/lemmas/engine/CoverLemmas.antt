@@ -8,7 +8,7 @@ use Rattle.std.proofs.lemmas.Int.{by_lt_z, clamps, ints}
 use Rattle.plane_core.specs.declared.plane.bounds.Bounds.{Bounds}
 use Rattle.plane_core.specs.declared.plane.cell.Cell.{Cell}
 use Rattle.plane_core.specs.declared.engine.cover.Spans.{Spans}
-use Rattle.plane_core.specs.declared.engine.window_origin.Place.{Place}
+use Rattle.plane_core.specs.declared.engine.window_origin.WindowOrigin.{WindowOrigin}
 use Rattle.plane_core.specs.plane.Bounds.{IsRoundBoth, IsWithin, enlarged}
 use Rattle.plane_core.specs.engine.ActiveBoxes.{IsInOne, box_bound, rectangle_bound}
 use Rattle.plane_core.specs.plane.Cells.{distance}
@@ -76,7 +76,7 @@ joined_held boxes new i other one b less is removed first second c (inr some) =
 -- ---- windows side by side
 
 -- a cell of a row of spans and one more lies in the row, or in the window over the span more
-pub row_more : (first : ℤ) (n : ℕ) (row : ℤ) (p : Place) (c : Cell) → BeginsAt p (first +ℤ pos (56 * n)) row
+pub row_more : (first : ℤ) (n : ℕ) (row : ℤ) (p : WindowOrigin) (c : Cell) → BeginsAt p (first +ℤ pos (56 * n)) row
     → IsInRow (record { first = first; count = n + 1 }) row c → IsInRow (record { first = first; count = n }) row c ⊎ IsInnerCell p c
 row_more first n row p c at h =
     by_lt_z {P = IsInRow (record { first = first; count = n }) row c ⊎ IsInnerCell p c} c.x (first +ℤ pos (56 * n))
@@ -114,7 +114,7 @@ in_row rectangle across row c beside within low high = record {
     after x b e h k = omega (arith, ints)
 
 -- what is laid in the rows so far, and in one more
-pub rows_more : (rectangle : Bounds) (across : Spans) (first row : ℤ) (n : ℕ) (old new : List Place) → row ≡ first +ℤ pos (32 * n)
+pub rows_more : (rectangle : Bounds) (across : Spans) (first row : ℤ) (n : ℕ) (old new : List WindowOrigin) → row ≡ first +ℤ pos (32 * n)
     → AreSideBySide rectangle.left rectangle.right 56 across
     → ((c : Cell) → IsWithin rectangle c → c.y <ℤ (first +ℤ pos (32 * n)) → IsCovered old c) → ((c : Cell) → IsCovered old c → IsCovered new c)
     → ((c : Cell) → IsInRow across row c → IsCovered new c) → (c : Cell) → IsWithin rectangle c → c.y <ℤ (first +ℤ pos (32 * (n + 1)))

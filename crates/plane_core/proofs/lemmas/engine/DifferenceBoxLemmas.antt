@@ -7,14 +7,14 @@ use Rattle.std.proofs.lemmas.Nat.{leading_top}
 use Rattle.std.proofs.lemmas.Nat.Bits.{bit_at-lt, bit_at-trailing_zeros, bit_at_above, bit_at_and, bit_at_mask_inside}
 use Rattle.plane_core.specs.declared.plane.bounds.Bounds.{Bounds}
 use Rattle.plane_core.specs.declared.plane.cell.Cell.{Cell}
-use Rattle.plane_core.specs.declared.engine.difference_box.Change.{Change}
-use Rattle.plane_core.specs.declared.engine.difference_box.Span.{Span}
-use Rattle.plane_core.specs.declared.engine.window_origin.Place.{Place}
+use Rattle.plane_core.specs.declared.engine.difference_box.DifferenceMask.{DifferenceMask}
+use Rattle.plane_core.specs.declared.engine.difference_box.BitSpan.{BitSpan}
+use Rattle.plane_core.specs.declared.engine.window_origin.WindowOrigin.{WindowOrigin}
 use Rattle.plane_core.specs.plane.Bounds.{IsWithin}
 use Rattle.plane_core.specs.engine.ActiveBoxes.{HasBits, IsInReach, box_bound}
 use Rattle.plane_core.specs.plane.Cells.{cell_at, has}
 use Rattle.plane_core.specs.plane.Bounds.{AreSidesWithin}
-use Rattle.plane_core.specs.engine.WindowOrigins.{HoldsChange, IsInnerCell}
+use Rattle.plane_core.specs.engine.WindowOrigins.{MarksDifferences, IsInnerCell}
 use Rattle.plane_core.proofs.lemmas.plane.CaseLemmas.{less_or_not}
 
 -- ---- the bits of a word
@@ -59,7 +59,7 @@ spans word some small = record { first = first; last = last; order = last low.0 
 -- ---- where two patterns differ
 
 -- the cell's column and row in the window are both in the change, less what lies outside of the inner part
-pub record IsMarked (p : Place) (d : Change) (c : Cell) : Type 0 where
+pub record IsMarked (p : WindowOrigin) (d : DifferenceMask) (c : Cell) : Type 0 where
   pub column : ℕ
   pub row : ℕ
   pub across : c.x ≡ p.left +ℤ pos column
@@ -67,7 +67,7 @@ pub record IsMarked (p : Place) (d : Change) (c : Cell) : Type 0 where
   pub in_columns : bit_at (bit_and d.columns 0x0ffffffffffffff0) column ≡ 1
   pub in_rows : bit_at (bit_and d.rows 0x0000000ffffffff0) row ≡ 1
 
-pub marked : (p : Place) (one other : List Cell) (d : Change) (c : Cell) → HoldsChange p one other d → IsInnerCell p c
+pub marked : (p : WindowOrigin) (one other : List Cell) (d : DifferenceMask) (c : Cell) → MarksDifferences p one other d → IsInnerCell p c
     → has one c ≢ has other c → IsMarked p d c
 marked p one other d c holds inner ne = record {
   column = i;
@@ -126,22 +126,22 @@ marked p one other d c holds inner ne = record {
     kept a m i h k = bit_at_and a m i ∙ (λ t. min (h t) (k t))
 
 -- a word without a bit marks no cell
-pub marked_none_across : (p : Place) (d : Change) (c : Cell) → ((i : ℕ) → bit_at (bit_and d.columns 0x0ffffffffffffff0) i ≡ 0)
+pub marked_none_across : (p : WindowOrigin) (d : DifferenceMask) (c : Cell) → ((i : ℕ) → bit_at (bit_and d.columns 0x0ffffffffffffff0) i ≡ 0)
     → ¬ IsMarked p d c
 marked_none_across p d c none m = let e = none m.column in let h = m.in_columns in absurd (omega arith)
 
-pub marked_none_down : (p : Place) (d : Change) (c : Cell) → ((i : ℕ) → bit_at (bit_and d.rows 0x0000000ffffffff0) i ≡ 0)
+pub marked_none_down : (p : WindowOrigin) (d : DifferenceMask) (c : Cell) → ((i : ℕ) → bit_at (bit_and d.rows 0x0000000ffffffff0) i ≡ 0)
     → ¬ IsMarked p d c
 marked_none_down p d c none m = let e = none m.row in let h = m.in_rows in absurd (omega arith)
 
 -- the box from the first bits to the last
-pub record IsFrom (p : Place) (across down : Span) (b : Bounds) : Type 0 where
+pub record IsFrom (p : WindowOrigin) (across down : BitSpan) (b : Bounds) : Type 0 where
   pub left : b.left ≡ p.left +ℤ pos across.first
   pub top : b.top ≡ p.top +ℤ pos down.first
   pub right : b.right ≡ p.left +ℤ pos across.last
   pub bottom : b.bottom ≡ p.top +ℤ pos down.last
 
-pub marked_within : (p : Place) (d : Change) (across down : Span) (b : Bounds) (c : Cell)
+pub marked_within : (p : WindowOrigin) (d : DifferenceMask) (across down : BitSpan) (b : Bounds) (c : Cell)
     → HasBits (bit_and d.columns 0x0ffffffffffffff0) across → HasBits (bit_and d.rows 0x0000000ffffffff0) down → IsFrom p across down b
     → IsMarked p d c → IsWithin b c
 marked_within p d across down b c columns rows from m = record {
@@ -157,7 +157,7 @@ marked_within p d across down b c columns rows from m = record {
     high : (l a x : ℤ) (i j : ℕ) → l ≡ a +ℤ pos i → x ≡ a +ℤ pos j → j ≤ i → x ≤ℤ l
     high l a x i j e f h = omega (arith, ints)
 
-pub sides_from : (p : Place) (m n : ℕ) (across down : Span) (b : Bounds) → IsInReach p → HasBits m across → HasBits n down
+pub sides_from : (p : WindowOrigin) (m n : ℕ) (across down : BitSpan) (b : Bounds) → IsInReach p → HasBits m across → HasBits n down
     → IsFrom p across down b → AreSidesWithin box_bound b
 sides_from p m n across down b reach columns rows from = record {
   left = side b.left p.left across.first from.left reach.left (let o = columns.order in let h = columns.high in omega arith);

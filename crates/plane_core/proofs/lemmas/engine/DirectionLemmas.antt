@@ -16,7 +16,7 @@ use Rattle.plane_core.specs.declared.plane.cell.Cell.{Cell}
 use Rattle.plane_core.specs.declared.engine.direction.Direction.{Direction}
 use Rattle.plane_core.specs.declared.plane.orientation.Orientation.{Orientation}
 use Rattle.plane_core.specs.declared.engine.frame.Frame.{Frame}
-use Rattle.plane_core.specs.declared.engine.row_spans.Span.{Span}
+use Rattle.plane_core.specs.declared.engine.row_spans.RowSpan.{RowSpan}
 use Rattle.plane_core.specs.plane.Bounds.{AreSidesWithin}
 use Rattle.plane_core.specs.plane.Cells.{cell_at, has, is_within, on_plane, plane_bound, same_cell}
 use Rattle.plane_core.specs.engine.Directions.{GoesDeeper, HasDepth, IsReached, IsSeen, NoDeeper, counted, depth_in, inner_row, outer_column}
@@ -154,7 +154,7 @@ and_not_bits a b i small low =
     both (suc (suc m)) n p q = absurd (omega arith)
     both m (suc (suc n)) p q = absurd (omega arith)
 
-pub row_without : (at : Frame) (words : List ℕ) (gone : List Cell) (s r word bits i : ℕ) → s < at.lanes → r < at.rows → i < 64 → bits < 2 ^ 64
+pub row_without : (at : Frame) (words : List ℕ) (gone : List Cell) (s r word bits i : ℕ) → s < at.word_columns → r < at.rows → i < 64 → bits < 2 ^ 64
     → word ≡ slice_index words (word_of at s r) → (bit_at bits i == 1) ≡ has gone (board_cell at s r i)
     → (bit_at (bit_and word (bit_not w64 bits)) i == 1) ≡ has (without (cells_on at words) gone) (board_cell at s r i)
 row_without at words gone s r word bits i hs hr hi small is here =
@@ -169,7 +169,7 @@ pub cell_along : (at : Frame) (s r i : ℕ) (first c : Cell) → first ≡ board
     → c ≡ board_cell at s r i
 cell_along at s r i first c begins is = is ∙ ap (λ (d : Cell). cell_at (d.x +ℤ pos i) d.y) begins ∙ along_cell at s r i
 
-pub cell_on_plane : (at : Frame) (s r i : ℕ) (c : Cell) → s < at.lanes → r < at.rows → i < 64 → AreSidesWithin plane_bound (bounds_of at)
+pub cell_on_plane : (at : Frame) (s r i : ℕ) (c : Cell) → s < at.word_columns → r < at.rows → i < 64 → AreSidesWithin plane_bound (bounds_of at)
     → c ≡ board_cell at s r i → on_plane c ≡ true
 unfolding on_plane
 cell_on_plane at s r i c hs hr hi plane is =
@@ -181,36 +181,36 @@ pub enough_steps : (o m : ℤ) (count apart first step : ℕ) → apart ≡ unsi
 enough_steps o m count apart first step is least low high = omega (arith, ints)
 
 -- a cell in a row further inwards is less deep, by as many steps at least
-inner_depth : (at : Frame) (way : Direction) (lane : ℕ) (rows : Span) (step i : ℕ) → step < rows.end - rows.from → i < 64
-    → (depth_in way (board_cell at lane (inner_row way.down rows step) i) +ℤ pos step)
-    ≤ℤ depth_in way (board_cell at lane (inner_row way.down rows 0) (outer_column way.right))
-inner_depth at way lane rows step i low small = by_cases way.right way.down
+inner_depth : (at : Frame) (way : Direction) (word_column : ℕ) (rows : RowSpan) (step i : ℕ) → step < rows.end - rows.from → i < 64
+    → (depth_in way (board_cell at word_column (inner_row way.down rows step) i) +ℤ pos step)
+    ≤ℤ depth_in way (board_cell at word_column (inner_row way.down rows 0) (outer_column way.right))
+inner_depth at way word_column rows step i low small = by_cases way.right way.down
   where
     by_cases : (right down : Bool)
-        → ((counted right (at.left +ℤ pos (64 * lane + i)) +ℤ counted down (at.top +ℤ pos (inner_row down rows step))) +ℤ pos step)
-        ≤ℤ (counted right (at.left +ℤ pos (64 * lane + outer_column right)) +ℤ counted down (at.top +ℤ pos (inner_row down rows 0)))
+        → ((counted right (at.left +ℤ pos (64 * word_column + i)) +ℤ counted down (at.top +ℤ pos (inner_row down rows step))) +ℤ pos step)
+        ≤ℤ (counted right (at.left +ℤ pos (64 * word_column + outer_column right)) +ℤ counted down (at.top +ℤ pos (inner_row down rows 0)))
     by_cases true true = omega (arith, ints)
     by_cases true false = omega (arith, ints)
     by_cases false true = omega (arith, ints)
     by_cases false false = omega (arith, ints)
 
-pub no_deeper : (at : Frame) (way : Direction) (lane : ℕ) (rows : Span) (first : ℕ) (found : Option ℤ) (m outermost : ℤ) → found ≡ Some m
-    → outermost ≡ depth_in way (board_cell at lane (inner_row way.down rows 0) (outer_column way.right))
-    → ((step : ℕ) → first ≤ step → step < rows.end - rows.from → outermost ≤ℤ (m +ℤ pos step)) → NoDeeper at way lane rows first found
-no_deeper at way lane rows first found m outermost is outer within step low high i small =
-    subst (λ (o : Option ℤ). IsReached o (depth_in way (board_cell at lane (inner_row way.down rows step) i))) (sym is)
-    (sum _ _ _ (pos step) (inner_depth at way lane rows step i high small) outer (within step low high))
+pub no_deeper : (at : Frame) (way : Direction) (word_column : ℕ) (rows : RowSpan) (first : ℕ) (found : Option ℤ) (m outermost : ℤ) → found ≡ Some m
+    → outermost ≡ depth_in way (board_cell at word_column (inner_row way.down rows 0) (outer_column way.right))
+    → ((step : ℕ) → first ≤ step → step < rows.end - rows.from → outermost ≤ℤ (m +ℤ pos step)) → NoDeeper at way word_column rows first found
+no_deeper at way word_column rows first found m outermost is outer within step low high i small =
+    subst (λ (o : Option ℤ). IsReached o (depth_in way (board_cell at word_column (inner_row way.down rows step) i))) (sym is)
+    (sum _ _ _ (pos step) (inner_depth at way word_column rows step i high small) outer (within step low high))
   where
     sum : (a o b p : ℤ) → (a +ℤ p) ≤ℤ b → o ≡ b → o ≤ℤ (m +ℤ p) → a ≤ℤ m
     sum a o b p h e k = omega (arith, ints)
 
 -- a column further out is deeper
-outer_depth : (at : Frame) (way : Direction) (lane row i column : ℕ) → counted way.right (pos i) ≤ℤ counted way.right (pos column)
-    → depth_in way (board_cell at lane row i) ≤ℤ depth_in way (board_cell at lane row column)
-outer_depth at way lane row i column far = by_cases way.right far (counted way.down (at.top +ℤ pos row))
+outer_depth : (at : Frame) (way : Direction) (word_column row i column : ℕ) → counted way.right (pos i) ≤ℤ counted way.right (pos column)
+    → depth_in way (board_cell at word_column row i) ≤ℤ depth_in way (board_cell at word_column row column)
+outer_depth at way word_column row i column far = by_cases way.right far (counted way.down (at.top +ℤ pos row))
   where
     by_cases : (right : Bool) → counted right (pos i) ≤ℤ counted right (pos column) → (z : ℤ)
-        → (counted right (at.left +ℤ pos (64 * lane + i)) +ℤ z) ≤ℤ (counted right (at.left +ℤ pos (64 * lane + column)) +ℤ z)
+        → (counted right (at.left +ℤ pos (64 * word_column + i)) +ℤ z) ≤ℤ (counted right (at.left +ℤ pos (64 * word_column + column)) +ℤ z)
     by_cases true h z = omega (arith, ints)
     by_cases false h z = omega (arith, ints)
 
@@ -247,32 +247,32 @@ goes_deeper way cells found mid later first second = record { kept = λ z h. sec
 
 -- the bits of a word are the cells of the pattern in a row of a lane
 abbrev pub IsRow : Frame → List Cell → ℕ → ℕ → ℕ → Type 0
-IsRow at cells lane row word = (i : ℕ) → i < 64 → (bit_at word i == 1) ≡ has cells (board_cell at lane row i)
+IsRow at cells word_column row word = (i : ℕ) → i < 64 → (bit_at word i == 1) ≡ has cells (board_cell at word_column row i)
 
-bit_of_live : (at : Frame) (cells : List Cell) (lane row word i : ℕ) → IsRow at cells lane row word → i < 64
-    → has cells (board_cell at lane row i) ≡ true → bit_at word i ≡ 1
-bit_of_live at cells lane row word i is low alive = eqb-true (bit_at word i) 1 (is i low ∙ alive)
+bit_of_live : (at : Frame) (cells : List Cell) (word_column row word i : ℕ) → IsRow at cells word_column row word → i < 64
+    → has cells (board_cell at word_column row i) ≡ true → bit_at word i ≡ 1
+bit_of_live at cells word_column row word i is low alive = eqb-true (bit_at word i) 1 (is i low ∙ alive)
 
-pub row_seen : (at : Frame) (way : Direction) (cells : List Cell) (lane row word column : ℕ) (deep later : ℤ) → IsRow at cells lane row word
+pub row_seen : (at : Frame) (way : Direction) (cells : List Cell) (word_column row word column : ℕ) (deep later : ℤ) → IsRow at cells word_column row word
     → ((i : ℕ) → bit_at word i ≡ 1 → counted way.right (pos i) ≤ℤ counted way.right (pos column))
-    → deep ≡ depth_in way (board_cell at lane row column) → deep ≤ℤ later → IsSeen at way cells lane row (Some later)
-row_seen at way cells lane row word column deep later is far at_column least i low alive =
-    both _ _ (outer_depth at way lane row i column (far i (bit_of_live at cells lane row word i is low alive))) at_column
+    → deep ≡ depth_in way (board_cell at word_column row column) → deep ≤ℤ later → IsSeen at way cells word_column row (Some later)
+row_seen at way cells word_column row word column deep later is far at_column least i low alive =
+    both _ _ (outer_depth at way word_column row i column (far i (bit_of_live at cells word_column row word i is low alive))) at_column
   where
     both : (a b : ℤ) → a ≤ℤ b → deep ≡ b → a ≤ℤ later
     both a b h e = omega (arith, ints)
 
-pub row_deeper : (at : Frame) (way : Direction) (cells : List Cell) (lane row word column : ℕ) (found : Option ℤ) (deep later : ℤ)
-    → IsRow at cells lane row word → column < 64 → bit_at word column ≡ 1 → deep ≡ depth_in way (board_cell at lane row column)
+pub row_deeper : (at : Frame) (way : Direction) (cells : List Cell) (word_column row word column : ℕ) (found : Option ℤ) (deep later : ℤ)
+    → IsRow at cells word_column row word → column < 64 → bit_at word column ≡ 1 → deep ≡ depth_in way (board_cell at word_column row column)
     → ((z : ℤ) → IsReached found z → z ≤ℤ later) → (later ≡ deep) ⊎ (found ≡ Some later) → GoesDeeper way cells found (Some later)
-row_deeper at way cells lane row word column found deep later is low one at_column kept either = record {
+row_deeper at way cells word_column row word column found deep later is low one at_column kept either = record {
   kept = kept;
   some = λ h. deepest either h;
 }
   where
     deepest : (later ≡ deep) ⊎ (found ≡ Some later) → IfSome found (HasDepth way cells) → HasDepth way cells later
     deepest (inl here) h = record {
-      cell = board_cell at lane row column;
+      cell = board_cell at word_column row column;
       alive = sym (is column low) ∙ ap (λ (n : ℕ). n == 1) one;
       depth = sym at_column ∙ sym here;
     }
@@ -281,123 +281,123 @@ row_deeper at way cells lane row word column found deep later is low one at_colu
 -- ---- a lane
 
 -- a row of which the word is 0 has no live cell
-dead_row_seen : (at : Frame) (way : Direction) (words : List ℕ) (gone : List Cell) (lane row : ℕ) (found : Option ℤ) → lane < at.lanes → row < at.rows
-    → slice_index words (word_of at lane row) ≡ 0 → IsSeen at way (without (cells_on at words) gone) lane row found
-dead_row_seen at way words gone lane row found hs hr none i low alive =
+dead_row_seen : (at : Frame) (way : Direction) (words : List ℕ) (gone : List Cell) (word_column row : ℕ) (found : Option ℤ) → word_column < at.word_columns → row < at.rows
+    → slice_index words (word_of at word_column row) ≡ 0 → IsSeen at way (without (cells_on at words) gone) word_column row found
+dead_row_seen at way words gone word_column row found hs hr none i low alive =
     let one = eqb-true _ 1
-    (sym (shows_cells at words lane row i hs hr low) ∙ without-has (cells_on at words) gone (board_cell at lane row i) alive) in
-    let zero : bit_at (slice_index words (word_of at lane row)) i ≡ 0 = ap (λ (n : ℕ). bit_at n i) none ∙ bit_at-zero i in
+    (sym (shows_cells at words word_column row i hs hr low) ∙ without-has (cells_on at words) gone (board_cell at word_column row i) alive) in
+    let zero : bit_at (slice_index words (word_of at word_column row)) i ≡ 0 = ap (λ (n : ℕ). bit_at n i) none ∙ bit_at-zero i in
     absurd (omega (arith, one, zero))
 
-seen_later : (at : Frame) (way : Direction) (cells : List Cell) (lane row : ℕ) (found later : Option ℤ) → GoesDeeper way cells found later
-    → IsSeen at way cells lane row found → IsSeen at way cells lane row later
-seen_later at way cells lane row found later deeper seen i low alive = deeper.kept _ (seen i low alive)
+seen_later : (at : Frame) (way : Direction) (cells : List Cell) (word_column row : ℕ) (found later : Option ℤ) → GoesDeeper way cells found later
+    → IsSeen at way cells word_column row found → IsSeen at way cells word_column row later
+seen_later at way cells word_column row found later deeper seen i low alive = deeper.kept _ (seen i low alive)
 
 -- a row that many steps inwards is one of the board's
-inner_row_low : (down : Bool) (rows : Span) (step limit : ℕ) → rows.end ≤ limit → step < rows.end - rows.from → inner_row down rows step < limit
+inner_row_low : (down : Bool) (rows : RowSpan) (step limit : ℕ) → rows.end ≤ limit → step < rows.end - rows.from → inner_row down rows step < limit
 inner_row_low true rows step limit most low = omega arith
 inner_row_low false rows step limit most low = omega arith
 
 -- the first rows of a lane, from the outermost inwards, have been seen
-abbrev pub AreSeen : Frame → Direction → List Cell → ℕ → Span → ℕ → Option ℤ → Type 0
-AreSeen at way cells lane rows count found = (step : ℕ) → step < count → IsSeen at way cells lane (inner_row way.down rows step) found
+abbrev pub AreSeen : Frame → Direction → List Cell → ℕ → RowSpan → ℕ → Option ℤ → Type 0
+AreSeen at way cells word_column rows count found = (step : ℕ) → step < count → IsSeen at way cells word_column (inner_row way.down rows step) found
 
 -- those from a step on are dead
-abbrev pub AreDeadRows : Frame → Direction → List ℕ → ℕ → Span → ℕ → ℕ → Type 0
-AreDeadRows at way words lane rows from to =
-    (step : ℕ) → from ≤ step → step < to → slice_index words (word_of at lane (inner_row way.down rows step)) ≡ 0
+abbrev pub AreDeadRows : Frame → Direction → List ℕ → ℕ → RowSpan → ℕ → ℕ → Type 0
+AreDeadRows at way words word_column rows from to =
+    (step : ℕ) → from ≤ step → step < to → slice_index words (word_of at word_column (inner_row way.down rows step)) ≡ 0
 
-pub dead_more : (at : Frame) (way : Direction) (words : List ℕ) (lane : ℕ) (rows : Span) (from step index row : ℕ)
-    → AreDeadRows at way words lane rows from step → row ≡ inner_row way.down rows step → index ≡ word_of at lane row → slice_index words index ≡ 0
-    → AreDeadRows at way words lane rows from (step + 1)
-dead_more at way words lane rows from step index row before here is none k low less = split (same_or_not k step)
+pub dead_more : (at : Frame) (way : Direction) (words : List ℕ) (word_column : ℕ) (rows : RowSpan) (from step index row : ℕ)
+    → AreDeadRows at way words word_column rows from step → row ≡ inner_row way.down rows step → index ≡ word_of at word_column row → slice_index words index ≡ 0
+    → AreDeadRows at way words word_column rows from (step + 1)
+dead_more at way words word_column rows from step index row before here is none k low less = split (same_or_not k step)
   where
     word : ℕ → ℕ
-    word r = slice_index words (word_of at lane r)
+    word r = slice_index words (word_of at word_column r)
 
     split : (k ≡ step) ⊎ (k ≢ step) → word (inner_row way.down rows k) ≡ 0
     split (inl same) = ap (λ (n : ℕ). word (inner_row way.down rows n)) same ∙ ap word (sym here) ∙ ap (slice_index words) (sym is) ∙ none
     split (inr apart) = before k low (omega (arith, less, apart))
 
-pub rows_seen : (at : Frame) (way : Direction) (words : List ℕ) (gone : List Cell) (lane : ℕ) (rows : Span) (step next : ℕ) (found later : Option ℤ)
-    → lane < at.lanes → rows.end ≤ at.rows → next < rows.end - rows.from
-    → AreSeen at way (without (cells_on at words) gone) lane rows step found → AreDeadRows at way words lane rows step next
+pub rows_seen : (at : Frame) (way : Direction) (words : List ℕ) (gone : List Cell) (word_column : ℕ) (rows : RowSpan) (step next : ℕ) (found later : Option ℤ)
+    → word_column < at.word_columns → rows.end ≤ at.rows → next < rows.end - rows.from
+    → AreSeen at way (without (cells_on at words) gone) word_column rows step found → AreDeadRows at way words word_column rows step next
     → GoesDeeper way (without (cells_on at words) gone) found later
-    → IsSeen at way (without (cells_on at words) gone) lane (inner_row way.down rows next) later
-    → AreSeen at way (without (cells_on at words) gone) lane rows (next + 1) later
-rows_seen at way words gone lane rows step next found later hs most low seen dead deeper here k near = first (less_or_not k step) (same_or_not k next)
+    → IsSeen at way (without (cells_on at words) gone) word_column (inner_row way.down rows next) later
+    → AreSeen at way (without (cells_on at words) gone) word_column rows (next + 1) later
+rows_seen at way words gone word_column rows step next found later hs most low seen dead deeper here k near = first (less_or_not k step) (same_or_not k next)
   where
     S : List Cell
     S = without (cells_on at words) gone
 
-    first : (k < step) ⊎ (step ≤ k) → (k ≡ next) ⊎ (k ≢ next) → IsSeen at way S lane (inner_row way.down rows k) later
-    first (inl before) other = seen_later at way S lane (inner_row way.down rows k) found later deeper (seen k before)
-    first (inr from) (inl same) = subst (λ (n : ℕ). IsSeen at way S lane (inner_row way.down rows n) later) (sym same) here
+    first : (k < step) ⊎ (step ≤ k) → (k ≡ next) ⊎ (k ≢ next) → IsSeen at way S word_column (inner_row way.down rows k) later
+    first (inl before) other = seen_later at way S word_column (inner_row way.down rows k) found later deeper (seen k before)
+    first (inr from) (inl same) = subst (λ (n : ℕ). IsSeen at way S word_column (inner_row way.down rows n) later) (sym same) here
     first (inr from) (inr apart) =
-        dead_row_seen at way words gone lane (inner_row way.down rows k) later hs
+        dead_row_seen at way words gone word_column (inner_row way.down rows k) later hs
         (inner_row_low way.down rows k at.rows most (omega (arith, near, apart))) (dead k from (omega (arith, near, apart)))
 
 -- which step leads to a row
-step_to : (down : Bool) (rows : Span) (row : ℕ) → rows.from ≤ row → row < rows.end
+step_to : (down : Bool) (rows : RowSpan) (row : ℕ) → rows.from ≤ row → row < rows.end
     → (step : ℕ) × (step < rows.end - rows.from) × (row ≡ inner_row down rows step)
 step_to true rows row from to = (rows.end - (row + 1), omega arith, omega arith)
 step_to false rows row from to = (row - rows.from, omega arith, omega arith)
 
-pub lane_seen : (at : Frame) (way : Direction) (words : List ℕ) (gone : List Cell) (lane : ℕ) (rows : Span) (step next end : ℕ) (found : Option ℤ)
-    → lane < at.lanes → rows.end ≤ at.rows → end ≤ next → AreSeen at way (without (cells_on at words) gone) lane rows step found
-    → AreDeadRows at way words lane rows step next → NoDeeper at way lane rows end found
-    → (row : ℕ) → rows.from ≤ row → row < rows.end → IsSeen at way (without (cells_on at words) gone) lane row found
-lane_seen at way words gone lane rows step next end found hs most past seen dead none row from to =
+pub word_column_seen : (at : Frame) (way : Direction) (words : List ℕ) (gone : List Cell) (word_column : ℕ) (rows : RowSpan) (step next end : ℕ) (found : Option ℤ)
+    → word_column < at.word_columns → rows.end ≤ at.rows → end ≤ next → AreSeen at way (without (cells_on at words) gone) word_column rows step found
+    → AreDeadRows at way words word_column rows step next → NoDeeper at way word_column rows end found
+    → (row : ℕ) → rows.from ≤ row → row < rows.end → IsSeen at way (without (cells_on at words) gone) word_column row found
+word_column_seen at way words gone word_column rows step next end found hs most past seen dead none row from to =
     let found_at = step_to way.down rows row from to in
     let k = found_at.0 in
-    subst (λ (r : ℕ). IsSeen at way S lane r found) (sym found_at.2) (go k found_at.1 (less_or_not k step) (less_or_not k next))
+    subst (λ (r : ℕ). IsSeen at way S word_column r found) (sym found_at.2) (go k found_at.1 (less_or_not k step) (less_or_not k next))
   where
     S : List Cell
     S = without (cells_on at words) gone
 
     go : (k : ℕ) → k < rows.end - rows.from → (k < step) ⊎ (step ≤ k) → (k < next) ⊎ (next ≤ k)
-        → IsSeen at way S lane (inner_row way.down rows k) found
+        → IsSeen at way S word_column (inner_row way.down rows k) found
     go k low (inl before) other = seen k before
     go k low (inr after) (inl near) =
-        dead_row_seen at way words gone lane (inner_row way.down rows k) found hs (inner_row_low way.down rows k at.rows most low) (dead k after near)
+        dead_row_seen at way words gone word_column (inner_row way.down rows k) found hs (inner_row_low way.down rows k at.rows most low) (dead k after near)
     go k low (inr after) (inr far) = λ i small alive. none k (omega (arith, past, far)) low i small
 
 -- ---- all lanes
 
 -- all cells of the first lanes have been seen
-abbrev pub AreLanesSeen : Frame → Direction → List Cell → ℕ → Option ℤ → Type 0
-AreLanesSeen at way cells count found = (lane row : ℕ) → lane < count → row < at.rows → IsSeen at way cells lane row found
+abbrev pub AreWordColumnsSeen : Frame → Direction → List Cell → ℕ → Option ℤ → Type 0
+AreWordColumnsSeen at way cells count found = (word_column row : ℕ) → word_column < count → row < at.rows → IsSeen at way cells word_column row found
 
-pub lanes_seen : (at : Frame) (way : Direction) (words : List ℕ) (spans : List Span) (gone : List Cell) (lane : ℕ) (rows : Span)
-    (found later : Option ℤ) → lane < at.lanes → LieInSpans at spans (cells_on at words)
-    → ((n : ℕ) → n < at.rows → HasRow (span_of spans lane) n → HasRow rows n)
-    → AreLanesSeen at way (without (cells_on at words) gone) lane found → GoesDeeper way (without (cells_on at words) gone) found later
-    → ((row : ℕ) → rows.from ≤ row → row < rows.end → IsSeen at way (without (cells_on at words) gone) lane row later)
-    → AreLanesSeen at way (without (cells_on at words) gone) (lane + 1) later
-lanes_seen at way words spans gone lane rows found later hs live held before deeper here s row near hr = go (same_or_not s lane)
+pub word_columns_seen : (at : Frame) (way : Direction) (words : List ℕ) (spans : List RowSpan) (gone : List Cell) (word_column : ℕ) (rows : RowSpan)
+    (found later : Option ℤ) → word_column < at.word_columns → LieInSpans at spans (cells_on at words)
+    → ((n : ℕ) → n < at.rows → HasRow (span_of spans word_column) n → HasRow rows n)
+    → AreWordColumnsSeen at way (without (cells_on at words) gone) word_column found → GoesDeeper way (without (cells_on at words) gone) found later
+    → ((row : ℕ) → rows.from ≤ row → row < rows.end → IsSeen at way (without (cells_on at words) gone) word_column row later)
+    → AreWordColumnsSeen at way (without (cells_on at words) gone) (word_column + 1) later
+word_columns_seen at way words spans gone word_column rows found later hs live held before deeper here s row near hr = go (same_or_not s word_column)
   where
     S : List Cell
     S = without (cells_on at words) gone
 
-    last : IsSeen at way S lane row later
+    last : IsSeen at way S word_column row later
     last i low alive =
-        let inside = live lane row i hs hr low (without-has (cells_on at words) gone (board_cell at lane row i) alive) in
+        let inside = live word_column row i hs hr low (without-has (cells_on at words) gone (board_cell at word_column row i) alive) in
         let spot = held row hr inside in
         here row spot.low spot.high i low alive
 
-    go : (s ≡ lane) ⊎ (s ≢ lane) → IsSeen at way S s row later
+    go : (s ≡ word_column) ⊎ (s ≢ word_column) → IsSeen at way S s row later
     go (inl same) = subst (λ (t : ℕ). IsSeen at way S t row later) (sym same) last
     go (inr apart) = seen_later at way S s row found later deeper (before s row (omega (arith, near, apart)) hr)
 
 pub all_seen : (at : Frame) (way : Direction) (words : List ℕ) (gone : List Cell) (found : Option ℤ)
-    → AreLanesSeen at way (without (cells_on at words) gone) at.lanes found → (c : Cell) → has (without (cells_on at words) gone) c ≡ true
+    → AreWordColumnsSeen at way (without (cells_on at words) gone) at.word_columns found → (c : Cell) → has (without (cells_on at words) gone) c ≡ true
     → IsReached found (depth_in way c)
 all_seen at way words gone found seen c e =
     let bit = bit_of_cell at words c (without-has (cells_on at words) gone c e) in
     let k = bit.0 in
     let spot = placed at k bit.1 in
     subst (λ (d : Cell). IsReached found (depth_in way d)) (sym bit.3)
-    (seen (k / 64 / at.rows) (k / 64 % at.rows) spot.lane spot.row (k % 64) (omega arith)
+    (seen (k / 64 / at.rows) (k / 64 % at.rows) spot.word_column spot.row (k % 64) (omega arith)
     (ap (λ (d : Cell). has (without (cells_on at words) gone) d) (sym bit.3) ∙ e))
 
 -- so this is how far the pattern reaches
@@ -415,7 +415,7 @@ no_bit first cell i apart = bit_is 0 first cell i (λ one. absurd (omega (arith,
 
 -- ---- a row without the cells that are gone
 
-pub row_left : (at : Frame) (words : List ℕ) (gone : List Cell) (s r index bits : ℕ) (first : Cell) → s < at.lanes → r < at.rows → bits < 2 ^ 64
+pub row_left : (at : Frame) (words : List ℕ) (gone : List Cell) (s r index bits : ℕ) (first : Cell) → s < at.word_columns → r < at.rows → bits < 2 ^ 64
     → index ≡ word_of at s r → first ≡ board_cell at s r 0
     → ((i : ℕ) → i < 64 → (bit_at bits i == 1) ≡ has gone (cell_at (first.x +ℤ pos i) first.y))
     → IsRow at (without (cells_on at words) gone) s r (bit_and (slice_index words index) (bit_not w64 bits))

@@ -26,7 +26,7 @@ or_one : (a : Bool) → (a || (true || false)) ≡ true
 or_one true = refl
 or_one false = refl
 
-pub shown_more : (at : Frame) (ws : List ℕ) (S : List Cell) (c : Cell) (s d i : ℕ) → s < at.lanes → d < at.rows → i < 64 → c ≡ board_cell at s d i
+pub shown_more : (at : Frame) (ws : List ℕ) (S : List Cell) (c : Cell) (s d i : ℕ) → s < at.word_columns → d < at.rows → i < 64 → c ≡ board_cell at s d i
     → word_of at s d < length ws → Shows at ws S
     → Shows at (set ws (word_of at s d) (bit_or (get_or ws (word_of at s d) 0) (1 * 2 ^ i % 2 ^ 64))) (S ++ c ∷ [])
 shown_more at ws S c s d i hs hd hi is low shown t y k ht hy hk = has-append S (c ∷ []) p ∙ row (same_or_not (word_of at t y) (word_of at s d))
@@ -78,11 +78,11 @@ has-at (c ∷ cs) (suc i) d low = or_right (same_cell (get_or cs i d) c) (has cs
 pub shown-empty : (at : Frame) (ws : List ℕ) → ((i : ℕ) → slice_index ws i ≡ 0) → Shows at ws []
 shown-empty at ws none s r i hs hr hi = ap (λ (n : ℕ). n == 1) (sym (ap (λ (w : ℕ). bit_at w i) (none (word_of at s r)) ∙ bit_at-zero i))
 
-pub put_shown : (at : Frame) (ws : List ℕ) (S : List Cell) (c : Cell) (a d m : ℕ) → length ws ≡ at.lanes * at.rows → IsWithin (bounds_of at) c
+pub put_shown : (at : Frame) (ws : List ℕ) (S : List Cell) (c : Cell) (a d m : ℕ) → length ws ≡ at.word_columns * at.rows → IsWithin (bounds_of at) c
     → pos a ≡ c.x -ℤ at.left → pos d ≡ c.y -ℤ at.top → m ≡ word_of at (a / 64) d → Shows at ws S
     → Shows at (set ws m (bit_or (get_or ws m 0) (1 * 2 ^ (a % 64) % 2 ^ 64))) (S ++ c ∷ [])
 put_shown at ws S c a d m long within p q is shown =
-    let hs : a / 64 < at.lanes = (spot_inside at c a d within p q).0 in
+    let hs : a / 64 < at.word_columns = (spot_inside at c a d within p q).0 in
     let hd : d < at.rows = (spot_inside at c a d within p q).1 in
     let low : word_of at (a / 64) d < length ws = omega (arith, word-inside at (a / 64) d hs hd) in
     subst (λ (n : ℕ). Shows at (set ws n (bit_or (get_or ws n 0) (1 * 2 ^ (a % 64) % 2 ^ 64))) (S ++ c ∷ [])) (sym is)

@@ -14,25 +14,25 @@ use Rattle.plane_core.proofs.lemmas.Between.{HasRoom}
 
 -- ---- columns and rows
 
-pub fits_lanes : (at : Frame) → IsFrame at → Fits w32 at.lanes
-fits_lanes at frame = let h = frame.lanes in record { fits = omega arith }
+pub fits_word_columns : (at : Frame) → IsFrame at → Fits w32 at.word_columns
+fits_word_columns at frame = let h = frame.word_columns in record { fits = omega arith }
 
-pub fits_columns : (at : Frame) → IsFrame at → Fits w32 (64 * at.lanes)
-fits_columns at frame = let h = frame.lanes in record { fits = omega arith }
+pub fits_columns : (at : Frame) → IsFrame at → Fits w32 (64 * at.word_columns)
+fits_columns at frame = let h = frame.word_columns in record { fits = omega arith }
 
 pub fits_rows : (at : Frame) → IsFrame at → Fits w32 at.rows
 fits_rows at frame = let h = frame.rows in record { fits = omega arith }
 
-pub fits_around : (at : Frame) → IsFrame at → Fits w32 (64 * at.lanes + at.rows)
+pub fits_around : (at : Frame) → IsFrame at → Fits w32 (64 * at.word_columns + at.rows)
 fits_around at frame =
-    let h = frame.lanes in
+    let h = frame.word_columns in
     let k = frame.rows in
     record { fits = omega arith }
 
 -- ---- where a window begins on a board
 
-pub fits_next_lane : (x : ℕ) → x < 2 ^ 32 → Fits w64 (x / 64 + 1)
-fits_next_lane x low = record { fits = omega arith }
+pub fits_next_word_column : (x : ℕ) → x < 2 ^ 32 → Fits w64 (x / 64 + 1)
+fits_next_word_column x low = record { fits = omega arith }
 
 pub fits_window_end : (y n : ℕ) → y < 2 ^ 32 → n ≤ 64 → Fits w64 (y + n)
 fits_window_end y n low few = record { fits = omega arith }
@@ -43,11 +43,11 @@ window_low at y frame inside = let h = frame.rows in omega arith
 pub fits_row_below : (at : Frame) (y : ℕ) → IsFrame at → y < at.rows → Fits w64 (y + 1)
 fits_row_below at y frame inside = let h = frame.rows in record { fits = omega arith }
 
-pub fits_lane_beside : (at : Frame) (x : ℕ) → IsFrame at → x / 64 + 1 < at.lanes → Fits w64 (x / 64 + 1)
-fits_lane_beside at x frame inside = let h = frame.lanes in record { fits = omega arith }
+pub fits_word_column_beside : (at : Frame) (x : ℕ) → IsFrame at → x / 64 + 1 < at.word_columns → Fits w64 (x / 64 + 1)
+fits_word_column_beside at x frame inside = let h = frame.word_columns in record { fits = omega arith }
 
-pub two_lanes : (x lanes n : ℕ) → x / 64 + 1 < lanes → n ≡ lanes → (x / 64 < n) × (x / 64 + 1 < n)
-two_lanes x lanes n inside long = (omega (arith, inside, long), omega (arith, inside, long))
+pub two_word_columns : (x word_columns n : ℕ) → x / 64 + 1 < word_columns → n ≡ word_columns → (x / 64 < n) × (x / 64 + 1 < n)
+two_word_columns x word_columns n inside long = (omega (arith, inside, long), omega (arith, inside, long))
 
 pub middle_low : (a b : ℕ) → a < 2 ^ 32 → b < 2 ^ 32 → (a + b - 64) / 2 < 2 ^ 32
 middle_low a b low small = omega arith
@@ -90,11 +90,11 @@ twice_small margin low = omega arith
 pub margin_small : (margin : ℕ) → margin ≤ 2000 → margin ≤ plane_bound
 margin_small margin low = omega arith
 
-pub fits_new_lanes : (n k : ℕ) → n ≤ 2000000 → k ≤ 10000 → Fits w32 ((n + k + 1) / 64 + 1)
-fits_new_lanes n k low few = record { fits = omega arith }
+pub fits_new_word_columns : (n k : ℕ) → n ≤ 2000000 → k ≤ 10000 → Fits w32 ((n + k + 1) / 64 + 1)
+fits_new_word_columns n k low few = record { fits = omega arith }
 
-pub fits_wide_lanes : (n k : ℕ) → n ≤ 2000000 → k ≤ 10000 → Fits w64 ((n + k + 1) / 64 + 1)
-fits_wide_lanes n k low few = record { fits = omega arith }
+pub fits_wide_word_columns : (n k : ℕ) → n ≤ 2000000 → k ≤ 10000 → Fits w64 ((n + k + 1) / 64 + 1)
+fits_wide_word_columns n k low few = record { fits = omega arith }
 
 pub fits_bands : (n k : ℕ) → n ≤ 2000000 → k ≤ 10000 → Fits w32 ((n + k + 1) / 8 * 8)
 fits_bands n k low few = record { fits = omega arith }
@@ -108,7 +108,7 @@ fits_wide_rows n k low few = record { fits = omega arith }
 -- ---- a box in the middle of a frame
 
 pub room_sides : (at : Frame) (b : Bounds) → HasRoom at b → AreSidesWithin plane_bound b
-room_sides at b room = fewer_sides (plane_bound - (64 * at.lanes + at.rows)) plane_bound b (omega arith) room.sides
+room_sides at b room = fewer_sides (plane_bound - (64 * at.word_columns + at.rows)) plane_bound b (omega arith) room.sides
 
 up_to : (a b c : ℕ) → a ≤ b → b ≤ c → a ≤ c
 up_to a b c low below = omega arith
@@ -156,10 +156,10 @@ pub half_low : (n k m : ℕ) → m + n ≤ plane_bound → (n - k) / 2 ≤ plane
 half_low n k m low = omega (arith, low)
 
 pub has_room : (at : Frame) (b : Bounds) (width height far : ℕ) → width ≡ distance b.left b.right → height ≡ distance b.top b.bottom
-    → width + 1 + 400 ≤ 64 * at.lanes → height + 1 + 400 ≤ at.rows → 64 * at.lanes + at.rows ≤ plane_bound → AreSidesWithin far b
-    → far ≤ plane_bound - (64 * at.lanes + at.rows) → HasRoom at b
+    → width + 1 + 400 ≤ 64 * at.word_columns → height + 1 + 400 ≤ at.rows → 64 * at.word_columns + at.rows ≤ plane_bound → AreSidesWithin far b
+    → far ≤ plane_bound - (64 * at.word_columns + at.rows) → HasRoom at b
 has_room at b width height far across down wide high plane sides near = record {
-  across = subst (λ (d : ℕ). d + 1 ≤ 64 * at.lanes) across (less width (64 * at.lanes) wide);
+  across = subst (λ (d : ℕ). d + 1 ≤ 64 * at.word_columns) across (less width (64 * at.word_columns) wide);
   down = subst (λ (d : ℕ). d + 1 ≤ at.rows) down (less height at.rows high);
   plane = plane;
   sides = fewer_sides far _ b near sides;
@@ -170,19 +170,19 @@ has_room at b width height far across down wide high plane sides near = record {
 
 -- ---- the first cell of a row of a lane
 
-pub fits_column : (at : Frame) (lane : ℕ) → IsFrame at → lane < at.lanes → Fits w64 (64 * lane)
-fits_column at lane frame low = let h = frame.lanes in record { fits = omega arith }
+pub fits_column : (at : Frame) (word_column : ℕ) → IsFrame at → word_column < at.word_columns → Fits w64 (64 * word_column)
+fits_column at word_column frame low = let h = frame.word_columns in record { fits = omega arith }
 
-pub fits_signed_column : (at : Frame) (lane : ℕ) → IsFrame at → lane < at.lanes → FitsSigned w32 (pos (64 * lane))
-fits_signed_column at lane frame low = let h = frame.lanes in omega (arith, ints)
+pub fits_signed_column : (at : Frame) (word_column : ℕ) → IsFrame at → word_column < at.word_columns → FitsSigned w32 (pos (64 * word_column))
+fits_signed_column at word_column frame low = let h = frame.word_columns in omega (arith, ints)
 
 pub fits_signed_row : (at : Frame) (row : ℕ) → IsFrame at → row < at.rows → FitsSigned w32 (pos row)
 fits_signed_row at row frame low = let h = frame.rows in omega (arith, ints)
 
-pub fits_x : (at : Frame) (lane : ℕ) → IsFrame at → lane < at.lanes
-    → FitsSigned w32 (to_z w32 (of_z w32 at.left) +ℤ to_z w32 (64 * lane))
-fits_x at lane frame low =
-    let h = frame.lanes in
+pub fits_x : (at : Frame) (word_column : ℕ) → IsFrame at → word_column < at.word_columns
+    → FitsSigned w32 (to_z w32 (of_z w32 at.left) +ℤ to_z w32 (64 * word_column))
+fits_x at word_column frame low =
+    let h = frame.word_columns in
     let k = frame.left in
     omega (arith, ints)
 
@@ -192,10 +192,10 @@ fits_y at row frame low =
     let k = frame.top in
     omega (arith, ints)
 
-pub x_is : (at : Frame) (lane : ℕ) → IsFrame at → lane < at.lanes
-    → to_z w32 (of_z w32 (to_z w32 (of_z w32 at.left) +ℤ to_z w32 (64 * lane))) ≡ at.left +ℤ pos (64 * lane + 0)
-x_is at lane frame low =
-    let h = frame.lanes in
+pub x_is : (at : Frame) (word_column : ℕ) → IsFrame at → word_column < at.word_columns
+    → to_z w32 (of_z w32 (to_z w32 (of_z w32 at.left) +ℤ to_z w32 (64 * word_column))) ≡ at.left +ℤ pos (64 * word_column + 0)
+x_is at word_column frame low =
+    let h = frame.word_columns in
     let k = frame.left in
     omega (arith, ints)
 
@@ -206,9 +206,9 @@ y_is at row frame low =
     let k = frame.top in
     omega (arith, ints)
 
-pub corner_small : (at : Frame) (lane : ℕ) (x : ℤ) → IsFrame at → lane < at.lanes → x ≡ at.left +ℤ pos (64 * lane + 0) → unsigned_abs x ≤ 2 ^ 24
-corner_small at lane x frame low is =
-    let h = frame.lanes in
+pub corner_small : (at : Frame) (word_column : ℕ) (x : ℤ) → IsFrame at → word_column < at.word_columns → x ≡ at.left +ℤ pos (64 * word_column + 0) → unsigned_abs x ≤ 2 ^ 24
+corner_small at word_column x frame low is =
+    let h = frame.word_columns in
     let k = frame.left in
     omega (arith, ints, is)
 
@@ -222,11 +222,11 @@ before_left at c fits frame less within =
     omega (arith, ints, less)
 
 pub past_right : (at : Frame) (c : Cell) → FitsSigned w32 c.x → IsFrame at
-    → le_z (to_z w32 (of_z w32 (to_z w32 (of_z w32 at.left) +ℤ to_z w32 (64 * at.lanes)))) (to_z w32 (of_z w32 c.x)) ≡ true
+    → le_z (to_z w32 (of_z w32 (to_z w32 (of_z w32 at.left) +ℤ to_z w32 (64 * at.word_columns)))) (to_z w32 (of_z w32 c.x)) ≡ true
     → IsWithin (bounds_of at) c → ⊥
 past_right at c fits frame past within =
     let k = frame.left in
-    let l = frame.lanes in
+    let l = frame.word_columns in
     let h = within.right in
     omega (arith, ints, past)
 
@@ -249,13 +249,13 @@ past_bottom at c fits frame past within =
 -- and cells on it
 pub in_frame : (at : Frame) (c : Cell) → FitsSigned w32 c.x → FitsSigned w32 c.y → IsFrame at
     → lt_z (to_z w32 (of_z w32 c.x)) (to_z w32 (of_z w32 at.left)) ≡ false
-    → le_z (to_z w32 (of_z w32 (to_z w32 (of_z w32 at.left) +ℤ to_z w32 (64 * at.lanes)))) (to_z w32 (of_z w32 c.x)) ≡ false
+    → le_z (to_z w32 (of_z w32 (to_z w32 (of_z w32 at.left) +ℤ to_z w32 (64 * at.word_columns)))) (to_z w32 (of_z w32 c.x)) ≡ false
     → lt_z (to_z w32 (of_z w32 c.y)) (to_z w32 (of_z w32 at.top)) ≡ false
     → le_z (to_z w32 (of_z w32 (to_z w32 (of_z w32 at.top) +ℤ to_z w32 at.rows))) (to_z w32 (of_z w32 c.y)) ≡ false
     → IsWithin (bounds_of at) c
 in_frame at c x y frame left right top bottom =
     let k = frame.left in
-    let l = frame.lanes in
+    let l = frame.word_columns in
     let m = frame.top in
     let r = frame.rows in
     record {
@@ -265,15 +265,15 @@ in_frame at c x y frame left right top bottom =
       bottom = omega (arith, ints, bottom);
     }
 
-pub fits_frame_columns : (at : Frame) → IsFrame at → Fits w64 (64 * at.lanes)
-fits_frame_columns at frame = let h = frame.lanes in record { fits = omega arith }
+pub fits_frame_columns : (at : Frame) → IsFrame at → Fits w64 (64 * at.word_columns)
+fits_frame_columns at frame = let h = frame.word_columns in record { fits = omega arith }
 
-pub fits_signed_columns : (at : Frame) → IsFrame at → FitsSigned w32 (pos (64 * at.lanes))
-fits_signed_columns at frame = let h = frame.lanes in omega (arith, ints)
+pub fits_signed_columns : (at : Frame) → IsFrame at → FitsSigned w32 (pos (64 * at.word_columns))
+fits_signed_columns at frame = let h = frame.word_columns in omega (arith, ints)
 
-pub fits_right : (at : Frame) → IsFrame at → FitsSigned w32 (to_z w32 (of_z w32 at.left) +ℤ to_z w32 (64 * at.lanes))
+pub fits_right : (at : Frame) → IsFrame at → FitsSigned w32 (to_z w32 (of_z w32 at.left) +ℤ to_z w32 (64 * at.word_columns))
 fits_right at frame =
-    let h = frame.lanes in
+    let h = frame.word_columns in
     let k = frame.left in
     omega (arith, ints)
 
@@ -296,5 +296,5 @@ pub offset_is : (x l : ℤ) (n : ℕ) → unsigned_abs l ≤ 2 ^ 21 → n ≤ 2 
     → pos (unsigned_abs (to_z w32 (of_z w32 (to_z w32 (of_z w32 x) -ℤ to_z w32 (of_z w32 l))))) ≡ x -ℤ l
 offset_is x l n near few low high = omega (arith, ints, low, high)
 
-pub columns_low : (at : Frame) → IsFrame at → 64 * at.lanes ≤ 2 ^ 22
-columns_low at frame = let h = frame.lanes in omega arith
+pub columns_low : (at : Frame) → IsFrame at → 64 * at.word_columns ≤ 2 ^ 22
+columns_low at frame = let h = frame.word_columns in omega arith

@@ -18,14 +18,14 @@ use Rattle.plane_core.proofs.lemmas.Between.{HasRoom}
 -- ---- places in the list
 
 -- a row's place in the list is inside it, and isn't large
-pub word-inside : (at : Frame) (s r : ℕ) → s < at.lanes → r < at.rows → word_of at s r < at.lanes * at.rows
+pub word-inside : (at : Frame) (s r : ℕ) → s < at.word_columns → r < at.rows → word_of at s r < at.word_columns * at.rows
 word-inside at s r hs hr =
-    let many : at.lanes ≡ s + 1 + (at.lanes - (s + 1)) = omega arith in
-    let whole : at.lanes * at.rows ≡ (s + 1 + (at.lanes - (s + 1))) * at.rows = ap (λ (m : ℕ). m * at.rows) many in
+    let many : at.word_columns ≡ s + 1 + (at.word_columns - (s + 1)) = omega arith in
+    let whole : at.word_columns * at.rows ≡ (s + 1 + (at.word_columns - (s + 1))) * at.rows = ap (λ (m : ℕ). m * at.rows) many in
     omega (arith, whole)
 
-pub frame-small : (at : Frame) → IsFrame at → at.lanes * at.rows ≤ 2 ^ 16 * 2 ^ 22
-frame-small at frame = mul-le-mul frame.lanes frame.rows
+pub frame-small : (at : Frame) → IsFrame at → at.word_columns * at.rows ≤ 2 ^ 16 * 2 ^ 22
+frame-small at frame = mul-le-mul frame.word_columns frame.rows
 
 -- two rows have one place in the list only if they are one
 pub one_word : (h s r t y : ℕ) → s * h + r ≡ t * h + y → r < h → y < h → (s ≡ t) × (r ≡ y)
@@ -58,7 +58,7 @@ one_spot at t y k s d i hk hi e =
 
 -- a cell on the board stands in one of its lanes and rows
 pub spot_inside : (at : Frame) (c : Cell) (a d : ℕ) → IsWithin (bounds_of at) c → pos a ≡ c.x -ℤ at.left → pos d ≡ c.y -ℤ at.top
-    → (a / 64 < at.lanes) × (d < at.rows)
+    → (a / 64 < at.word_columns) × (d < at.rows)
 spot_inside at c a d within p q =
     let right = within.right in
     let bottom = within.bottom in
@@ -76,7 +76,7 @@ sides_on_plane b margin sides = fewer_sides (plane_bound - margin - 64) plane_bo
 pub record IsRoundBox (b : Bounds) (margin : ℕ) (at : Frame) : Type 0 where
   pub left : at.left ≡ b.left -ℤ pos margin
   pub top : at.top ≡ b.top -ℤ pos margin
-  pub lanes : at.lanes ≡ (distance b.left b.right + 2 * margin + 1) / 64 + 1
+  pub word_columns : at.word_columns ≡ (distance b.left b.right + 2 * margin + 1) / 64 + 1
   pub rows : at.rows ≡ (distance b.top b.bottom + 2 * margin + 1) / 8 * 8 + 8
 
 pub round_is_frame : (b : Bounds) (margin : ℕ) (at : Frame) → margin ≤ 2000 → AreSidesWithin (plane_bound - margin - 64) b → IsRoundBox b margin at
@@ -89,7 +89,7 @@ round_is_frame b margin at low sides is =
     record {
       left = let p = is.left in omega (arith, ints);
       top = let p = is.top in omega (arith, ints);
-      lanes = let p = is.lanes in omega (arith, ints);
+      word_columns = let p = is.word_columns in omega (arith, ints);
       rows = let p = is.rows in omega (arith, ints);
       bands = let p = is.rows in omega arith;
     }
@@ -98,7 +98,7 @@ pub round_has_on : (b : Bounds) (margin : ℕ) (at : Frame) → IsRoundBox b mar
 round_has_on b margin at is c within =
     let l = is.left in
     let t = is.top in
-    let s = is.lanes in
+    let s = is.word_columns in
     let k = is.rows in
     record {
       left = let p = within.left in omega (arith, ints);
@@ -121,13 +121,13 @@ pub round_on_plane : (b : Bounds) (margin : ℕ) (at : Frame) → margin ≤ 200
 round_on_plane b margin at low across down sides is =
     let l = is.left in
     let t = is.top in
-    let s = is.lanes in
+    let s = is.word_columns in
     let k = is.rows in
     let sl = sides.left in
     let st = sides.top in
     let sr = sides.right in
     let sd = sides.bottom in
-    let right : (bounds_of at).right ≡ at.left +ℤ (pos (64 * at.lanes) -ℤ pos 1) = refl in
+    let right : (bounds_of at).right ≡ at.left +ℤ (pos (64 * at.word_columns) -ℤ pos 1) = refl in
     let bottom : (bounds_of at).bottom ≡ at.top +ℤ (pos at.rows -ℤ pos 1) = refl in
     record {
       left = omega (arith, ints);
@@ -140,9 +140,9 @@ round_on_plane b margin at low across down sides is =
 
 -- a frame that is made so
 pub record IsRoundMiddle (at : Frame) (b : Bounds) (new : Frame) : Type 0 where
-  pub left : new.left ≡ b.left -ℤ pos ((64 * at.lanes - (distance b.left b.right + 1)) / 2)
+  pub left : new.left ≡ b.left -ℤ pos ((64 * at.word_columns - (distance b.left b.right + 1)) / 2)
   pub top : new.top ≡ b.top -ℤ pos ((at.rows - (distance b.top b.bottom + 1)) / 2)
-  pub lanes : new.lanes ≡ at.lanes
+  pub word_columns : new.word_columns ≡ at.word_columns
   pub rows : new.rows ≡ at.rows
 
 pub middle_has_on : (at : Frame) (b : Bounds) (new : Frame) → b.left ≤ℤ b.right → b.top ≤ℤ b.bottom → HasRoom at b → IsRoundMiddle at b new
@@ -150,7 +150,7 @@ pub middle_has_on : (at : Frame) (b : Bounds) (new : Frame) → b.left ≤ℤ b.
 middle_has_on at b new across down room is c within =
     let l = is.left in
     let t = is.top in
-    let s = is.lanes in
+    let s = is.word_columns in
     let k = is.rows in
     let w = room.across in
     let h = room.down in
@@ -166,14 +166,14 @@ pub middle_on_plane : (at : Frame) (b : Bounds) (new : Frame) → b.left ≤ℤ 
 middle_on_plane at b new across down room is =
     let l = is.left in
     let t = is.top in
-    let s = is.lanes in
+    let s = is.word_columns in
     let k = is.rows in
     let w = room.across in
     let h = room.down in
     let m = room.plane in
     let sl = room.sides.left in
     let st = room.sides.top in
-    let right : (bounds_of new).right ≡ new.left +ℤ (pos (64 * new.lanes) -ℤ pos 1) = refl in
+    let right : (bounds_of new).right ≡ new.left +ℤ (pos (64 * new.word_columns) -ℤ pos 1) = refl in
     let bottom : (bounds_of new).bottom ≡ new.top +ℤ (pos new.rows -ℤ pos 1) = refl in
     record {
       left = omega (arith, ints);
@@ -186,12 +186,12 @@ pub middle_is_frame : (at : Frame) (b : Bounds) (new : Frame) → b.left ≤ℤ 
     → IsRoundMiddle at b new → IsFrame new
 middle_is_frame at b new across down frame room is =
     let plane = middle_on_plane at b new across down room is in
-    let s = is.lanes in
+    let s = is.word_columns in
     let k = is.rows in
     record {
       left = let p = plane.left in omega arith;
       top = let p = plane.top in omega arith;
-      lanes = let p = frame.lanes in omega arith;
+      word_columns = let p = frame.word_columns in omega arith;
       rows = let p = frame.rows in omega arith;
       bands = k ∙ frame.bands ∙ ap (λ (n : ℕ). 8 * (n / 8)) (sym k);
     }

@@ -10,9 +10,9 @@ use Rattle.std.proofs.lemmas.List.{get_or_append_left, get_or_default, get_or_pu
 use Rattle.std.proofs.lemmas.Nat.Bits.{bit_at-zero}
 use Rattle.plane_core.specs.declared.plane.bounds.Bounds.{Bounds}
 use Rattle.plane_core.specs.declared.plane.cell.Cell.{Cell}
-use Rattle.plane_core.specs.declared.engine.difference_box.Change.{Change}
+use Rattle.plane_core.specs.declared.engine.difference_box.DifferenceMask.{DifferenceMask}
 use Rattle.plane_core.specs.declared.engine.frame.Frame.{Frame}
-use Rattle.plane_core.specs.declared.engine.window_origin.Place.{Place}
+use Rattle.plane_core.specs.declared.engine.window_origin.WindowOrigin.{WindowOrigin}
 use Rattle.plane_core.specs.plane.Bounds.{AreSidesWithin, IsWithin}
 use Rattle.plane_core.specs.engine.ActiveBoxes.{HoldsDifference, IsInOne, box_bound}
 use Rattle.plane_core.specs.plane.Cells.{InOrder, has}
@@ -22,7 +22,7 @@ use Rattle.plane_core.specs.engine.Frames.{Shows, board_cell, word_of}
 use Rattle.plane_core.specs.plane.Generations.{after}
 use Rattle.plane_core.specs.engine.Leaps.{ArePutBack, AreRun, IsRun, ShowsInner}
 use Rattle.plane_core.specs.engine.WindowIo.{AreRowsRead, IsInner, IsPutBack, bit_on, cell_on}
-use Rattle.plane_core.specs.engine.WindowOrigins.{HoldsChange, IsInnerCell, compared_with}
+use Rattle.plane_core.specs.engine.WindowOrigins.{MarksDifferences, IsInnerCell, compared_with}
 use Rattle.plane_core.specs.plane.Rules.{Numbers}
 use Rattle.plane_core.specs.windows.Windows.{IsShownInside, row_at}
 use Rattle.plane_core.proofs.lemmas.engine.ActiveBoxLemmas.{HoldFirst, hold_more}
@@ -32,9 +32,9 @@ use Rattle.plane_core.proofs.lemmas.Between.{HasLeapt, IsReadAt, IsRunAt}
 
 -- ---- what has changed in a window
 
-holds_change : (p : Place) (one other : List Cell) (x y : List (List ℕ)) (change : Change) → IsShownInside 10 p.left p.top 4 x one
-    → IsShownInside 10 p.left p.top 4 y other → DiffersOnlyIn change x y → HoldsChange p one other change
-holds_change p one other x y change sx sy differs = record {
+marks_differences : (p : WindowOrigin) (one other : List Cell) (x y : List (List ℕ)) (change : DifferenceMask) → IsShownInside 10 p.left p.top 4 x one
+    → IsShownInside 10 p.left p.top 4 y other → DiffersOnlyIn change x y → MarksDifferences p one other change
+marks_differences p one other x y change sx sy differs = record {
   columns = λ i r a b d e none. sx r i d (omega arith) a (omega arith) ∙ ap (λ (n : ℕ). n == 1) (differs.columns r i d e a b none)
       ∙ sym (sy r i d (omega arith) a (omega arith));
   rows = λ i r a b d e none. sx r i d (omega arith) a (omega arith) ∙ ap (λ (n : ℕ). n == 1) (differs.rows r i d e a b none)
@@ -52,12 +52,12 @@ empty_window left top r i a b d e =
     ap (λ (n : ℕ). n == 1) (sym (ap (λ (w : ℕ). bit_at w i) row ∙ bit_at-zero i))
 
 -- an odd number of generations is compared with nothing
-pub run_odd : (rule : Numbers) (count : ℕ) (x y : List (List ℕ)) (change : Change) → count ≤ 4 → count % 2 ≡ 1 → HasMade rule 10 x y count
+pub run_odd : (rule : Numbers) (count : ℕ) (x y : List (List ℕ)) (change : DifferenceMask) → count ≤ 4 → count % 2 ≡ 1 → HasMade rule 10 x y count
     → DiffersOnlyIn change y (replicate 10 (replicate 4 0)) → IsRun rule count x y change
 run_odd rule count x y change few odd made differs p cells o shown = (
   later,
-  subst (λ (S : List Cell). HoldsChange p (after rule cells count) S change) (sym none)
-      (holds_change p (after rule cells count) [] y (replicate 10 (replicate 4 0)) change later (empty_window p.left p.top) differs),
+  subst (λ (S : List Cell). MarksDifferences p (after rule cells count) S change) (sym none)
+      (marks_differences p (after rule cells count) [] y (replicate 10 (replicate 4 0)) change later (empty_window p.left p.top) differs),
 )
   where
     later : IsShownInside 10 p.left p.top 4 y (after rule cells count)
@@ -67,12 +67,12 @@ run_odd rule count x y change few odd made differs p cells o shown = (
     none = ap (λ (n : ℕ). cond (n == 0) (after rule cells (count - 2)) []) odd
 
 -- an even number is compared with the generation two before it
-pub run_even : (rule : Numbers) (count : ℕ) (x y z : List (List ℕ)) (change : Change) → 2 ≤ count → count ≤ 4 → count % 2 ≡ 0 → HasMade rule 10 x y (count - 2)
+pub run_even : (rule : Numbers) (count : ℕ) (x y z : List (List ℕ)) (change : DifferenceMask) → 2 ≤ count → count ≤ 4 → count % 2 ≡ 0 → HasMade rule 10 x y (count - 2)
     → HasMade rule 10 y z 2 → DiffersOnlyIn change z y → IsRun rule count x z change
 run_even rule count x y z change some few even first second differs p cells o shown = (
   later,
-  subst (λ (S : List Cell). HoldsChange p (after rule cells count) S change) (sym before)
-      (holds_change p (after rule cells count) (after rule cells (count - 2)) z y change later earlier differs),
+  subst (λ (S : List Cell). MarksDifferences p (after rule cells count) S change) (sym before)
+      (marks_differences p (after rule cells count) (after rule cells (count - 2)) z y change later earlier differs),
 )
   where
     shown_then : IsShownInside 10 p.left p.top (0 + (count - 2)) y (after rule cells (count - 2))
@@ -97,7 +97,7 @@ run_even rule count x y z change some few even first second differs p cells o sh
 
 -- ---- what a board shows, by columns and rows
 
-pub shows_bit : (at : Frame) (words : List ℕ) (cells : List Cell) (u v : ℕ) → Shows at words cells → u < 64 * at.lanes → v < at.rows
+pub shows_bit : (at : Frame) (words : List ℕ) (cells : List Cell) (u v : ℕ) → Shows at words cells → u < 64 * at.word_columns → v < at.rows
     → has cells (cell_on at u v) ≡ (bit_on at words u v == 1)
 shows_bit at words cells u v shows hu hv =
     ap (has cells) (same_cell_at _ _ (at.left +ℤ pos (64 * (u / 64) + u % 64)) (at.top +ℤ pos v) (omega (arith, ints)) refl)
@@ -105,23 +105,23 @@ shows_bit at words cells u v shows hu hv =
 
 bit_of_lane : (at : Frame) (words : List ℕ) (s r i : ℕ) → i < 64 → bit_on at words (64 * s + i) r ≡ bit_at (slice_index words (word_of at s r)) i
 bit_of_lane at words s r i low =
-    let lane : (64 * s + i) / 64 ≡ s = omega arith in
+    let word_column : (64 * s + i) / 64 ≡ s = omega arith in
     let bit : (64 * s + i) % 64 ≡ i = omega arith in
-    λ t. bit_at (slice_index words (word_of at (lane t) r)) (bit t)
+    λ t. bit_at (slice_index words (word_of at (word_column t) r)) (bit t)
 
 -- a window that was read shows what the board shows
-pub shown_read : (at : Frame) (p : Place) (words : List ℕ) (x y n : ℕ) (window : List (List ℕ)) (cells : List Cell) → x / 64 + 1 < at.lanes
+pub shown_read : (at : Frame) (p : WindowOrigin) (words : List ℕ) (x y n : ℕ) (window : List (List ℕ)) (cells : List Cell) → x / 64 + 1 < at.word_columns
     → y + 4 * n ≤ at.rows → p.left ≡ at.left +ℤ pos x → p.top ≡ at.top +ℤ pos y → Shows at words cells → IsReadAt at words x y n window
     → IsShownInside n p.left p.top 0 window cells
-shown_read at p words x y n window cells lanes rows left top shows read r i a low d inside =
+shown_read at p words x y n window cells word_columns rows left top shows read r i a low d inside =
     ap (has cells) (same_cell_at _ _ (at.left +ℤ pos (x + i)) (at.top +ℤ pos (y + r)) (omega (arith, ints)) (omega (arith, ints)))
     ∙ shows_bit at words cells (x + i) (y + r) shows (omega arith) (omega arith)
     ∙ ap (λ (m : ℕ). m == 1) (sym (read r i (omega arith) (omega arith)))
 
 -- so do rows that were read
-pub rows_shown : (at : Frame) (left top : ℤ) (words : List ℕ) (x y : ℕ) (rows : List ℕ) (cells : List Cell) → x / 64 + 1 < at.lanes → y + 64 ≤ at.rows
+pub rows_shown : (at : Frame) (left top : ℤ) (words : List ℕ) (x y : ℕ) (rows : List ℕ) (cells : List Cell) → x / 64 + 1 < at.word_columns → y + 64 ≤ at.rows
     → left ≡ at.left +ℤ pos x → top ≡ at.top +ℤ pos y → Shows at words cells → AreRowsRead at words x y 64 rows → ShowsInAllRows left top rows cells
-rows_shown at left top words x y rows cells lanes fit west north shows read r i hr hi =
+rows_shown at left top words x y rows cells word_columns fit west north shows read r i hr hi =
     ap (has cells) (same_cell_at _ _ (at.left +ℤ pos (x + i)) (at.top +ℤ pos (y + r)) (omega (arith, ints)) (omega (arith, ints)))
     ∙ shows_bit at words cells (x + i) (y + r) shows (omega arith) (omega arith) ∙ ap (λ (m : ℕ). m == 1) (sym (read r i hr hi))
 
@@ -132,7 +132,7 @@ window_shown left top rows window cells shows packed r i a low d inside =
     shows r i (omega (arith, low)) (omega (arith, inside)) ∙ ap (λ (w : ℕ). bit_at w i == 1) (sym (packed r (omega (arith, low))))
 
 -- so the rows of a window that was run are those of some generations later
-pub run_place : (at : Frame) (p : Place) (words : List ℕ) (rule : Numbers) (count : ℕ) (window later : List (List ℕ)) (rows : List ℕ) (change : Change)
+pub run_place : (at : Frame) (p : WindowOrigin) (words : List ℕ) (rule : Numbers) (count : ℕ) (window later : List (List ℕ)) (rows : List ℕ) (change : DifferenceMask)
     → ((cells : List Cell) → Shows at words cells → IsShownInside 10 p.left p.top 0 window cells) → IsRun rule count window later change
     → ((r : ℕ) → r < 40 → slice_index rows r ≡ row_at 10 later r) → IsRunAt at words rule count p rows change
 run_place at p words rule count window later rows change shown run unpacked cells o shows =
@@ -142,19 +142,19 @@ run_place at p words rule count window later rows change shown run unpacked cell
 -- ---- place after place
 
 -- the first places were run
-pub record AreRunFirst (at : Frame) (words : List ℕ) (rule : Numbers) (count : ℕ) (places : List Place) (held : List (List ℕ))
+pub record AreRunFirst (at : Frame) (words : List ℕ) (rule : Numbers) (count : ℕ) (places : List WindowOrigin) (held : List (List ℕ))
     (boxes : List Bounds) (done : ℕ) : Type 0 where
   pub long : length held ≡ done
-  pub run : (k : ℕ) (p : Place) (cells : List Cell) → k < done → InOrder cells → Shows at words cells
+  pub run : (k : ℕ) (p : WindowOrigin) (cells : List Cell) → k < done → InOrder cells → Shows at words cells
       → ShowsInner (slice_index_or places k p) (slice_index_or held k []) (after rule cells count)
   pub differences : (cells : List Cell) → InOrder cells → Shows at words cells
       → HoldFirst done places (after rule cells count) (compared_with rule cells count) boxes
   pub sides : All (AreSidesWithin box_bound) boxes
 
-pub run_more : (at : Frame) (words : List ℕ) (rule : Numbers) (count : ℕ) (places : List Place) (held held2 : List (List ℕ)) (boxes boxes2 : List Bounds)
-    (done : ℕ) (q : Place) (rows : List ℕ) (change : Change) (found : Option Bounds) → AreRunFirst at words rule count places held boxes done
+pub run_more : (at : Frame) (words : List ℕ) (rule : Numbers) (count : ℕ) (places : List WindowOrigin) (held held2 : List (List ℕ)) (boxes boxes2 : List Bounds)
+    (done : ℕ) (q : WindowOrigin) (rows : List ℕ) (change : DifferenceMask) (found : Option Bounds) → AreRunFirst at words rule count places held boxes done
     → done < length places → IsRunAt at words rule count (get_or places done q) rows change
-    → ((one other : List Cell) → HoldsChange (get_or places done q) one other change → HoldsDifference (get_or places done q) one other found)
+    → ((one other : List Cell) → MarksDifferences (get_or places done q) one other change → HoldsDifference (get_or places done q) one other found)
     → held2 ≡ held ++ rows ∷ [] → ((c : Cell) → IsInOne boxes c → IsInOne boxes2 c)
     → ((c : Cell) → IsSomeAnd found (λ b. IsWithin b c) → IsInOne boxes2 c) → All (AreSidesWithin box_bound) boxes2
     → AreRunFirst at words rule count places held2 boxes2 (done + 1)
@@ -169,7 +169,7 @@ run_more at words rule count places held held2 boxes boxes2 done q rows change f
   sides = sides;
 }
   where
-    each : (k : ℕ) (p : Place) (cells : List Cell) → InOrder cells → Shows at words cells → k < done + 1 → (k < done) ⊎ (done ≤ k)
+    each : (k : ℕ) (p : WindowOrigin) (cells : List Cell) → InOrder cells → Shows at words cells → k < done + 1 → (k < done) ⊎ (done ≤ k)
         → ShowsInner (slice_index_or places k p) (slice_index_or (held ++ rows ∷ []) k []) (after rule cells count)
     each k p cells o shows low (inl earlier) =
         subst (λ (a : List ℕ). ShowsInner (slice_index_or places k p) a (after rule cells count))
@@ -179,12 +179,12 @@ run_more at words rule count places held held2 boxes boxes2 done q rows change f
         let place : get_or places done q ≡ slice_index_or places k p = get_or_default places done q p less ∙ ap (λ (n : ℕ). get_or places n p) same in
         subst (λ (a : List ℕ). ShowsInner (slice_index_or places k p) a (after rule cells count))
         (sym (get_or_push held rows [] k (before.long ∙ same)))
-        (subst (λ (r : Place). ShowsInner r rows (after rule cells count)) place (here cells o shows).0)
+        (subst (λ (r : WindowOrigin). ShowsInner r rows (after rule cells count)) place (here cells o shows).0)
 
 -- ---- putting back
 
 -- a cell of the inner part, by the board's columns and rows
-inner_place : (at : Frame) (p : Place) (x y u v : ℕ) → p.left ≡ at.left +ℤ pos x → p.top ≡ at.top +ℤ pos y → IsInnerCell p (cell_on at u v)
+inner_place : (at : Frame) (p : WindowOrigin) (x y u v : ℕ) → p.left ≡ at.left +ℤ pos x → p.top ≡ at.top +ℤ pos y → IsInnerCell p (cell_on at u v)
     → IsInner x y 36 u v
 inner_place at p x y u v left top inner =
     let a = inner.left in
@@ -196,22 +196,22 @@ inner_place at p x y u v left top inner =
       row = record { r = v - y; low = omega (arith, ints); high = omega (arith, ints); is = omega (arith, ints) };
     }
 
-pub back_more : (at : Frame) (places : List Place) (held : List (List ℕ)) (old mid new : List ℕ) (k x y : ℕ)
-    → ((p : Place) → (slice_index_or places k p).left ≡ at.left +ℤ pos x)
-    → ((p : Place) → (slice_index_or places k p).top ≡ at.top +ℤ pos y) → ArePutBack at places held k old mid
+pub back_more : (at : Frame) (places : List WindowOrigin) (held : List (List ℕ)) (old mid new : List ℕ) (k x y : ℕ)
+    → ((p : WindowOrigin) → (slice_index_or places k p).left ≡ at.left +ℤ pos x)
+    → ((p : WindowOrigin) → (slice_index_or places k p).top ≡ at.top +ℤ pos y) → ArePutBack at places held k old mid
     → IsPutBack at x y 36 (slice_index_or held k []) mid new → ArePutBack at places held (k + 1) old new
 back_more at places held old mid new k x y left top before put cells shown u v hu hv =
     split (put u v hu hv) (before cells (λ m p low. shown m p (omega arith)) u v hu hv)
   where
-    some_place : Place
+    some_place : WindowOrigin
     some_place = record { left = pos 0; top = pos 0 }
 
     split : ((c : IsInner x y 36 u v) × (bit_on at new u v ≡ bit_at (slice_index (slice_index_or held k []) c.row.r) c.column.i))
         ⊎ ((IsInner x y 36 u v → ⊥) × (bit_on at new u v ≡ bit_on at mid u v))
         → (has cells (cell_on at u v) ≡ (bit_on at mid u v == 1))
-        ⊎ (((m : ℕ) (p : Place) → m < k → IsInnerCell (slice_index_or places m p) (cell_on at u v) → ⊥) × (bit_on at mid u v ≡ bit_on at old u v))
+        ⊎ (((m : ℕ) (p : WindowOrigin) → m < k → IsInnerCell (slice_index_or places m p) (cell_on at u v) → ⊥) × (bit_on at mid u v ≡ bit_on at old u v))
         → (has cells (cell_on at u v) ≡ (bit_on at new u v == 1))
-        ⊎ (((m : ℕ) (p : Place) → m < k + 1 → IsInnerCell (slice_index_or places m p) (cell_on at u v) → ⊥) × (bit_on at new u v ≡ bit_on at old u v))
+        ⊎ (((m : ℕ) (p : WindowOrigin) → m < k + 1 → IsInnerCell (slice_index_or places m p) (cell_on at u v) → ⊥) × (bit_on at new u v ≡ bit_on at old u v))
     split (inl (c, is)) known =
         let column = c.column.is in
         let row = c.row.is in
@@ -223,7 +223,7 @@ back_more at places held old mid new k x y left top before put cells shown u v h
     split (inr (off, kept)) (inl same) = inl (same ∙ ap (λ (n : ℕ). n == 1) (sym kept))
     split (inr (off, kept)) (inr (none, same)) = inr (each, kept ∙ same)
       where
-        each : (m : ℕ) (p : Place) → m < k + 1 → IsInnerCell (slice_index_or places m p) (cell_on at u v) → ⊥
+        each : (m : ℕ) (p : WindowOrigin) → m < k + 1 → IsInnerCell (slice_index_or places m p) (cell_on at u v) → ⊥
         each m p low inner = by_place (cases_lt m k)
           where
             by_place : (m < k) ⊎ (k ≤ m) → ⊥
@@ -235,7 +235,7 @@ back_more at places held old mid new k x y left top before put cells shown u v h
 
 -- ---- the whole leap
 
-pub leapt : (at : Frame) (rule : Numbers) (count : ℕ) (places : List Place) (held : List (List ℕ)) (boxes : List Bounds) (old new : List ℕ)
+pub leapt : (at : Frame) (rule : Numbers) (count : ℕ) (places : List WindowOrigin) (held : List (List ℕ)) (boxes : List Bounds) (old new : List ℕ)
     → AreRun at old rule count places held boxes → ArePutBack at places held (length places) old new → HasLeapt at rule count places old new
 leapt at rule count places held boxes old new ran put cells o shows off s r i hs hr hi =
     split (put (after rule cells count) (λ k p low. ran.run k p cells low o shows) (64 * s + i) r (omega arith) hr)
@@ -247,11 +247,11 @@ leapt at rule count places held boxes old new ran put cells o shows off s r i hs
     new_bit = bit_of_lane at new s r i hi
 
     split : (has (after rule cells count) c ≡ (bit_on at new (64 * s + i) r == 1))
-        ⊎ (((k : ℕ) (p : Place) → k < length places → IsInnerCell (slice_index_or places k p) c → ⊥)
+        ⊎ (((k : ℕ) (p : WindowOrigin) → k < length places → IsInnerCell (slice_index_or places k p) c → ⊥)
         × (bit_on at new (64 * s + i) r ≡ bit_on at old (64 * s + i) r))
         → has (after rule cells count) c ≡ (bit_at (slice_index new (word_of at s r)) i == 1)
     split (inl is) = is ∙ ap (λ (n : ℕ). n == 1) new_bit
     split (inr (none, kept)) =
-        off c (λ (k, p, low, is, inner). none k p low (subst (λ (q : Place). IsInnerCell q c) (sym is) inner))
+        off c (λ (k, p, low, is, inner). none k p low (subst (λ (q : WindowOrigin). IsInnerCell q c) (sym is) inner))
         ∙ shows s r i hs hr hi
         ∙ ap (λ (n : ℕ). n == 1) (sym (bit_of_lane at old s r i hi) ∙ sym kept ∙ new_bit)

@@ -13,10 +13,10 @@ use Rattle.plane_core.specs.declared.engine.frame.Frame.{Frame}
 use Rattle.plane_core.specs.declared.plane.cell.Cell.{Cell}
 use Rattle.plane_core.specs.plane.Cells.{InOrder, cell_at, has, set_of}
 use Rattle.plane_core.specs.engine.Frames.{IsFrame, LieOn, Shows, board_cell, word_of}
-use Rattle.plane_core.specs.engine.Listing.{AreAmong, HasRead, HasReadRows, IsBandEmpty, IsLaneEmpty}
+use Rattle.plane_core.specs.engine.Listing.{AreAmong, HasRead, HasReadRows, IsBandEmpty, IsWordColumnEmpty}
 use Rattle.plane_core.specs.engine.OnBoard.{cells_on}
-use Rattle.plane_core.specs.engine.RowSpans.{HasRow, IsInSpan, LieInLanes, LieInSpans}
-use Rattle.plane_core.specs.declared.engine.row_spans.Span.{Span}
+use Rattle.plane_core.specs.engine.RowSpans.{HasRow, IsInSpan, LieInWordColumns, LieInSpans}
+use Rattle.plane_core.specs.declared.engine.row_spans.RowSpan.{RowSpan}
 use Rattle.plane_core.proofs.lemmas.plane.CaseLemmas.{less_or_not, same_or_not}
 use Rattle.plane_core.proofs.lemmas.engine.RowSpanLemmas.{dead_outside, live_bit}
 use Rattle.plane_core.proofs.lemmas.engine.FrameLemmas.{spot_inside, spot_of}
@@ -135,7 +135,7 @@ row-empty at words band r n m low high empty s b past near small =
     let row : 8 * band + (r - 8 * band) ≡ r = omega arith in
     ap (λ (q : ℕ). bit_at (slice_index words (word_of at s q)) b) (sym row) ∙ empty s past near (r - 8 * band) b (omega arith) small
 
-pub row-more : (at : Frame) (words : List ℕ) (s r word : ℕ) (first : Cell) (old new more : List Cell) → s < at.lanes → r < at.rows
+pub row-more : (at : Frame) (words : List ℕ) (s r word : ℕ) (first : Cell) (old new more : List Cell) → s < at.word_columns → r < at.rows
     → ((i : ℕ) → i < 64 → bit_at word i ≡ bit_at (slice_index words (word_of at s r)) i) → first ≡ board_cell at s r 0
     → HasReadRow at words r old s new → HasRead word first new 64 more → HasReadRow at words r old (s + 1) more
 row-more at words s r word first old new more hs hr word_is first_is before read = record {
@@ -161,13 +161,13 @@ row-more at words s r word first old new more hs hr word_is first_is before read
 -- ---- the board
 
 pub rows-more : (at : Frame) (words : List ℕ) (r : ℕ) (new more : List Cell) → HasReadRows at words r new
-    → HasReadRow at words r new at.lanes more → HasReadRows at words (r + 1) more
+    → HasReadRow at words r new at.word_columns more → HasReadRows at words (r + 1) more
 rows-more at words r new more before read = record {
   sound = λ others shown. read.sound others shown (before.sound others shown);
   complete = λ s k i hs near low bit. found s k i hs near low bit (same_or_not k r);
 }
   where
-    found : (s k i : ℕ) → s < at.lanes → k < r + 1 → i < 64 → bit_at (slice_index words (word_of at s k)) i ≡ 1 → (k ≡ r) ⊎ (k ≢ r)
+    found : (s k i : ℕ) → s < at.word_columns → k < r + 1 → i < 64 → bit_at (slice_index words (word_of at s k)) i ≡ 1 → (k ≡ r) ⊎ (k ≢ r)
         → has more (board_cell at s k i) ≡ true
     found s k i hs near low bit (inl same) =
         ap (λ (n : ℕ). has more (board_cell at s n i)) same
@@ -181,14 +181,14 @@ rows-none at words cells none = record {
 }
 
 -- an empty band has nothing to read
-pub rows-on : (at : Frame) (words : List ℕ) (band : ℕ) (new : List Cell) → IsBandEmpty at words band 0 at.lanes → HasReadRows at words (8 * band) new
+pub rows-on : (at : Frame) (words : List ℕ) (band : ℕ) (new : List Cell) → IsBandEmpty at words band 0 at.word_columns → HasReadRows at words (8 * band) new
     → HasReadRows at words (8 * band + 8) new
 rows-on at words band new empty before = record {
   sound = before.sound;
   complete = λ s r i hs near low bit. found s r i hs near low bit (less_or_not r (8 * band));
 }
   where
-    found : (s r i : ℕ) → s < at.lanes → r < 8 * band + 8 → i < 64 → bit_at (slice_index words (word_of at s r)) i ≡ 1
+    found : (s r i : ℕ) → s < at.word_columns → r < 8 * band + 8 → i < 64 → bit_at (slice_index words (word_of at s r)) i ≡ 1
         → (r < 8 * band) ⊎ (8 * band ≤ r) → has new (board_cell at s r i) ≡ true
     found s r i hs near low bit (inl done) = before.complete s r i hs done low bit
     found s r i hs near low bit (inr here) =
@@ -198,24 +198,24 @@ rows-on at words band new empty before = record {
         absurd (omega (arith, none, same, bit))
 
 -- a block without a column is empty
-pub lane-empty : (at : Frame) (words : List ℕ) (s band from columns : ℕ) → from ≡ word_of at s (8 * band) → columns ≡ 0
-    → ((b k : ℕ) → bit_at columns b ≡ 0 → k < 8 → bit_at (slice_index words (from + k)) b ≡ 0) → IsLaneEmpty at words band s
-lane-empty at words s band from columns is zero here k b low small =
+pub word_column-empty : (at : Frame) (words : List ℕ) (s band from columns : ℕ) → from ≡ word_of at s (8 * band) → columns ≡ 0
+    → ((b k : ℕ) → bit_at columns b ≡ 0 → k < 8 → bit_at (slice_index words (from + k)) b ≡ 0) → IsWordColumnEmpty at words band s
+word_column-empty at words s band from columns is zero here k b low small =
     let spot : word_of at s (8 * band + k) ≡ from + k = omega (arith, is) in
     ap (λ (n : ℕ). bit_at (slice_index words n) b) spot ∙ here b k (ap (λ (n : ℕ). bit_at n b) zero ∙ bit_at-zero b) low
 
 -- one lane more of a band is empty
-pub band-more : (at : Frame) (words : List ℕ) (band n : ℕ) → IsBandEmpty at words band 0 n → IsLaneEmpty at words band n → IsBandEmpty at words band 0 (n + 1)
+pub band-more : (at : Frame) (words : List ℕ) (band n : ℕ) → IsBandEmpty at words band 0 n → IsWordColumnEmpty at words band n → IsBandEmpty at words band 0 (n + 1)
 band-more at words band n before here s low near = elim (same_or_not s n) [
-  | inl same ↦ subst (λ (t : ℕ). IsLaneEmpty at words band t) (sym same) here
+  | inl same ↦ subst (λ (t : ℕ). IsWordColumnEmpty at words band t) (sym same) here
   | inr apart ↦ before s low (omega (arith, near, apart))
 ]
 
 -- and one lane more at its end
-pub band-less : (at : Frame) (words : List ℕ) (band n m : ℕ) → 1 ≤ n → IsBandEmpty at words band n m → IsLaneEmpty at words band (n - 1)
+pub band-less : (at : Frame) (words : List ℕ) (band n m : ℕ) → 1 ≤ n → IsBandEmpty at words band n m → IsWordColumnEmpty at words band (n - 1)
     → IsBandEmpty at words band (n - 1) m
 band-less at words band n m some before here s low near = elim (same_or_not s (n - 1)) [
-  | inl same ↦ subst (λ (t : ℕ). IsLaneEmpty at words band t) (sym same) here
+  | inl same ↦ subst (λ (t : ℕ). IsWordColumnEmpty at words band t) (sym same) here
   | inr apart ↦ before s (omega (arith, low, apart, some)) near
 ]
 
@@ -234,21 +234,21 @@ eight-more words from k columns before b m none near = go (same_or_not m k)
         before b m (omega (arith, e, none)) (omega arith)
 
 -- a span that ends before eight rows, or begins past them, has none of them
-pub missed_eight : (span : Span) (first : ℕ) → (nat_le span.end first || nat_le (first + 8) span.from) ≡ true → (k : ℕ) → k < 8 → HasRow span (first + k) → ⊥
+pub missed_eight : (span : RowSpan) (first : ℕ) → (nat_le span.end first || nat_le (first + 8) span.from) ≡ true → (k : ℕ) → k < 8 → HasRow span (first + k) → ⊥
 missed_eight span first e k low inside = let a = inside.low in let b = inside.high in grind (arith, nat_tests)
 
 -- where its span doesn't reach, a lane is empty
-pub lane_missed : (at : Frame) (words : List ℕ) (spans : List Span) (s band : ℕ) → s < at.lanes → band < at.rows / 8
-    → LieInSpans at spans (cells_on at words) → ((k : ℕ) → k < 8 → IsInSpan spans s (8 * band + k) → ⊥) → IsLaneEmpty at words band s
-lane_missed at words spans s band hs hb live missed k b low small =
+pub word_column_missed : (at : Frame) (words : List ℕ) (spans : List RowSpan) (s band : ℕ) → s < at.word_columns → band < at.rows / 8
+    → LieInSpans at spans (cells_on at words) → ((k : ℕ) → k < 8 → IsInSpan spans s (8 * band + k) → ⊥) → IsWordColumnEmpty at words band s
+word_column_missed at words spans s band hs hb live missed k b low small =
     dead_outside at words spans s (8 * band + k) b live hs (omega (arith, low, hb)) small (missed k low)
 
 -- and where no span reaches, lanes are
-pub band_missed : (at : Frame) (words : List ℕ) (spans : List Span) (lanes : Span) (band from to : ℕ) → band < at.rows / 8 → to ≤ at.lanes
-    → LieInSpans at spans (cells_on at words) → LieInLanes at spans lanes → ((s : ℕ) → from ≤ s → s < to → HasRow lanes s → ⊥)
+pub band_missed : (at : Frame) (words : List ℕ) (spans : List RowSpan) (word_columns : RowSpan) (band from to : ℕ) → band < at.rows / 8 → to ≤ at.word_columns
+    → LieInSpans at spans (cells_on at words) → LieInWordColumns at spans word_columns → ((s : ℕ) → from ≤ s → s < to → HasRow word_columns s → ⊥)
     → IsBandEmpty at words band from to
-band_missed at words spans lanes band from to hb most live held out s past near =
-    lane_missed at words spans s band (omega (arith, near, most)) hb live
+band_missed at words spans word_columns band from to hb most live held out s past near =
+    word_column_missed at words spans s band (omega (arith, near, most)) hb live
     (λ k low inside. out s past near (held s (8 * band + k) (omega (arith, near, most)) inside))
 
 -- two neighbouring bands
@@ -266,7 +266,7 @@ bands_begin first all from is = omega (arith, is)
 pub bands_end : (at : Frame) (last end : ℕ) → IsFrame at → end ≡ min last at.rows → (end + 7) / 8 ≤ at.rows / 8
 bands_end at last end frame is = let h = frame.bands in omega (arith, is)
 
-pub bands_held : (rows : Span) (all from end r : ℕ) → from ≡ min rows.from all → end ≡ min rows.end all → r < all → HasRow rows r
+pub bands_held : (rows : RowSpan) (all from end r : ℕ) → from ≡ min rows.from all → end ≡ min rows.end all → r < all → HasRow rows r
     → HasRow (record { from = from / 8; end = (end + 7) / 8 }) (r / 8)
 bands_held rows all from end r from_is end_is low inside =
     let a = inside.low in
@@ -274,8 +274,8 @@ bands_held rows all from end r from_is end_is low inside =
     record { low = omega (arith, from_is); high = omega (arith, end_is) }
 
 -- outside of the bands that spans reach there is nothing to read
-pub bands_before : (at : Frame) (words : List ℕ) (spans : List Span) (bands : Span) (cells : List Cell) → cells ≡ [] → 8 * bands.from ≤ at.rows
-    → LieInSpans at spans (cells_on at words) → ((s r : ℕ) → s < at.lanes → r < at.rows → IsInSpan spans s r → HasRow bands (r / 8))
+pub bands_before : (at : Frame) (words : List ℕ) (spans : List RowSpan) (bands : RowSpan) (cells : List Cell) → cells ≡ [] → 8 * bands.from ≤ at.rows
+    → LieInSpans at spans (cells_on at words) → ((s r : ℕ) → s < at.word_columns → r < at.rows → IsInSpan spans s r → HasRow bands (r / 8))
     → HasReadRows at words (8 * bands.from) cells
 bands_before at words spans bands cells none low live held = record {
   sound = (rows-none at words cells none).sound;
@@ -285,8 +285,8 @@ bands_before at words spans bands cells none low live held = record {
       absurd (omega (arith, h, near));
 }
 
-pub bands_after : (at : Frame) (words : List ℕ) (spans : List Span) (bands : Span) (band : ℕ) (cells : List Cell) → bands.end ≤ band
-    → LieInSpans at spans (cells_on at words) → ((s r : ℕ) → s < at.lanes → r < at.rows → IsInSpan spans s r → HasRow bands (r / 8))
+pub bands_after : (at : Frame) (words : List ℕ) (spans : List RowSpan) (bands : RowSpan) (band : ℕ) (cells : List Cell) → bands.end ≤ band
+    → LieInSpans at spans (cells_on at words) → ((s r : ℕ) → s < at.word_columns → r < at.rows → IsInSpan spans s r → HasRow bands (r / 8))
     → HasReadRows at words (8 * band) cells → HasReadRows at words at.rows cells
 bands_after at words spans bands band cells low live held before = record {
   sound = before.sound;
@@ -311,7 +311,7 @@ read_all at words S new o fits shown read = sym (is_set_of S new o (λ c. both_t
         let p : pos a ≡ c.x -ℤ at.left = natural c.x at.left within.left in
         let q : pos d ≡ c.y -ℤ at.top = natural c.y at.top within.top in
         let is = spot_of at c a d p q in
-        let hs : a / 64 < at.lanes = (spot_inside at c a d within p q).0 in
+        let hs : a / 64 < at.word_columns = (spot_inside at c a d within p q).0 in
         let hr : d < at.rows = (spot_inside at c a d within p q).1 in
         let alive : has S (board_cell at (a / 64) d (a % 64)) ≡ true = ap (λ (x : Cell). has S x) (sym is) ∙ e in
         let bit : (bit_at (slice_index words (word_of at (a / 64) d)) (a % 64) == 1) ≡ true = sym (shown (a / 64) d (a % 64) hs hr (omega arith)) ∙ alive in

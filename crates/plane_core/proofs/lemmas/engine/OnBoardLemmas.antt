@@ -59,10 +59,10 @@ number_of at s r i = 64 * word_of at s r + i
 lit_cell-number : (at : Frame) (s r i : ℕ) → r < at.rows → i < 64 → lit_cell at (number_of at s r i) ≡ board_cell at s r i
 lit_cell-number at s r i hr hi =
     let word : number_of at s r i / 64 ≡ word_of at s r = omega arith in
-    let lane : number_of at s r i / 64 / at.rows ≡ s = ap (λ (m : ℕ). m / at.rows) word ∙ div-mul-add s at.rows r hr in
+    let word_column : number_of at s r i / 64 / at.rows ≡ s = ap (λ (m : ℕ). m / at.rows) word ∙ div-mul-add s at.rows r hr in
     let row : number_of at s r i / 64 % at.rows ≡ r = ap (λ (m : ℕ). m % at.rows) word ∙ mod-mul-add s at.rows r hr in
     let bit : number_of at s r i % 64 ≡ i = omega arith in
-    λ j. board_cell at (lane j) (row j) (bit j)
+    λ j. board_cell at (word_column j) (row j) (bit j)
 
 is_live_bit-number : (at : Frame) (ws : List ℕ) (s r i : ℕ) → i < 64 → is_live_bit ws (number_of at s r i) ≡ (bit_at (slice_index ws (word_of at s r)) i == 1)
 is_live_bit-number at ws s r i hi =
@@ -72,18 +72,18 @@ is_live_bit-number at ws s r i hi =
 
 -- where a bit of the list stands
 pub record IsPlaced (at : Frame) (k : ℕ) : Type 0 where
-  pub lane : k / 64 / at.rows < at.lanes
+  pub word_column : k / 64 / at.rows < at.word_columns
   pub row : k / 64 % at.rows < at.rows
   pub word : word_of at (k / 64 / at.rows) (k / 64 % at.rows) ≡ k / 64
 
-pub placed : (at : Frame) (k : ℕ) → k < 64 * (at.lanes * at.rows) → IsPlaced at k
+pub placed : (at : Frame) (k : ℕ) → k < 64 * (at.word_columns * at.rows) → IsPlaced at k
 placed at k low = record {
-  lane = div_below (k / 64) at.rows at.lanes some few;
+  word_column = div_below (k / 64) at.rows at.word_columns some few;
   row = mod-lt (k / 64) some;
   word = div-add-mod' (k / 64) at.rows;
 }
   where
-    few : k / 64 < at.lanes * at.rows
+    few : k / 64 < at.word_columns * at.rows
     few = omega arith
 
     some : 0 < at.rows
@@ -91,7 +91,7 @@ placed at k low = record {
       where
         go : (h : ℕ) → at.rows ≡ h → 0 < h
         go zero none =
-            let no_words : at.lanes * at.rows ≡ at.lanes * 0 = ap (λ (h : ℕ). at.lanes * h) none in
+            let no_words : at.word_columns * at.rows ≡ at.word_columns * 0 = ap (λ (h : ℕ). at.word_columns * h) none in
             absurd (omega (arith, few, no_words))
         go (suc h) is = omega arith
 
@@ -102,7 +102,7 @@ unfolding cells_on
 shows_cells at ws s r i hs hr hi = has-set_of _ c ∙ both_true (has (lit_before at ws n) c) (bit_at (slice_index ws (word_of at s r)) i == 1) there back
   where
     n : ℕ
-    n = 64 * (at.lanes * at.rows)
+    n = 64 * (at.word_columns * at.rows)
 
     c : Cell
     c = board_cell at s r i
@@ -122,12 +122,12 @@ shows_cells at ws s r i hs hr hi = has-set_of _ c ∙ both_true (has (lit_before
 
 -- a cell of a board is one of its bits
 pub bit_of_cell : (at : Frame) (ws : List ℕ) (c : Cell) → has (cells_on at ws) c ≡ true
-    → (k : ℕ) × (k < 64 * (at.lanes * at.rows)) × (is_live_bit ws k ≡ true) × (c ≡ lit_cell at k)
+    → (k : ℕ) × (k < 64 * (at.word_columns * at.rows)) × (is_live_bit ws k ≡ true) × (c ≡ lit_cell at k)
 unfolding cells_on
 bit_of_cell at ws c e = lit-has at ws _ c (sym (has-set_of _ c) ∙ e)
 
 -- each bit of a board is a cell that lies on it
-pub spot_within : (at : Frame) (s r i : ℕ) → s < at.lanes → r < at.rows → i < 64 → IsWithin (bounds_of at) (board_cell at s r i)
+pub spot_within : (at : Frame) (s r i : ℕ) → s < at.word_columns → r < at.rows → i < 64 → IsWithin (bounds_of at) (board_cell at s r i)
 spot_within at s r i hs hr hi = record {
   left = omega (arith, ints);
   top = omega (arith, ints);
@@ -140,11 +140,11 @@ cells_lie_on at ws c e =
     let (k, low, lit, is) = bit_of_cell at ws c e in
     let spot = placed at k low in
     subst (λ (x : Cell). IsWithin (bounds_of at) x) (sym is)
-    (spot_within at (k / 64 / at.rows) (k / 64 % at.rows) (k % 64) spot.lane spot.row (omega arith))
+    (spot_within at (k / 64 / at.rows) (k / 64 % at.rows) (k % 64) spot.word_column spot.row (omega arith))
 
 pub cells_in_order : (at : Frame) (ws : List ℕ) → InOrder (cells_on at ws)
 unfolding cells_on
-cells_in_order at ws = in_order-set_of (lit_before at ws (64 * (at.lanes * at.rows)))
+cells_in_order at ws = in_order-set_of (lit_before at ws (64 * (at.word_columns * at.rows)))
 
 natural : (d : ℤ) (a : ℤ) → a ≤ℤ d → pos (unsigned_abs (d -ℤ a)) ≡ d -ℤ a
 natural d a h = omega (arith, ints)
@@ -157,7 +157,7 @@ only_cells at ws S o on shown = same_lists (cells_on at ws) S (cells_in_order at
     there c e =
         let (k, low, lit, is) = bit_of_cell at ws c e in
         let spot = placed at k low in
-        ap (λ (x : Cell). has S x) is ∙ shown (k / 64 / at.rows) (k / 64 % at.rows) (k % 64) spot.lane spot.row (omega arith)
+        ap (λ (x : Cell). has S x) is ∙ shown (k / 64 / at.rows) (k / 64 % at.rows) (k % 64) spot.word_column spot.row (omega arith)
         ∙ ap (λ (m : ℕ). bit_at (slice_index ws m) (k % 64) == 1) spot.word ∙ lit
 
     back : (c : Cell) → has S c ≡ true → has (cells_on at ws) c ≡ true

@@ -10,7 +10,7 @@ use Rattle.std.proofs.lemmas.Nat.Bits.{bit_at_clear_other, bit_at_clear_same}
 use Rattle.plane_core.specs.declared.plane.bounds.Bounds.{Bounds}
 use Rattle.plane_core.specs.declared.plane.cell.Cell.{Cell}
 use Rattle.plane_core.specs.declared.engine.frame.Frame.{Frame}
-use Rattle.plane_core.specs.declared.engine.row_spans.Span.{Span}
+use Rattle.plane_core.specs.declared.engine.row_spans.RowSpan.{RowSpan}
 use Rattle.plane_core.specs.engine.Boards.{IsSpannedBoard}
 use Rattle.plane_core.specs.plane.Bounds.{AreSidesWithin, IsWithin}
 use Rattle.plane_core.specs.engine.ActiveBoxes.{AreWider, HoldAll, box_bound}
@@ -78,7 +78,7 @@ apart_cells c d apart = go (same_cell d c) refl
 
 -- ---- on a board
 
-pub shown_fewer : (at : Frame) (ws : List ℕ) (S gone : List Cell) (c : Cell) (s d i : ℕ) → s < at.lanes → d < at.rows → i < 64
+pub shown_fewer : (at : Frame) (ws : List ℕ) (S gone : List Cell) (c : Cell) (s d i : ℕ) → s < at.word_columns → d < at.rows → i < 64
     → c ≡ board_cell at s d i → word_of at s d < length ws → Shows at ws (without S gone)
     → Shows at (set ws (word_of at s d) (bit_and (get_or ws (word_of at s d) 0) (bit_not w64 (1 * 2 ^ i % 2 ^ 64)))) (without S (gone ++ c ∷ []))
 shown_fewer at ws S gone c s d i hs hd hi is low shown t y k ht hy hk = row (same_or_not (word_of at t y) m)
@@ -117,11 +117,11 @@ shown_fewer at ws S gone c s d i hs hd hi is low shown t y k ht hy hk = row (sam
         kept (slice_index (set ws m new) (word_of at t y)) (ap (λ (w : ℕ). bit_at w k) (get_or-set_other ws m (word_of at t y) new 0 apart))
         (λ (u, v, w). apart (λ j. word_of at (u j) (v j)))
 
-pub taken_off : (at : Frame) (ws : List ℕ) (S gone : List Cell) (c : Cell) (a d m : ℕ) → length ws ≡ at.lanes * at.rows → IsWithin (bounds_of at) c
+pub taken_off : (at : Frame) (ws : List ℕ) (S gone : List Cell) (c : Cell) (a d m : ℕ) → length ws ≡ at.word_columns * at.rows → IsWithin (bounds_of at) c
     → pos a ≡ c.x -ℤ at.left → pos d ≡ c.y -ℤ at.top → m ≡ word_of at (a / 64) d → Shows at ws (without S gone)
     → Shows at (set ws m (bit_and (get_or ws m 0) (bit_not w64 (1 * 2 ^ (a % 64) % 2 ^ 64)))) (without S (gone ++ c ∷ []))
 taken_off at ws S gone c a d m long within p q is shown =
-    let hs : a / 64 < at.lanes = (spot_inside at c a d within p q).0 in
+    let hs : a / 64 < at.word_columns = (spot_inside at c a d within p q).0 in
     let hd : d < at.rows = (spot_inside at c a d within p q).1 in
     let low : word_of at (a / 64) d < length ws = omega (arith, word-inside at (a / 64) d hs hd) in
     subst (λ (n : ℕ). Shows at (set ws n (bit_and (get_or ws n 0) (bit_not w64 (1 * 2 ^ (a % 64) % 2 ^ 64)))) (without S (gone ++ c ∷ []))) (sym is)
@@ -174,7 +174,7 @@ unfolding on_plane
 lies_in_bound S pattern = lies_wider S plane_bound box_bound (omega arith) pattern.on_plane
 
 -- a board may have wider boxes
-pub wider_board : (at : Frame) (rule : Numbers) (words : List ℕ) (boxes later : List Bounds) (holds_all : Bool) (spans : List Span)
+pub wider_board : (at : Frame) (rule : Numbers) (words : List ℕ) (boxes later : List Bounds) (holds_all : Bool) (spans : List RowSpan)
     → IsSpannedBoard at rule words boxes holds_all spans → All (AreSidesWithin box_bound) later → AreWider boxes later
     → IsSpannedBoard at rule words later holds_all spans
 wider_board at rule words boxes later holds_all spans is sides wider = record {
@@ -190,7 +190,7 @@ wider_board at rule words boxes later holds_all spans is sides wider = record {
 }
 
 -- and fewer cells, if its boxes hold those that are gone
-pub fewer_board : (at : Frame) (rule : Numbers) (old new : List ℕ) (boxes later : List Bounds) (holds_all : Bool) (spans : List Span)
+pub fewer_board : (at : Frame) (rule : Numbers) (old new : List ℕ) (boxes later : List Bounds) (holds_all : Bool) (spans : List RowSpan)
     (gone : List Cell) → IsSpannedBoard at rule old boxes holds_all spans → length new ≡ length old
     → cells_on at new ≡ without (cells_on at old) gone → All (AreSidesWithin box_bound) later → AreWider boxes later → HoldAll later gone
     → IsSpannedBoard at rule new later holds_all spans
@@ -207,7 +207,7 @@ fewer_board at rule old new boxes later holds_all spans gone is long cells sides
         all = λ e c h. before.board.all e c (stays c h);
       };
       spanned = record {
-        lanes = is.spanned.lanes;
+        word_columns = is.spanned.word_columns;
         live = λ s r i hs hr hi h. is.spanned.live s r i hs hr hi (stays (board_cell at s r i) h);
       };
       plane = is.plane;

@@ -9,9 +9,9 @@ use Rattle.std.proofs.lemmas.List.{get_or_default, take_more}
 use Rattle.std.proofs.lemmas.Nat.Bits.{bit_at-lt, bit_at-zero}
 use Rattle.plane_core.specs.declared.plane.cell.Cell.{Cell}
 use Rattle.plane_core.specs.declared.engine.frame.Frame.{Frame}
-use Rattle.plane_core.specs.declared.engine.window_origin.Place.{Place}
+use Rattle.plane_core.specs.declared.engine.window_origin.WindowOrigin.{WindowOrigin}
 use Rattle.plane_core.specs.declared.engine.row_spans.Hull.{Hull}
-use Rattle.plane_core.specs.declared.engine.row_spans.Span.{Span}
+use Rattle.plane_core.specs.declared.engine.row_spans.RowSpan.{RowSpan}
 use Rattle.plane_core.specs.plane.Cells.{has}
 use Rattle.plane_core.specs.engine.Frames.{Shows, board_cell, word_of}
 use Rattle.plane_core.specs.plane.Generations.{after}
@@ -27,7 +27,7 @@ use Rattle.plane_core.proofs.lemmas.Between.{HoldInner, IsStillOutside}
 
 -- ---- numbers in a span
 
-pub in_or_not : (span : Span) (n : ℕ) → HasRow span n ⊎ (HasRow span n → ⊥)
+pub in_or_not : (span : RowSpan) (n : ℕ) → HasRow span n ⊎ (HasRow span n → ⊥)
 in_or_not span n = low (less_or_not n span.from)
   where
     high : span.from ≤ n → (n < span.end) ⊎ (span.end ≤ n) → HasRow span n ⊎ (HasRow span n → ⊥)
@@ -41,7 +41,7 @@ in_or_not span n = low (less_or_not n span.from)
 -- ---- widening
 
 -- a cell that is put on the board lies in a row that is put in the span of its lane
-pub cell_held : (at : Frame) (spans : List Span) (c : Cell) (a d : ℕ) → pos a ≡ c.x -ℤ at.left → pos d ≡ c.y -ℤ at.top
+pub cell_held : (at : Frame) (spans : List RowSpan) (c : Cell) (a d : ℕ) → pos a ≡ c.x -ℤ at.left → pos d ≡ c.y -ℤ at.top
     → ((r : ℕ) → HasRow (record { from = d; end = d + 1 }) r → IsInSpan spans (a / 64) r) → LieInSpans at spans (c ∷ [])
 cell_held at spans c a d p q held s r i hs hr hi e = elim (has-cases c [] (board_cell at s r i) e) [
   | inr none ↦ absurd (false≢true none)
@@ -51,7 +51,7 @@ cell_held at spans c a d p q held s r i hs hr hi e = elim (has-cases c [] (board
 ]
 
 -- one cell of a list more
-pub held_more : (at : Frame) (old new : List Span) (cs : List Cell) (k : ℕ) (d : Cell) → k < length cs → AreWidened old new → LieInSpans at old (take k cs)
+pub held_more : (at : Frame) (old new : List RowSpan) (cs : List Cell) (k : ℕ) (d : Cell) → k < length cs → AreWidened old new → LieInSpans at old (take k cs)
     → LieInSpans at new (get_or cs k d ∷ []) → LieInSpans at new (take (k + 1) cs)
 held_more at old new cs k d low wide before here s r i hs hr hi e =
     elim (or_cases (has (take k cs) c) (has (get_or cs k d ∷ []) c)
@@ -64,7 +64,7 @@ held_more at old new cs k d low wide before here s r i hs hr hi e =
     c = board_cell at s r i
 
 -- the inner part of a window lies in two lanes
-pub inner_held : (at : Frame) (p : Place) (x y : ℕ) (mid new : List Span) → p.left ≡ at.left +ℤ pos x → p.top ≡ at.top +ℤ pos y
+pub inner_held : (at : Frame) (p : WindowOrigin) (x y : ℕ) (mid new : List RowSpan) → p.left ≡ at.left +ℤ pos x → p.top ≡ at.top +ℤ pos y
     → ((r : ℕ) → HasRow (record { from = y + 4; end = y + 36 }) r → IsInSpan mid (x / 64) r) → AreWidened mid new
     → ((r : ℕ) → HasRow (record { from = y + 4; end = y + 36 }) r → IsInSpan new (x / 64 + 1) r) → HoldInner at new p
 inner_held at p x y mid new left top first wide second s r i hs hr hi inner = go (same_or_not s (x / 64))
@@ -87,12 +87,12 @@ inner_held at p x y mid new left top first wide second s r i hs hr hi inner = go
         subst (λ (t : ℕ). IsInSpan new t r) is (second r here)
 
 -- one place more
-pub places_more : (at : Frame) (old new : List Span) (places : List Place) (done : ℕ) (d : Place) → done < length places → AreWidened old new
-    → ((k : ℕ) (p : Place) → k < done → HoldInner at old (slice_index_or places k p)) → HoldInner at new (slice_index_or places done d)
-    → (k : ℕ) (p : Place) → k < done + 1 → HoldInner at new (slice_index_or places k p)
+pub places_more : (at : Frame) (old new : List RowSpan) (places : List WindowOrigin) (done : ℕ) (d : WindowOrigin) → done < length places → AreWidened old new
+    → ((k : ℕ) (p : WindowOrigin) → k < done → HoldInner at old (slice_index_or places k p)) → HoldInner at new (slice_index_or places done d)
+    → (k : ℕ) (p : WindowOrigin) → k < done + 1 → HoldInner at new (slice_index_or places k p)
 places_more at old new places done d low wide before here k p near s r i hs hr hi inner = elim (same_or_not k done) [
   | inl same ↦
-      here s r i hs hr hi (subst (λ (q : Place). IsInnerCell q (board_cell at s r i))
+      here s r i hs hr hi (subst (λ (q : WindowOrigin). IsInnerCell q (board_cell at s r i))
       (ap (λ (m : ℕ). slice_index_or places m p) same ∙ get_or_default places done p d low) inner)
   | inr apart ↦ wide s r (before k p (omega (arith, near, apart)) s r i hs hr hi inner)
 ]
@@ -100,7 +100,7 @@ places_more at old new places done d low wide before here k p near s r i hs hr h
 -- ---- a leap
 
 -- what lives after a leap lies in the spans: in an inner part, or where it was alive before
-pub spans_after : (rule : Numbers) (at : Frame) (places : List Place) (S : List Cell) (n : ℕ) (old new : List Span) → LieInSpans at old S
+pub spans_after : (rule : Numbers) (at : Frame) (places : List WindowOrigin) (S : List Cell) (n : ℕ) (old new : List RowSpan) → LieInSpans at old S
     → AreWidened old new → HoldCovered at new places → IsStillOutside rule places S n → LieInSpans at new (after rule S n)
 spans_after rule at places S n old new live wide covered still s r i hs hr hi e = elim (in_or_not (span_of new s) r) [
   | inl inside ↦ inside
@@ -111,7 +111,7 @@ spans_after rule at places S n old new live wide covered still s r i hs hr hi e 
 
 -- ---- the hull
 
-pub hull_more : (spans : List Span) (n : ℕ) (old new : Hull) → HoldsSpans spans n old → ((s r : ℕ) → IsInHull old s r → IsInHull new s r)
+pub hull_more : (spans : List RowSpan) (n : ℕ) (old new : Hull) → HoldsSpans spans n old → ((s r : ℕ) → IsInHull old s r → IsInHull new s r)
     → ((r : ℕ) → HasRow (span_of spans n) r → IsInHull new n r) → HoldsSpans spans (n + 1) new
 hull_more spans n old new before kept held s r low inside = elim (same_or_not s n) [
   | inl same ↦
@@ -135,12 +135,12 @@ zeroed_more old mid new first second m = go (first m) (second m)
     go (inr none) (inl here) = inr (here ∙ none)
 
 -- a bit of a board that is 1 is a live cell
-pub live_bit : (at : Frame) (words : List ℕ) (s r i : ℕ) → s < at.lanes → r < at.rows → i < 64 → bit_at (slice_index words (word_of at s r)) i ≡ 1
+pub live_bit : (at : Frame) (words : List ℕ) (s r i : ℕ) → s < at.word_columns → r < at.rows → i < 64 → bit_at (slice_index words (word_of at s r)) i ≡ 1
     → has (cells_on at words) (board_cell at s r i) ≡ true
 live_bit at words s r i hs hr hi one = shows_cells at words s r i hs hr hi ∙ ap (λ (n : ℕ). n == 1) one
 
 -- outside of the spans all is dead
-pub dead_outside : (at : Frame) (words : List ℕ) (spans : List Span) (s r i : ℕ) → LieInSpans at spans (cells_on at words) → s < at.lanes → r < at.rows
+pub dead_outside : (at : Frame) (words : List ℕ) (spans : List RowSpan) (s r i : ℕ) → LieInSpans at spans (cells_on at words) → s < at.word_columns → r < at.rows
     → i < 64 → (IsInSpan spans s r → ⊥) → bit_at (slice_index words (word_of at s r)) i ≡ 0
 dead_outside at words spans s r i live hs hr hi outside =
     let low = bit_at-lt (slice_index words (word_of at s r)) i in
@@ -150,24 +150,24 @@ dead_outside at words spans s r i live hs hr hi outside =
     ]
 
 -- the first n lanes are dead
-abbrev pub AreLanesDead : Frame → List ℕ → ℕ → Type 0
-AreLanesDead at words n = (s r i : ℕ) → s < n → r < at.rows → i < 64 → bit_at (slice_index words (word_of at s r)) i ≡ 0
+abbrev pub AreWordColumnsDead : Frame → List ℕ → ℕ → Type 0
+AreWordColumnsDead at words n = (s r i : ℕ) → s < n → r < at.rows → i < 64 → bit_at (slice_index words (word_of at s r)) i ≡ 0
 
-pub lane_emptied : (at : Frame) (old mid new : List ℕ) (spans : List Span) (lane : ℕ) → lane < at.lanes → LieInSpans at spans (cells_on at old)
-    → AreZeroed old mid → AreLanesDead at mid lane → AreZeroed mid new
-    → ((r : ℕ) → r < at.rows → IsInSpan spans lane r → slice_index new (word_of at lane r) ≡ 0) → AreLanesDead at new (lane + 1)
-lane_emptied at old mid new spans lane low live first before second here s r i near hr hi = elim (same_or_not s lane) [
-  | inl same ↦ subst (λ (t : ℕ). bit_at (slice_index new (word_of at t r)) i ≡ 0) (sym same) (last (in_or_not (span_of spans lane) r))
+pub word_column_emptied : (at : Frame) (old mid new : List ℕ) (spans : List RowSpan) (word_column : ℕ) → word_column < at.word_columns → LieInSpans at spans (cells_on at old)
+    → AreZeroed old mid → AreWordColumnsDead at mid word_column → AreZeroed mid new
+    → ((r : ℕ) → r < at.rows → IsInSpan spans word_column r → slice_index new (word_of at word_column r) ≡ 0) → AreWordColumnsDead at new (word_column + 1)
+word_column_emptied at old mid new spans word_column low live first before second here s r i near hr hi = elim (same_or_not s word_column) [
+  | inl same ↦ subst (λ (t : ℕ). bit_at (slice_index new (word_of at t r)) i ≡ 0) (sym same) (last (in_or_not (span_of spans word_column) r))
   | inr apart ↦ earlier (second (word_of at s r)) (before s r i (omega (arith, near, apart)) hr hi)
 ]
   where
     none : (m : ℕ) → slice_index new m ≡ 0 → bit_at (slice_index new m) i ≡ 0
     none m is = ap (λ (w : ℕ). bit_at w i) is ∙ bit_at-zero i
 
-    last : IsInSpan spans lane r ⊎ (IsInSpan spans lane r → ⊥) → bit_at (slice_index new (word_of at lane r)) i ≡ 0
+    last : IsInSpan spans word_column r ⊎ (IsInSpan spans word_column r → ⊥) → bit_at (slice_index new (word_of at word_column r)) i ≡ 0
     last (inl inside) = none _ (here r hr inside)
-    last (inr outside) = elim (zeroed_more old mid new first second (word_of at lane r)) [
-      | inl same ↦ ap (λ (w : ℕ). bit_at w i) same ∙ dead_outside at old spans lane r i live low hr hi outside
+    last (inr outside) = elim (zeroed_more old mid new first second (word_of at word_column r)) [
+      | inl same ↦ ap (λ (w : ℕ). bit_at w i) same ∙ dead_outside at old spans word_column r i live low hr hi outside
       | inr is ↦ none _ is
     ]
 
@@ -176,26 +176,26 @@ lane_emptied at old mid new spans lane low live first before second here s r i n
     earlier (inl same) dead = ap (λ (w : ℕ). bit_at w i) same ∙ dead
     earlier (inr is) dead = none _ is
 
-pub shown_dead : (at : Frame) (words : List ℕ) → AreLanesDead at words at.lanes → Shows at words []
+pub shown_dead : (at : Frame) (words : List ℕ) → AreWordColumnsDead at words at.word_columns → Shows at words []
 shown_dead at words dead s r i hs hr hi = ap (λ (n : ℕ). n == 1) (sym (dead s r i hs hr hi))
 
 -- a board without a live cell may have any spans
-pub empty_spans : (at : Frame) (words : List ℕ) (spans : List Span) → cells_on at words ≡ [] → length spans ≡ at.lanes
+pub empty_spans : (at : Frame) (words : List ℕ) (spans : List RowSpan) → cells_on at words ≡ [] → length spans ≡ at.word_columns
     → AreSpans at (cells_on at words) spans
 empty_spans at words spans none long = record {
-  lanes = long;
+  word_columns = long;
   live = λ s r i hs hr hi e. absurd (false≢true (sym (ap (λ (S : List Cell). has S (board_cell at s r i)) none) ∙ e));
 }
 
 -- one row of a lane more is emptied
-pub row_emptied : (at : Frame) (words : List ℕ) (lane row from i : ℕ) → i ≡ word_of at lane row → i < length words
-    → ((r : ℕ) → from ≤ r → r < row → slice_index words (word_of at lane r) ≡ 0) → (r : ℕ) → from ≤ r → r < row + 1
-    → slice_index (set words i 0) (word_of at lane r) ≡ 0
-row_emptied at words lane row from i is low before r past near = elim (same_or_not r row) [
+pub row_emptied : (at : Frame) (words : List ℕ) (word_column row from i : ℕ) → i ≡ word_of at word_column row → i < length words
+    → ((r : ℕ) → from ≤ r → r < row → slice_index words (word_of at word_column r) ≡ 0) → (r : ℕ) → from ≤ r → r < row + 1
+    → slice_index (set words i 0) (word_of at word_column r) ≡ 0
+row_emptied at words word_column row from i is low before r past near = elim (same_or_not r row) [
   | inl same ↦
-      subst (λ (m : ℕ). slice_index (set words i 0) m ≡ 0) (is ∙ ap (λ (n : ℕ). word_of at lane n) (sym same)) (get_or-set_same words i 0 0 low)
+      subst (λ (m : ℕ). slice_index (set words i 0) m ≡ 0) (is ∙ ap (λ (n : ℕ). word_of at word_column n) (sym same)) (get_or-set_same words i 0 0 low)
   | inr apart ↦
-      get_or-set_other words i (word_of at lane r) 0 0 (λ e. omega (arith, is, apart, e)) ∙ before r past (omega (arith, near, apart))
+      get_or-set_other words i (word_of at word_column r) 0 0 (λ e. omega (arith, is, apart, e)) ∙ before r past (omega (arith, near, apart))
 ]
 
 pub zeroed_at : (old words : List ℕ) (i : ℕ) → i < length words → AreZeroed old words → AreZeroed old (set words i 0)

@@ -6,7 +6,7 @@ use Rattle.std.specs.Int.{bit_at}
 use Rattle.std.proofs.lemmas.Nat.Bits.{bit_at_and, bit_at_xor, bit_at-lt, bit_at-zero}
 use Rattle.std.proofs.lemmas.Bool.{eqb-true}
 use Rattle.std.proofs.lemmas.Simd.{tops_compared, length-zip2, get_or-sel_l, get_or-zip2, get_or-replicate}
-use Rattle.plane_core.specs.declared.engine.difference_box.Change.{Change}
+use Rattle.plane_core.specs.declared.engine.difference_box.DifferenceMask.{DifferenceMask}
 use Rattle.plane_core.specs.engine.WindowDifferences.{DiffersOnlyIn}
 use Rattle.plane_core.specs.windows.LaneSums.{bit_of}
 use Rattle.plane_core.specs.windows.Windows.{lane_at}
@@ -126,7 +126,7 @@ rows_more one other rows places marks more k before here mark old new m low j i 
         subst (λ (q : ℕ). bit_at (lane_at one q j) i ≡ bit_at (lane_at other q j) i) is
         (here j i lane a b (omega arith) (omega arith) (mark j i lane (new j (j * 10 + k) lane at)))
 
-pub differs_only : (one other : List (List ℕ)) (columns rows : List ℕ) (change : Change) → DifferInColumns one other columns 10
+pub differs_only : (one other : List (List ℕ)) (columns rows : List ℕ) (change : DifferenceMask) → DifferInColumns one other columns 10
     → DifferInRows one other rows 10
     → ((j i : ℕ) → j < 4 → bit_at change.columns i ≡ 0 → bit_of columns j i ≡ 0) → ((j i : ℕ) → j < 4 → bit_at change.rows i ≡ 0 → bit_of rows j i ≡ 0)
     → DiffersOnlyIn change one other

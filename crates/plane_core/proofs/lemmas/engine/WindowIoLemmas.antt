@@ -23,14 +23,14 @@ read_word at words x y r i word low left right = split (cases_lt (i + x % 64) 64
   where
     split : (i + x % 64 < 64) ⊎ (64 ≤ i + x % 64) → bit_at word i ≡ bit_on at words (x + i) (y + r)
     split (inl first) =
-        let lane : x / 64 ≡ (x + i) / 64 = omega arith in
-        let rows : x / 64 * at.rows ≡ (x + i) / 64 * at.rows = ap (λ (m : ℕ). m * at.rows) lane in
+        let word_column : x / 64 ≡ (x + i) / 64 = omega arith in
+        let rows : x / 64 * at.rows ≡ (x + i) / 64 * at.rows = ap (λ (m : ℕ). m * at.rows) word_column in
         let place : x / 64 * at.rows + y + r ≡ (x + i) / 64 * at.rows + (y + r) = omega arith in
         let bit : i + x % 64 ≡ (x + i) % 64 = omega arith in
         left first ∙ (λ t. bit_at (slice_index words (place t)) (bit t))
     split (inr second) =
-        let lane : x / 64 + 1 ≡ (x + i) / 64 = omega arith in
-        let rows : (x / 64 + 1) * at.rows ≡ (x + i) / 64 * at.rows = ap (λ (m : ℕ). m * at.rows) lane in
+        let word_column : x / 64 + 1 ≡ (x + i) / 64 = omega arith in
+        let rows : (x / 64 + 1) * at.rows ≡ (x + i) / 64 * at.rows = ap (λ (m : ℕ). m * at.rows) word_column in
         let place : x / 64 * at.rows + y + at.rows + r ≡ (x + i) / 64 * at.rows + (y + r) = omega arith in
         let bit : i + x % 64 - 64 ≡ (x + i) % 64 = omega arith in
         right second ∙ (λ t. bit_at (slice_index words (place t)) (bit t))
@@ -123,13 +123,13 @@ row_put at old mid new x y word m1 v1 m2 v2 inside m1low m1high v1high m2is v2is
         ∙ ap (λ (m : ℕ). cond (bit_at m1 (u % 64) == 1) (bit_at v1 (u % 64)) (bit_at (slice_index old m) (u % 64))) (sym e)
 
     in_first : spot ≡ a → (u / 64 ≡ x / 64) × (v ≡ y) → (u % 64 < x % 64) ⊎ (x % 64 ≤ u % 64) → IsOnePut x y word (bit_on at old u v) (bit_on at new u v) u v
-    in_first e (lane, row) (inl left) =
+    in_first e (word_column, row) (inl left) =
         inr (
           λ c same. let is = c.is in absurd (omega arith),
           new_first e
               ∙ chosen_no (bit_at m1 (u % 64)) (bit_at v1 (u % 64)) (bit_on at old u v) (m1low (u % 64) left),
         )
-    in_first e (lane, row) (inr right) =
+    in_first e (word_column, row) (inr right) =
         put_there x y word (bit_on at old u v) (bit_on at new u v) u v (u % 64 - x % 64) (bit_at m1 (u % 64)) (bit_at v1 (u % 64)) row
         (λ less. omega arith) (λ c. omega arith) (m1high (u % 64) right (omega arith)) (v1high (u % 64) right (omega arith)) (new_first e)
 
@@ -141,20 +141,20 @@ row_put at old mid new x y word m1 v1 m2 v2 inside m1low m1high v1high m2is v2is
         ∙ ap (λ (m : ℕ). cond (bit_at m2 (u % 64) == 1) (bit_at v2 (u % 64)) (bit_at (slice_index old m) (u % 64))) (sym e)
 
     in_second : spot ≡ b → (u / 64 ≡ x / 64 + 1) × (v ≡ y) → IsOnePut x y word (bit_on at old u v) (bit_on at new u v) u v
-    in_second e (lane, row) =
+    in_second e (word_column, row) =
         put_there x y word (bit_on at old u v) (bit_on at new u v) u v (u % 64 + 64 - x % 64) (bit_at m2 (u % 64)) (bit_at v2 (u % 64)) row
         (λ less. omega arith) (λ c. omega arith) (m2is (u % 64)) (v2is (u % 64)) (new_second e)
 
     outside : (spot ≡ a → ⊥) → (spot ≡ b → ⊥) → IsInnerColumn x u → v ≢ y
-    outside apart further c row = lanes (cases_eq (u / 64) (x / 64))
+    outside apart further c row = word_columns (cases_eq (u / 64) (x / 64))
       where
-        lanes : (u / 64 ≡ x / 64) ⊎ (u / 64 ≡ x / 64 → ⊥) → ⊥
-        lanes (inl same) = apart (λ t. same t * at.rows + row t)
-        lanes (inr other) =
+        word_columns : (u / 64 ≡ x / 64) ⊎ (u / 64 ≡ x / 64 → ⊥) → ⊥
+        word_columns (inl same) = apart (λ t. same t * at.rows + row t)
+        word_columns (inr other) =
             let is = c.is in
             let high = c.high in
-            let lane : u / 64 ≡ x / 64 + 1 = omega arith in
-            let rows : u / 64 * at.rows ≡ (x / 64 + 1) * at.rows = ap (λ (m : ℕ). m * at.rows) lane in
+            let word_column : u / 64 ≡ x / 64 + 1 = omega arith in
+            let rows : u / 64 * at.rows ≡ (x / 64 + 1) * at.rows = ap (λ (m : ℕ). m * at.rows) word_column in
             further (omega arith)
 
     split : (spot ≡ a) ⊎ (spot ≡ a → ⊥) → (spot ≡ b) ⊎ (spot ≡ b → ⊥) → IsOnePut x y word (bit_on at old u v) (bit_on at new u v) u v
@@ -198,39 +198,39 @@ pub column_low : (x : ℕ) → x % 64 < 64
 column_low x = omega arith
 
 -- the two words of a row that begins in column x
-pub words_in : (at : Frame) (words : List ℕ) (x y : ℕ) → FillsFrame at words → x / 64 + 1 < at.lanes → y < at.rows
+pub words_in : (at : Frame) (words : List ℕ) (x y : ℕ) → FillsFrame at words → x / 64 + 1 < at.word_columns → y < at.rows
     → (x / 64 * at.rows + y < length words) × (x / 64 * at.rows + y + at.rows < length words)
-words_in at words x y long lane row =
-    let first : x / 64 * at.rows + y < at.lanes * at.rows = word-inside at (x / 64) y (omega (arith, lane)) row in
-    let second : (x / 64 + 1) * at.rows + y < at.lanes * at.rows = word-inside at (x / 64 + 1) y lane row in
+words_in at words x y long word_column row =
+    let first : x / 64 * at.rows + y < at.word_columns * at.rows = word-inside at (x / 64) y (omega (arith, word_column)) row in
+    let second : (x / 64 + 1) * at.rows + y < at.word_columns * at.rows = word-inside at (x / 64 + 1) y word_column row in
     (omega (arith, long, first), omega (arith, long, second))
 
 -- the two words of a row further on
-pub read_in : (at : Frame) (words : List ℕ) (x y r most : ℕ) → FillsFrame at words → x / 64 + 1 < at.lanes → y + most ≤ at.rows → r < most
+pub read_in : (at : Frame) (words : List ℕ) (x y r most : ℕ) → FillsFrame at words → x / 64 + 1 < at.word_columns → y + most ≤ at.rows → r < most
     → (x / 64 * at.rows + y + r < length words) × (x / 64 * at.rows + y + at.rows + r < length words)
-read_in at words x y r most long lane row low =
-    let both = words_in at words x (y + r) long lane (omega (arith, row, low)) in
+read_in at words x y r most long word_column row low =
+    let both = words_in at words x (y + r) long word_column (omega (arith, row, low)) in
     (omega (arith, both.0), omega (arith, both.1))
 
 -- the places of these words fit their type, since a list has fewer items than that has numbers
-pub fits_begin : (at : Frame) (words : List ℕ) (x y most : ℕ) → length words * 8 < 9223372036854775808 → FillsFrame at words → x / 64 + 1 < at.lanes
+pub fits_begin : (at : Frame) (words : List ℕ) (x y most : ℕ) → length words * 8 < 9223372036854775808 → FillsFrame at words → x / 64 + 1 < at.word_columns
     → y + most ≤ at.rows → Fits w64 (x / 64 * at.rows) × Fits w64 (x / 64 * at.rows + y) × Fits w64 (x / 64 * at.rows + y + at.rows)
-fits_begin at words x y most small long lane row =
-    let many : at.lanes ≡ x / 64 + 2 + (at.lanes - (x / 64 + 2)) = omega (arith, lane) in
-    let whole : at.lanes * at.rows ≡ (x / 64 + 2 + (at.lanes - (x / 64 + 2))) * at.rows = ap (λ (m : ℕ). m * at.rows) many in
+fits_begin at words x y most small long word_column row =
+    let many : at.word_columns ≡ x / 64 + 2 + (at.word_columns - (x / 64 + 2)) = omega (arith, word_column) in
+    let whole : at.word_columns * at.rows ≡ (x / 64 + 2 + (at.word_columns - (x / 64 + 2))) * at.rows = ap (λ (m : ℕ). m * at.rows) many in
     let inside : x / 64 * at.rows + y + at.rows ≤ length words = omega (arith, long, row, whole) in
     fits_places (x / 64 * at.rows) y at.rows (length words) small inside
   where
     fits_places : (a b c n : ℕ) → n * 8 < 9223372036854775808 → a + b + c ≤ n → Fits w64 a × Fits w64 (a + b) × Fits w64 (a + b + c)
     fits_places a b c n few low = (record { fits = omega arith }, record { fits = omega arith }, record { fits = omega arith })
 
-pub fits_row : (at : Frame) (words : List ℕ) (x y : ℕ) → length words * 8 < 9223372036854775808 → FillsFrame at words → x / 64 + 1 < at.lanes
+pub fits_row : (at : Frame) (words : List ℕ) (x y : ℕ) → length words * 8 < 9223372036854775808 → FillsFrame at words → x / 64 + 1 < at.word_columns
     → y < at.rows → Fits w64 (x / 64 * at.rows) × Fits w64 (x / 64 * at.rows + y) × Fits w64 (x / 64 * at.rows + y + at.rows)
-fits_row at words x y small long lane row = fits_begin at words x y 1 small long lane (omega (arith, row))
+fits_row at words x y small long word_column row = fits_begin at words x y 1 small long word_column (omega (arith, row))
 
 pub fits_place : (n : ℕ) (words : List ℕ) → length words * 8 < 9223372036854775808 → n < length words → Fits w64 n
 fits_place n words small low = record { fits = omega (arith, small, low) }
 
 -- the word of a row of a lane
-pub index_in : (at : Frame) (words : List ℕ) (s r n : ℕ) → FillsFrame at words → s < at.lanes → r < at.rows → n ≡ word_of at s r → n < length words
-index_in at words s r n long lane row is = let inside = word-inside at s r lane row in omega (arith, long, is, inside)
+pub index_in : (at : Frame) (words : List ℕ) (s r n : ℕ) → FillsFrame at words → s < at.word_columns → r < at.rows → n ≡ word_of at s r → n < length words
+index_in at words s r n long word_column row is = let inside = word-inside at s r word_column row in omega (arith, long, is, inside)

@@ -12,7 +12,7 @@ use Rattle.std.proofs.lemmas.List.Elements.{recursion_from_All}
 use Rattle.std.proofs.lemmas.Nat.Bits.{bit_at-zero, bit_at_set_same, bit_at_set_other}
 use Rattle.plane_core.specs.declared.plane.bounds.Bounds.{Bounds}
 use Rattle.plane_core.specs.declared.plane.cell.Cell.{Cell}
-use Rattle.plane_core.specs.declared.engine.window_origin.Place.{Place}
+use Rattle.plane_core.specs.declared.engine.window_origin.WindowOrigin.{WindowOrigin}
 use Rattle.plane_core.specs.plane.Bounds.{AreSidesWithin, IsLeastBox, IsWithin}
 use Rattle.plane_core.specs.plane.Cells.{InOrder, cell_at, distance, has, is_within, plane_bound, same_cell}
 use Rattle.plane_core.specs.plane.Generations.{touches_edge}
@@ -29,7 +29,7 @@ use Rattle.plane_core.proofs.lemmas.Between.{IsSpot, ShowsRows}
 
 -- ---- a window round a box
 
-pub record IsPlacedRound (b : Bounds) (width height : ℕ) (p : Place) : Type 0 where
+pub record IsPlacedRound (b : Bounds) (width height : ℕ) (p : WindowOrigin) : Type 0 where
   pub left : p.left ≡ b.left -ℤ pos ((63 - width) / 2)
   pub top : p.top ≡ b.top -ℤ pos ((63 - height) / 2)
   pub across : width ≡ distance b.left b.right
@@ -37,7 +37,7 @@ pub record IsPlacedRound (b : Bounds) (width height : ℕ) (p : Place) : Type 0 
   pub wide : width ≤ 61
   pub high : height ≤ 61
 
-pub place_is_inland : (b : Bounds) (width height : ℕ) (p : Place) → AreSidesWithin 900000 b → IsPlacedRound b width height p → IsInland p
+pub place_is_inland : (b : Bounds) (width height : ℕ) (p : WindowOrigin) → AreSidesWithin 900000 b → IsPlacedRound b width height p → IsInland p
 place_is_inland b width height p sides is =
     let sl = sides.left in
     let st = sides.top in
@@ -57,7 +57,7 @@ near_side x near = passed_within x (near_fits x near) (omega (arith, near))
 pub half_within : (n : ℕ) → (63 - n) / 2 ≤ plane_bound
 half_within n = omega arith
 
-pub place_has_cells : (b : Bounds) (width height : ℕ) (p : Place) (S : List Cell) → IsPlacedRound b width height p → IsLeastBox S b
+pub place_has_cells : (b : Bounds) (width height : ℕ) (p : WindowOrigin) (S : List Cell) → IsPlacedRound b width height p → IsLeastBox S b
     → (c : Cell) → has S c ≡ true → IsInWindow 16 p.left p.top c
 place_has_cells b width height p S is least c e = inside (has-all (IsWithin b) S c (recursion_from_All (IsWithin b) S least.within) e)
   where
@@ -81,7 +81,7 @@ place_has_cells b width height p S is least c e = inside (has-all (IsWithin b) S
         }
 
 -- a window far inside the plane
-pub inside_edge_of : (p : Place) (S : List Cell) → IsInland p → ((c : Cell) → has S c ≡ true → IsInWindow 16 p.left p.top c) → touches_edge S ≡ false
+pub inside_edge_of : (p : WindowOrigin) (S : List Cell) → IsInland p → ((c : Cell) → has S c ≡ true → IsInWindow 16 p.left p.top c) → touches_edge S ≡ false
 inside_edge_of p S far inside = inside_edge S 999000 (omega arith) (has-list_all (is_within 999000) S near)
   where
     near : (c : Cell) → has S c ≡ true → is_within 999000 c ≡ true
@@ -98,7 +98,7 @@ inside_edge_of p S far inside = inside_edge S 999000 (omega arith) (has-list_all
 
 -- ---- rows
 
-pub none_shown : (p : Place) (rows : List ℕ) → ((r : ℕ) → slice_index rows r ≡ 0) → ShowsRows p rows []
+pub none_shown : (p : WindowOrigin) (rows : List ℕ) → ((r : ℕ) → slice_index rows r ≡ 0) → ShowsRows p rows []
 none_shown p rows empty r i low near = sym (ap (λ (m : ℕ). bit_at m i == 1) (empty r) ∙ ap (λ (m : ℕ). m == 1) (bit_at-zero i))
 
 or_one : (a : Bool) → (a || true) ≡ true
@@ -121,7 +121,7 @@ or_none true = refl
 or_none false = refl
 
 -- a cell more
-pub put_shown : (p : Place) (rows : List ℕ) (S : List Cell) (c : Cell) (a d : ℕ) → IsSpot p c a d → a < 64 → d < length rows → ShowsRows p rows S
+pub put_shown : (p : WindowOrigin) (rows : List ℕ) (S : List Cell) (c : Cell) (a d : ℕ) → IsSpot p c a d → a < 64 → d < length rows → ShowsRows p rows S
     → ShowsRows p (set rows d (bit_or (get_or rows d 0) (1 * 2 ^ a % 2 ^ 64))) (S ++ c ∷ [])
 put_shown p rows S c a d at ha hd shown r i low near = has-append S (c ∷ []) e ∙ row (same_or_not r d)
   where
@@ -163,14 +163,14 @@ put_shown p rows S c a d at ha hd shown r i low near = has-append S (c ∷ []) e
         ∙ ap (λ (w : ℕ). bit_at w i == 1) (sym (get_or-set_other rows d r new 0 apart))
 
 -- a cell of a list more
-pub shown_taken : (p : Place) (rows : List ℕ) (cs : List Cell) (i : ℕ) (d : Cell) → i < length cs → ShowsRows p rows (take i cs ++ get_or cs i d ∷ [])
+pub shown_taken : (p : WindowOrigin) (rows : List ℕ) (cs : List Cell) (i : ℕ) (d : Cell) → i < length cs → ShowsRows p rows (take i cs ++ get_or cs i d ∷ [])
     → ShowsRows p rows (take (i + 1) cs)
 shown_taken p rows cs i d low shown = subst (λ (S : List Cell). ShowsRows p rows S) (sym (take_more cs i d low)) shown
 
 -- ---- rows in vectors
 
 -- the window of rows
-pub shown_packed : (p : Place) (rows : List ℕ) (x : List (List ℕ)) (S : List Cell) → InOrder S → ((c : Cell) → has S c ≡ true → IsInWindow 16 p.left p.top c)
+pub shown_packed : (p : WindowOrigin) (rows : List ℕ) (x : List (List ℕ)) (S : List Cell) → InOrder S → ((c : Cell) → has S c ≡ true → IsInWindow 16 p.left p.top c)
     → ShowsRows p rows S → ((r : ℕ) → r < 64 → row_at 16 x r ≡ slice_index rows r) → Holds 16 p.left p.top x S
 shown_packed p rows x S order inside shown same = record { in_order = order; inside = inside; shown = held }
   where

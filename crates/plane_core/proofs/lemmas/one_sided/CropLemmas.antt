@@ -7,7 +7,7 @@ use Rattle.std.proofs.lemmas.Nat.Bits.{bit_at-zero}
 use Rattle.plane_core.specs.declared.plane.cell.Cell.{Cell}
 use Rattle.plane_core.specs.plane.Cells.{has}
 use Rattle.plane_core.specs.windows.LonePatterns.{Holds, IsInWindow}
-use Rattle.plane_core.specs.one_sided.RestlessClusters.{IsExcerpt, LiesInExcerpt}
+use Rattle.plane_core.specs.one_sided.RestlessClusters.{IsCrop, LiesInCrop}
 use Rattle.plane_core.specs.windows.Windows.{IsShownInside, row_at}
 use Rattle.plane_core.proofs.lemmas.one_sided.NeverRecursLemmas.{IsLit, lit}
 use Rattle.plane_core.proofs.lemmas.windows.WindowLemmas.{same_cell_at}
@@ -17,7 +17,7 @@ use Rattle.plane_core.proofs.lemmas.windows.WindowLemmas.{same_cell_at}
 -- a cluster of few rows lies in the rows round its middle
 pub lies_in : (window : List (List ℕ)) (first last from : ℕ) → ((r : ℕ) → r < first → row_at 16 window r ≡ 0)
     → ((r : ℕ) → last < r → r < 64 → row_at 16 window r ≡ 0) → last < 64 → last - first < 32 → from ≡ min ((first + last - 39) / 2) 24
-    → LiesInExcerpt from window
+    → LiesInCrop from window
 lies_in window first last from above below high few is = record {
   low = omega (arith, is);
   above = λ r near. above r (omega (arith, near, few, is));
@@ -27,20 +27,20 @@ lies_in window first last from above below high few is = record {
 -- ---- what an excerpt shows
 
 -- as deep inside as the window
-pub excerpt_shown : (window part : List (List ℕ)) (from depth : ℕ) (left top : ℤ) (cells : List Cell) → from ≤ 24 → IsExcerpt from window part
+pub crop_shown : (window part : List (List ℕ)) (from depth : ℕ) (left top : ℤ) (cells : List Cell) → from ≤ 24 → IsCrop from window part
     → IsShownInside 16 left top depth window cells → IsShownInside 10 left (top +ℤ pos from) depth part cells
-excerpt_shown window part from depth left top cells low is shown r i a b d e =
+crop_shown window part from depth left top cells low is shown r i a b d e =
     ap (has cells) (same_cell_at _ _ (left +ℤ pos i) (top +ℤ pos (from + r)) refl (omega (arith, ints)))
     ∙ shown (from + r) i (omega arith) (omega arith) d e
     ∙ ap (λ (w : ℕ). bit_at w i == 1) (sym (is r (omega arith)))
 
 -- a pattern that lies in it
-pub excerpt_held : (alone part : List (List ℕ)) (from : ℕ) (left top : ℤ) (cluster : List Cell) → LiesInExcerpt from alone → IsExcerpt from alone part
+pub crop_held : (alone part : List (List ℕ)) (from : ℕ) (left top : ℤ) (cluster : List Cell) → LiesInCrop from alone → IsCrop from alone part
     → Holds 16 left top alone cluster → Holds 10 left (top +ℤ pos from) part cluster
-excerpt_held alone part from left top cluster lies is held = record {
+crop_held alone part from left top cluster lies is held = record {
   in_order = held.in_order;
   inside = λ c h. inside c (lit 16 left top alone cluster c held h);
-  shown = excerpt_shown alone part from 0 left top cluster lies.low is held.shown;
+  shown = crop_shown alone part from 0 left top cluster lies.low is held.shown;
 }
   where
     inside : (c : Cell) → (i : ℕ) × (r : ℕ) × IsLit 16 left top alone c i r → IsInWindow 10 left (top +ℤ pos from) c

@@ -6,7 +6,7 @@ use Rattle.std.proofs.lemmas.Bool.{cases_lt}
 use Rattle.std.proofs.lemmas.Nat.{and_le_r}
 use Rattle.std.proofs.lemmas.Nat.Bits.{bit_at-lt, bit_at-trailing_zeros, bit_at_above, bit_at_and, bit_at_ones_above, bit_at_xor, ones_shr}
 use Rattle.plane_core.specs.plane.Cells.{cell_at}
-use Rattle.plane_core.specs.one_sided.RestlessClusters.{HasStray, ShowsStray}
+use Rattle.plane_core.specs.one_sided.RestlessClusters.{HasDivergingCell, DivergesFromWhole}
 use Rattle.plane_core.specs.plane.Rules.{Numbers}
 use Rattle.plane_core.specs.windows.Windows.{IsNextWindow}
 use Rattle.plane_core.proofs.lemmas.windows.ShiftLemmas.{bit_left_high, bit_left_low}
@@ -18,10 +18,10 @@ pub record AreMade (rule : Numbers) (n : ℕ) (whole alone later later_alone : L
   pub other : HasMade rule n alone later_alone made
 
 -- a cell that is seen then is a stray
-pub stray_seen : (rule : Numbers) (n : ℕ) (whole alone later later_alone : List (List ℕ)) (depth made most : ℕ)
-    → AreMade rule n whole alone later later_alone made → made ≤ most → HasStray n later later_alone (depth + made)
-    → ShowsStray rule n whole alone depth most
-stray_seen rule n whole alone later later_alone depth made most are few found cells cluster left top o p shown shown_alone = record {
+pub diverging_seen : (rule : Numbers) (n : ℕ) (whole alone later later_alone : List (List ℕ)) (depth made most : ℕ)
+    → AreMade rule n whole alone later later_alone made → made ≤ most → HasDivergingCell n later later_alone (depth + made)
+    → DivergesFromWhole rule n whole alone depth most
+diverging_seen rule n whole alone later later_alone depth made most are few found cells cluster left top o p shown shown_alone = record {
   generation = made;
   early = few;
   cell = cell_at (left +ℤ pos found.i) (top +ℤ pos found.r);
@@ -43,16 +43,16 @@ made_more rule n whole alone later later_alone next next_alone made are a b = re
 -- ---- one word
 
 -- a bit of a word so deep inside that the other one hasn't
-pub record IsStrayBit (here there depth : ℕ) : Type 0 where
+pub record IsDivergingBit (here there depth : ℕ) : Type 0 where
   pub i : ℕ
   pub west : depth ≤ i
   pub east : i + depth < 64
   pub lit : bit_at here i ≡ 1
   pub dark : bit_at there i ≡ 0
 
-pub stray_bit : (here there inside depth : ℕ) → bit_and (bit_and here (bit_xor here there)) inside ≢ 0 → inside < 2 ^ 64
-    → ((i : ℕ) → bit_at inside i ≡ 1 → (depth ≤ i) × (i + depth < 64)) → IsStrayBit here there depth
-stray_bit here there inside depth some small deep = record {
+pub diverging_bit : (here there inside depth : ℕ) → bit_and (bit_and here (bit_xor here there)) inside ≢ 0 → inside < 2 ^ 64
+    → ((i : ℕ) → bit_at inside i ≡ 1 → (depth ≤ i) × (i + depth < 64)) → IsDivergingBit here there depth
+diverging_bit here there inside depth some small deep = record {
   i = i;
   west = (deep i digit.2).0;
   east = (deep i digit.2).1;

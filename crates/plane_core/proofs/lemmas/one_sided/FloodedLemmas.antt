@@ -202,10 +202,10 @@ cluster_held window alone rows flood row column unpacked packed is depth few cel
 -- ---- the pattern
 
 -- A window of 64 rows is a board of one lane. What it shows of the flood is the cluster.
-pub flooded_pattern : (at : Frame) (rows flood : List ℕ) (row column : ℕ) (cells : List Cell) → at.lanes ≡ 1 → at.rows ≡ 64
+pub flooded_pattern : (at : Frame) (rows flood : List ℕ) (row column : ℕ) (cells : List Cell) → at.word_columns ≡ 1 → at.rows ≡ 64
     → IsFlooded rows flood row column → ShowsInRows at.left at.top rows cells → InOrder cells → IsCluster cells (cells_on at flood)
 unfolding cluster_in
-flooded_pattern at rows flood row column cells lanes high is shows o =
+flooded_pattern at rows flood row column cells word_columns high is shows o =
     subst (λ (cluster : List Cell). IsCluster cells cluster)
     (same_lists (cluster_in flood at.left at.top cells) (cells_on at flood) (in_order-filter (is_flooded flood at.left at.top) cells o)
     (cells_in_order at flood)
@@ -225,7 +225,7 @@ flooded_pattern at rows flood row column cells lanes high is shows o =
         let w = is.inside s.r s.i s.lit in
         let a = w.below in let b = w.east in
         ap (has (cells_on at flood)) (s.place ∙ sym (cell 0 s.r s.i refl))
-        ∙ shows_cells at flood 0 s.r s.i (omega (arith, lanes)) (omega (arith, high)) (omega arith)
+        ∙ shows_cells at flood 0 s.r s.i (omega (arith, word_columns)) (omega (arith, high)) (omega arith)
         ∙ ap (λ (n : ℕ). bit_at (slice_index flood n) s.i == 1) (word 0 s.r refl) ∙ ap (λ (n : ℕ). n == 1) s.lit
 
     back : (c : Cell) → has (cells_on at flood) c ≡ true → has (cluster_in flood at.left at.top cells) c ≡ true
@@ -233,13 +233,13 @@ flooded_pattern at rows flood row column cells lanes high is shows o =
         let bit = bit_of_cell at flood c e in
         let k = bit.0 in
         let spot = placed at k bit.1 in
-        let lane = k / 64 / at.rows in
+        let word_column = k / 64 / at.rows in
         let r = k / 64 % at.rows in
         let i = k % 64 in
-        let first : lane ≡ 0 = let low = spot.lane in omega (arith, lanes, low) in
-        let place : c ≡ in_window at.left at.top i r = bit.3 ∙ cell lane r i first in
+        let first : word_column ≡ 0 = let low = spot.word_column in omega (arith, word_columns, low) in
+        let place : c ≡ in_window at.left at.top i r = bit.3 ∙ cell word_column r i first in
         let lit : bit_in flood r i ≡ 1 =
-        ap (λ (n : ℕ). bit_at (slice_index flood n) i) (sym (word lane r first) ∙ spot.word) ∙ eqb-true _ 1 bit.2 in
+        ap (λ (n : ℕ). bit_at (slice_index flood n) i) (sym (word word_column r first) ∙ spot.word) ∙ eqb-true _ 1 bit.2 in
         let alive = linked-has cells (in_window at.left at.top column row) (in_window at.left at.top i r)
         (is.linked cells at.left at.top shows r i lit) in
         has-filter (is_flooded flood at.left at.top) cells c

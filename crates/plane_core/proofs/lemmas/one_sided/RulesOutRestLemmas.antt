@@ -2,14 +2,14 @@
 use Rattle.std.proofs.Common.{ℕ, ℤ, ◌+ℤ◌, pos, List, arith, inl, inr}
 use Rattle.plane_core.specs.declared.plane.cell.Cell.{Cell}
 use Rattle.plane_core.specs.windows.LonePatterns.{HasChanged, Holds}
-use Rattle.plane_core.specs.one_sided.RestlessClusters.{IsExcerpt, LiesInExcerpt, RefusesAll, ShowsStray}
+use Rattle.plane_core.specs.one_sided.RestlessClusters.{IsCrop, LiesInCrop, AreAllRestless, DivergesFromWhole}
 use Rattle.plane_core.specs.plane.Rules.{Numbers}
-use Rattle.plane_core.proofs.lemmas.one_sided.CropLemmas.{excerpt_held, excerpt_shown}
+use Rattle.plane_core.proofs.lemmas.one_sided.CropLemmas.{crop_held, crop_shown}
 use Rattle.plane_core.proofs.lemmas.Between.{HoldsCluster}
 
-pub refused_by_stray : (rule : Numbers) (window alone : List (List ℕ)) (depth horizon period : ℕ) → HoldsCluster 16 window alone depth
-    → ShowsStray rule 16 window alone depth horizon → RefusesAll rule 16 window depth horizon period
-refused_by_stray rule window alone depth horizon period holds strays cells left top o shown =
+pub ruled_out_by_divergence : (rule : Numbers) (window alone : List (List ℕ)) (depth horizon period : ℕ) → HoldsCluster 16 window alone depth
+    → DivergesFromWhole rule 16 window alone depth horizon → AreAllRestless rule 16 window depth horizon period
+ruled_out_by_divergence rule window alone depth horizon period holds strays cells left top o shown =
     let found = holds cells left top o shown in record {
       cluster = found.0;
       is = found.1.is;
@@ -17,10 +17,10 @@ refused_by_stray rule window alone depth horizon period holds strays cells left 
           (λ r i a b d e. found.1.held.shown r i (omega arith) (omega arith) (omega arith) (omega arith)));
     }
 
-pub refused_by_change : (rule : Numbers) (window alone : List (List ℕ)) (depth horizon period : ℕ) → HoldsCluster 16 window alone depth
+pub ruled_out_by_change : (rule : Numbers) (window alone : List (List ℕ)) (depth horizon period : ℕ) → HoldsCluster 16 window alone depth
     → ((cells : List Cell) (left top : ℤ) → Holds 16 left top alone cells → HasChanged rule 16 left top cells period)
-    → RefusesAll rule 16 window depth horizon period
-refused_by_change rule window alone depth horizon period holds changes cells left top o shown =
+    → AreAllRestless rule 16 window depth horizon period
+ruled_out_by_change rule window alone depth horizon period holds changes cells left top o shown =
     let found = holds cells left top o shown in record {
       cluster = found.0;
       is = found.1.is;
@@ -29,27 +29,27 @@ refused_by_change rule window alone depth horizon period holds changes cells lef
 
 -- ---- and so by the rows in which the cluster lies
 
-pub refused_in_excerpt_by_stray : (rule : Numbers) (window alone part lone : List (List ℕ)) (from depth horizon period : ℕ)
+pub ruled_out_in_crop_by_divergence : (rule : Numbers) (window alone part lone : List (List ℕ)) (from depth horizon period : ℕ)
     → HoldsCluster 16 window alone depth
-    → LiesInExcerpt from alone → IsExcerpt from window part → IsExcerpt from alone lone → ShowsStray rule 10 part lone depth horizon
-    → RefusesAll rule 16 window depth horizon period
-refused_in_excerpt_by_stray rule window alone part lone from depth horizon period holds lies whole one strays cells left top o shown =
+    → LiesInCrop from alone → IsCrop from window part → IsCrop from alone lone → DivergesFromWhole rule 10 part lone depth horizon
+    → AreAllRestless rule 16 window depth horizon period
+ruled_out_in_crop_by_divergence rule window alone part lone from depth horizon period holds lies whole one strays cells left top o shown =
     let found = holds cells left top o shown in
-    let held = excerpt_held alone lone from left top found.0 lies one found.1.held in record {
+    let held = crop_held alone lone from left top found.0 lies one found.1.held in record {
       cluster = found.0;
       is = found.1.is;
-      why = inl (strays cells found.0 left (top +ℤ pos from) o held.in_order (excerpt_shown window part from depth left top cells lies.low whole shown)
+      why = inl (strays cells found.0 left (top +ℤ pos from) o held.in_order (crop_shown window part from depth left top cells lies.low whole shown)
           (λ r i a b d e. held.shown r i (omega arith) (omega arith) (omega arith) (omega arith)));
     }
 
-pub refused_in_excerpt_by_change : (rule : Numbers) (window alone lone : List (List ℕ)) (from depth horizon period : ℕ)
+pub ruled_out_in_crop_by_change : (rule : Numbers) (window alone lone : List (List ℕ)) (from depth horizon period : ℕ)
     → HoldsCluster 16 window alone depth
-    → LiesInExcerpt from alone → IsExcerpt from alone lone
+    → LiesInCrop from alone → IsCrop from alone lone
     → ((cells : List Cell) (left top : ℤ) → Holds 10 left top lone cells → HasChanged rule 10 left top cells period)
-    → RefusesAll rule 16 window depth horizon period
-refused_in_excerpt_by_change rule window alone lone from depth horizon period holds lies one changes cells left top o shown =
+    → AreAllRestless rule 16 window depth horizon period
+ruled_out_in_crop_by_change rule window alone lone from depth horizon period holds lies one changes cells left top o shown =
     let found = holds cells left top o shown in record {
       cluster = found.0;
       is = found.1.is;
-      why = inr (changes found.0 left (top +ℤ pos from) (excerpt_held alone lone from left top found.0 lies one found.1.held)).new;
+      why = inr (changes found.0 left (top +ℤ pos from) (crop_held alone lone from left top found.0 lies one found.1.held)).new;
     }

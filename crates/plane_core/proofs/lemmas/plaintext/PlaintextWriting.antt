@@ -94,18 +94,18 @@ row_remainder-cons y x e c cs h =
     ∙ sym (append_assoc (replicate gap dot) (letter_o ∷ []) (bytes_at cs y (run (c.x +ℤ pos 1) remainder) ++ line_feed ∷ []))
 
 -- the same, in a loop over the cells of the row
-pub row_remainder-at : (y x e : ℤ) (row : List Cell) (i : ℕ) (d : Cell) (front whole : List ℕ) → i < length row → IsRowAhead y x e (drop i row)
-    → whole ≡ front ++ row_remainder (drop i row) y x e
-    → whole ≡ (front ++ (replicate (distance x (get_or row i d).x) dot ++ letter_o ∷ [])) ++ row_remainder (drop (i + 1) row) y ((get_or row i d).x +ℤ pos 1) e
-row_remainder-at y x e row i d front whole l h w =
+pub row_remainder-at : (y x e : ℤ) (row : List Cell) (i : ℕ) (d : Cell) (prefix whole : List ℕ) → i < length row → IsRowAhead y x e (drop i row)
+    → whole ≡ prefix ++ row_remainder (drop i row) y x e
+    → whole ≡ (prefix ++ (replicate (distance x (get_or row i d).x) dot ++ letter_o ∷ [])) ++ row_remainder (drop (i + 1) row) y ((get_or row i d).x +ℤ pos 1) e
+row_remainder-at y x e row i d prefix whole l h w =
     let c = get_or row i d in
     let cs = drop (i + 1) row in
-    w ∙ ap (λ ds. front ++ row_remainder ds y x e) (drop_more row i d l) ∙ ap (λ t. front ++ t) (row_remainder-cons y x e c cs (IsRowAhead-at y x e row i d l h))
-    ∙ sym (append_assoc front (replicate (distance x c.x) dot ++ letter_o ∷ []) (row_remainder cs y (c.x +ℤ pos 1) e))
+    w ∙ ap (λ ds. prefix ++ row_remainder ds y x e) (drop_more row i d l) ∙ ap (λ t. prefix ++ t) (row_remainder-cons y x e c cs (IsRowAhead-at y x e row i d l h))
+    ∙ sym (append_assoc prefix (replicate (distance x c.x) dot ++ letter_o ∷ []) (row_remainder cs y (c.x +ℤ pos 1) e))
 
-pub row_remainder-end : (y x e : ℤ) (row : List Cell) (i : ℕ) (front whole : List ℕ) → length row ≤ i → whole ≡ front ++ row_remainder (drop i row) y x e
-    → whole ≡ front ++ (replicate (distance x e) dot ++ line_feed ∷ [])
-row_remainder-end y x e row i front whole l w = w ∙ ap (λ ds. front ++ row_remainder ds y x e) (drop_all i row l) ∙ ap (λ t. front ++ t) (row_remainder-nil y x e)
+pub row_remainder-end : (y x e : ℤ) (row : List Cell) (i : ℕ) (prefix whole : List ℕ) → length row ≤ i → whole ≡ prefix ++ row_remainder (drop i row) y x e
+    → whole ≡ prefix ++ (replicate (distance x e) dot ++ line_feed ∷ [])
+row_remainder-end y x e row i prefix whole l w = w ∙ ap (λ ds. prefix ++ row_remainder ds y x e) (drop_all i row l) ∙ ap (λ t. prefix ++ t) (row_remainder-nil y x e)
 
 -- lists that have the same cells of row y have the same text of it
 pub row_text-same : (cs ds : List Cell) (b : Bounds) (y : ℤ) → ((x : ℤ) → has cs (cell_at x y) ≡ has ds (cell_at x y)) → row_text cs b y ≡ row_text ds b y
@@ -133,18 +133,18 @@ SameFrom y cells remainder = (x z : ℤ) → y ≤ℤ z → has cells (cell_at x
 pub SameFrom-next : (y : ℤ) (cells remainder : List Cell) → SameFrom y cells remainder → SameFrom (y +ℤ pos 1) cells (drop (len_in_row y remainder) remainder)
 SameFrom-next y cells remainder h x z l = h x z (omega (arith, ints)) ∙ has-left y remainder x z (omega (arith, ints))
 
-pub rows_remainder-at : (cells remainder : List Cell) (b : Bounds) (y : ℤ) (front whole : List ℕ) → y <ℤ (b.bottom +ℤ pos 1) → SameFrom y cells remainder
-    → whole ≡ front ++ rows_remainder cells b y → whole ≡ (front ++ row_text remainder b y) ++ rows_remainder cells b (y +ℤ pos 1)
+pub rows_remainder-at : (cells remainder : List Cell) (b : Bounds) (y : ℤ) (prefix whole : List ℕ) → y <ℤ (b.bottom +ℤ pos 1) → SameFrom y cells remainder
+    → whole ≡ prefix ++ rows_remainder cells b y → whole ≡ (prefix ++ row_text remainder b y) ++ rows_remainder cells b (y +ℤ pos 1)
 unfolding rows_remainder
-rows_remainder-at cells remainder b y front whole l h w =
+rows_remainder-at cells remainder b y prefix whole l h w =
     let later = flat_map (row_text cells b) (run (y +ℤ pos 1) (distance (y +ℤ pos 1) (b.bottom +ℤ pos 1))) in
     let n : distance y (b.bottom +ℤ pos 1) ≡ suc (distance (y +ℤ pos 1) (b.bottom +ℤ pos 1)) = omega (arith, ints) in
     let same : row_text cells b y ≡ row_text remainder b y = row_text-same cells remainder b y (λ x. h x y (omega (arith, ints))) in
-    w ∙ ap (λ k. front ++ flat_map (row_text cells b) (run y k)) n ∙ ap (λ t. front ++ (t ++ later)) same ∙ sym (append_assoc front (row_text remainder b y) later)
+    w ∙ ap (λ k. prefix ++ flat_map (row_text cells b) (run y k)) n ∙ ap (λ t. prefix ++ (t ++ later)) same ∙ sym (append_assoc prefix (row_text remainder b y) later)
 
-pub rows_remainder-end : (cells : List Cell) (b : Bounds) (y : ℤ) (front whole : List ℕ) → (b.bottom +ℤ pos 1) ≤ℤ y → y ≤ℤ (b.bottom +ℤ pos 1)
-    → whole ≡ front ++ rows_remainder cells b y → whole ≡ front
+pub rows_remainder-end : (cells : List Cell) (b : Bounds) (y : ℤ) (prefix whole : List ℕ) → (b.bottom +ℤ pos 1) ≤ℤ y → y ≤ℤ (b.bottom +ℤ pos 1)
+    → whole ≡ prefix ++ rows_remainder cells b y → whole ≡ prefix
 unfolding rows_remainder
-rows_remainder-end cells b y front whole l m w =
+rows_remainder-end cells b y prefix whole l m w =
     let n : distance y (b.bottom +ℤ pos 1) ≡ 0 = omega (arith, ints) in
-    w ∙ ap (λ k. front ++ flat_map (row_text cells b) (run y k)) n ∙ append-nil front
+    w ∙ ap (λ k. prefix ++ flat_map (row_text cells b) (run y k)) n ∙ append-nil prefix

@@ -9,7 +9,7 @@ use borrow.Author.Tests.{leb-true, ltb-true}
 use Rattle.std.proofs.lemmas.Bool.{and_parts}
 use Rattle.plane_core.specs.declared.plane.cell.Cell.{Cell}
 use Rattle.plane_core.specs.declared.engine.frame.Frame.{Frame}
-use Rattle.plane_core.specs.declared.engine.window_origin.Place.{Place}
+use Rattle.plane_core.specs.declared.engine.window_origin.WindowOrigin.{WindowOrigin}
 use Rattle.plane_core.specs.plane.Bounds.{AreSidesWithin}
 use Rattle.plane_core.specs.plane.Cells.{on_plane, plane_bound}
 use Rattle.plane_core.specs.engine.Frames.{IsFrame, bounds_of}
@@ -75,15 +75,15 @@ apart_by a b n fa fb is small = record {
     all : taken a b ≡ pos n
     all = ap passed whole ∙ to_z_pos w32 n (omega (arith, small))
 
-pub column_apart : (at : Frame) (p : Place) → IsFrame at → (on : IsOnBoard at p) → AreApart p.left at.left on.x
+pub column_apart : (at : Frame) (p : WindowOrigin) → IsFrame at → (on : IsOnBoard at p) → AreApart p.left at.left on.x
 column_apart at p frame on =
-    let lane = on.lanes in
-    let few = frame.lanes in
+    let word_column = on.word_columns in
+    let few = frame.word_columns in
     let near = frame.left in
     let is = on.left in
-    apart_by p.left at.left on.x (small_fits p.left (omega (arith, ints))) (small_fits at.left (omega (arith, near))) is (omega (arith, lane, few))
+    apart_by p.left at.left on.x (small_fits p.left (omega (arith, ints))) (small_fits at.left (omega (arith, near))) is (omega (arith, word_column, few))
 
-pub row_apart : (at : Frame) (p : Place) → IsFrame at → (on : IsOnBoard at p) → AreApart p.top at.top on.y
+pub row_apart : (at : Frame) (p : WindowOrigin) → IsFrame at → (on : IsOnBoard at p) → AreApart p.top at.top on.y
 row_apart at p frame on =
     let row = on.rows in
     let few = frame.rows in
@@ -190,15 +190,15 @@ moved_back a n near few = record {
 pub record IsViewOf (at : Frame) (x y : ℕ) (view : Frame) : Type 0 where
   pub left : view.left ≡ at.left +ℤ pos x
   pub top : view.top ≡ at.top +ℤ pos y
-  pub lanes : view.lanes ≡ 1
+  pub word_columns : view.word_columns ≡ 1
   pub rows : view.rows ≡ 64
 
-module _ (at : Frame) (x y : ℕ) (view : Frame) (plane : AreSidesWithin plane_bound (bounds_of at)) (lane : x / 64 + 1 < at.lanes) (row : y + 64 ≤ at.rows) where
+module _ (at : Frame) (x y : ℕ) (view : Frame) (plane : AreSidesWithin plane_bound (bounds_of at)) (word_column : x / 64 + 1 < at.word_columns) (row : y + 64 ≤ at.rows) where
   pub view_on_plane : IsViewOf at x y view → AreSidesWithin plane_bound (bounds_of view)
   view_on_plane is =
       let il = is.left in
       let it = is.top in
-      let lanes = is.lanes in
+      let word_columns = is.word_columns in
       let rows = is.rows in
       let l = plane.left in
       let t = plane.top in
@@ -211,9 +211,9 @@ module _ (at : Frame) (x y : ℕ) (view : Frame) (plane : AreSidesWithin plane_b
       let on = view_on_plane is in
       let l = on.left in
       let t = on.top in
-      let lanes = is.lanes in
+      let word_columns = is.word_columns in
       let rows = is.rows in
-      record { left = omega arith; top = omega arith; lanes = omega arith; rows = omega arith; bands = omega arith }
+      record { left = omega arith; top = omega arith; word_columns = omega arith; rows = omega arith; bands = omega arith }
 
 -- ---- what tests say
 

@@ -10,7 +10,7 @@ use Rattle.std.proofs.lemmas.List.{take-append-drop}
 use Rattle.std.proofs.lemmas.List.Folds.{list_all-append}
 use Rattle.plane_core.specs.declared.plane.cell.Cell.{Cell}
 use Rattle.plane_core.specs.declared.plane.orientation.Orientation.TheVariants.{Diagonal, Same}
-use Rattle.plane_core.specs.declared.plane.transform.Placement.{Placement}
+use Rattle.plane_core.specs.declared.plane.transform.Transform.{Transform}
 use Rattle.plane_core.specs.plane.Cells.{cell_at, cell_cmp, has, is_within, on_plane, plane_bound, set_of, distance, InOrder, IsPattern}
 use Rattle.plane_core.specs.plane.Generations.{after}
 use Rattle.plane_core.specs.plane.Orientations.{image, landed, turned_cell}
@@ -120,7 +120,7 @@ same_cells [] = refl
 same_cells (c ∷ cs) = ap (λ (ds : List Cell). c ∷ ds) (same_cells cs)
 
 -- a pattern is turned by a placement that doesn't move it
-abbrev pub transposing : Placement
+abbrev pub transposing : Transform
 transposing = record { orientation = Diagonal; dx = pos 0; dy = pos 0 }
 
 pub landed_turned : (S : List Cell) → map (landed transposing) S ≡ map (turned_cell Diagonal) S

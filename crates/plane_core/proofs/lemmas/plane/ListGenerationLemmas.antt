@@ -152,7 +152,7 @@ tested p n c cs left made all is off t =
 -- The cells that passed were moved to the front of the list, of which the rest is as it was. So many are kept there.
 pub record IsKept (p : Cell → ℕ → Bool) (n kept place end : ℕ) (near all : List Cell) : Type 0 where
   pub whole : length near ≡ end
-  pub front : kept ≤ place
+  pub prefix : kept ≤ place
   pub tallied : IsTallied p n (drop place near) (take kept near) all
 
 pub count_low : (p : Cell → ℕ → Bool) (n kept place end : ℕ) (near all : List Cell) → place < end → IsKept p n kept place end near all → n < 9
@@ -164,7 +164,7 @@ pub kept_further : (p : Cell → ℕ → Bool) (n kept place end : ℕ) (near al
     → c ≡ get_or near place d → goes_on c (drop (place + 1) near) ≡ true → IsKept p (n + 1) kept (place + 1) end near all
 kept_further p n kept place end near all c d low k is on = record {
   whole = k.whole;
-  front = omega (arith, k.front);
+  prefix = omega (arith, k.prefix);
   tallied = further p n c (drop (place + 1) near) (drop place near) (take kept near) all (left_from near place d c (omega (arith, low, k.whole)) is) on k.tallied;
 }
 
@@ -176,10 +176,10 @@ kept_more p n kept place end near all c d low k is off passes =
     let t = tested p n c (drop (place + 1) near) (drop place near) (take kept near) all (left_from near place d c (omega (arith, low, k.whole)) is) off k.tallied in
     record {
       whole = length-set near kept c ∙ k.whole;
-      front = omega (arith, k.front);
+      prefix = omega (arith, k.prefix);
       tallied = rw (
-        drop-set-lt (place + 1) near kept c (omega (arith, k.front)),
-        take_more_set near kept c (omega (arith, k.front, low, k.whole)),
+        drop-set-lt (place + 1) near kept c (omega (arith, k.prefix)),
+        take_more_set near kept c (omega (arith, k.prefix, low, k.whole)),
       ) (subst (λ b. IsTallied p 0 (drop (place + 1) near) (take kept near ++ cond b (c ∷ []) []) all) passes t);
     }
 
@@ -189,7 +189,7 @@ kept_same p n kept place end near all c d low k is off fails =
     let t = tested p n c (drop (place + 1) near) (drop place near) (take kept near) all (left_from near place d c (omega (arith, low, k.whole)) is) off k.tallied in
     record {
       whole = k.whole;
-      front = omega (arith, k.front);
+      prefix = omega (arith, k.prefix);
       tallied = subst (λ (xs : List Cell). IsTallied p 0 (drop (place + 1) near) xs all) (append-nil (take kept near))
           (subst (λ b. IsTallied p 0 (drop (place + 1) near) (take kept near ++ cond b (c ∷ []) []) all) fails t);
     }
@@ -334,6 +334,6 @@ pub none_kept : (rule : Numbers) (S near : List Cell) (end : ℕ) → InOrder S 
     → length near ≡ end → IsKept (lives_in rule S) 0 0 0 end near (next rule S)
 none_kept rule S near end o moved sorted whole = record {
   whole = whole;
-  front = omega arith;
+  prefix = omega arith;
   tallied = record { short = short_runs S near o moved; told = picked-next rule S near o moved sorted };
 }

@@ -5,69 +5,69 @@ use Rattle.std.proofs.lemmas.List.{take_more_set, drop_all}
 use Rattle.plane_core.specs.plane.Rules.{Numbers, digits, is_birth, is_survival}
 
 -- the digits from place i on begin with that of the number there, if it is one
-pub digits-drop-true : (n i : ℕ) (answers : List Bool) → i < length answers → get_or answers i false ≡ true
-    → digits (n + i) (drop i answers) ≡ (48 + n + i) ∷ digits (n + (i + 1)) (drop (i + 1) answers)
+pub digits-drop-true : (n i : ℕ) (logic : List Bool) → i < length logic → get_or logic i false ≡ true
+    → digits (n + i) (drop i logic) ≡ (48 + n + i) ∷ digits (n + (i + 1)) (drop (i + 1) logic)
 unfolding digits
-digits-drop-true n i answers h e =
+digits-drop-true n i logic h e =
     let next : n + i + 1 ≡ n + (i + 1) = omega arith in
     let here : 48 + (n + i) ≡ 48 + n + i = omega arith in
-    rw (add-one i, drop-cons answers i false, e, here) (ap (λ (k : ℕ). (48 + n + i) ∷ digits k (drop (suc i) answers)) (omega arith))
+    rw (add-one i, drop-cons logic i false, e, here) (ap (λ (k : ℕ). (48 + n + i) ∷ digits k (drop (suc i) logic)) (omega arith))
 
-pub digits-drop-false : (n i : ℕ) (answers : List Bool) → i < length answers → get_or answers i false ≡ false
-    → digits (n + i) (drop i answers) ≡ digits (n + (i + 1)) (drop (i + 1) answers)
+pub digits-drop-false : (n i : ℕ) (logic : List Bool) → i < length logic → get_or logic i false ≡ false
+    → digits (n + i) (drop i logic) ≡ digits (n + (i + 1)) (drop (i + 1) logic)
 unfolding digits
-digits-drop-false n i answers h e =
-    rw (add-one i, drop-cons answers i false, e) (ap (λ (k : ℕ). digits k (drop (suc i) answers)) (omega arith))
+digits-drop-false n i logic h e =
+    rw (add-one i, drop-cons logic i false, e) (ap (λ (k : ℕ). digits k (drop (suc i) logic)) (omega arith))
 
 -- one more digit joins those in front of the place
-pub digits-front-true : (n i : ℕ) (answers : List Bool) (front text : List ℕ) → i < length answers → get_or answers i false ≡ true
-    → text ≡ front ++ digits (n + i) (drop i answers)
-    → text ≡ (front ++ (48 + n + i) ∷ []) ++ digits (n + (i + 1)) (drop (i + 1) answers)
-digits-front-true n i answers front text h e p =
-    p ∙ ap (λ (xs : List ℕ). front ++ xs) (digits-drop-true n i answers h e)
-    ∙ sym (append_assoc front ((48 + n + i) ∷ []) (digits (n + (i + 1)) (drop (i + 1) answers)))
+pub digits-prefix-true : (n i : ℕ) (logic : List Bool) (prefix text : List ℕ) → i < length logic → get_or logic i false ≡ true
+    → text ≡ prefix ++ digits (n + i) (drop i logic)
+    → text ≡ (prefix ++ (48 + n + i) ∷ []) ++ digits (n + (i + 1)) (drop (i + 1) logic)
+digits-prefix-true n i logic prefix text h e p =
+    p ∙ ap (λ (xs : List ℕ). prefix ++ xs) (digits-drop-true n i logic h e)
+    ∙ sym (append_assoc prefix ((48 + n + i) ∷ []) (digits (n + (i + 1)) (drop (i + 1) logic)))
 
-pub digits-front-false : (n i : ℕ) (answers : List Bool) (front text : List ℕ) → i < length answers → get_or answers i false ≡ false
-    → text ≡ front ++ digits (n + i) (drop i answers) → text ≡ front ++ digits (n + (i + 1)) (drop (i + 1) answers)
-digits-front-false n i answers front text h e p = p ∙ ap (λ (xs : List ℕ). front ++ xs) (digits-drop-false n i answers h e)
+pub digits-prefix-false : (n i : ℕ) (logic : List Bool) (prefix text : List ℕ) → i < length logic → get_or logic i false ≡ false
+    → text ≡ prefix ++ digits (n + i) (drop i logic) → text ≡ prefix ++ digits (n + (i + 1)) (drop (i + 1) logic)
+digits-prefix-false n i logic prefix text h e p = p ∙ ap (λ (xs : List ℕ). prefix ++ xs) (digits-drop-false n i logic h e)
 
 -- before the first place there is the letter
-pub digits-front-start : (n letter : ℕ) (answers : List Bool) → letter ∷ digits n answers ≡ (letter ∷ []) ++ digits (n + 0) (drop 0 answers)
-digits-front-start n letter answers = ap (λ (k : ℕ). letter ∷ digits k answers) (omega arith)
+pub digits-prefix-start : (n letter : ℕ) (logic : List Bool) → letter ∷ digits n logic ≡ (letter ∷ []) ++ digits (n + 0) (drop 0 logic)
+digits-prefix-start n letter logic = ap (λ (k : ℕ). letter ∷ digits k logic) (omega arith)
 
 -- past the last place nothing is left
-pub digits-front-end : (n i : ℕ) (answers : List Bool) (front text : List ℕ) → length answers ≤ i
-    → text ≡ front ++ digits (n + i) (drop i answers) → text ≡ front
+pub digits-prefix-end : (n i : ℕ) (logic : List Bool) (prefix text : List ℕ) → length logic ≤ i
+    → text ≡ prefix ++ digits (n + i) (drop i logic) → text ≡ prefix
 unfolding digits
-digits-front-end n i answers front text h p = p ∙ ap (λ (xs : List Bool). front ++ digits (n + i) xs) (drop_all i answers h) ∙ append-nil front
+digits-prefix-end n i logic prefix text h p = p ∙ ap (λ (xs : List Bool). prefix ++ digits (n + i) xs) (drop_all i logic h) ∙ append-nil prefix
 
 -- one digit more at the end of what was put
-pub digits-put : (n i end : ℕ) (answers : List Bool) (text whole : List ℕ) → i < length answers → get_or answers i false ≡ true
-    → end < length text → whole ≡ take end text ++ digits (n + i) (drop i answers)
-    → whole ≡ take (end + 1) (set text end (48 + n + i)) ++ digits (n + (i + 1)) (drop (i + 1) answers)
-digits-put n i end answers text whole h e low p =
-    digits-front-true n i answers (take end text) whole h e p
-    ∙ ap (λ (front : List ℕ). front ++ digits (n + (i + 1)) (drop (i + 1) answers)) (sym (take_more_set text end (48 + n + i) low))
+pub digits-put : (n i end : ℕ) (logic : List Bool) (text whole : List ℕ) → i < length logic → get_or logic i false ≡ true
+    → end < length text → whole ≡ take end text ++ digits (n + i) (drop i logic)
+    → whole ≡ take (end + 1) (set text end (48 + n + i)) ++ digits (n + (i + 1)) (drop (i + 1) logic)
+digits-put n i end logic text whole h e low p =
+    digits-prefix-true n i logic (take end text) whole h e p
+    ∙ ap (λ (prefix : List ℕ). prefix ++ digits (n + (i + 1)) (drop (i + 1) logic)) (sym (take_more_set text end (48 + n + i) low))
 
 -- before the first digit there is the letter
-pub digits-begun : (n place letter : ℕ) (answers : List Bool) (text : List ℕ) → place < length text
-    → take place text ++ letter ∷ digits n answers ≡ take (place + 1) (set text place letter) ++ digits (n + 0) (drop 0 answers)
-digits-begun n place letter answers text low =
-    ap (λ (more : List ℕ). take place text ++ more) (digits-front-start n letter answers)
-    ∙ sym (append_assoc (take place text) (letter ∷ []) (digits (n + 0) (drop 0 answers)))
-    ∙ ap (λ (front : List ℕ). front ++ digits (n + 0) (drop 0 answers)) (sym (take_more_set text place letter low))
+pub digits-begun : (n place letter : ℕ) (logic : List Bool) (text : List ℕ) → place < length text
+    → take place text ++ letter ∷ digits n logic ≡ take (place + 1) (set text place letter) ++ digits (n + 0) (drop 0 logic)
+digits-begun n place letter logic text low =
+    ap (λ (more : List ℕ). take place text ++ more) (digits-prefix-start n letter logic)
+    ∙ sym (append_assoc (take place text) (letter ∷ []) (digits (n + 0) (drop 0 logic)))
+    ∙ ap (λ (prefix : List ℕ). prefix ++ digits (n + 0) (drop 0 logic)) (sym (take_more_set text place letter low))
 
 -- ---- what a table answers for a number
 
-answer_at : (answers : List Bool) (n : ℕ) → n < length answers → get_or answers n false ≡ unwrap_or (slice_get answers n) false
+answer_at : (logic : List Bool) (n : ℕ) → n < length logic → get_or logic n false ≡ unwrap_or (slice_get logic n) false
 answer_at [] n low = absurd (omega arith)
-answer_at (a ∷ answers) zero low = refl
-answer_at (a ∷ answers) (suc n) low = answer_at answers n (omega arith)
+answer_at (a ∷ logic) zero low = refl
+answer_at (a ∷ logic) (suc n) low = answer_at logic n (omega arith)
 
-past_answers : (answers : List Bool) (n : ℕ) → length answers ≤ n → false ≡ unwrap_or (slice_get answers n) false
+past_answers : (logic : List Bool) (n : ℕ) → length logic ≤ n → false ≡ unwrap_or (slice_get logic n) false
 past_answers [] n high = refl
-past_answers (a ∷ answers) zero high = absurd (omega arith)
-past_answers (a ∷ answers) (suc n) high = past_answers answers n (omega arith)
+past_answers (a ∷ logic) zero high = absurd (omega arith)
+past_answers (a ∷ logic) (suc n) high = past_answers logic n (omega arith)
 
 pub birth_at : (rule : Numbers) (n : ℕ) → length rule.births ≡ 8 → 1 ≤ n → n < 9 → get_or rule.births (n - 1) false ≡ is_birth rule n
 birth_at rule zero size low high = absurd (omega arith)

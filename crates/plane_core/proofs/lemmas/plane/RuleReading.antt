@@ -23,9 +23,9 @@ pub begins-other : (c d : ℕ) (more : List ℕ) → c ≢ d → begins (c ∷ m
 begins-other c d more ne = grind (arith, nat_tests)
 
 -- only the first byte matters
-pub begins-same_front : (front : List ℕ) (c d : ℕ) (x y : List ℕ) → begins (front ++ c ∷ x) (d ∷ []) ≡ begins (front ++ c ∷ y) (d ∷ [])
-begins-same_front [] c d x y = refl
-begins-same_front (b ∷ front) c d x y = refl
+pub begins-same_prefix : (prefix : List ℕ) (c d : ℕ) (x y : List ℕ) → begins (prefix ++ c ∷ x) (d ∷ []) ≡ begins (prefix ++ c ∷ y) (d ∷ [])
+begins-same_prefix [] c d x y = refl
+begins-same_prefix (b ∷ prefix) c d x y = refl
 
 -- the next digit stands there or it doesn't
 pub numbers_at-cases : (P : Reading → Type 0) (k n : ℕ) (text : List ℕ)
@@ -38,40 +38,40 @@ numbers_at-cases P k n text hit miss = go (begins text ((48 + n) ∷ [])) refl w
   go false h = subst P (sym (numbers_at-miss k n text h)) (miss h)
 
 -- what is read is spelled so
-pub digits-numbers_at : (k n : ℕ) (text : List ℕ) → digits n (numbers_at k n text).answers ++ (numbers_at k n text).remainder ≡ text
+pub digits-numbers_at : (k n : ℕ) (text : List ℕ) → digits n (numbers_at k n text).logic ++ (numbers_at k n text).remainder ≡ text
 unfolding digits numbers_at
 digits-numbers_at zero n text = refl
 digits-numbers_at (suc k) n text =
-    numbers_at-cases (λ read. digits n read.answers ++ read.remainder ≡ text) k n text
+    numbers_at-cases (λ read. digits n read.logic ++ read.remainder ≡ text) k n text
     (λ h. ap (λ (xs : List ℕ). (48 + n) ∷ xs) (digits-numbers_at k (n + 1) (drop 1 text)) ∙ sym (begins-true text (48 + n) h))
     (λ h. digits-numbers_at k (n + 1) text)
 
-pub length-numbers_at : (k n : ℕ) (text : List ℕ) → length (numbers_at k n text).answers ≡ k
+pub length-numbers_at : (k n : ℕ) (text : List ℕ) → length (numbers_at k n text).logic ≡ k
 unfolding numbers_at
 length-numbers_at zero n text = refl
 length-numbers_at (suc k) n text =
-    numbers_at-cases (λ read. length read.answers ≡ suc k) k n text
+    numbers_at-cases (λ read. length read.logic ≡ suc k) k n text
     (λ h. ap (λ (m : ℕ). suc m) (length-numbers_at k (n + 1) (drop 1 text))) (λ h. ap (λ (m : ℕ). suc m) (length-numbers_at k (n + 1) text))
 
 -- How far numbers are read depends on nothing past the first byte after them.
 pub numbers_at-other_remainder : (k n : ℕ) (text : List ℕ) (c : ℕ) (cs more : List ℕ) → (numbers_at k n text).remainder ≡ c ∷ cs
-    → numbers_at k n (digits n (numbers_at k n text).answers ++ c ∷ more) ≡ record { answers = (numbers_at k n text).answers; remainder = c ∷ more }
+    → numbers_at k n (digits n (numbers_at k n text).logic ++ c ∷ more) ≡ record { logic = (numbers_at k n text).logic; remainder = c ∷ more }
 unfolding digits numbers_at
 numbers_at-other_remainder zero n text c cs more = λ e. refl
 numbers_at-other_remainder (suc k) n text c cs more =
     numbers_at-cases (λ read. read.remainder ≡ c ∷ cs
-    → numbers_at (suc k) n (digits n read.answers ++ c ∷ more) ≡ record { answers = read.answers; remainder = c ∷ more }) k n text
+    → numbers_at (suc k) n (digits n read.logic ++ c ∷ more) ≡ record { logic = read.logic; remainder = c ∷ more }) k n text
     (λ h remainder.
-    let front = digits (n + 1) (numbers_at k (n + 1) (drop 1 text)).answers in
-    numbers_at-hit k n ((48 + n) ∷ (front ++ c ∷ more)) (begins-same (48 + n) (front ++ c ∷ more))
+    let prefix = digits (n + 1) (numbers_at k (n + 1) (drop 1 text)).logic in
+    numbers_at-hit k n ((48 + n) ∷ (prefix ++ c ∷ more)) (begins-same (48 + n) (prefix ++ c ∷ more))
     ∙ ap (λ (r : Reading). with_answer true r) (numbers_at-other_remainder k (n + 1) (drop 1 text) c cs more remainder))
     (λ h remainder.
     let read = numbers_at k (n + 1) text in
-    let front = digits (n + 1) read.answers in
-    let whole : front ++ c ∷ cs ≡ text = ap (λ (xs : List ℕ). front ++ xs) (sym remainder) ∙ digits-numbers_at k (n + 1) text in
-    let miss : begins (front ++ c ∷ more) ((48 + n) ∷ []) ≡ false =
-    begins-same_front front c (48 + n) more cs ∙ ap (λ (xs : List ℕ). begins xs ((48 + n) ∷ [])) whole ∙ h in
-    numbers_at-miss k n (front ++ c ∷ more) miss ∙ ap (λ (r : Reading). with_answer false r) (numbers_at-other_remainder k (n + 1) text c cs more remainder))
+    let prefix = digits (n + 1) read.logic in
+    let whole : prefix ++ c ∷ cs ≡ text = ap (λ (xs : List ℕ). prefix ++ xs) (sym remainder) ∙ digits-numbers_at k (n + 1) text in
+    let miss : begins (prefix ++ c ∷ more) ((48 + n) ∷ []) ≡ false =
+    begins-same_prefix prefix c (48 + n) more cs ∙ ap (λ (xs : List ℕ). begins xs ((48 + n) ∷ [])) whole ∙ h in
+    numbers_at-miss k n (prefix ++ c ∷ more) miss ∙ ap (λ (r : Reading). with_answer false r) (numbers_at-other_remainder k (n + 1) text c cs more remainder))
 
 -- no digit stands at the front of the text
 pub record IsPastDigits (remainder : List ℕ) : Type 0 where
@@ -84,32 +84,32 @@ pub IsPastDigits-s : (more : List ℕ) → IsPastDigits (115 ∷ more)
 IsPastDigits-s more = record { past = λ n h. let ne : 115 ≢ 48 + n = omega arith in begins-other 115 (48 + n) more ne }
 
 -- where digits of greater numbers follow, a number's own doesn't
-pub begins-digits : (n m : ℕ) (answers : List Bool) (remainder : List ℕ) → n < m → n < 10 → IsPastDigits remainder
-    → begins (digits m answers ++ remainder) ((48 + n) ∷ []) ≡ false
+pub begins-digits : (n m : ℕ) (logic : List Bool) (remainder : List ℕ) → n < m → n < 10 → IsPastDigits remainder
+    → begins (digits m logic ++ remainder) ((48 + n) ∷ []) ≡ false
 unfolding digits
 begins-digits n m [] remainder h small past = past.past n small
-begins-digits n m (true ∷ answers) remainder h small past = let ne : 48 + m ≢ 48 + n =
-    omega arith in begins-other (48 + m) (48 + n) (digits (m + 1) answers ++ remainder) ne
-begins-digits n m (false ∷ answers) remainder h small past = begins-digits n (m + 1) answers remainder (omega arith) small past
+begins-digits n m (true ∷ logic) remainder h small past = let ne : 48 + m ≢ 48 + n =
+    omega arith in begins-other (48 + m) (48 + n) (digits (m + 1) logic ++ remainder) ne
+begins-digits n m (false ∷ logic) remainder h small past = begins-digits n (m + 1) logic remainder (omega arith) small past
 
 -- what is spelled so is read, whatever follows that is no digit
-pub numbers_at-digits : (k n : ℕ) (answers : List Bool) (remainder : List ℕ) → length answers ≡ k → k + n ≤ 10 → IsPastDigits remainder
-    → numbers_at k n (digits n answers ++ remainder) ≡ record { answers = answers; remainder = remainder }
+pub numbers_at-digits : (k n : ℕ) (logic : List Bool) (remainder : List ℕ) → length logic ≡ k → k + n ≤ 10 → IsPastDigits remainder
+    → numbers_at k n (digits n logic ++ remainder) ≡ record { logic = logic; remainder = remainder }
 unfolding digits numbers_at
 numbers_at-digits zero n [] remainder len room past = refl
-numbers_at-digits zero n (a ∷ answers) remainder len room past = absurd (omega arith)
+numbers_at-digits zero n (a ∷ logic) remainder len room past = absurd (omega arith)
 numbers_at-digits (suc k) n [] remainder len room past = absurd (omega arith)
-numbers_at-digits (suc k) n (true ∷ answers) remainder len room past =
-    numbers_at-hit k n ((48 + n) ∷ (digits (n + 1) answers ++ remainder)) (begins-same (48 + n) (digits (n + 1) answers ++ remainder))
-    ∙ ap (λ (r : Reading). with_answer true r) (numbers_at-digits k (n + 1) answers remainder (omega arith) (omega arith) past)
-numbers_at-digits (suc k) n (false ∷ answers) remainder len room past =
-    numbers_at-miss k n (digits (n + 1) answers ++ remainder) (begins-digits n (n + 1) answers remainder (omega arith) (omega arith) past)
-    ∙ ap (λ (r : Reading). with_answer false r) (numbers_at-digits k (n + 1) answers remainder (omega arith) (omega arith) past)
+numbers_at-digits (suc k) n (true ∷ logic) remainder len room past =
+    numbers_at-hit k n ((48 + n) ∷ (digits (n + 1) logic ++ remainder)) (begins-same (48 + n) (digits (n + 1) logic ++ remainder))
+    ∙ ap (λ (r : Reading). with_answer true r) (numbers_at-digits k (n + 1) logic remainder (omega arith) (omega arith) past)
+numbers_at-digits (suc k) n (false ∷ logic) remainder len room past =
+    numbers_at-miss k n (digits (n + 1) logic ++ remainder) (begins-digits n (n + 1) logic remainder (omega arith) (omega arith) past)
+    ∙ ap (λ (r : Reading). with_answer false r) (numbers_at-digits k (n + 1) logic remainder (omega arith) (omega arith) past)
 
 pub length-remainder : (k n : ℕ) (text : List ℕ) → length (numbers_at k n text).remainder ≤ length text
 length-remainder k n text =
-    let e : length (digits n (numbers_at k n text).answers ++ (numbers_at k n text).remainder) ≡ length text = ap length (digits-numbers_at k n text) in
-    omega (arith, e, length-append (digits n (numbers_at k n text).answers) (numbers_at k n text).remainder)
+    let e : length (digits n (numbers_at k n text).logic ++ (numbers_at k n text).remainder) ≡ length text = ap length (digits-numbers_at k n text) in
+    omega (arith, e, length-append (digits n (numbers_at k n text).logic) (numbers_at k n text).remainder)
 
 -- the numbers after the letters
 abbrev pub births_in : List ℕ → Reading
@@ -139,7 +139,7 @@ rule_read-more text b no_zero s end = rw (b, no_zero, s, end) refl
 
 pub rule_read-all : (text : List ℕ) → begins text (codes "b") ≡ true → begins text (codes "b0") ≡ false → begins (births_in text).remainder (codes "s") ≡ true
     → (length (survivals_in text).remainder == 0) ≡ true
-    → rule_read text ≡ Ok (record { births = (births_in text).answers; survivals = (survivals_in text).answers })
+    → rule_read text ≡ Ok (record { births = (births_in text).logic; survivals = (survivals_in text).logic })
 unfolding rule_read
 rule_read-all text b no_zero s end = rw (b, no_zero, s, end) refl
 
@@ -179,9 +179,9 @@ unfolding rule_text
 rule_read-rule_text rule whole =
     let text = rule_text rule in
     let after_s = digits 0 rule.survivals in
-    let births : births_in text ≡ record { answers = rule.births; remainder = 115 ∷ after_s } =
+    let births : births_in text ≡ record { logic = rule.births; remainder = 115 ∷ after_s } =
     numbers_at-digits 8 1 rule.births (115 ∷ after_s) whole.births (omega arith) (IsPastDigits-s after_s) in
-    let survivals : survivals_in text ≡ record { answers = rule.survivals; remainder = [] } =
+    let survivals : survivals_in text ≡ record { logic = rule.survivals; remainder = [] } =
     ap (λ (r : Reading). numbers_at 9 0 (drop 1 r.remainder)) births ∙ ap (numbers_at 9 0) (sym (append-nil after_s))
     ∙ numbers_at-digits 9 0 rule.survivals [] whole.survivals (omega arith) IsPastDigits-nil in
     let no_zero = zero-rule_text rule in
@@ -190,26 +190,26 @@ rule_read-rule_text rule whole =
     rule_read-all text (begins-same 98 (digits 1 rule.births ++ 115 ∷ after_s)) no_zero s end ∙ rw (survivals, births) refl
 
 -- Where the front begins a rule's text and no longer front does, the first fault is after it.
-pub IsFirstFault-after : (front remainder : List ℕ) → BeginsRule front → ((c : ℕ) (cs : List ℕ) → remainder ≡ c ∷ cs → BeginsRule (front ++ c ∷ []) → ⊥)
-    → IsFirstFault (front ++ remainder) (length (front ++ remainder) - length remainder)
-IsFirstFault-after front [] begun stops =
-    let here : length (front ++ []) - 0 ≡ length (front ++ []) = omega arith in
-    let all : take (length (front ++ [])) (front ++ []) ≡ front = take-length (front ++ []) ∙ append-nil front in
+pub IsFirstFault-after : (prefix remainder : List ℕ) → BeginsRule prefix → ((c : ℕ) (cs : List ℕ) → remainder ≡ c ∷ cs → BeginsRule (prefix ++ c ∷ []) → ⊥)
+    → IsFirstFault (prefix ++ remainder) (length (prefix ++ remainder) - length remainder)
+IsFirstFault-after prefix [] begun stops =
+    let here : length (prefix ++ []) - 0 ≡ length (prefix ++ []) = omega arith in
+    let all : take (length (prefix ++ [])) (prefix ++ []) ≡ prefix = take-length (prefix ++ []) ∙ append-nil prefix in
     rw here (record {
       within = omega arith;
       before = let P : List ℕ → Type 0 = λ xs. BeginsRule xs in subst P (sym all) begun;
       there = λ less. absurd (omega arith);
     })
-IsFirstFault-after front (c ∷ cs) begun stops =
-    let place = length (front ++ c ∷ cs) - length (c ∷ cs) in
+IsFirstFault-after prefix (c ∷ cs) begun stops =
+    let place = length (prefix ++ c ∷ cs) - length (c ∷ cs) in
     let P : List ℕ → Type 0 = λ xs. BeginsRule xs in
-    let at : length front ≡ place = omega (arith, length-append front (c ∷ cs)) in
-    let regrouped : front ++ c ∷ cs ≡ (front ++ c ∷ []) ++ cs = sym (append_assoc front (c ∷ []) cs) in
-    let next : length (front ++ c ∷ []) ≡ place + 1 = omega (arith, length-append front (c ∷ []), at) in
-    let longer : take (place + 1) (front ++ c ∷ cs) ≡ front ++ c ∷ [] = ap (take (place + 1)) regrouped ∙ take_at (front ++ c ∷ []) cs (place + 1) next in
+    let at : length prefix ≡ place = omega (arith, length-append prefix (c ∷ cs)) in
+    let regrouped : prefix ++ c ∷ cs ≡ (prefix ++ c ∷ []) ++ cs = sym (append_assoc prefix (c ∷ []) cs) in
+    let next : length (prefix ++ c ∷ []) ≡ place + 1 = omega (arith, length-append prefix (c ∷ []), at) in
+    let longer : take (place + 1) (prefix ++ c ∷ cs) ≡ prefix ++ c ∷ [] = ap (take (place + 1)) regrouped ∙ take_at (prefix ++ c ∷ []) cs (place + 1) next in
     record {
       within = omega arith;
-      before = subst P (sym (take_at front (c ∷ cs) place at)) begun;
+      before = subst P (sym (take_at prefix (c ∷ cs) place at)) begun;
       there = λ less further. stops c cs refl (subst P longer further);
     }
 
@@ -237,18 +237,18 @@ BeginsRule-rule_text rule whole = record { rule = rule; remainder = []; is_rule 
 
 -- what stands after the births' digits in a rule's text that has a front in common with the text
 pub births-shared : (text : List ℕ) (c : ℕ) (cs more : List ℕ) (rule : Numbers) → IsRule rule → (births_in text).remainder ≡ c ∷ cs
-    → rule_text rule ≡ 98 ∷ (digits 1 (births_in text).answers ++ c ∷ more) → 115 ∷ digits 0 rule.survivals ≡ c ∷ more
+    → rule_text rule ≡ 98 ∷ (digits 1 (births_in text).logic ++ c ∷ more) → 115 ∷ digits 0 rule.survivals ≡ c ∷ more
 unfolding rule_text
 births-shared text c cs more rule whole remainder spelled =
     let after_s = 115 ∷ digits 0 rule.survivals in
-    let same : digits 1 rule.births ++ after_s ≡ digits 1 (births_in text).answers ++ c ∷ more = ap (drop 1) spelled in
+    let same : digits 1 rule.births ++ after_s ≡ digits 1 (births_in text).logic ++ c ∷ more = ap (drop 1) spelled in
     ap (λ (r : Reading). r.remainder)
     (sym (numbers_at-digits 8 1 rule.births after_s whole.births (omega arith) (IsPastDigits-s (digits 0 rule.survivals)))
     ∙ ap (numbers_at 8 1) same ∙ numbers_at-other_remainder 8 1 (drop 1 text) c cs more remainder)
 
 -- the same after the survivals' digits, where a rule's text has nothing
 pub survivals-shared : (text : List ℕ) (c : ℕ) (cs more : List ℕ) (rule : Numbers) → IsRule rule → (survivals_in text).remainder ≡ c ∷ cs
-    → digits 0 rule.survivals ≡ digits 0 (survivals_in text).answers ++ c ∷ more → [] ≡ c ∷ more
+    → digits 0 rule.survivals ≡ digits 0 (survivals_in text).logic ++ c ∷ more → [] ≡ c ∷ more
 survivals-shared text c cs more rule whole remainder same =
     ap (λ (r : Reading). r.remainder)
     (sym (numbers_at-digits 9 0 rule.survivals [] whole.survivals (omega arith) IsPastDigits-nil)
@@ -274,7 +274,7 @@ Says_no_b text h = (
     go [] h less rule more e = omega arith
     go (c ∷ cs) h less rule more e =
         let same : begins (rule_text rule) (codes "b") ≡ begins (c ∷ cs) (codes "b") =
-        ap (λ (xs : List ℕ). begins xs (codes "b")) e ∙ begins-same_front [] c 98 more cs in
+        ap (λ (xs : List ℕ). begins xs (codes "b")) e ∙ begins-same_prefix [] c 98 more cs in
         let yes : begins (rule_text rule) (codes "b") ≡ true = begins-same 98 (digits 1 rule.births ++ (115 ∷ digits 0 rule.survivals)) in
         let wrong : true ≡ false = sym yes ∙ same ∙ h in
         cc
@@ -284,18 +284,18 @@ pub Says_no_s : (text : List ℕ) → begins text (codes "b") ≡ true → begin
 unfolding rule_text
 Says_no_s text b no_zero no_s =
     let births = births_in text in
-    let front = 98 ∷ digits 1 births.answers in
-    let whole : front ++ births.remainder ≡ text = ap (λ (xs : List ℕ). 98 ∷ xs) (digits-numbers_at 8 1 (drop 1 text)) ∙ sym (begins-true text 98 b) in
+    let prefix = 98 ∷ digits 1 births.logic in
+    let whole : prefix ++ births.remainder ≡ text = ap (λ (xs : List ℕ). 98 ∷ xs) (digits-numbers_at 8 1 (drop 1 text)) ∙ sym (begins-true text 98 b) in
     let P : List ℕ → Type 0 = λ xs. IsFirstFault xs (length xs - length births.remainder) in (
       subst P whole
-          (IsFirstFault-after front births.remainder (BeginsRule-births births.answers (length-numbers_at 8 1 (drop 1 text)))
+          (IsFirstFault-after prefix births.remainder (BeginsRule-births births.logic (length-numbers_at 8 1 (drop 1 text)))
           (λ c cs remainder further.
           let more = further.remainder in
-          let spelled : rule_text further.rule ≡ 98 ∷ (digits 1 births.answers ++ c ∷ more) = further.spelled ∙ append_assoc front (c ∷ []) more in
+          let spelled : rule_text further.rule ≡ 98 ∷ (digits 1 births.logic ++ c ∷ more) = further.spelled ∙ append_assoc prefix (c ∷ []) more in
           let shared = births-shared text c cs more further.rule further.is_rule remainder spelled in
           let yes : begins (c ∷ more) (codes "s") ≡ true = ap (λ (xs : List ℕ). begins xs (codes "s")) (sym shared)
           ∙ begins-same 115 (digits 0 further.rule.survivals) in
-          let no : begins (c ∷ more) (codes "s") ≡ false = begins-same_front [] c 115 more cs ∙ ap (λ (xs : List ℕ). begins xs (codes "s")) (sym remainder) ∙ no_s in
+          let no : begins (c ∷ more) (codes "s") ≡ false = begins-same_prefix [] c 115 more cs ∙ ap (λ (xs : List ℕ). begins xs (codes "s")) (sym remainder) ∙ no_s in
           let wrong : true ≡ false = sym yes ∙ no in
           cc)),
       no_zero,
@@ -303,7 +303,7 @@ Says_no_s text b no_zero no_s =
 
 -- the text up to the end of the survivals' digits is a rule's
 abbrev pub rule_in : List ℕ → Numbers
-rule_in text = record { births = (births_in text).answers; survivals = (survivals_in text).answers }
+rule_in text = record { births = (births_in text).logic; survivals = (survivals_in text).logic }
 
 pub rule_text-rule_in : (text : List ℕ) → begins text (codes "b") ≡ true → begins (births_in text).remainder (codes "s") ≡ true
     → rule_text (rule_in text) ++ (survivals_in text).remainder ≡ text
@@ -311,10 +311,10 @@ unfolding rule_text
 rule_text-rule_in text b s =
     let births = births_in text in
     let survivals = survivals_in text in
-    let d = digits 1 births.answers in
-    let tail : 115 ∷ (digits 0 survivals.answers ++ survivals.remainder) ≡ births.remainder =
+    let d = digits 1 births.logic in
+    let tail : 115 ∷ (digits 0 survivals.logic ++ survivals.remainder) ≡ births.remainder =
     ap (λ (xs : List ℕ). 115 ∷ xs) (digits-numbers_at 9 0 (drop 1 births.remainder)) ∙ sym (begins-true births.remainder 115 s) in
-    ap (λ (xs : List ℕ). 98 ∷ xs) (append_assoc d (115 ∷ digits 0 survivals.answers) survivals.remainder ∙ ap (λ (xs : List ℕ). d ++ xs) tail
+    ap (λ (xs : List ℕ). 98 ∷ xs) (append_assoc d (115 ∷ digits 0 survivals.logic) survivals.remainder ∙ ap (λ (xs : List ℕ). d ++ xs) tail
     ∙ digits-numbers_at 8 1 (drop 1 text))
     ∙ sym (begins-true text 98 b)
 
@@ -333,8 +333,8 @@ Says_more text b no_zero s =
           (IsFirstFault-after (rule_text rule) survivals.remainder (BeginsRule-rule_text rule (IsRule-rule_in text))
           (λ c cs remainder further.
           let more = further.remainder in
-          let d = digits 1 births.answers in
-          let t = digits 0 survivals.answers in
+          let d = digits 1 births.logic in
+          let t = digits 0 survivals.logic in
           let spelled : rule_text further.rule ≡ 98 ∷ (d ++ 115 ∷ (t ++ c ∷ more)) =
           further.spelled ∙ append_assoc (rule_text rule) (c ∷ []) more ∙ ap (λ (xs : List ℕ). 98 ∷ xs) (append_assoc d (115 ∷ t) (c ∷ more)) in
           let after_s : births.remainder ≡ 115 ∷ drop 1 births.remainder = begins-true births.remainder 115 s in

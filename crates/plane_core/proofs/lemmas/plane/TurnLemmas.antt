@@ -14,7 +14,7 @@ use Rattle.plane_core.specs.declared.plane.orientation.Orientation.{Orientation}
 use Rattle.plane_core.specs.declared.plane.orientation.Orientation.TheVariants.{Same, Quarter, Half, ThreeQuarter, Mirror, Flip, Diagonal, AntiDiagonal}
 use Rattle.plane_core.specs.plane.Bounds.{box_of, grown, shifted, cornered, IsLeastBox, IsWithin}
 use Rattle.plane_core.specs.plane.Cells.{plane_bound, cell_cmp, moved_by, put, set_of, InOrder, on_plane, IsPattern}
-use Rattle.plane_core.specs.plane.Orientations.{turned_cell, landed, corner_placement, image, turned}
+use Rattle.plane_core.specs.plane.Orientations.{turned_cell, landed, corner_transform, image, turned}
 use Rattle.plane_core.proofs.lemmas.plane.BoundsLemmas.{box_of-least, widened-swap, widened-pair, min_same, max_same, min_again, max_again}
 use Rattle.plane_core.proofs.lemmas.plane.CellLemmas.{cell_cmp-same, cell_cmp-moved}
 use Rattle.plane_core.proofs.lemmas.plane.TransformLemmas.{in_order-shifted, all_at, all_images_at}
@@ -81,13 +81,13 @@ list_all-set_of p cs = both_true (list_all p (set_of cs)) (list_all p cs)
     (λ h. has-list_all p (set_of cs) (λ c e. list_all-has p cs h c (sym (has-set_of cs c) ∙ e)))
 
 landed-map : (o : Orientation) (b : Bounds) (cs : List Cell)
-    → map (landed (corner_placement o (Some b))) cs ≡ shifted (neg_ℤ b.left) (neg_ℤ b.top) (map (turned_cell o) cs)
+    → map (landed (corner_transform o (Some b))) cs ≡ shifted (neg_ℤ b.left) (neg_ℤ b.top) (map (turned_cell o) cs)
 landed-map o b [] = refl
-landed-map o b (c ∷ cs) = ap (λ (ds : List Cell). landed (corner_placement o (Some b)) c ∷ ds) (landed-map o b cs)
+landed-map o b (c ∷ cs) = ap (λ (ds : List Cell). landed (corner_transform o (Some b)) c ∷ ds) (landed-map o b cs)
 
 -- the set of the landed cells is the image at the corner
 pub landed-turned : (o : Orientation) (cs : List Cell) (b : Bounds) → box_of (map (turned_cell o) cs) ≡ Some b
-    → set_of (map (landed (corner_placement o (Some b))) cs) ≡ turned o cs
+    → set_of (map (landed (corner_transform o (Some b))) cs) ≡ turned o cs
 unfolding turned image
 landed-turned o cs b e =
     ap set_of (landed-map o b cs)
@@ -95,8 +95,8 @@ landed-turned o cs b e =
     ∙ sym (ap (λ (box : Option Bounds). cornered box (set_of (map (turned_cell o) cs))) (box_of-set_of (map (turned_cell o) cs) ∙ e))
 
 pub landed-plane : (o : Orientation) (cs : List Cell) (b : Bounds) → box_of (map (turned_cell o) cs) ≡ Some b
-    → list_all on_plane (map (landed (corner_placement o (Some b))) cs) ≡ list_all on_plane (turned o cs)
-landed-plane o cs b e = sym (list_all-set_of on_plane (map (landed (corner_placement o (Some b))) cs)) ∙ ap (list_all on_plane) (landed-turned o cs b e)
+    → list_all on_plane (map (landed (corner_transform o (Some b))) cs) ≡ list_all on_plane (turned o cs)
+landed-plane o cs b e = sym (list_all-set_of on_plane (map (landed (corner_transform o (Some b))) cs)) ∙ ap (list_all on_plane) (landed-turned o cs b e)
 
 pub turned-empty : (o : Orientation) (cs : List Cell) → box_of (map (turned_cell o) cs) ≡ None → turned o cs ≡ []
 unfolding turned image
@@ -168,19 +168,19 @@ no_cells o [] e = refl
 no_cells o (c ∷ cs) e = absurd cc
 
 -- the set of the cells so placed is the image at the corner
-pub placed-turned : (o : Orientation) (cs : List Cell) → set_of (map (landed (corner_placement o (box_of (map (turned_cell o) cs)))) cs) ≡ turned o cs
+pub placed-turned : (o : Orientation) (cs : List Cell) → set_of (map (landed (corner_transform o (box_of (map (turned_cell o) cs)))) cs) ≡ turned o cs
 placed-turned o cs = go (box_of (map (turned_cell o) cs)) refl
   where
-    go : (b : Option Bounds) → box_of (map (turned_cell o) cs) ≡ b → set_of (map (landed (corner_placement o b)) cs) ≡ turned o cs
-    go None e = ap (λ (ds : List Cell). set_of (map (landed (corner_placement o None)) ds)) (no_cells o cs e) ∙ sym (turned-empty o cs e)
+    go : (b : Option Bounds) → box_of (map (turned_cell o) cs) ≡ b → set_of (map (landed (corner_transform o b)) cs) ≡ turned o cs
+    go None e = ap (λ (ds : List Cell). set_of (map (landed (corner_transform o None)) ds)) (no_cells o cs e) ∙ sym (turned-empty o cs e)
     go (Some b) e = landed-turned o cs b e
 
 pub placed-plane : (o : Orientation) (cs : List Cell)
-    → list_all on_plane (map (landed (corner_placement o (box_of (map (turned_cell o) cs)))) cs) ≡ list_all on_plane (turned o cs)
+    → list_all on_plane (map (landed (corner_transform o (box_of (map (turned_cell o) cs)))) cs) ≡ list_all on_plane (turned o cs)
 placed-plane o cs = go (box_of (map (turned_cell o) cs)) refl
   where
-    go : (b : Option Bounds) → box_of (map (turned_cell o) cs) ≡ b → list_all on_plane (map (landed (corner_placement o b)) cs) ≡ list_all on_plane (turned o cs)
-    go None e = ap (λ (ds : List Cell). list_all on_plane (map (landed (corner_placement o None)) ds)) (no_cells o cs e)
+    go : (b : Option Bounds) → box_of (map (turned_cell o) cs) ≡ b → list_all on_plane (map (landed (corner_transform o b)) cs) ≡ list_all on_plane (turned o cs)
+    go None e = ap (λ (ds : List Cell). list_all on_plane (map (landed (corner_transform o None)) ds)) (no_cells o cs e)
         ∙ ap (list_all on_plane) (sym (turned-empty o cs e))
     go (Some b) e = landed-plane o cs b e
 

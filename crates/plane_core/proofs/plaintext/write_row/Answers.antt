@@ -85,15 +85,15 @@ loop-cell-preserved g c =
     to_z-of_z w32 (cell.x +ℤ pos 1) (next_fits c.args.bounds x cell.x box inv.0 here.1 here.2) in
     let call : c.abs_diff.result ≡ distance x (to_z w32 (of_z w32 cell.x)) = c.abs_diff.ensures in
     let gap : c.abs_diff.result ≡ distance x cell.x = call ∙ ap (λ z. distance x z) at_cell in
-    let front = inv.3 in
+    let prefix = inv.3 in
     rw (at_cell, at_next, in_row) (
       next.0,
       next.1,
       IsRowAhead-next y x end cell later ahead,
       (
-        front.0 ++ (replicate (distance x cell.x) dot ++ letter_o ∷ []),
-        row_remainder-at y x end row i (record { y = pos 0; x = pos 0 }) front.0 (row_text c.args.cells.now c.args.bounds y) c.loop-cell-test.true inv.2 front.1,
-        Writes_then {r = Ok tt} front.2 (Writes_as {r = Ok tt} (ap (λ n. replicate n dot ++ letter_o ∷ []) gap) c.in_ok-put_after_gap.ensures),
+        prefix.0 ++ (replicate (distance x cell.x) dot ++ letter_o ∷ []),
+        row_remainder-at y x end row i (record { y = pos 0; x = pos 0 }) prefix.0 (row_text c.args.cells.now c.args.bounds y) c.loop-cell-test.true inv.2 prefix.1,
+        Writes_then {r = Ok tt} prefix.2 (Writes_as {r = Ok tt} (ap (λ n. replicate n dot ++ letter_o ∷ []) gap) c.in_ok-put_after_gap.ensures),
       ),
     )
 
@@ -114,11 +114,11 @@ returns-in_err-put_after_gap g c =
     let at_cell : to_z w32 (of_z w32 cell.x) ≡ cell.x = to_z-of_z w32 cell.x fits in
     let call : c.abs_diff.result ≡ distance x (to_z w32 (of_z w32 cell.x)) = c.abs_diff.ensures in
     let gap : c.abs_diff.result ≡ distance x cell.x = call ∙ ap (λ z. distance x z) at_cell in
-    let front = inv.3 in
-    Writes_as {r = c.from_residual.result} (sym (row_remainder-at y x end row i (record { y = pos 0; x = pos 0 }) front.0 (row_text c.args.cells.now c.args.bounds y)
-    c.loop-cell-test.true inv.2 front.1))
+    let prefix = inv.3 in
+    Writes_as {r = c.from_residual.result} (sym (row_remainder-at y x end row i (record { y = pos 0; x = pos 0 }) prefix.0 (row_text c.args.cells.now c.args.bounds y)
+    c.loop-cell-test.true inv.2 prefix.1))
     (Writes_stops (row_remainder later y (cell.x +ℤ pos 1) end) c.from_residual.ensures.0
-    (Writes_then {r = Err c.in_err-put_after_gap.field-0.0} front.2 (Writes_as {r = Err c.in_err-put_after_gap.field-0.0} (ap (λ n. replicate n dot ++ letter_o ∷ []) gap) c.in_err-put_after_gap.ensures)))
+    (Writes_then {r = Err c.in_err-put_after_gap.field-0.0} prefix.2 (Writes_as {r = Err c.in_err-put_after_gap.field-0.0} (ap (λ n. replicate n dot ++ letter_o ∷ []) gap) c.in_err-put_after_gap.ensures)))
 
 pub returns : goal.returns
 returns g c =
@@ -128,15 +128,15 @@ returns g c =
     let x = to_z w32 c.loop-cell.x-bits in
     let in_row : to_z w32 (of_z w32 y) ≡ y = to_z-of_z w32 y c.ranges.y in
     let inv = rw in_row at c.loop-cell.invariant in
-    let front = inv.3 in
+    let prefix = inv.3 in
     let right : to_z w32 (of_z w32 c.args.bounds.right) ≡ c.args.bounds.right =
     to_z-of_z w32 c.args.bounds.right (right_fits c.args.bounds c.requires.bounds) in
     let fits = end_fits c.args.bounds c.requires.bounds in
     let call : c.abs_diff-2.result ≡ distance x (to_z w32 (of_z w32 (to_z w32 (of_z w32 c.args.bounds.right) +ℤ pos 1))) = c.abs_diff-2.ensures in
     let gap : c.abs_diff-2.result ≡ distance x end = call ∙ ap (λ z. distance x (to_z w32 (of_z w32 (z +ℤ pos 1)))) right
     ∙ ap (λ z. distance x z) (to_z-of_z w32 end fits) in
-    Writes_as {r = c.put_after_gap-2.result} (sym (row_remainder-end y x end row c.loop-cell.cell-index front.0 (row_text c.args.cells.now c.args.bounds y) c.loop-cell-test.false front.1))
-    (Writes_then {r = c.put_after_gap-2.result} front.2 (Writes_as {r = c.put_after_gap-2.result} (ap (λ n. replicate n dot ++ line_feed ∷ []) gap) c.put_after_gap-2.ensures))
+    Writes_as {r = c.put_after_gap-2.result} (sym (row_remainder-end y x end row c.loop-cell.cell-index prefix.0 (row_text c.args.cells.now c.args.bounds y) c.loop-cell-test.false prefix.1))
+    (Writes_then {r = c.put_after_gap-2.result} prefix.2 (Writes_as {r = c.put_after_gap-2.result} (ap (λ n. replicate n dot ++ line_feed ∷ []) gap) c.put_after_gap-2.ensures))
 
 pub slice_bounds-cell-items-end : goal.slice_bounds-cell-items-end
 slice_bounds-cell-items-end g c = sym (length-take-le c.row_len.result c.args.cells.now c.row_len.ensures.bound)

@@ -12,5 +12,5 @@ invariant-loop-cell g l =
     let left = drop l.cell-index l.cell-items in
     let end = l.bounds.right +ℤ pos 1 in
     (l.bounds.left ≤ℤ l.x) × (l.x ≤ℤ end) × IsRowAhead l.fn.y l.x end left
-    × ((front : List ℕ) × (row_text l.cells l.bounds l.fn.y ≡ front ++ row_remainder left l.fn.y l.x end)
-    × Writes {E = WriteError} g.V.Write.contents l.fn.out l.out (Ok tt) front)
+    × ((prefix : List ℕ) × (row_text l.cells l.bounds l.fn.y ≡ prefix ++ row_remainder left l.fn.y l.x end)
+    × Writes {E = WriteError} g.V.Write.contents l.fn.out l.out (Ok tt) prefix)

@@ -28,7 +28,7 @@ use crate::engine::frame::Frame;
 use crate::engine::listing::along;
 use crate::plane::orientation::Orientation;
 use crate::plane::pattern::Pattern;
-use crate::engine::row_spans::Span;
+use crate::engine::row_spans::RowSpan;
 
 impl Board {
     /// How far the pattern reaches in a diagonal direction without these cells: turned by the orientation, none of its
@@ -42,23 +42,23 @@ impl Board {
         let direction = way.direction();
         let gone = cells.cells();
         let mut found = None;
-        for lane in 0..at.lanes {
-            let rows = spans[lane].below(at.rows);
+        for word_column in 0..at.word_columns {
+            let rows = spans[word_column].below(at.rows);
             if rows.from == rows.end {
                 continue;
             }
-            found = deepest_in_lane(at, words, lane, rows, direction, gone, found);
+            found = deepest_in_word_column(at, words, word_column, rows, direction, gone, found);
         }
         found
     }
 }
 
 /// The depth of the deepest cell that was found so far or stands in these rows of a lane.
-fn deepest_in_lane(
+fn deepest_in_word_column(
     at: Frame,
     words: &[u64],
-    lane: usize,
-    rows: Span,
+    word_column: usize,
+    rows: RowSpan,
     way: Direction,
     gone: &[Cell],
     found: Option<i32>,
@@ -66,36 +66,36 @@ fn deepest_in_lane(
     requires frame { IsFrame at }
     requires plane { AreSidesWithin plane_bound (bounds_of at) }
     requires long { FillsFrame at words.now }
-    requires lane { lane < at.lanes }
+    requires word_column { word_column < at.word_columns }
     requires order { rows.from ≤ rows.end }
     requires end { rows.end ≤ at.rows }
     ensures deeper { GoesDeeper way (without (cells_on at words.now) gone.now) found result }
     ensures seen { (row : ℕ) → rows.from ≤ row → row < rows.end
-        → IsSeen at way (without (cells_on at words.now) gone.now) lane row result }
+        → IsSeen at way (without (cells_on at words.now) gone.now) word_column row result }
 {
     let mut deepest = found;
     let mut step = 0;
     loop {
-        let end = rows_to_see(at, lane, rows, way, deepest);
-        step = next_live(at, words, lane, rows, way, step, end);
+        let end = rows_to_see(at, word_column, rows, way, deepest);
+        step = next_live(at, words, word_column, rows, way, step, end);
         if step >= end {
             return deepest;
         }
         let row = row_inwards(rows, way, step);
-        deepest = deepest_in_row(at, words, lane, row, way, gone, deepest);
+        deepest = deepest_in_row(at, words, word_column, row, way, gone, deepest);
         step += 1;
     }
 }
 
 /// How many of the rows of a lane, from the outermost on, could have a cell that is deeper than the deepest so far.
-fn rows_to_see(at: Frame, lane: usize, rows: Span, way: Direction, found: Option<i32>) -> usize
+fn rows_to_see(at: Frame, word_column: usize, rows: RowSpan, way: Direction, found: Option<i32>) -> usize
     requires frame { IsFrame at }
     requires plane { AreSidesWithin plane_bound (bounds_of at) }
-    requires lane { lane < at.lanes }
+    requires word_column { word_column < at.word_columns }
     requires order { rows.from ≤ rows.end }
     requires end { rows.end ≤ at.rows }
     ensures most { result ≤ rows.end - rows.from }
-    ensures beyond { NoDeeper at way lane rows result found }
+    ensures beyond { NoDeeper at way word_column rows result found }
 {
     let count = rows.end - rows.from;
     let Some(deepest) = found else {
@@ -105,7 +105,7 @@ fn rows_to_see(at: Frame, lane: usize, rows: Span, way: Direction, found: Option
         return 0;
     }
     let row = row_inwards(rows, way, 0);
-    let outermost = depth_at(at, lane, row, way.outer_column(), way);
+    let outermost = depth_at(at, word_column, row, way.outer_column(), way);
     if outermost <= deepest {
         return 0;
     }
@@ -117,25 +117,25 @@ fn rows_to_see(at: Frame, lane: usize, rows: Span, way: Direction, found: Option
 fn next_live(
     at: Frame,
     words: &[u64],
-    lane: usize,
-    rows: Span,
+    word_column: usize,
+    rows: RowSpan,
     way: Direction,
     from: usize,
     end: usize,
 ) -> usize
     requires frame { IsFrame at }
     requires long { FillsFrame at words.now }
-    requires lane { lane < at.lanes }
+    requires word_column { word_column < at.word_columns }
     requires order { rows.from ≤ rows.end }
     requires rows { rows.end ≤ at.rows }
     requires end { end ≤ rows.end - rows.from }
     ensures later { from ≤ result }
     ensures dead { (step : ℕ) → from ≤ step → step < result
-        → slice_index words.now (word_of at lane (inner_row way.down rows step)) ≡ 0 }
+        → slice_index words.now (word_of at word_column (inner_row way.down rows step)) ≡ 0 }
 {
     let mut step = from;
     while step < end {
-        if words[at.index(lane, row_inwards(rows, way, step))] != 0 {
+        if words[at.index(word_column, row_inwards(rows, way, step))] != 0 {
             return step;
         }
         step += 1;
@@ -145,7 +145,7 @@ fn next_live(
 
 /// The row so many steps inwards from the outermost of these rows.
 #[inline(always)]
-fn row_inwards(rows: Span, way: Direction, step: usize) -> usize
+fn row_inwards(rows: RowSpan, way: Direction, step: usize) -> usize
     requires { step < rows.end - rows.from }
     ensures row { result ≡ inner_row way.down rows step }
     ensures low { rows.from ≤ result }
@@ -162,7 +162,7 @@ fn row_inwards(rows: Span, way: Direction, step: usize) -> usize
 fn deepest_in_row(
     at: Frame,
     words: &[u64],
-    lane: usize,
+    word_column: usize,
     row: usize,
     way: Direction,
     gone: &[Cell],
@@ -171,35 +171,35 @@ fn deepest_in_row(
     requires frame { IsFrame at }
     requires plane { AreSidesWithin plane_bound (bounds_of at) }
     requires long { FillsFrame at words.now }
-    requires lane { lane < at.lanes }
+    requires word_column { word_column < at.word_columns }
     requires row { row < at.rows }
     ensures deeper { GoesDeeper way (without (cells_on at words.now) gone.now) found result }
-    ensures seen { IsSeen at way (without (cells_on at words.now) gone.now) lane row result }
+    ensures seen { IsSeen at way (without (cells_on at words.now) gone.now) word_column row result }
 {
-    let first = at.corner(lane, row);
+    let first = at.corner(word_column, row);
     let mut gone_here = 0;
     for cell in gone {
         gone_here |= bit_of(*cell, first);
     }
-    let word = words[at.index(lane, row)] & !gone_here;
+    let word = words[at.index(word_column, row)] & !gone_here;
     if word == 0 {
         return found;
     }
-    let depth = depth_at(at, lane, row, way.farthest(word), way);
+    let depth = depth_at(at, word_column, row, way.farthest(word), way);
     Some(found.unwrap_or(depth).max(depth))
 }
 
 /// How deep the cell in this column of a row of a lane lies.
 #[inline(always)]
-fn depth_at(at: Frame, lane: usize, row: usize, column: usize, way: Direction) -> i32
+fn depth_at(at: Frame, word_column: usize, row: usize, column: usize, way: Direction) -> i32
     requires frame { IsFrame at }
     requires plane { AreSidesWithin plane_bound (bounds_of at) }
-    requires lane { lane < at.lanes }
+    requires word_column { word_column < at.word_columns }
     requires row { row < at.rows }
     requires column { column < 64 }
-    ensures { result ≡ depth_in way (board_cell at lane row column) }
+    ensures { result ≡ depth_in way (board_cell at word_column row column) }
 {
-    way.depth(along(at.corner(lane, row), column))
+    way.depth(along(at.corner(word_column, row), column))
 }
 
 /// The bit of a cell, if it stands in the 64 columns from this cell on, in its row.

@@ -43,7 +43,7 @@ impl Board {
         let Some(y) = first_of(bounds.top, bounds.bottom, at.top) else {
             return None;
         };
-        if x / 64 + 1 >= at.lanes {
+        if x / 64 + 1 >= at.word_columns {
             return None;
         }
         if y + 64 > at.rows {
@@ -53,7 +53,7 @@ impl Board {
             at: Frame {
                 left: at.left + x as i32,
                 top: at.top + y as i32,
-                lanes: 1,
+                word_columns: 1,
                 rows: 64,
             },
             rows: read_rows(self.words.as_slice(), at, x, y),

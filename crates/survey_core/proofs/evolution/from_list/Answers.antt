@@ -4,9 +4,9 @@ use Rattle.plane_core.specs.plane.Cells.{InOrder}
 use Rattle.plane_core.specs.plane.Generations.{after, lies_within}
 use Rattle.survey_core.specs.evolution.Evolutions.{kept}
 use Rattle.plane_core.specs.plane.Rules.{Numbers}
-use Rattle.survey_core.specs.declared.evolution.split_pattern.Harbour.{Harbour}
-use Rattle.survey_core.specs.evolution.SplitPatterns.{IsHarbour, IsMoored, whole_at, whole_of}
-use Rattle.survey_core.proofs.lemmas.evolution.SplitPatternLemmas.{new_harbour}
+use Rattle.survey_core.specs.declared.evolution.split_pattern.SplitPattern.{SplitPattern}
+use Rattle.survey_core.specs.evolution.SplitPatterns.{IsSplitAt, IsSplit, whole_at, whole_of}
+use Rattle.survey_core.proofs.lemmas.evolution.SplitPatternLemmas.{new_split}
 use Rattle.survey_core.proofs.lemmas.evolution.RemovedLemmas.{whole-none}
 use Rattle.survey_core.specs.evolution.UnderWay.{StaysNear, survey_reach}
 use Rattle.survey_core.proofs.lemmas.evolution.EvolutionLemmas.{near_now}
@@ -22,22 +22,22 @@ pub returns-in_default-clause-kept : goal.returns-in_default-clause-kept
 returns-in_default-clause-kept c = ap (lies_within survey_reach) c.in_ok-later.ensures ∙ c.requires.near c.args.generations (omega arith)
 
 -- it is on a board, which no ship has left
-moored : (rule : Numbers) (harbour : Harbour) (pattern : List Cell) → harbour.board.rule ≡ rule → harbour.board.cells ≡ pattern
-    → harbour.ships.items ≡ [] → harbour.time ≡ 0 → InOrder pattern → IsMoored rule harbour
-moored rule harbour pattern goes shows none early order = (
+is_split : (rule : Numbers) (split : SplitPattern) (pattern : List Cell) → split.board.rule ≡ rule → split.board.cells ≡ pattern
+    → split.spaceships.items ≡ [] → split.time ≡ 0 → InOrder pattern → IsSplit rule split
+is_split rule split pattern goes shows none early order = (
   goes,
-  subst (λ (t : ℕ). IsHarbour rule t harbour.board.cells harbour.ships.items) (sym early)
-      (new_harbour rule harbour.board.cells harbour.ships.items (subst InOrder (sym shows) order) none),
+  subst (λ (t : ℕ). IsSplitAt rule t split.board.cells split.spaceships.items) (sym early)
+      (new_split rule split.board.cells split.spaceships.items (subst InOrder (sym shows) order) none),
 )
 
-whole_is : (rule : Numbers) (harbour : Harbour) (pattern : List Cell) → harbour.board.cells ≡ pattern → harbour.ships.items ≡ [] → InOrder pattern
-    → whole_of rule harbour ≡ pattern
-whole_is rule harbour pattern shows none order =
-    (λ i. whole_at rule harbour.time (shows i) (none i)) ∙ whole-none rule harbour.time pattern order
+whole_is : (rule : Numbers) (split : SplitPattern) (pattern : List Cell) → split.board.cells ≡ pattern → split.spaceships.items ≡ [] → InOrder pattern
+    → whole_of rule split ≡ pattern
+whole_is rule split pattern shows none order =
+    (λ i. whole_at rule split.time (shows i) (none i)) ∙ whole-none rule split.time pattern order
 
-pub on_board-requires-clause-moored : goal.on_board-requires-clause-moored
-on_board-requires-clause-moored c =
-    moored c.args.rule.now (record { board = c.in-Some.board; ships = c.new.result; time = 0 }) c.args.pattern.now (rw c.in-Some.is at c.in_ok-board.ensures.rule) (rw c.in-Some.is at c.in_ok-board.ensures.cells)
+pub on_board-requires-clause-is_split : goal.on_board-requires-clause-is_split
+on_board-requires-clause-is_split c =
+    is_split c.args.rule.now (record { board = c.in-Some.board; spaceships = c.new.result; time = 0 }) c.args.pattern.now (rw c.in-Some.is at c.in_ok-board.ensures.rule) (rw c.in-Some.is at c.in_ok-board.ensures.cells)
     c.new.ensures.items refl c.cells-in_order.ensures.pattern.in_order
 
 pub on_board-requires-clause-few : goal.on_board-requires-clause-few
@@ -46,13 +46,13 @@ on_board-requires-clause-few c = c.requires.few
 pub on_board-requires-clause-near : goal.on_board-requires-clause-near
 on_board-requires-clause-near c =
     subst (λ (S : List Cell). StaysNear c.args.rule.now S c.args.generations)
-    (sym (whole_is c.args.rule.now (record { board = c.in-Some.board; ships = c.new.result; time = 0 }) c.args.pattern.now
+    (sym (whole_is c.args.rule.now (record { board = c.in-Some.board; spaceships = c.new.result; time = 0 }) c.args.pattern.now
     (rw c.in-Some.is at c.in_ok-board.ensures.cells) c.new.ensures.items c.cells-in_order.ensures.pattern.in_order)) c.requires.near
 
 pub returns-clause-cells : goal.returns-clause-cells
 returns-clause-cells c =
-    subst (λ (S : List Cell). IfOk c.on_board.result (λ course. kept c.args.rule.now course ≡ after c.args.rule.now S c.args.generations))
-    (whole_is c.args.rule.now (record { board = c.in-Some.board; ships = c.new.result; time = 0 }) c.args.pattern.now
+    subst (λ (S : List Cell). IfOk c.on_board.result (λ evolution. kept c.args.rule.now evolution ≡ after c.args.rule.now S c.args.generations))
+    (whole_is c.args.rule.now (record { board = c.in-Some.board; spaceships = c.new.result; time = 0 }) c.args.pattern.now
     (rw c.in-Some.is at c.in_ok-board.ensures.cells) c.new.ensures.items c.cells-in_order.ensures.pattern.in_order) c.on_board.ensures.cells
 
 pub returns-clause-kept : goal.returns-clause-kept

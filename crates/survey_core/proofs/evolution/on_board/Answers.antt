@@ -3,9 +3,9 @@ use Rattle.plane_core.specs.declared.plane.cell.Cell.{Cell}
 use Rattle.plane_core.specs.plane.Generations.{after, lies_within}
 use Rattle.plane_core.specs.plane.Cells.{InOrder}
 use Rattle.plane_core.proofs.lemmas.plane.RunLemmas.{in_order-after}
-use Rattle.survey_core.specs.declared.evolution.escaped_spaceships.Ship.{Ship}
+use Rattle.survey_core.specs.declared.evolution.escaped_spaceships.Spaceship.{Spaceship}
 use Rattle.survey_core.specs.evolution.SplitPatterns.{IsTraced, whole_at, whole_of}
-use Rattle.survey_core.proofs.lemmas.evolution.SplitPatternLemmas.{board_later, harbour_later, traced_later, whole_later}
+use Rattle.survey_core.proofs.lemmas.evolution.SplitPatternLemmas.{board_later, split_later, traced_later, whole_later}
 use Rattle.survey_core.specs.evolution.UnderWay.{survey_reach}
 use Rattle.survey_core.proofs.lemmas.evolution.EvolutionLemmas.{in_parts}
 use Rattle.survey_core.proofs.evolution.on_board.Goals as goal
@@ -34,16 +34,16 @@ pub returns-then-time-le-LATEST_TIME-clause-kept : goal.returns-then-time-le-LAT
 returns-then-time-le-LATEST_TIME-clause-kept c =
     let n = c.args.generations in
     let rule = c.args.rule.now in
-    let h = c.args.harbour in
+    let h = c.args.split in
     let made = c.in_ok-made.made in
     let board = c.advance.new.self.cells in (
       (
-        c.in_ok-made.ensures.rule ∙ c.requires.moored.0,
-        harbour_later rule rule h.time made (n - n % 2) h.board.cells board h.ships.items c.requires.moored.1 (is_even n) c.if-made-most.true refl
-            (board_later rule h made board c.requires.moored c.in_ok-made.ensures.after) c.if-time-le-LATEST_TIME.true,
+        c.in_ok-made.ensures.rule ∙ c.requires.is_split.0,
+        split_later rule rule h.time made (n - n % 2) h.board.cells board h.spaceships.items c.requires.is_split.1 (is_even n) c.if-made-most.true refl
+            (board_later rule h made board c.requires.is_split c.in_ok-made.ensures.after) c.if-time-le-LATEST_TIME.true,
       ),
       at_most_one n,
-      ap (lies_within survey_reach) (whole_later rule h made board c.requires.moored c.in_ok-made.ensures.after)
+      ap (lies_within survey_reach) (whole_later rule h made board c.requires.is_split c.in_ok-made.ensures.after)
           ∙ c.requires.near made (part_within n made c.in_ok-made.ensures.most),
     )
 
@@ -51,47 +51,47 @@ pub returns-then-time-le-LATEST_TIME-clause-cells : goal.returns-then-time-le-LA
 returns-then-time-le-LATEST_TIME-clause-cells c =
     let n = c.args.generations in
     let rule = c.args.rule.now in
-    let h = c.args.harbour in
-    ap (λ (S : List Cell). after rule S (n % 2)) (whole_later rule h c.in_ok-made.made c.advance.new.self.cells c.requires.moored c.in_ok-made.ensures.after
+    let h = c.args.split in
+    ap (λ (S : List Cell). after rule S (n % 2)) (whole_later rule h c.in_ok-made.made c.advance.new.self.cells c.requires.is_split c.in_ok-made.ensures.after
     ∙ ap (after rule (whole_of rule h)) c.if-made-most.true)
     ∙ in_parts rule (whole_of rule h) (n - n % 2) (n % 2) n (both_parts n)
 
 -- or the pattern goes on as a list
 pub overflow_add-time : goal.overflow_add-time
-overflow_add-time c = omega (arith, c.requires.moored.1.early, c.in_ok-made.ensures.most, c.requires.few)
+overflow_add-time c = omega (arith, c.requires.is_split.1.early, c.in_ok-made.ensures.most, c.requires.few)
 
 pub overflow_sub-generations : goal.overflow_sub-generations
 overflow_sub-generations c = part_within c.args.generations c.in_ok-made.made c.in_ok-made.ensures.most
 
 pub whole-requires-clause-order : goal.whole-requires-clause-order
 whole-requires-clause-order c =
-    let h = c.args.harbour in
-    subst InOrder (sym c.in_ok-made.ensures.after) (in_order-after h.board.rule h.board.cells c.in_ok-made.made c.requires.moored.1.off.in_order)
+    let h = c.args.split in
+    subst InOrder (sym c.in_ok-made.ensures.after) (in_order-after h.board.rule h.board.cells c.in_ok-made.made c.requires.is_split.1.off.in_order)
 
 pub whole-requires-clause-traced : goal.whole-requires-clause-traced
 whole-requires-clause-traced c =
-    let h = c.args.harbour in
+    let h = c.args.split in
     let rule = c.args.rule.now in
-    subst (λ (ships : List Ship). All (IsTraced rule (h.time + c.in_ok-made.made)) ships) (sym c.as_slice.ensures.value)
-    (traced_later rule h.time c.in_ok-made.made h.board.cells h.ships.items c.requires.moored.1)
+    subst (λ (spaceships : List Spaceship). All (IsTraced rule (h.time + c.in_ok-made.made)) spaceships) (sym c.as_slice.ensures.value)
+    (traced_later rule h.time c.in_ok-made.made h.board.cells h.spaceships.items c.requires.is_split.1)
 
 pub whole-requires-clause-near : goal.whole-requires-clause-near
 whole-requires-clause-near c =
-    let h = c.args.harbour in
+    let h = c.args.split in
     let rule = c.args.rule.now in
     let made = c.in_ok-made.made in
     (λ i. lies_within survey_reach (whole_at rule (h.time + made) c.advance.new.self.cells (c.as_slice.ensures.value i)))
-    ∙ ap (lies_within survey_reach) (whole_later rule h made c.advance.new.self.cells c.requires.moored c.in_ok-made.ensures.after)
+    ∙ ap (lies_within survey_reach) (whole_later rule h made c.advance.new.self.cells c.requires.is_split c.in_ok-made.ensures.after)
     ∙ c.requires.near made (part_within c.args.generations made c.in_ok-made.ensures.most)
 
 pub whole-requires-clause-early : goal.whole-requires-clause-early
-whole-requires-clause-early c = omega (arith, c.requires.moored.1.early, c.in_ok-made.ensures.most, c.requires.few)
+whole-requires-clause-early c = omega (arith, c.requires.is_split.1.early, c.in_ok-made.ensures.most, c.requires.few)
 
 pub run_on-requires-clause-near : goal.run_on-requires-clause-near
 run_on-requires-clause-near c =
     ap (lies_within survey_reach) (c.in_ok-pattern.ensures
-    ∙ ap (whole_at c.args.rule.now (c.args.harbour.time + c.in_ok-made.made) c.advance.new.self.cells) c.as_slice.ensures.value
-    ∙ whole_later c.args.rule.now c.args.harbour c.in_ok-made.made c.advance.new.self.cells c.requires.moored c.in_ok-made.ensures.after)
+    ∙ ap (whole_at c.args.rule.now (c.args.split.time + c.in_ok-made.made) c.advance.new.self.cells) c.as_slice.ensures.value
+    ∙ whole_later c.args.rule.now c.args.split c.in_ok-made.made c.advance.new.self.cells c.requires.is_split c.in_ok-made.ensures.after)
     ∙ c.requires.near c.in_ok-made.made (part_within c.args.generations c.in_ok-made.made c.in_ok-made.ensures.most)
 
 pub run_on-requires-clause-few : goal.run_on-requires-clause-few
@@ -103,9 +103,9 @@ returns-clause-kept c =
     let rule = c.args.rule.now in
     let made = c.in_ok-made.made in
     ap (lies_within survey_reach) (c.in_ok-later.ensures ∙ ap (λ (S : List Cell). after rule S (n - made)) (c.in_ok-pattern.ensures
-    ∙ ap (whole_at c.args.rule.now (c.args.harbour.time + c.in_ok-made.made) c.advance.new.self.cells) c.as_slice.ensures.value
-    ∙ whole_later c.args.rule.now c.args.harbour c.in_ok-made.made c.advance.new.self.cells c.requires.moored c.in_ok-made.ensures.after)
-    ∙ in_parts rule (whole_of rule c.args.harbour) made (n - made) n (rest_made made n c.in_ok-made.ensures.most))
+    ∙ ap (whole_at c.args.rule.now (c.args.split.time + c.in_ok-made.made) c.advance.new.self.cells) c.as_slice.ensures.value
+    ∙ whole_later c.args.rule.now c.args.split c.in_ok-made.made c.advance.new.self.cells c.requires.is_split c.in_ok-made.ensures.after)
+    ∙ in_parts rule (whole_of rule c.args.split) made (n - made) n (rest_made made n c.in_ok-made.ensures.most))
     ∙ c.requires.near n (omega arith)
 
 pub returns-clause-cells : goal.returns-clause-cells
@@ -114,6 +114,6 @@ returns-clause-cells c =
     let rule = c.args.rule.now in
     let made = c.in_ok-made.made in
     c.in_ok-later.ensures ∙ ap (λ (S : List Cell). after rule S (n - made)) (c.in_ok-pattern.ensures
-    ∙ ap (whole_at c.args.rule.now (c.args.harbour.time + c.in_ok-made.made) c.advance.new.self.cells) c.as_slice.ensures.value
-    ∙ whole_later c.args.rule.now c.args.harbour c.in_ok-made.made c.advance.new.self.cells c.requires.moored c.in_ok-made.ensures.after)
-    ∙ in_parts rule (whole_of rule c.args.harbour) made (n - made) n (rest_made made n c.in_ok-made.ensures.most)
+    ∙ ap (whole_at c.args.rule.now (c.args.split.time + c.in_ok-made.made) c.advance.new.self.cells) c.as_slice.ensures.value
+    ∙ whole_later c.args.rule.now c.args.split c.in_ok-made.made c.advance.new.self.cells c.requires.is_split c.in_ok-made.ensures.after)
+    ∙ in_parts rule (whole_of rule c.args.split) made (n - made) n (rest_made made n c.in_ok-made.ensures.most)

@@ -5,7 +5,7 @@ use Rattle.plane_core.specs.plane.Generations.{after, lies_within}
 use Rattle.plane_core.proofs.lemmas.plane.GenerationLemmas.{after-none}
 use Rattle.survey_core.specs.evolution.Evolutions.{kept}
 use Rattle.survey_core.specs.Findings.{NoRestBefore}
-use Rattle.survey_core.specs.rest.KnownRestless.{AreNoes}
+use Rattle.survey_core.specs.rest.KnownRestless.{AreKnownRestless}
 use Rattle.survey_core.specs.Profiles.{IsCheckpoint}
 use Rattle.survey_core.specs.evolution.UnderWay.{survey_reach}
 use Rattle.survey_core.proofs.lemmas.evolution.EvolutionLemmas.{stays_near}
@@ -14,88 +14,88 @@ use Rattle.survey_core.proofs.lemmas.rest.KnownRestlessLemmas.{known_later, none
 use Rattle.survey_core.proofs.lemmas.PlaneLemmas.{within_later, within_more}
 use Rattle.survey_core.proofs.finding.survey_pattern_with.Goals as goal
 
-pub loop-course-init : goal.loop-course-init
-loop-course-init c = record {
+pub loop-evolution-init : goal.loop-evolution-init
+loop-evolution-init c = record {
   by_rule = within_more 1000 survey_reach c.args.pattern (omega arith) c.requires;
   here = first_checkpoint c.args.profile.now;
   latest = sym (after-none c.args.rule.now c.args.pattern);
-  noes = none_known c.args.rule.now c.args.profile.now c.args.pattern 0;
+  known_restless = none_known c.args.rule.now c.args.profile.now c.args.pattern 0;
   before = λ u check low rest. absurd (omega (arith, low));
 }
 
-pub look_at-requires-clause-kept : goal.look_at-requires-clause-kept
-look_at-requires-clause-kept c = c.loop-course.invariant.by_rule
+pub examine-requires-clause-kept : goal.examine-requires-clause-kept
+examine-requires-clause-kept c = c.loop-evolution.invariant.by_rule
 
-pub look_at-requires-clause-near : goal.look_at-requires-clause-near
-look_at-requires-clause-near c =
-    let within : c.loop-course.checkpoint ≤ c.args.profile.now.limit = c.loop-course.invariant.here.within in
+pub examine-requires-clause-near : goal.examine-requires-clause-near
+examine-requires-clause-near c =
+    let within : c.loop-evolution.checkpoint ≤ c.args.profile.now.limit = c.loop-evolution.invariant.here.within in
     let most : c.args.profile.now.limit ≤ 100000 = c.stride-stride.ensures.profile.limit in
-    ap (lies_within survey_reach) c.loop-course.invariant.latest
-    ∙ within_later 1000 survey_reach c.args.rule.now c.args.pattern c.loop-course.checkpoint (omega (arith, within, most)) c.requires
+    ap (lies_within survey_reach) c.loop-evolution.invariant.latest
+    ∙ within_later 1000 survey_reach c.args.rule.now c.args.pattern c.loop-evolution.checkpoint (omega (arith, within, most)) c.requires
 
-pub look_at-requires-clause-noes : goal.look_at-requires-clause-noes
-look_at-requires-clause-noes c = c.loop-course.invariant.noes
+pub examine-requires-clause-known_restless : goal.examine-requires-clause-known_restless
+examine-requires-clause-known_restless c = c.loop-evolution.invariant.known_restless
 
 -- at rest for the first time
 pub returns-in-Some-clause-finding : goal.returns-in-Some-clause-finding
 returns-in-Some-clause-finding c =
-    finding_from c.args.rule.now c.args.profile.now c.args.pattern (kept c.args.rule.now c.loop-course.course) c.loop-course.checkpoint c.in-Some.finding
-    (rw c.in-Some.is at c.in_ok-found.ensures.settled) c.loop-course.invariant.latest c.loop-course.invariant.here c.loop-course.invariant.before
+    finding_from c.args.rule.now c.args.profile.now c.args.pattern (kept c.args.rule.now c.loop-evolution.evolution) c.loop-evolution.checkpoint c.in-Some.finding
+    (rw c.in-Some.is at c.in_ok-found.ensures.settled) c.loop-evolution.invariant.latest c.loop-evolution.invariant.here c.loop-evolution.invariant.before
 
 pub returns-in-Some-clause-few : goal.returns-in-Some-clause-few
 returns-in-Some-clause-few c = rw c.in-Some.is at c.in_ok-found.ensures.few
 
 pub overflow_sub-limit : goal.overflow_sub-limit
-overflow_sub-limit c = subst (λ (n : ℕ). c.loop-course.checkpoint ≤ n) (sym c.limit-limit.ensures.limit) c.loop-course.invariant.here.within
+overflow_sub-limit c = subst (λ (n : ℕ). c.loop-evolution.checkpoint ≤ n) (sym c.limit-limit.ensures.limit) c.loop-evolution.invariant.here.within
 
 -- no look is left
 pub returns-then-limit-checkpoint-clause-finding : goal.returns-then-limit-checkpoint-clause-finding
 returns-then-limit-checkpoint-clause-finding c =
-    none_at_last c.args.rule.now c.args.profile.now c.args.pattern (kept c.args.rule.now c.loop-course.course) c.loop-course.checkpoint
-    (rw c.in_default.is at c.in_ok-found.ensures.moves) c.loop-course.invariant.latest c.stride-stride.ensures.profile.onward
-    c.loop-course.invariant.here
-    (no_room c.args.profile.now.limit c.args.profile.now.stride c.limit-limit.result c.stride-stride.result c.loop-course.checkpoint
+    none_at_last c.args.rule.now c.args.profile.now c.args.pattern (kept c.args.rule.now c.loop-evolution.evolution) c.loop-evolution.checkpoint
+    (rw c.in_default.is at c.in_ok-found.ensures.moves) c.loop-evolution.invariant.latest c.stride-stride.ensures.profile.onward
+    c.loop-evolution.invariant.here
+    (no_room c.args.profile.now.limit c.args.profile.now.stride c.limit-limit.result c.stride-stride.result c.loop-evolution.checkpoint
     c.limit-limit.ensures.limit c.stride-stride.ensures.stride c.if-limit-checkpoint.true)
-    c.loop-course.invariant.before
+    c.loop-evolution.invariant.before
 
 -- not yet
 pub go_on-requires-clause-kept : goal.go_on-requires-clause-kept
-go_on-requires-clause-kept c = c.loop-course.invariant.by_rule
+go_on-requires-clause-kept c = c.loop-evolution.invariant.by_rule
 
 pub go_on-requires-clause-near : goal.go_on-requires-clause-near
 go_on-requires-clause-near c =
-    let room = room_for_more c.args.profile.now.limit c.args.profile.now.stride c.limit-limit.result c.stride-stride.result c.loop-course.checkpoint
-    c.limit-limit.ensures.limit c.stride-stride.ensures.stride c.loop-course.invariant.here.within c.if-limit-checkpoint.false in
+    let room = room_for_more c.args.profile.now.limit c.args.profile.now.stride c.limit-limit.result c.stride-stride.result c.loop-evolution.checkpoint
+    c.limit-limit.ensures.limit c.stride-stride.ensures.stride c.loop-evolution.invariant.here.within c.if-limit-checkpoint.false in
     let most : c.args.profile.now.limit ≤ 100000 = c.stride-stride.ensures.profile.limit in
-    stays_near c.args.rule.now c.args.pattern (kept c.args.rule.now c.loop-course.course) c.loop-course.checkpoint c.args.profile.now.stride
-    c.loop-course.invariant.latest c.requires (omega (arith, room, most))
+    stays_near c.args.rule.now c.args.pattern (kept c.args.rule.now c.loop-evolution.evolution) c.loop-evolution.checkpoint c.args.profile.now.stride
+    c.loop-evolution.invariant.latest c.requires (omega (arith, room, most))
 
 pub overflow_add-checkpoint : goal.overflow_add-checkpoint
 overflow_add-checkpoint c =
-    let room = room_for_more c.args.profile.now.limit c.args.profile.now.stride c.limit-limit.result c.stride-stride.result c.loop-course.checkpoint
-    c.limit-limit.ensures.limit c.stride-stride.ensures.stride c.loop-course.invariant.here.within c.if-limit-checkpoint.false in
+    let room = room_for_more c.args.profile.now.limit c.args.profile.now.stride c.limit-limit.result c.stride-stride.result c.loop-evolution.checkpoint
+    c.limit-limit.ensures.limit c.stride-stride.ensures.stride c.loop-evolution.invariant.here.within c.if-limit-checkpoint.false in
     let most : c.args.profile.now.limit ≤ 100000 = c.stride-stride.ensures.profile.limit in
-    subst (λ (s : ℕ). Fits w32 (c.loop-course.checkpoint + s)) (sym c.stride-stride.ensures.stride) (omega (arith, room, most))
+    subst (λ (s : ℕ). Fits w32 (c.loop-evolution.checkpoint + s)) (sym c.stride-stride.ensures.stride) (omega (arith, room, most))
 
-pub loop-course-preserved : goal.loop-course-preserved
-loop-course-preserved c =
+pub loop-evolution-preserved : goal.loop-evolution-preserved
+loop-evolution-preserved c =
     let profile = c.args.profile.now in
-    let t = c.loop-course.checkpoint in
+    let t = c.loop-evolution.checkpoint in
     let at : t + c.stride-stride.result ≡ t + profile.stride = ap (λ (s : ℕ). t + s) c.stride-stride.ensures.stride in
-    let cells : kept c.args.rule.now c.in_ok-course.course ≡ after c.args.rule.now (kept c.args.rule.now c.loop-course.course) profile.stride =
-    c.in_ok-course.ensures.cells in
+    let cells : kept c.args.rule.now c.in_ok-evolution.evolution ≡ after c.args.rule.now (kept c.args.rule.now c.loop-evolution.evolution) profile.stride =
+    c.in_ok-evolution.ensures.cells in
     record {
-      by_rule = c.in_ok-course.ensures.kept;
-      here = subst (IsCheckpoint profile) (sym at) (next_checkpoint profile t c.loop-course.invariant.here
+      by_rule = c.in_ok-evolution.ensures.kept;
+      here = subst (IsCheckpoint profile) (sym at) (next_checkpoint profile t c.loop-evolution.invariant.here
           (room_for_more profile.limit profile.stride c.limit-limit.result c.stride-stride.result t c.limit-limit.ensures.limit
-          c.stride-stride.ensures.stride c.loop-course.invariant.here.within c.if-limit-checkpoint.false));
-      latest = cells ∙ ap (λ (S : List Cell). after c.args.rule.now S profile.stride) c.loop-course.invariant.latest
+          c.stride-stride.ensures.stride c.loop-evolution.invariant.here.within c.if-limit-checkpoint.false));
+      latest = cells ∙ ap (λ (S : List Cell). after c.args.rule.now S profile.stride) c.loop-evolution.invariant.latest
           ∙ after-then c.args.rule.now c.args.pattern t profile.stride ∙ ap (after c.args.rule.now c.args.pattern) (sym at);
-      noes = subst₂ (λ (S : List Cell) (u : ℕ). AreNoes c.args.rule.now profile S u c.look_at.new.noes) (sym cells) (sym at)
-          (known_later c.args.rule.now profile (kept c.args.rule.now c.loop-course.course) t profile.stride c.look_at.new.noes c.in_ok-found.ensures.noes);
+      known_restless = subst₂ (λ (S : List Cell) (u : ℕ). AreKnownRestless c.args.rule.now profile S u c.examine.new.known_restless) (sym cells) (sym at)
+          (known_later c.args.rule.now profile (kept c.args.rule.now c.loop-evolution.evolution) t profile.stride c.examine.new.known_restless c.in_ok-found.ensures.known_restless);
       before = subst (NoRestBefore c.args.rule.now profile c.args.pattern) (sym at)
-          (no_rest_more c.args.rule.now profile c.args.pattern (kept c.args.rule.now c.loop-course.course) t c.stride-stride.ensures.profile.onward
-          c.loop-course.invariant.here c.loop-course.invariant.latest c.loop-course.invariant.before (rw c.in_default.is at c.in_ok-found.ensures.moves));
+          (no_rest_more c.args.rule.now profile c.args.pattern (kept c.args.rule.now c.loop-evolution.evolution) t c.stride-stride.ensures.profile.onward
+          c.loop-evolution.invariant.here c.loop-evolution.invariant.latest c.loop-evolution.invariant.before (rw c.in_default.is at c.in_ok-found.ensures.moves));
     }
 
 pub returns-in_err-found-clause-finding : goal.returns-in_err-found-clause-finding
@@ -104,8 +104,8 @@ returns-in_err-found-clause-finding c = IfOk-from_err _ _ c.from_residual.ensure
 pub returns-in_err-found-clause-few : goal.returns-in_err-found-clause-few
 returns-in_err-found-clause-few c = IfOk-from_err _ _ c.from_residual.ensures.0
 
-pub returns-in_err-course-clause-finding : goal.returns-in_err-course-clause-finding
-returns-in_err-course-clause-finding c = IfOk-from_err _ _ c.from_residual-in_err-course.ensures.0
+pub returns-in_err-evolution-clause-finding : goal.returns-in_err-evolution-clause-finding
+returns-in_err-evolution-clause-finding c = IfOk-from_err _ _ c.from_residual-in_err-evolution.ensures.0
 
-pub returns-in_err-course-clause-few : goal.returns-in_err-course-clause-few
-returns-in_err-course-clause-few c = IfOk-from_err _ _ c.from_residual-in_err-course.ensures.0
+pub returns-in_err-evolution-clause-few : goal.returns-in_err-evolution-clause-few
+returns-in_err-evolution-clause-few c = IfOk-from_err _ _ c.from_residual-in_err-evolution.ensures.0

@@ -10,8 +10,8 @@ use Rattle.plane_core.specs.declared.plane.cell.Cell.{Cell}
 use Rattle.plane_core.specs.plane.Cells.{InOrder, has, king_distance}
 use Rattle.plane_core.specs.clusters.Clusters.{IsCluster, Leads, LieApart, Linked}
 use Rattle.plane_core.specs.plane.Frontiers.{LiesUpTo, is_slow}
-use Rattle.plane_core.specs.plane.Generations.{NeverBack, after}
-use Rattle.plane_core.specs.one_sided.RestlessClusters.{HasRestlessCluster, Strays}
+use Rattle.plane_core.specs.plane.Generations.{NeverRecurs, after}
+use Rattle.plane_core.specs.one_sided.RestlessClusters.{HasRestlessCluster, Diverges}
 use Rattle.plane_core.specs.plane.Rules.{Numbers}
 use Rattle.plane_core.specs.plane.Without.{without}
 use Rattle.plane_core.proofs.lemmas.clusters.ClusterLemmas.{king_distance-itself}
@@ -19,27 +19,27 @@ use Rattle.plane_core.proofs.lemmas.plane.FrontierLemmas.{frontiers_are_slow, fr
 use Rattle.plane_core.proofs.lemmas.plane.GenerationLemmas.{after-none}
 use Rattle.plane_core.proofs.lemmas.plane.RunLemmas.{after-plus, in_order-after}
 use Rattle.plane_core.proofs.lemmas.plane.SetLemmas.{has-set_of, in_order-filter, in_order-set_of, same_lists}
-use Rattle.survey_core.specs.declared.evolution.escaped_spaceships.Ship.{Ship}
-use Rattle.survey_core.specs.evolution.SplitPatterns.{AreOff, IsOff, ship_at, whole_at}
+use Rattle.survey_core.specs.declared.evolution.escaped_spaceships.Spaceship.{Spaceship}
+use Rattle.survey_core.specs.evolution.SplitPatterns.{AreOff, IsOff, spaceship_at, whole_at}
 use Rattle.survey_core.specs.evolution.EscapedSpaceships.{IsForemost}
 use Rattle.survey_core.proofs.lemmas.PartitionLemmas.{has-joined, joined}
-use Rattle.survey_core.proofs.lemmas.evolution.SpaceshipLemmas.{cluster_part, left_has, or_nothing, ships_run_alone, ships_stay_ahead}
+use Rattle.survey_core.proofs.lemmas.evolution.SpaceshipLemmas.{cluster_part, left_has, or_nothing, spaceships_run_alone, spaceships_stay_ahead}
 
 -- ---- the board and the ships are the whole
 
-any_ship : (rule : Numbers) (t : ℕ) (ships : List Ship) (c : Cell)
-    → list_any (λ (part : List Cell). has part c) (map (ship_at rule t) ships) ≡ list_any (λ (ship : Ship). has (ship_at rule t ship) c) ships
-any_ship rule t [] c = refl
-any_ship rule t (ship ∷ ships) c = ap (λ (b : Bool). has (ship_at rule t ship) c || b) (any_ship rule t ships c)
+any_spaceship : (rule : Numbers) (t : ℕ) (spaceships : List Spaceship) (c : Cell)
+    → list_any (λ (part : List Cell). has part c) (map (spaceship_at rule t) spaceships) ≡ list_any (λ (spaceship : Spaceship). has (spaceship_at rule t spaceship) c) spaceships
+any_spaceship rule t [] c = refl
+any_spaceship rule t (spaceship ∷ spaceships) c = ap (λ (b : Bool). has (spaceship_at rule t spaceship) c || b) (any_spaceship rule t spaceships c)
 
-pub has-whole : (rule : Numbers) (t : ℕ) (board : List Cell) (ships : List Ship) (c : Cell)
-    → has (whole_at rule t board ships) c ≡ (has board c || list_any (λ (ship : Ship). has (ship_at rule t ship) c) ships)
-has-whole rule t board ships c =
-    has-set_of (joined (board ∷ map (ship_at rule t) ships)) c ∙ has-joined (board ∷ map (ship_at rule t) ships) c
-    ∙ ap (λ (b : Bool). has board c || b) (any_ship rule t ships c)
+pub has-whole : (rule : Numbers) (t : ℕ) (board : List Cell) (spaceships : List Spaceship) (c : Cell)
+    → has (whole_at rule t board spaceships) c ≡ (has board c || list_any (λ (spaceship : Spaceship). has (spaceship_at rule t spaceship) c) spaceships)
+has-whole rule t board spaceships c =
+    has-set_of (joined (board ∷ map (spaceship_at rule t) spaceships)) c ∙ has-joined (board ∷ map (spaceship_at rule t) spaceships) c
+    ∙ ap (λ (b : Bool). has board c || b) (any_spaceship rule t spaceships c)
 
-in_order-whole : (rule : Numbers) (t : ℕ) (board : List Cell) (ships : List Ship) → InOrder (whole_at rule t board ships)
-in_order-whole rule t board ships = in_order-set_of (joined (board ∷ map (ship_at rule t) ships))
+in_order-whole : (rule : Numbers) (t : ℕ) (board : List Cell) (spaceships : List Spaceship) → InOrder (whole_at rule t board spaceships)
+in_order-whole rule t board spaceships = in_order-set_of (joined (board ∷ map (spaceship_at rule t) spaceships))
 
 -- without ships the board is the whole
 pub whole-none : (rule : Numbers) (t : ℕ) (board : List Cell) → InOrder board → whole_at rule t board [] ≡ board
@@ -48,11 +48,11 @@ whole-none rule t board order =
     (λ c. has-whole rule t board [] c ∙ or_nothing (has board c))
 
 -- a ship more
-pub whole-more : (rule : Numbers) (t : ℕ) (all board : List Cell) (ships : List Ship) (ship : Ship)
-    → ((c : Cell) → has all c ≡ (has board c || has (ship_at rule t ship) c)) → whole_at rule t all ships ≡ whole_at rule t board (ships ++ ship ∷ [])
-whole-more rule t all board ships ship is =
-    same_lists (whole_at rule t all ships) (whole_at rule t board (ships ++ ship ∷ [])) (in_order-whole rule t all ships)
-    (in_order-whole rule t board (ships ++ ship ∷ [])) same
+pub whole-more : (rule : Numbers) (t : ℕ) (all board : List Cell) (spaceships : List Spaceship) (spaceship : Spaceship)
+    → ((c : Cell) → has all c ≡ (has board c || has (spaceship_at rule t spaceship) c)) → whole_at rule t all spaceships ≡ whole_at rule t board (spaceships ++ spaceship ∷ [])
+whole-more rule t all board spaceships spaceship is =
+    same_lists (whole_at rule t all spaceships) (whole_at rule t board (spaceships ++ spaceship ∷ [])) (in_order-whole rule t all spaceships)
+    (in_order-whole rule t board (spaceships ++ spaceship ∷ [])) same
   where
     around : (a b s : Bool) → ((a || b) || s) ≡ (a || (s || (b || false)))
     around true b s = refl
@@ -61,13 +61,13 @@ whole-more rule t all board ships ship is =
     around false false true = refl
     around false false false = refl
 
-    same : (c : Cell) → has (whole_at rule t all ships) c ≡ has (whole_at rule t board (ships ++ ship ∷ [])) c
+    same : (c : Cell) → has (whole_at rule t all spaceships) c ≡ has (whole_at rule t board (spaceships ++ spaceship ∷ [])) c
     same c =
-        has-whole rule t all ships c
-        ∙ ap (λ (b : Bool). b || list_any (λ (s : Ship). has (ship_at rule t s) c) ships) (is c)
-        ∙ around (has board c) (has (ship_at rule t ship) c) (list_any (λ (s : Ship). has (ship_at rule t s) c) ships)
-        ∙ ap (λ (b : Bool). has board c || b) (sym (list_any-append (λ (s : Ship). has (ship_at rule t s) c) ships (ship ∷ [])))
-        ∙ sym (has-whole rule t board (ships ++ ship ∷ []) c)
+        has-whole rule t all spaceships c
+        ∙ ap (λ (b : Bool). b || list_any (λ (s : Spaceship). has (spaceship_at rule t s) c) spaceships) (is c)
+        ∙ around (has board c) (has (spaceship_at rule t spaceship) c) (list_any (λ (s : Spaceship). has (spaceship_at rule t s) c) spaceships)
+        ∙ ap (λ (b : Bool). has board c || b) (sym (list_any-append (λ (s : Spaceship). has (spaceship_at rule t s) c) spaceships (spaceship ∷ [])))
+        ∙ sym (has-whole rule t board (spaceships ++ spaceship ∷ []) c)
 
 -- ---- off the board
 
@@ -81,12 +81,12 @@ none_off rule t board order = record {
 }
 
 -- an even number of generations later
-off_later : (rule : Numbers) (t k : ℕ) (board : List Cell) (ship : Ship) → InOrder board → IsOff rule t board ship
-    → IsOff rule (t + 2 * k) (after rule board (2 * k)) ship
-off_later rule t k board ship order off = record {
+off_later : (rule : Numbers) (t k : ℕ) (board : List Cell) (spaceship : Spaceship) → InOrder board → IsOff rule t board spaceship
+    → IsOff rule (t + 2 * k) (after rule board (2 * k)) spaceship
+off_later rule t k board spaceship order off = record {
   slow = off.slow;
   half = off.half + k;
-  age = longer t off.half ship.since off.age;
+  age = longer t off.half spaceship.since off.age;
   way = off.way;
   m = off.m;
   ahead = off.ahead;
@@ -100,14 +100,14 @@ off_later rule t k board ship order off = record {
     further : (m : ℤ) (half : ℕ) → (m +ℤ pos half) +ℤ pos k ≡ m +ℤ pos (half + k)
     further m half = omega (arith, ints)
 
-pub all_off_later : (rule : Numbers) (t k : ℕ) (board : List Cell) (ships : List Ship) → AreOff rule t board ships
-    → AreOff rule (t + 2 * k) (after rule board (2 * k)) ships
-all_off_later rule t k board ships off = record {
+pub all_off_later : (rule : Numbers) (t k : ℕ) (board : List Cell) (spaceships : List Spaceship) → AreOff rule t board spaceships
+    → AreOff rule (t + 2 * k) (after rule board (2 * k)) spaceships
+all_off_later rule t k board spaceships off = record {
   in_order = in_order-after rule board (2 * k) off.in_order;
-  each = λ j d low. off_later rule t k board (get_or ships j d) off.in_order (off.each j d low);
-  alone = λ g. ap (λ (S : List Cell). after rule S g) (sym (off.alone (2 * k))) ∙ after-plus rule (whole_at rule t board ships) (2 * k) g
+  each = λ j d low. off_later rule t k board (get_or spaceships j d) off.in_order (off.each j d low);
+  alone = λ g. ap (λ (S : List Cell). after rule S g) (sym (off.alone (2 * k))) ∙ after-plus rule (whole_at rule t board spaceships) (2 * k) g
       ∙ off.alone (2 * k + g)
-      ∙ (λ i. whole_at rule (times_add t (2 * k) g i) (sym (after-plus rule board (2 * k) g) i) ships);
+      ∙ (λ i. whole_at rule (times_add t (2 * k) g i) (sym (after-plus rule board (2 * k) g) i) spaceships);
 }
   where
     times_add : (a b c : ℕ) → a + (b + c) ≡ (a + b) + c
@@ -116,37 +116,37 @@ all_off_later rule t k board ships off = record {
 -- ---- one ship more
 
 -- so the whole is the same when it has left
-pub same_whole : (rule : Numbers) (t g : ℕ) (board : List Cell) (ships : List Ship) (ship : Ship) → InOrder board → is_slow rule ≡ true
-    → ship.since ≡ t
-    → IsForemost rule board ship.recurrence ship.cells
-    → whole_at rule (t + g) (after rule board g) ships ≡ whole_at rule (t + g) (after rule (without board ship.cells) g) (ships ++ ship ∷ [])
-same_whole rule t g board ships ship order slow now is =
-    whole-more rule (t + g) (after rule board g) (after rule (without board ship.cells) g) ships ship
-    (λ c. ships_run_alone rule board ship.recurrence ship.cells slow order is g c
-    ∙ ap (λ (n : ℕ). has (after rule (without board ship.cells) g) c || has (after rule ship.cells n) c) (age t ship.since now))
+pub same_whole : (rule : Numbers) (t g : ℕ) (board : List Cell) (spaceships : List Spaceship) (spaceship : Spaceship) → InOrder board → is_slow rule ≡ true
+    → spaceship.since ≡ t
+    → IsForemost rule board spaceship.recurrence spaceship.cells
+    → whole_at rule (t + g) (after rule board g) spaceships ≡ whole_at rule (t + g) (after rule (without board spaceship.cells) g) (spaceships ++ spaceship ∷ [])
+same_whole rule t g board spaceships spaceship order slow now is =
+    whole-more rule (t + g) (after rule board g) (after rule (without board spaceship.cells) g) spaceships spaceship
+    (λ c. spaceships_run_alone rule board spaceship.recurrence spaceship.cells slow order is g c
+    ∙ ap (λ (n : ℕ). has (after rule (without board spaceship.cells) g) c || has (after rule spaceship.cells n) c) (age t spaceship.since now))
   where
     age : (t since : ℕ) → since ≡ t → g ≡ (t + g) - since
     age t since e = omega arith
 
 -- at once
-pub same_whole_now : (rule : Numbers) (t : ℕ) (board : List Cell) (ships : List Ship) (ship : Ship) → InOrder board → is_slow rule ≡ true
-    → ship.since ≡ t → IsForemost rule board ship.recurrence ship.cells
-    → whole_at rule t board ships ≡ whole_at rule t (without board ship.cells) (ships ++ ship ∷ [])
-same_whole_now rule t board ships ship order slow now is =
-    (λ i. whole_at rule (sym (add-zero t) i) (sym (after-none rule board) i) ships) ∙ same_whole rule t 0 board ships ship order slow now is
-    ∙ (λ i. whole_at rule (add-zero t i) (after-none rule (without board ship.cells) i) (ships ++ ship ∷ []))
+pub same_whole_now : (rule : Numbers) (t : ℕ) (board : List Cell) (spaceships : List Spaceship) (spaceship : Spaceship) → InOrder board → is_slow rule ≡ true
+    → spaceship.since ≡ t → IsForemost rule board spaceship.recurrence spaceship.cells
+    → whole_at rule t board spaceships ≡ whole_at rule t (without board spaceship.cells) (spaceships ++ spaceship ∷ [])
+same_whole_now rule t board spaceships spaceship order slow now is =
+    (λ i. whole_at rule (sym (add-zero t) i) (sym (after-none rule board) i) spaceships) ∙ same_whole rule t 0 board spaceships spaceship order slow now is
+    ∙ (λ i. whole_at rule (add-zero t i) (after-none rule (without board spaceship.cells) i) (spaceships ++ spaceship ∷ []))
 
 -- and the ship is off
-pub all_off_more : (rule : Numbers) (t : ℕ) (board : List Cell) (ships : List Ship) (ship : Ship) → is_slow rule ≡ true → ship.since ≡ t
-    → IsForemost rule board ship.recurrence ship.cells → AreOff rule t board ships → AreOff rule t (without board ship.cells) (ships ++ ship ∷ [])
-all_off_more rule t board ships ship slow now is off = record {
-  in_order = in_order-filter (λ d. not (has ship.cells d)) board off.in_order;
-  each = All-push (IsOff rule t (without board ship.cells)) ships ship (λ k d low. still (get_or ships k d) (off.each k d low)) new;
-  alone = λ g. ap (λ (S : List Cell). after rule S g) (sym (same_whole_now rule t board ships ship off.in_order slow now is)) ∙ off.alone g
-      ∙ same_whole rule t g board ships ship off.in_order slow now is;
+pub all_off_more : (rule : Numbers) (t : ℕ) (board : List Cell) (spaceships : List Spaceship) (spaceship : Spaceship) → is_slow rule ≡ true → spaceship.since ≡ t
+    → IsForemost rule board spaceship.recurrence spaceship.cells → AreOff rule t board spaceships → AreOff rule t (without board spaceship.cells) (spaceships ++ spaceship ∷ [])
+all_off_more rule t board spaceships spaceship slow now is off = record {
+  in_order = in_order-filter (λ d. not (has spaceship.cells d)) board off.in_order;
+  each = All-push (IsOff rule t (without board spaceship.cells)) spaceships spaceship (λ k d low. still (get_or spaceships k d) (off.each k d low)) new;
+  alone = λ g. ap (λ (S : List Cell). after rule S g) (sym (same_whole_now rule t board spaceships spaceship off.in_order slow now is)) ∙ off.alone g
+      ∙ same_whole rule t g board spaceships spaceship off.in_order slow now is;
 }
   where
-    still : (other : Ship) → IsOff rule t board other → IsOff rule t (without board ship.cells) other
+    still : (other : Spaceship) → IsOff rule t board other → IsOff rule t (without board spaceship.cells) other
     still other before = record {
       slow = before.slow;
       half = before.half;
@@ -154,18 +154,18 @@ all_off_more rule t board ships ship slow now is off = record {
       way = before.way;
       m = before.m;
       ahead = before.ahead;
-      behind = λ c e. before.behind c (left_has board ship.cells c e).0;
+      behind = λ c e. before.behind c (left_has board spaceship.cells c e).0;
     }
 
-    new : IsOff rule t (without board ship.cells) ship
+    new : IsOff rule t (without board spaceship.cells) spaceship
     new = record {
       slow = slow;
       half = 0;
-      age = at t ship.since now;
+      age = at t spaceship.since now;
       way = is.way;
       m = is.m;
       ahead = is.ahead;
-      behind = subst (λ (d : ℤ). LiesUpTo is.way d (without board ship.cells)) (same is.m) is.behind;
+      behind = subst (λ (d : ℤ). LiesUpTo is.way d (without board spaceship.cells)) (same is.m) is.behind;
     }
       where
         at : (t since : ℕ) → since ≡ t → t ≡ since + 2 * 0
@@ -177,12 +177,12 @@ all_off_more rule t board ships ship slow now is off = record {
 -- ---- what the board says of the whole
 
 -- a part of the board, at most a generation later, stays away from each ship
-part_apart : (rule : Numbers) (t : ℕ) (board cells : List Cell) (ship : Ship) (ahead g : ℕ) → IsOff rule t board ship → InOrder board → InOrder cells
+part_apart : (rule : Numbers) (t : ℕ) (board cells : List Cell) (spaceship : Spaceship) (ahead g : ℕ) → IsOff rule t board spaceship → InOrder board → InOrder cells
     → ahead ≤ 1 → ((c : Cell) → has cells c ≡ true → has (after rule board ahead) c ≡ true)
-    → LieApart (after rule cells g) (ship_at rule (t + (ahead + g)) ship)
-part_apart rule t board cells ship ahead g off order in_order few part =
-    subst (λ (n : ℕ). LieApart (after rule cells g) (after rule ship.cells n)) (age t ship.since off.half off.age)
-    (ships_stay_ahead rule off.way off.m ship.recurrence ship.cells cells (2 * off.half + ahead) (off.half + ahead) g off.slow off.ahead in_order
+    → LieApart (after rule cells g) (spaceship_at rule (t + (ahead + g)) spaceship)
+part_apart rule t board cells spaceship ahead g off order in_order few part =
+    subst (λ (n : ℕ). LieApart (after rule cells g) (after rule spaceship.cells n)) (age t spaceship.since off.half off.age)
+    (spaceships_stay_ahead rule off.way off.m spaceship.recurrence spaceship.cells cells (2 * off.half + ahead) (off.half + ahead) g off.slow off.ahead in_order
     (λ c e. further off.m _ off.half (frontiers_are_slow rule off.way (off.m +ℤ pos off.half) board ahead order off.slow off.behind c (part c e)))
     (omega (arith, few)))
   where
@@ -193,24 +193,24 @@ part_apart rule t board cells ship ahead g off order in_order few part =
     further m d half low = omega (arith, ints, few)
 
 -- no ship has a cell within two of such a part
-no_ship_near : (rule : Numbers) (t : ℕ) (board cells : List Cell) (ships : List Ship) (ahead g : ℕ) → AreOff rule t board ships → InOrder cells
+no_spaceship_near : (rule : Numbers) (t : ℕ) (board cells : List Cell) (spaceships : List Spaceship) (ahead g : ℕ) → AreOff rule t board spaceships → InOrder cells
     → ahead ≤ 1 → ((c : Cell) → has cells c ≡ true → has (after rule board ahead) c ≡ true) → (c d : Cell) → has (after rule cells g) c ≡ true
-    → king_distance c d ≤ 2 → list_any (λ (ship : Ship). has (ship_at rule (t + (ahead + g)) ship) d) ships ≡ true → ⊥
-no_ship_near rule t board cells ships ahead g off in_order few part c d here near some =
-    found (Any-from_list_any (λ (ship : Ship). has (ship_at rule (t + (ahead + g)) ship) d) ships some)
+    → king_distance c d ≤ 2 → list_any (λ (spaceship : Spaceship). has (spaceship_at rule (t + (ahead + g)) spaceship) d) spaceships ≡ true → ⊥
+no_spaceship_near rule t board cells spaceships ahead g off in_order few part c d here near some =
+    found (Any-from_list_any (λ (spaceship : Spaceship). has (spaceship_at rule (t + (ahead + g)) spaceship) d) spaceships some)
   where
-    found : Any (λ (ship : Ship). has (ship_at rule (t + (ahead + g)) ship) d ≡ true) ships → ⊥
-    found (k, ship, low, at, there) =
-        let is : IsOff rule t board ship = subst (IsOff rule t board) at (off.each k ship low) in
-        let far : 3 ≤ king_distance c d = part_apart rule t board cells ship ahead g is off.in_order in_order few part c d here there in
+    found : Any (λ (spaceship : Spaceship). has (spaceship_at rule (t + (ahead + g)) spaceship) d ≡ true) spaceships → ⊥
+    found (k, spaceship, low, at, there) =
+        let is : IsOff rule t board spaceship = subst (IsOff rule t board) at (off.each k spaceship low) in
+        let far : 3 ≤ king_distance c d = part_apart rule t board cells spaceship ahead g is off.in_order in_order few part c d here there in
         omega (arith, near, far)
 
 -- the cells of the whole at a later time that are none of the board's are a ship's
-whole_later : (rule : Numbers) (t : ℕ) (board : List Cell) (ships : List Ship) (g : ℕ) (c : Cell) → AreOff rule t board ships
-    → has (after rule (whole_at rule t board ships) g) c
-    ≡ (has (after rule board g) c || list_any (λ (ship : Ship). has (ship_at rule (t + g) ship) c) ships)
-whole_later rule t board ships g c off =
-    ap (λ (S : List Cell). has S c) (off.alone g) ∙ has-whole rule (t + g) (after rule board g) ships c
+whole_later : (rule : Numbers) (t : ℕ) (board : List Cell) (spaceships : List Spaceship) (g : ℕ) (c : Cell) → AreOff rule t board spaceships
+    → has (after rule (whole_at rule t board spaceships) g) c
+    ≡ (has (after rule board g) c || list_any (λ (spaceship : Spaceship). has (spaceship_at rule (t + g) spaceship) c) spaceships)
+whole_later rule t board spaceships g c off =
+    ap (λ (S : List Cell). has S c) (off.alone g) ∙ has-whole rule (t + g) (after rule board g) spaceships c
 
 -- what is linked in a pattern is so in one that has no more cells near
 linked-more : (cells all : List Cell) (c d : Cell) → ((x : Cell) → has cells x ≡ true → has all x ≡ true) → Linked cells c d → Linked all c d
@@ -231,11 +231,11 @@ linked-fewer cells all c d near start way = record { start = start; path = way.p
         let there : has cells x ≡ true = near e x here way.0 way.1 in (there, way.1, leads x xs there way.2)
 
 -- a cluster of the board that moves is one of the whole
-pub whole_restless : (rule : Numbers) (t : ℕ) (board : List Cell) (ships : List Ship) (ahead horizon period : ℕ) → AreOff rule t board ships
+pub whole_restless : (rule : Numbers) (t : ℕ) (board : List Cell) (spaceships : List Spaceship) (ahead horizon period : ℕ) → AreOff rule t board spaceships
     → ahead ≤ 1
     → HasRestlessCluster rule (after rule board ahead) horizon period
-    → HasRestlessCluster rule (after rule (whole_at rule t board ships) ahead) horizon period
-whole_restless rule t board ships ahead horizon period off few restless = record {
+    → HasRestlessCluster rule (after rule (whole_at rule t board spaceships) ahead) horizon period
+whole_restless rule t board spaceships ahead horizon period off few restless = record {
   cluster = cluster;
   is = record {
     in_order = is.in_order;
@@ -256,40 +256,40 @@ whole_restless rule t board ships ahead horizon period off few restless = record
     now = after rule board ahead
 
     all : List Cell
-    all = after rule (whole_at rule t board ships) ahead
+    all = after rule (whole_at rule t board spaceships) ahead
 
     is : IsCluster now cluster
     is = restless.is
 
     part : (x : Cell) → has now x ≡ true → has all x ≡ true
-    part x e = whole_later rule t board ships ahead x off
-        ∙ ap (λ (b : Bool). b || list_any (λ (ship : Ship). has (ship_at rule (t + ahead) ship) x) ships) e
+    part x e = whole_later rule t board spaceships ahead x off
+        ∙ ap (λ (b : Bool). b || list_any (λ (spaceship : Spaceship). has (spaceship_at rule (t + ahead) spaceship) x) spaceships) e
 
     near : (x y : Cell) → has now x ≡ true → has all y ≡ true → king_distance x y ≤ 2 → has now y ≡ true
-    near x y here there close = elim (or_cases _ _ (sym (whole_later rule t board ships ahead y off) ∙ there)) [
+    near x y here there close = elim (or_cases _ _ (sym (whole_later rule t board spaceships ahead y off) ∙ there)) [
       | inl stays ↦ stays
-      | inr ship ↦ absurd (no_ship_near rule t board now ships ahead 0 off (in_order-after rule board ahead off.in_order) few (λ c e. e) x y
+      | inr spaceship ↦ absurd (no_spaceship_near rule t board now spaceships ahead 0 off (in_order-after rule board ahead off.in_order) few (λ c e. e) x y
           (ap (λ (S : List Cell). has S x) (after-none rule now) ∙ here) close
-          (ap (λ (n : ℕ). list_any (λ (ship : Ship). has (ship_at rule (t + n) ship) y) ships) (add-zero ahead) ∙ ship))
+          (ap (λ (n : ℕ). list_any (λ (spaceship : Spaceship). has (spaceship_at rule (t + n) spaceship) y) spaceships) (add-zero ahead) ∙ spaceship))
     ]
 
     none_there : (g : ℕ) (c : Cell) → has (after rule cluster g) c ≡ true → has (after rule now g) c ≡ false → has (after rule all g) c ≡ false
     none_there g c alone missing = go (has (after rule all g) c) refl
       where
         later : has (after rule all g) c
-            ≡ (has (after rule board (ahead + g)) c || list_any (λ (ship : Ship). has (ship_at rule (t + (ahead + g)) ship) c) ships)
-        later = ap (λ (S : List Cell). has S c) (after-plus rule (whole_at rule t board ships) ahead g)
-            ∙ whole_later rule t board ships (ahead + g) c off
+            ≡ (has (after rule board (ahead + g)) c || list_any (λ (spaceship : Spaceship). has (spaceship_at rule (t + (ahead + g)) spaceship) c) spaceships)
+        later = ap (λ (S : List Cell). has S c) (after-plus rule (whole_at rule t board spaceships) ahead g)
+            ∙ whole_later rule t board spaceships (ahead + g) c off
 
         go : (b : Bool) → has (after rule all g) c ≡ b → has (after rule all g) c ≡ false
         go false e = e
         go true e = elim (or_cases _ _ (sym later ∙ e)) [
           | inl stays ↦ absurd (false≢true (sym missing ∙ ap (λ (S : List Cell). has S c) (after-plus rule board ahead g) ∙ stays))
-          | inr ship ↦ absurd (no_ship_near rule t board cluster ships ahead g off is.in_order few (cluster_part now cluster is) c c alone
-              (let same : king_distance c c ≡ 0 = king_distance-itself c in omega (arith, same)) ship)
+          | inr spaceship ↦ absurd (no_spaceship_near rule t board cluster spaceships ahead g off is.in_order few (cluster_part now cluster is) c c alone
+              (let same : king_distance c c ≡ 0 = king_distance-itself c in omega (arith, same)) spaceship)
         ]
 
-    why : Strays rule now cluster horizon ⊎ NeverBack rule cluster period → Strays rule all cluster horizon ⊎ NeverBack rule cluster period
+    why : Diverges rule now cluster horizon ⊎ NeverRecurs rule cluster period → Diverges rule all cluster horizon ⊎ NeverRecurs rule cluster period
     why (inl strays) = inl (record {
       generation = strays.generation;
       early = strays.early;

@@ -33,12 +33,12 @@ use Rattle.plane_core.proofs.lemmas.plane.OrientationLemmas.{has-map, has-map_fr
 use Rattle.plane_core.proofs.lemmas.plane.SpeedLemmas.{boxed-after}
 use Rattle.plane_core.proofs.lemmas.plane.SetLemmas.{has-all, has-filter, in_order-filter}
 use Rattle.code_core.specs.declared.recurrence.Recurrence.{Recurrence}
-use Rattle.survey_core.specs.declared.shapes.envelope_bounds.Sweep.{Sweep}
+use Rattle.survey_core.specs.declared.shapes.envelope_bounds.EnvelopeBounds.{EnvelopeBounds}
 use Rattle.survey_core.specs.rest.Rest.{KeepApart}
-use Rattle.survey_core.specs.evolution.EscapedSpaceships.{BeginsPast, IsAheadOf, IsPartOf, IsShip, ShipsRunAlone, ShipsStayAhead}
-use Rattle.survey_core.specs.shapes.Envelopes.{IsSweep, times}
+use Rattle.survey_core.specs.evolution.EscapedSpaceships.{BeginsPast, IsAheadOf, IsPartOf, IsSpaceship, SpaceshipsRunAlone, SpaceshipsStayAhead}
+use Rattle.survey_core.specs.shapes.Envelopes.{IsEnvelope, times}
 use Rattle.survey_core.proofs.lemmas.rest.AloneLemmas.{parts_run_alone}
-use Rattle.survey_core.proofs.lemmas.shapes.EnvelopeLemmas.{after_turns}
+use Rattle.survey_core.proofs.lemmas.shapes.EnvelopeLemmas.{after_cycles}
 
 -- ---- how deep a ship lies
 
@@ -64,29 +64,29 @@ depth-origin Diagonal = refl
 depth-origin AntiDiagonal = refl
 
 -- n moves, each of which takes a pattern at least half of p deeper
-turns_deep : (o : Orientation) (dx dy : ℤ) (p n : ℕ) → pos p ≤ℤ (pos 2 *ℤ depth (turned_cell o (cell_at dx dy)))
+cycles_deep : (o : Orientation) (dx dy : ℤ) (p n : ℕ) → pos p ≤ℤ (pos 2 *ℤ depth (turned_cell o (cell_at dx dy)))
     → pos (n * p) ≤ℤ (pos 2 *ℤ depth (turned_cell o (cell_at (times n dx) (times n dy))))
-turns_deep o dx dy p zero fast = none (0 * p) (depth (turned_cell o (cell_at (pos 0) (pos 0)))) (zero-mul p) (depth-origin o)
+cycles_deep o dx dy p zero fast = none (0 * p) (depth (turned_cell o (cell_at (pos 0) (pos 0)))) (zero-mul p) (depth-origin o)
   where
     none : (k : ℕ) (d : ℤ) → k ≡ 0 → d ≡ pos 0 → pos k ≤ℤ (pos 2 *ℤ d)
     none k d e f = omega (arith, ints)
-turns_deep o dx dy p (suc n) fast =
+cycles_deep o dx dy p (suc n) fast =
     more (suc n * p) (n * p) (depth (turned_cell o (cell_at (times (suc n) dx) (times (suc n) dy))))
     (depth (turned_cell o (cell_at (times n dx) (times n dy))))
-    (depth (turned_cell o (cell_at dx dy))) (suc-mul n p) (depth-moved o dx dy (cell_at (times n dx) (times n dy))) (turns_deep o dx dy p n fast) fast
+    (depth (turned_cell o (cell_at dx dy))) (suc-mul n p) (depth-moved o dx dy (cell_at (times n dx) (times n dy))) (cycles_deep o dx dy p n fast) fast
   where
     more : (k j : ℕ) (d e f : ℤ) → k ≡ j + p → d ≡ e +ℤ f → pos j ≤ℤ (pos 2 *ℤ e) → pos p ≤ℤ (pos 2 *ℤ f) → pos k ≤ℤ (pos 2 *ℤ d)
     more k j d e f same sum low fast = omega (arith, ints)
 
 -- so after n generations a ship lies at least half of n deeper than at first, but for a part of its period
-ship_deep : (rule : Numbers) (o : Orientation) (m : ℤ) (r : Recurrence) (ship : List Cell) (n : ℕ) (c : Cell) → (ahead : IsAheadOf rule o m r ship)
-    → has (after rule ship n) c ≡ true → ((pos 2 *ℤ ahead.from) +ℤ pos (n + 1)) ≤ℤ ((pos 2 *ℤ depth (turned_cell o c)) +ℤ pos r.period)
-ship_deep rule o m r ship n c ahead e =
+spaceship_deep : (rule : Numbers) (o : Orientation) (m : ℤ) (r : Recurrence) (spaceship : List Cell) (n : ℕ) (c : Cell) → (ahead : IsAheadOf rule o m r spaceship)
+    → has (after rule spaceship n) c ≡ true → ((pos 2 *ℤ ahead.from) +ℤ pos (n + 1)) ≤ℤ ((pos 2 *ℤ depth (turned_cell o c)) +ℤ pos r.period)
+spaceship_deep rule o m r spaceship n c ahead e =
     numbers ahead.from (depth (turned_cell o d.0)) (depth (turned_cell o (cell_at (times q r.dx) (times q r.dy)))) (depth (turned_cell o c)) n
     (q * r.period) b
     r.period (sym whole) (ahead.none_behind b part d.0 d.1)
     (ap (λ (x : Cell). depth (turned_cell o x)) d.2 ∙ depth-moved o (times q r.dx) (times q r.dy) d.0)
-    (turns_deep o r.dx r.dy r.period q ahead.fast) part
+    (cycles_deep o r.dx r.dy r.period q ahead.fast) part
   where
     some : 1 ≤ r.period
     some = ahead.comes.some
@@ -103,13 +103,13 @@ ship_deep rule o m r ship n c ahead e =
     whole : q * r.period + b ≡ n
     whole = div-add-mod' n r.period
 
-    there : has (shifted (times q r.dx) (times q r.dy) (after rule ship b)) c ≡ true
+    there : has (shifted (times q r.dx) (times q r.dy) (after rule spaceship b)) c ≡ true
     there =
-        ap (λ (S : List Cell). has S c) (sym (after_turns rule ship r.period r.dx r.dy ahead.comes.in_order ahead.comes.back q b)
-        ∙ ap (after rule ship) whole) ∙ e
+        ap (λ (S : List Cell). has S c) (sym (after_cycles rule spaceship r.period r.dx r.dy ahead.comes.in_order ahead.comes.back q b)
+        ∙ ap (after rule spaceship) whole) ∙ e
 
-    d : (x : Cell) × (has (after rule ship b) x ≡ true) × (c ≡ moved_by (times q r.dx) (times q r.dy) x)
-    d = has-map_from (moved_by (times q r.dx) (times q r.dy)) (after rule ship b) c there
+    d : (x : Cell) × (has (after rule spaceship b) x ≡ true) × (c ≡ moved_by (times q r.dx) (times q r.dy) x)
+    d = has-map_from (moved_by (times q r.dx) (times q r.dy)) (after rule spaceship b) c there
 
     numbers : (f e v w : ℤ) (n k b p : ℕ) → n ≡ k + b → f ≤ℤ e → w ≡ e +ℤ v → pos k ≤ℤ (pos 2 *ℤ v) → b < p
         → ((pos 2 *ℤ f) +ℤ pos (n + 1)) ≤ℤ ((pos 2 *ℤ w) +ℤ pos p)
@@ -120,11 +120,11 @@ deeper_apart : (c d : Cell) → (depth c +ℤ pos 5) ≤ℤ depth d → 3 ≤ ki
 deeper_apart c d low = omega (arith, ints)
 
 -- nothing comes near a ship that is ahead of it
-pub ships_stay_ahead : ShipsStayAhead
-ships_stay_ahead rule o m r ship cells n k g slow ahead order behind few c d in_cells in_ship =
+pub spaceships_stay_ahead : SpaceshipsStayAhead
+spaceships_stay_ahead rule o m r spaceship cells n k g slow ahead order behind few c d in_cells in_spaceship =
     subst (λ (w : ℕ). 3 ≤ w) (turned-keeps o c d)
     (deeper_apart (turned_cell o c) (turned_cell o d) (gap m ahead.from (depth (turned_cell o c)) (depth (turned_cell o d)) n k g r.period
-    (frontiers_are_slow rule o (m +ℤ pos k) cells g order slow behind c in_cells) (ship_deep rule o m r ship (n + g) d ahead in_ship) ahead.room few))
+    (frontiers_are_slow rule o (m +ℤ pos k) cells g order slow behind c in_cells) (spaceship_deep rule o m r spaceship (n + g) d ahead in_spaceship) ahead.room few))
   where
     gap : (m f a b : ℤ) (n k g p : ℕ) → (pos 2 *ℤ a) ≤ℤ ((pos 2 *ℤ (m +ℤ pos k)) +ℤ pos (g + 1))
         → ((pos 2 *ℤ f) +ℤ pos ((n + g) + 1)) ≤ℤ ((pos 2 *ℤ b) +ℤ pos p) → ((pos 2 *ℤ m) +ℤ pos (p + 10)) ≤ℤ (pos 2 *ℤ f) → 2 * k ≤ n + 1
@@ -198,20 +198,20 @@ two_run_alone rule cells one other order first second is far g c =
 -- ---- a pattern without a ship
 
 -- what is left without some cells
-pub left_has : (board ship : List Cell) (c : Cell) → has (without board ship) c ≡ true → (has board c ≡ true) × (has ship c ≡ false)
-left_has board ship c e =
-    let parts = and_parts (has board c) (not (has ship c)) (sym (has-filter (λ d. not (has ship d)) board c) ∙ e) in
-    (parts.0, dead (has ship c) parts.1)
+pub left_has : (board spaceship : List Cell) (c : Cell) → has (without board spaceship) c ≡ true → (has board c ≡ true) × (has spaceship c ≡ false)
+left_has board spaceship c e =
+    let parts = and_parts (has board c) (not (has spaceship c)) (sym (has-filter (λ d. not (has spaceship d)) board c) ∙ e) in
+    (parts.0, dead (has spaceship c) parts.1)
   where
     dead : (b : Bool) → not b ≡ true → b ≡ false
     dead true h = absurd (false≢true h)
     dead false h = refl
 
 -- cells of the board, and what is left without them, are the board
-both_parts : (board ship : List Cell) → IsPartOf board ship → (c : Cell)
-    → has board c ≡ (has (without board ship) c || has ship c)
-both_parts board ship part c =
-    cases (has board c) (has ship c) (part c) ∙ ap (λ (b : Bool). b || has ship c) (sym (has-filter (λ d. not (has ship d)) board c))
+both_parts : (board spaceship : List Cell) → IsPartOf board spaceship → (c : Cell)
+    → has board c ≡ (has (without board spaceship) c || has spaceship c)
+both_parts board spaceship part c =
+    cases (has board c) (has spaceship c) (part c) ∙ ap (λ (b : Bool). b || has spaceship c) (sym (has-filter (λ d. not (has spaceship d)) board c))
   where
     cases : (a b : Bool) → (b ≡ true → a ≡ true) → a ≡ ((a && not b) || b)
     cases true true h = refl
@@ -223,17 +223,17 @@ pub cluster_part : (board cluster : List Cell) → IsCluster board cluster → I
 cluster_part board cluster is c e = linked-has board is.start c ((is.members c).0 e)
 
 -- a part that is ahead of the rest, and the rest, go on alone
-pub ships_run_alone : ShipsRunAlone
-ships_run_alone rule whole r ship slow order is =
-    two_run_alone rule whole (without whole ship) ship order left is.ahead.comes.in_order (both_parts whole ship is.part) far
+pub spaceships_run_alone : SpaceshipsRunAlone
+spaceships_run_alone rule whole r spaceship slow order is =
+    two_run_alone rule whole (without whole spaceship) spaceship order left is.ahead.comes.in_order (both_parts whole spaceship is.part) far
   where
-    left : InOrder (without whole ship)
-    left = in_order-filter (λ d. not (has ship d)) whole order
+    left : InOrder (without whole spaceship)
+    left = in_order-filter (λ d. not (has spaceship d)) whole order
 
-    far : (g : ℕ) → LieApart (after rule (without whole ship) g) (after rule ship g)
-    far g = subst (λ (n : ℕ). LieApart (after rule (without whole ship) g) (after rule ship n)) (zero-add g)
-        (ships_stay_ahead rule is.way is.m r ship (without whole ship) 0 0 g slow is.ahead left
-        (subst (λ (d : ℤ). LiesUpTo is.way d (without whole ship)) (same is.m) is.behind) (omega arith))
+    far : (g : ℕ) → LieApart (after rule (without whole spaceship) g) (after rule spaceship g)
+    far g = subst (λ (n : ℕ). LieApart (after rule (without whole spaceship) g) (after rule spaceship n)) (zero-add g)
+        (spaceships_stay_ahead rule is.way is.m r spaceship (without whole spaceship) 0 0 g slow is.ahead left
+        (subst (λ (d : ℤ). LiesUpTo is.way d (without whole spaceship)) (same is.m) is.behind) (omega arith))
       where
         same : (d : ℤ) → d ≡ d +ℤ pos 0
         same d = omega (arith, ints)
@@ -283,15 +283,15 @@ minus_told s small =
     ap (λ (v : ℤ). to_z w64 (of_z w64 (pos 0 -ℤ v))) (is_told s small) ∙ is_told (pos 0 -ℤ s) (minus_small s small)
 
 -- a sweep that begins far enough past m
-pub ahead_by_sweep : (rule : Numbers) (limit : ℕ) (cells : List Cell) (sweep : Sweep) (way : Orientation) (m : ℤ) → IsSweep rule limit cells sweep
-    → pos sweep.recurrence.period ≤ℤ (pos 2 *ℤ depth (turned_cell way (cell_at sweep.recurrence.dx sweep.recurrence.dy))) → BeginsPast way m sweep
-    → IsAheadOf rule way m sweep.recurrence cells
-ahead_by_sweep rule limit cells sweep way m is fast room = record {
+pub ahead_by_envelope : (rule : Numbers) (limit : ℕ) (cells : List Cell) (envelope : EnvelopeBounds) (way : Orientation) (m : ℤ) → IsEnvelope rule limit cells envelope
+    → pos envelope.recurrence.period ≤ℤ (pos 2 *ℤ depth (turned_cell way (cell_at envelope.recurrence.dx envelope.recurrence.dy))) → BeginsPast way m envelope
+    → IsAheadOf rule way m envelope.recurrence cells
+ahead_by_envelope rule limit cells envelope way m is fast room = record {
   comes = record { in_order = is.in_order; some = is.recurs.some; back = is.recurs.back };
   fast = fast;
   from = room.from;
-  none_behind = λ g low c e. room.least c (has-all (IsWithin sweep.bounds) (after rule cells g) c
-      (recursion_from_All (IsWithin sweep.bounds) (after rule cells g) (is.within g low)) e);
+  none_behind = λ g low c e. room.least c (has-all (IsWithin envelope.bounds) (after rule cells g) c
+      (recursion_from_All (IsWithin envelope.bounds) (after rule cells g) (is.within g low)) e);
   room = room.room;
 }
 
@@ -359,16 +359,16 @@ times-product zero d = sym (zero-*ℤ d)
 times-product (suc n) d = ap (λ (t : ℤ). t +ℤ d) (times-product n d) ∙ sym (suc_ℤ-*ℤ (pos n) d)
 
 -- whole periods and a part of one
-pub ship_by_turns : (rule : Numbers) (r : Recurrence) (cells : List Cell) (age : ℕ) → IsShip rule r cells
+pub spaceship_by_cycles : (rule : Numbers) (r : Recurrence) (cells : List Cell) (age : ℕ) → IsSpaceship rule r cells
     → after rule cells age ≡ shifted (times (age / r.period) r.dx) (times (age / r.period) r.dy) (after rule cells (age % r.period))
-ship_by_turns rule r cells age is =
+spaceship_by_cycles rule r cells age is =
     ap (after rule cells) (sym (div-add-mod' age r.period))
-    ∙ after_turns rule cells r.period r.dx r.dy is.in_order is.back (age / r.period) (age % r.period)
+    ∙ after_cycles rule cells r.period r.dx r.dy is.in_order is.back (age / r.period) (age % r.period)
 
 -- so, some steps further, is the ship
-pub ship_moved : (rule : Numbers) (r : Recurrence) (cells phase result : List Cell) (age : ℕ) (x y dx dy : ℤ) → IsShip rule r cells
+pub spaceship_moved : (rule : Numbers) (r : Recurrence) (cells phase result : List Cell) (age : ℕ) (x y dx dy : ℤ) → IsSpaceship rule r cells
     → phase ≡ after rule cells (age % r.period) → x ≡ times (age / r.period) dx → y ≡ times (age / r.period) dy → dx ≡ r.dx → dy ≡ r.dy
     → result ≡ shifted x y phase → result ≡ after rule cells age
-ship_moved rule r cells phase result age x y dx dy is is_phase is_x is_y is_dx is_dy made =
+spaceship_moved rule r cells phase result age x y dx dy is is_phase is_x is_y is_dx is_dy made =
     made ∙ (λ i. shifted ((is_x ∙ ap (times (age / r.period)) is_dx) i) ((is_y ∙ ap (times (age / r.period)) is_dy) i) (is_phase i))
-    ∙ sym (ship_by_turns rule r cells age is)
+    ∙ sym (spaceship_by_cycles rule r cells age is)

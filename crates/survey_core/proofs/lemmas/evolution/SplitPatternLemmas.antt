@@ -19,13 +19,13 @@ use Rattle.plane_core.proofs.lemmas.clusters.ClusterLemmas.{linked-sym, linked-t
 use Rattle.plane_core.proofs.lemmas.plane.SearchLemmas.{has-list_all, list_all-has}
 use Rattle.plane_core.proofs.lemmas.plane.SetLemmas.{has-filter, same_lists}
 use Rattle.code_core.specs.declared.recurrence.Recurrence.{Recurrence}
-use Rattle.survey_core.specs.declared.evolution.split_pattern.Harbour.{Harbour}
-use Rattle.survey_core.specs.declared.evolution.escaped_spaceships.Ship.{Ship}
-use Rattle.survey_core.specs.declared.shapes.envelope_bounds.Sweep.{Sweep}
-use Rattle.survey_core.specs.evolution.SplitPatterns.{AreCandidates, AreOff, HasSmallNumbers, IsHarbour, IsMoored, IsNoneOf, IsOff, IsTraced, latest_time, ship_at}
+use Rattle.survey_core.specs.declared.evolution.split_pattern.SplitPattern.{SplitPattern}
+use Rattle.survey_core.specs.declared.evolution.escaped_spaceships.Spaceship.{Spaceship}
+use Rattle.survey_core.specs.declared.shapes.envelope_bounds.EnvelopeBounds.{EnvelopeBounds}
+use Rattle.survey_core.specs.evolution.SplitPatterns.{AreCandidates, AreOff, HasSmallNumbers, IsSplitAt, IsSplit, IsNoneOf, IsOff, IsTraced, latest_time, spaceship_at}
 use Rattle.survey_core.specs.evolution.SplitPatterns.{whole_at, whole_of}
 use Rattle.survey_core.specs.evolution.EscapedSpaceships.{IsForemost, IsPartOf}
-use Rattle.survey_core.specs.shapes.Envelopes.{IsSweep}
+use Rattle.survey_core.specs.shapes.Envelopes.{IsEnvelope}
 use Rattle.survey_core.specs.evolution.UnderWay.{survey_reach}
 use Rattle.survey_core.proofs.lemmas.PlaneLemmas.{within_later, within_more}
 use Rattle.survey_core.proofs.lemmas.evolution.SpaceshipLemmas.{cluster_part, no_faster}
@@ -34,51 +34,51 @@ use Rattle.survey_core.proofs.lemmas.evolution.RemovedLemmas.{all_off_later, all
 -- ---- the numbers of a ship
 
 -- for long it lies on the plane
-pub ship_on_plane : (rule : Numbers) (cells : List Cell) (age : ℕ) → lies_within survey_reach cells ≡ true → age ≤ latest_time + 10001
+pub spaceship_on_plane : (rule : Numbers) (cells : List Cell) (age : ℕ) → lies_within survey_reach cells ≡ true → age ≤ latest_time + 10001
     → list_all on_plane (after rule cells age) ≡ true
 unfolding on_plane
-ship_on_plane rule cells age near early = within_later survey_reach plane_bound rule cells age (omega arith) near
+spaceship_on_plane rule cells age near early = within_later survey_reach plane_bound rule cells age (omega arith) near
 
 -- a ship with a short period has small numbers
-pub small_by_sweep : (rule : Numbers) (limit : ℕ) (ship : Ship) (cells : List Cell) (sweep : Sweep) → limit ≤ 64 → (cells ≡ [] → ⊥)
-    → lies_within survey_reach cells ≡ true → ship.cells ≡ cells → ship.recurrence ≡ sweep.recurrence → IsSweep rule limit cells sweep
-    → HasSmallNumbers ship
-small_by_sweep rule limit ship cells sweep few some near same back is = record {
+pub small_by_envelope : (rule : Numbers) (limit : ℕ) (spaceship : Spaceship) (cells : List Cell) (envelope : EnvelopeBounds) → limit ≤ 64 → (cells ≡ [] → ⊥)
+    → lies_within survey_reach cells ≡ true → spaceship.cells ≡ cells → spaceship.recurrence ≡ envelope.recurrence → IsEnvelope rule limit cells envelope
+    → HasSmallNumbers spaceship
+small_by_envelope rule limit spaceship cells envelope few some near same back is = record {
   near = ap (lies_within survey_reach) same ∙ near;
   period = subst (λ (r : Recurrence). r.period ≤ 64) (sym back) period;
   across = subst (λ (r : Recurrence). unsigned_abs r.dx ≤ 64) (sym back) (omega (arith, period, light.0));
   down = subst (λ (r : Recurrence). unsigned_abs r.dy ≤ 64) (sym back) (omega (arith, period, light.1));
 }
   where
-    within : sweep.recurrence.period ≤ limit
+    within : envelope.recurrence.period ≤ limit
     within = is.recurs.within
 
-    period : sweep.recurrence.period ≤ 64
+    period : envelope.recurrence.period ≤ 64
     period = omega (arith, within, few)
 
-    light : (unsigned_abs sweep.recurrence.dx ≤ sweep.recurrence.period) × (unsigned_abs sweep.recurrence.dy ≤ sweep.recurrence.period)
-    light = no_faster rule cells sweep.recurrence.period sweep.recurrence.dx sweep.recurrence.dy some is.recurs.back
+    light : (unsigned_abs envelope.recurrence.dx ≤ envelope.recurrence.period) × (unsigned_abs envelope.recurrence.dy ≤ envelope.recurrence.period)
+    light = no_faster rule cells envelope.recurrence.period envelope.recurrence.dx envelope.recurrence.dy some is.recurs.back
 
 -- ---- a harbour
 
 -- where each ship is can be computed at any later time
-pub traced_later : (rule : Numbers) (t g : ℕ) (board : List Cell) (ships : List Ship) → IsHarbour rule t board ships
-    → All (IsTraced rule (t + g)) ships
-traced_later rule t g board ships is k d low = record {
+pub traced_later : (rule : Numbers) (t g : ℕ) (board : List Cell) (spaceships : List Spaceship) → IsSplitAt rule t board spaceships
+    → All (IsTraced rule (t + g)) spaceships
+traced_later rule t g board spaceships is k d low = record {
   comes = off.ahead.comes;
   small = is.small k d low;
-  since = early t off.half (get_or ships k d).since off.age;
+  since = early t off.half (get_or spaceships k d).since off.age;
 }
   where
-    off : IsOff rule t board (get_or ships k d)
+    off : IsOff rule t board (get_or spaceships k d)
     off = is.off.each k d low
 
     early : (t half since : ℕ) → t ≡ since + 2 * half → since ≤ t + g
     early t half since e = omega arith
 
 -- a board that no ship has left
-pub new_harbour : (rule : Numbers) (board : List Cell) (ships : List Ship) → InOrder board → ships ≡ [] → IsHarbour rule 0 board ships
-new_harbour rule board ships order none = subst (IsHarbour rule 0 board) (sym none) (record {
+pub new_split : (rule : Numbers) (board : List Cell) (spaceships : List Spaceship) → InOrder board → spaceships ≡ [] → IsSplitAt rule 0 board spaceships
+new_split rule board spaceships order none = subst (IsSplitAt rule 0 board) (sym none) (record {
   off = none_off rule 0 board order;
   small = λ k d low. absurd (omega arith);
   early = omega arith;
@@ -88,87 +88,87 @@ new_harbour rule board ships order none = subst (IsHarbour rule 0 board) (sym no
 pub part_near : (reach : ℕ) (board cells : List Cell) → lies_within reach board ≡ true → IsPartOf board cells → lies_within reach cells ≡ true
 part_near reach board cells near part = has-list_all (is_within reach) cells (λ c e. list_all-has (is_within reach) board near c (part c e))
 
-pub board_near : (reach : ℕ) (rule : Numbers) (t : ℕ) (board : List Cell) (ships : List Ship) → lies_within reach (whole_at rule t board ships) ≡ true
+pub board_near : (reach : ℕ) (rule : Numbers) (t : ℕ) (board : List Cell) (spaceships : List Spaceship) → lies_within reach (whole_at rule t board spaceships) ≡ true
     → lies_within reach board ≡ true
-board_near reach rule t board ships near =
-    has-list_all (is_within reach) board (λ c e. list_all-has (is_within reach) (whole_at rule t board ships) near c
-    (has-whole rule t board ships c ∙ ap (λ (b : Bool). b || list_any (λ (ship : Ship). has (ship_at rule t ship) c) ships) e))
+board_near reach rule t board spaceships near =
+    has-list_all (is_within reach) board (λ c e. list_all-has (is_within reach) (whole_at rule t board spaceships) near c
+    (has-whole rule t board spaceships c ∙ ap (λ (b : Bool). b || list_any (λ (spaceship : Spaceship). has (spaceship_at rule t spaceship) c) spaceships) e))
 
-ship_near : (reach : ℕ) (rule : Numbers) (t : ℕ) (board : List Cell) (ships : List Ship) (k : ℕ) (d : Ship) → k < length ships
-    → lies_within reach (whole_at rule t board ships) ≡ true → lies_within reach (ship_at rule t (get_or ships k d)) ≡ true
-ship_near reach rule t board ships k d low near =
-    has-list_all (is_within reach) (ship_at rule t (get_or ships k d)) (λ c e. list_all-has (is_within reach) (whole_at rule t board ships) near c
-    (has-whole rule t board ships c ∙ or_right (has board c) _ (list_any_at (λ (ship : Ship). has (ship_at rule t ship) c) ships k d low e)))
+spaceship_near : (reach : ℕ) (rule : Numbers) (t : ℕ) (board : List Cell) (spaceships : List Spaceship) (k : ℕ) (d : Spaceship) → k < length spaceships
+    → lies_within reach (whole_at rule t board spaceships) ≡ true → lies_within reach (spaceship_at rule t (get_or spaceships k d)) ≡ true
+spaceship_near reach rule t board spaceships k d low near =
+    has-list_all (is_within reach) (spaceship_at rule t (get_or spaceships k d)) (λ c e. list_all-has (is_within reach) (whole_at rule t board spaceships) near c
+    (has-whole rule t board spaceships c ∙ or_right (has board c) _ (list_any_at (λ (spaceship : Spaceship). has (spaceship_at rule t spaceship) c) spaceships k d low e)))
 
-pub parts_near : (near far : ℕ) (rule : Numbers) (t : ℕ) (board : List Cell) (ships : List Ship) (parts : List (List Cell)) → near ≤ far
-    → parts ≡ board ∷ map (ship_at rule t) ships → lies_within near (whole_at rule t board ships) ≡ true
+pub parts_near : (near far : ℕ) (rule : Numbers) (t : ℕ) (board : List Cell) (spaceships : List Spaceship) (parts : List (List Cell)) → near ≤ far
+    → parts ≡ board ∷ map (spaceship_at rule t) spaceships → lies_within near (whole_at rule t board spaceships) ≡ true
     → All (λ (part : List Cell). lies_within far part ≡ true) parts
-parts_near near far rule t board ships parts low are within = subst (All (λ (part : List Cell). lies_within far part ≡ true)) (sym are)
-    (All-cons (λ (part : List Cell). lies_within far part ≡ true) board (map (ship_at rule t) ships)
-    (within_more near far board low (board_near near rule t board ships within))
-    (All-map (λ (part : List Cell). lies_within far part ≡ true) (ship_at rule t) ships
-    (λ k d there. within_more near far (ship_at rule t (get_or ships k d)) low (ship_near near rule t board ships k d there within))))
+parts_near near far rule t board spaceships parts low are within = subst (All (λ (part : List Cell). lies_within far part ≡ true)) (sym are)
+    (All-cons (λ (part : List Cell). lies_within far part ≡ true) board (map (spaceship_at rule t) spaceships)
+    (within_more near far board low (board_near near rule t board spaceships within))
+    (All-map (λ (part : List Cell). lies_within far part ≡ true) (spaceship_at rule t) spaceships
+    (λ k d there. within_more near far (spaceship_at rule t (get_or spaceships k d)) low (spaceship_near near rule t board spaceships k d there within))))
 
 -- where no ship is, the board is all
-pub whole-empty : (rule : Numbers) (t : ℕ) (board : List Cell) (ships : List Ship) (is_empty : Bool) → is_empty ≡ (length ships == 0)
-    → is_empty ≡ true → InOrder board → whole_at rule t board ships ≡ board
+pub whole-empty : (rule : Numbers) (t : ℕ) (board : List Cell) (spaceships : List Spaceship) (is_empty : Bool) → is_empty ≡ (length spaceships == 0)
+    → is_empty ≡ true → InOrder board → whole_at rule t board spaceships ≡ board
 whole-empty rule t board [] is_empty is empty order = whole-none rule t board order
-whole-empty rule t board (ship ∷ ships) is_empty is empty order =
-    let none : length (ship ∷ ships) ≡ 0 = eqb-true (length (ship ∷ ships)) 0 (sym is ∙ empty) in absurd (omega (arith, none))
+whole-empty rule t board (spaceship ∷ spaceships) is_empty is empty order =
+    let none : length (spaceship ∷ spaceships) ≡ 0 = eqb-true (length (spaceship ∷ spaceships)) 0 (sym is ∙ empty) in absurd (omega (arith, none))
 
 -- and then it is still where the board is
-pub still_whole : (rule : Numbers) (t n : ℕ) (board : List Cell) (ships : List Ship) (is_empty : Bool) → is_empty ≡ (length ships == 0)
-    → is_empty ≡ true → InOrder board → after rule board n ≡ board → after rule (whole_at rule t board ships) n ≡ whole_at rule t board ships
-still_whole rule t n board ships is_empty is empty order still =
-    let all = whole-empty rule t board ships is_empty is empty order in
+pub still_whole : (rule : Numbers) (t n : ℕ) (board : List Cell) (spaceships : List Spaceship) (is_empty : Bool) → is_empty ≡ (length spaceships == 0)
+    → is_empty ≡ true → InOrder board → after rule board n ≡ board → after rule (whole_at rule t board spaceships) n ≡ whole_at rule t board spaceships
+still_whole rule t n board spaceships is_empty is empty order still =
+    let all = whole-empty rule t board spaceships is_empty is empty order in
     ap (λ (S : List Cell). after rule S n) all ∙ still ∙ sym all
 
 -- an even number of generations later
-pub harbour_later : (rule r : Numbers) (t n most : ℕ) (board b : List Cell) (ships : List Ship) → IsHarbour rule t board ships → most % 2 ≡ 0
+pub split_later : (rule r : Numbers) (t n most : ℕ) (board b : List Cell) (spaceships : List Spaceship) → IsSplitAt rule t board spaceships → most % 2 ≡ 0
     → n ≡ most
-    → r ≡ rule → b ≡ after rule board n → t + n ≤ latest_time → IsHarbour r (t + n) b ships
-harbour_later rule r t n most board b ships is even all same at early =
-    subst (λ (q : Numbers). IsHarbour q (t + n) b ships) (sym same)
-    (subst (λ (S : List Cell). IsHarbour rule (t + n) S ships) (sym at) (record { off = off; small = is.small; early = early }))
+    → r ≡ rule → b ≡ after rule board n → t + n ≤ latest_time → IsSplitAt r (t + n) b spaceships
+split_later rule r t n most board b spaceships is even all same at early =
+    subst (λ (q : Numbers). IsSplitAt q (t + n) b spaceships) (sym same)
+    (subst (λ (S : List Cell). IsSplitAt rule (t + n) S spaceships) (sym at) (record { off = off; small = is.small; early = early }))
   where
     twice : 2 * (n / 2) ≡ n
     twice = omega (arith, even, all)
 
-    off : AreOff rule (t + n) (after rule board n) ships
-    off = subst (λ (k : ℕ). AreOff rule (t + k) (after rule board k) ships) twice (all_off_later rule t (n / 2) board ships is.off)
+    off : AreOff rule (t + n) (after rule board n) spaceships
+    off = subst (λ (k : ℕ). AreOff rule (t + k) (after rule board k) spaceships) twice (all_off_later rule t (n / 2) board spaceships is.off)
 
 -- a ship more
-pub harbour_more : (rule : Numbers) (t : ℕ) (board b : List Cell) (ships s : List Ship) (ship : Ship) → IsHarbour rule t board ships
+pub split_more : (rule : Numbers) (t : ℕ) (board b : List Cell) (spaceships s : List Spaceship) (spaceship : Spaceship) → IsSplitAt rule t board spaceships
     → is_slow rule ≡ true
-    → ship.since ≡ t → IsForemost rule board ship.recurrence ship.cells → HasSmallNumbers ship → b ≡ without board ship.cells → s ≡ ships ++ ship ∷ []
-    → IsHarbour rule t b s
-harbour_more rule t board b ships s ship is slow now foremost small left more =
-    subst (λ (S : List Cell). IsHarbour rule t S s) (sym left)
-    (subst (λ (all : List Ship). IsHarbour rule t (without board ship.cells) all) (sym more) (record {
-      off = all_off_more rule t board ships ship slow now foremost is.off;
-      small = All-push HasSmallNumbers ships ship is.small small;
+    → spaceship.since ≡ t → IsForemost rule board spaceship.recurrence spaceship.cells → HasSmallNumbers spaceship → b ≡ without board spaceship.cells → s ≡ spaceships ++ spaceship ∷ []
+    → IsSplitAt rule t b s
+split_more rule t board b spaceships s spaceship is slow now foremost small left more =
+    subst (λ (S : List Cell). IsSplitAt rule t S s) (sym left)
+    (subst (λ (all : List Spaceship). IsSplitAt rule t (without board spaceship.cells) all) (sym more) (record {
+      off = all_off_more rule t board spaceships spaceship slow now foremost is.off;
+      small = All-push HasSmallNumbers spaceships spaceship is.small small;
       early = is.early;
     }))
 
 -- the whole so many generations later
-pub whole_gone_on : (rule : Numbers) (t n : ℕ) (board b whole : List Cell) (ships : List Ship) → IsHarbour rule t board ships
-    → whole_at rule t board ships ≡ whole
-    → b ≡ after rule board n → whole_at rule (t + n) b ships ≡ after rule whole n
-whole_gone_on rule t n board b whole ships is all at =
-    ap (λ (S : List Cell). whole_at rule (t + n) S ships) at ∙ sym (is.off.alone n) ∙ ap (λ (S : List Cell). after rule S n) all
+pub whole_gone_on : (rule : Numbers) (t n : ℕ) (board b whole : List Cell) (spaceships : List Spaceship) → IsSplitAt rule t board spaceships
+    → whole_at rule t board spaceships ≡ whole
+    → b ≡ after rule board n → whole_at rule (t + n) b spaceships ≡ after rule whole n
+whole_gone_on rule t n board b whole spaceships is all at =
+    ap (λ (S : List Cell). whole_at rule (t + n) S spaceships) at ∙ sym (is.off.alone n) ∙ ap (λ (S : List Cell). after rule S n) all
 
 -- ---- a harbour that goes on
 
 -- the board goes on by the rule
-pub board_later : (rule : Numbers) (harbour : Harbour) (n : ℕ) (b : List Cell) → IsMoored rule harbour → b ≡ after harbour.board.rule harbour.board.cells n
-    → b ≡ after rule harbour.board.cells n
-board_later rule harbour n b is at = at ∙ ap (λ (r : Numbers). after r harbour.board.cells n) is.0
+pub board_later : (rule : Numbers) (split : SplitPattern) (n : ℕ) (b : List Cell) → IsSplit rule split → b ≡ after split.board.rule split.board.cells n
+    → b ≡ after rule split.board.cells n
+board_later rule split n b is at = at ∙ ap (λ (r : Numbers). after r split.board.cells n) is.0
 
 -- and so does the whole
-pub whole_later : (rule : Numbers) (harbour : Harbour) (n : ℕ) (b : List Cell) → IsMoored rule harbour → b ≡ after harbour.board.rule harbour.board.cells n
-    → whole_at rule (harbour.time + n) b harbour.ships.items ≡ after rule (whole_of rule harbour) n
-whole_later rule harbour n b is at =
-    whole_gone_on rule harbour.time n harbour.board.cells b (whole_of rule harbour) harbour.ships.items is.1 refl (board_later rule harbour n b is at)
+pub whole_later : (rule : Numbers) (split : SplitPattern) (n : ℕ) (b : List Cell) → IsSplit rule split → b ≡ after split.board.rule split.board.cells n
+    → whole_at rule (split.time + n) b split.spaceships.items ≡ after rule (whole_of rule split) n
+whole_later rule split n b is at =
+    whole_gone_on rule split.time n split.board.cells b (whole_of rule split) split.spaceships.items is.1 refl (board_later rule split n b is at)
 
 -- ---- candidates
 
@@ -185,44 +185,44 @@ same_cluster cells one other c is also in_one in_other =
     there = linked-trans cells also.start c is.start ((also.members c).0 in_other) (linked-sym cells is.start c ((is.members c).0 in_one))
 
 -- at first all clusters are on the board
-pub candidates_start : (board : List Cell) (ships : List Ship) (clusters : List (List Cell)) → All (IsCluster board) clusters
-    → AreCandidates board ships clusters
-candidates_start board ships clusters each = record { before = board; each = each; still = λ cluster is new. cluster_part board cluster is }
+pub candidates_start : (board : List Cell) (spaceships : List Spaceship) (clusters : List (List Cell)) → All (IsCluster board) clusters
+    → AreCandidates board spaceships clusters
+candidates_start board spaceships clusters each = record { before = board; each = each; still = λ cluster is new. cluster_part board cluster is }
 
 -- each of them is one
-pub candidate : (board : List Cell) (ships : List Ship) (clusters : List (List Cell)) (i : ℕ) (cluster : List Cell)
-    → (are : AreCandidates board ships clusters)
+pub candidate : (board : List Cell) (spaceships : List Spaceship) (clusters : List (List Cell)) (i : ℕ) (cluster : List Cell)
+    → (are : AreCandidates board spaceships clusters)
     → i < length clusters → cluster ≡ get_or clusters i cluster → IsCluster are.before cluster
-candidate board ships clusters i cluster are low at = subst (IsCluster are.before) (sym at) (are.each i cluster low)
+candidate board spaceships clusters i cluster are low at = subst (IsCluster are.before) (sym at) (are.each i cluster low)
 
 -- and when one of them has left it, all but this one
-pub candidates_more : (board b : List Cell) (ships s : List Ship) (clusters : List (List Cell)) (ship : Ship) (i : ℕ) (cluster : List Cell)
-    → AreCandidates board ships clusters → i < length clusters → cluster ≡ get_or clusters i cluster → ship.cells ≡ cluster
-    → b ≡ without board ship.cells
-    → s ≡ ships ++ ship ∷ [] → AreCandidates b s clusters
-candidates_more board b ships s clusters ship i cluster are low at same left more =
+pub candidates_more : (board b : List Cell) (spaceships s : List Spaceship) (clusters : List (List Cell)) (spaceship : Spaceship) (i : ℕ) (cluster : List Cell)
+    → AreCandidates board spaceships clusters → i < length clusters → cluster ≡ get_or clusters i cluster → spaceship.cells ≡ cluster
+    → b ≡ without board spaceship.cells
+    → s ≡ spaceships ++ spaceship ∷ [] → AreCandidates b s clusters
+candidates_more board b spaceships s clusters spaceship i cluster are low at same left more =
     subst (λ (S : List Cell). AreCandidates S s clusters) (sym left)
-    (subst (λ (all : List Ship). AreCandidates (without board ship.cells) all clusters) (sym more)
+    (subst (λ (all : List Spaceship). AreCandidates (without board spaceship.cells) all clusters) (sym more)
     (record { before = are.before; each = are.each; still = still }))
   where
-    is : IsCluster are.before ship.cells
+    is : IsCluster are.before spaceship.cells
     is = subst (IsCluster are.before) (sym (same ∙ at)) (are.each i cluster low)
 
-    still : (other : List Cell) → IsCluster are.before other → IsNoneOf (ships ++ ship ∷ []) other → IsPartOf (without board ship.cells) other
-    still other also new c there = has-filter (λ d. not (has ship.cells d)) board c
-        ∙ and_from (has board c) (not (has ship.cells c)) (are.still other also earlier c there) (ap not none)
+    still : (other : List Cell) → IsCluster are.before other → IsNoneOf (spaceships ++ spaceship ∷ []) other → IsPartOf (without board spaceship.cells) other
+    still other also new c there = has-filter (λ d. not (has spaceship.cells d)) board c
+        ∙ and_from (has board c) (not (has spaceship.cells c)) (are.still other also earlier c there) (ap not none)
       where
-        earlier : IsNoneOf ships other
-        earlier k d below = subst (λ (one : Ship). one.cells ≡ other → ⊥) (get_or_append_left ships (ship ∷ []) d k below)
-            (new k d (omega (arith, below, length-append ships (ship ∷ []))))
+        earlier : IsNoneOf spaceships other
+        earlier k d below = subst (λ (one : Spaceship). one.cells ≡ other → ⊥) (get_or_append_left spaceships (spaceship ∷ []) d k below)
+            (new k d (omega (arith, below, length-append spaceships (spaceship ∷ []))))
 
-        last : ship.cells ≡ other → ⊥
-        last = subst (λ (one : Ship). one.cells ≡ other → ⊥) (get_or_push ships ship ship (length ships) refl)
-            (new (length ships) ship (omega (arith, length-append ships (ship ∷ []))))
+        last : spaceship.cells ≡ other → ⊥
+        last = subst (λ (one : Spaceship). one.cells ≡ other → ⊥) (get_or_push spaceships spaceship spaceship (length spaceships) refl)
+            (new (length spaceships) spaceship (omega (arith, length-append spaceships (spaceship ∷ []))))
 
-        none : has ship.cells c ≡ false
-        none = go (has ship.cells c) refl
+        none : has spaceship.cells c ≡ false
+        none = go (has spaceship.cells c) refl
           where
-            go : (h : Bool) → has ship.cells c ≡ h → has ship.cells c ≡ false
-            go true here = absurd (last (same_cluster are.before ship.cells other c is also here there))
+            go : (h : Bool) → has spaceship.cells c ≡ h → has spaceship.cells c ≡ false
+            go true here = absurd (last (same_cluster are.before spaceship.cells other c is also here there))
             go false e = e

@@ -12,20 +12,20 @@ use Rattle.plane_core.specs.plane.Generations.{after}
 use Rattle.plane_core.specs.plane.Rules.{Numbers}
 use Rattle.plane_core.proofs.lemmas.clusters.ClusterLaws.{partition_law}
 use Rattle.plane_core.proofs.lemmas.plane.PartLemmas.{turned}
-use Rattle.survey_core.specs.declared.shapes.envelope_bounds.Sweep.{Sweep}
+use Rattle.survey_core.specs.declared.shapes.envelope_bounds.EnvelopeBounds.{EnvelopeBounds}
 use Rattle.survey_core.specs.rest.Grouping.{AreGroups, AreNumbers, AreRenamed, Coarser, PairIsRight}
 use Rattle.survey_core.specs.rest.Groups.{GroupKeeps, GroupsStayApart, renamed}
 use Rattle.survey_core.specs.Profiles.{Settling}
 use Rattle.survey_core.specs.rest.Rest.{RestsAs}
-use Rattle.survey_core.specs.shapes.Envelopes.{AreSweeps, StayApart}
+use Rattle.survey_core.specs.shapes.Envelopes.{AreEnvelopes, StayApart}
 use Rattle.survey_core.proofs.lemmas.rest.GroupLemmas.{group_keeps, whole_keeps}
 
 -- whatever stands for a place that isn't there
-pub stay_default : (horizon : ℕ) (sweeps : List Sweep) (i j : ℕ) (d e f : Sweep) → i < length sweeps → j < length sweeps
-    → StayApart horizon (get_or sweeps i e) (get_or sweeps j f) → StayApart horizon (get_or sweeps i d) (get_or sweeps j d)
-stay_default horizon sweeps i j d e f one other apart =
-    subst (λ (s : Sweep). StayApart horizon s (get_or sweeps j d)) (get_or_default sweeps i e d one)
-    (subst (λ (s : Sweep). StayApart horizon (get_or sweeps i e) s) (get_or_default sweeps j f d other) apart)
+pub stay_default : (horizon : ℕ) (envelopes : List EnvelopeBounds) (i j : ℕ) (d e f : EnvelopeBounds) → i < length envelopes → j < length envelopes
+    → StayApart horizon (get_or envelopes i e) (get_or envelopes j f) → StayApart horizon (get_or envelopes i d) (get_or envelopes j d)
+stay_default horizon envelopes i j d e f one other apart =
+    subst (λ (s : EnvelopeBounds). StayApart horizon s (get_or envelopes j d)) (get_or_default envelopes i e d one)
+    (subst (λ (s : EnvelopeBounds). StayApart horizon (get_or envelopes i e) s) (get_or_default envelopes j f d other) apart)
 
 pub renamed_from : (from to k : ℕ) → k ≡ from → renamed from to k ≡ to
 renamed_from from to k is = ap (λ (b : Bool). cond {A = ℕ} b to k) ((Decides-eqb k from).1 is)
@@ -74,14 +74,14 @@ pub left_after : (i : ℕ) (old now : List ℕ) (number : ℕ) → ((k : ℕ) �
     → (k : ℕ) → i + 1 ≤ k → get_or (set now i number) k 0 ≡ get_or old k 0
 left_after i old now number left k low = get_or-set_other now i k number 0 (above_differs k i low) ∙ left k (omega (arith, low))
 
-pub renamed_numbers : (sweeps : List Sweep) (groups later : List ℕ) (from to : ℕ) → AreRenamed from to groups later → length later ≡ length groups
-    → to < length sweeps → AreNumbers sweeps groups → AreNumbers sweeps later
-renamed_numbers sweeps groups later from to made long low are = record {
+pub renamed_numbers : (envelopes : List EnvelopeBounds) (groups later : List ℕ) (from to : ℕ) → AreRenamed from to groups later → length later ≡ length groups
+    → to < length envelopes → AreNumbers envelopes groups → AreNumbers envelopes later
+renamed_numbers envelopes groups later from to made long low are = record {
   count = long ∙ are.count;
   below = λ i d there.
       let old : i < length groups = subst (λ (n : ℕ). i < n) long there in
-      subst (λ (k : ℕ). k < length sweeps) (sym (made i old) ∙ get_or_default later i 0 d there)
-      (renamed_below from to (get_or groups i 0) (length sweeps) low (are.below i 0 old));
+      subst (λ (k : ℕ). k < length envelopes) (sym (made i old) ∙ get_or_default later i 0 d there)
+      (renamed_below from to (get_or groups i 0) (length envelopes) low (are.below i 0 old));
 }
 
 pub renamed_coarser : (groups later : List ℕ) (from to : ℕ) → AreRenamed from to groups later → Coarser groups later
@@ -95,11 +95,11 @@ renamed_pair groups later from to i j made low there one other =
     made i low ∙ renamed_from from to (get_or groups i 0) one ∙ sym (made j there ∙ renamed_to from to (get_or groups j 0) other)
 
 -- the groups of one cluster more are right
-pub pairs_more : (horizon : ℕ) (sweeps : List Sweep) (old new : List ℕ) (place : ℕ) → place < length sweeps → length old ≡ length sweeps
-    → Coarser old new → ((i j : ℕ) → j < i → i < place → PairIsRight horizon sweeps old i j)
-    → ((j : ℕ) → j < place → PairIsRight horizon sweeps new place j) → (i j : ℕ) → j < i → i < place + 1 → PairIsRight horizon sweeps new i j
-pairs_more horizon sweeps old new place there count coarser before here i j lt low = elim (eq-or-lt_of_le (le_of_lt_one i place low)) [
-  | inl is ↦ subst (λ (k : ℕ). PairIsRight horizon sweeps new k j) (sym is) (here j (subst (λ (k : ℕ). j < k) is lt))
+pub pairs_more : (horizon : ℕ) (envelopes : List EnvelopeBounds) (old new : List ℕ) (place : ℕ) → place < length envelopes → length old ≡ length envelopes
+    → Coarser old new → ((i j : ℕ) → j < i → i < place → PairIsRight horizon envelopes old i j)
+    → ((j : ℕ) → j < place → PairIsRight horizon envelopes new place j) → (i j : ℕ) → j < i → i < place + 1 → PairIsRight horizon envelopes new i j
+pairs_more horizon envelopes old new place there count coarser before here i j lt low = elim (eq-or-lt_of_le (le_of_lt_one i place low)) [
+  | inl is ↦ subst (λ (k : ℕ). PairIsRight horizon envelopes new k j) (sym is) (here j (subst (λ (k : ℕ). j < k) is lt))
   | inr less ↦ λ d ne. before i j lt less d (coarser i j (in_old i less) (in_old j (omega (arith, lt, less))) ne)
 ]
   where
@@ -107,57 +107,57 @@ pairs_more horizon sweeps old new place there count coarser before here i j lt l
     in_old k less = subst (λ (n : ℕ). k < n) (sym count) (omega (arith, less, there))
 
 -- a group of its own, numbered by its place
-pub numbered : (sweeps : List Sweep) (groups : List ℕ) (place : ℕ) → place < length sweeps → AreNumbers sweeps groups
-    → AreNumbers sweeps (set groups place place)
-numbered sweeps groups place there are = record {
+pub numbered : (envelopes : List EnvelopeBounds) (groups : List ℕ) (place : ℕ) → place < length envelopes → AreNumbers envelopes groups
+    → AreNumbers envelopes (set groups place place)
+numbered envelopes groups place there are = record {
   count = length-set groups place place ∙ are.count;
   below = λ i d low. elim (cases_eq i place) [
-    | inl same ↦ subst (λ (k : ℕ). k < length sweeps)
+    | inl same ↦ subst (λ (k : ℕ). k < length envelopes)
         (sym (ap (λ (k : ℕ). get_or (set groups place place) k d) same
         ∙ get_or-set_same groups place place d (subst (λ (n : ℕ). place < n) (sym are.count) there))) there
-    | inr other ↦ subst (λ (k : ℕ). k < length sweeps) (sym (get_or-set_other groups place i place d other))
+    | inr other ↦ subst (λ (k : ℕ). k < length envelopes) (sym (get_or-set_other groups place i place d other))
         (are.below i d (subst (λ (n : ℕ). i < n) (length-set groups place place) low))
   ];
 }
 
 -- and the pairs before it are right as they were
-pub numbered_pairs : (horizon : ℕ) (sweeps : List Sweep) (groups : List ℕ) (place : ℕ)
-    → ((i j : ℕ) → j < i → i < place → PairIsRight horizon sweeps groups i j)
-    → (i j : ℕ) → j < i → i < place → PairIsRight horizon sweeps (set groups place place) i j
-numbered_pairs horizon sweeps groups place before i j lt low d ne =
+pub numbered_pairs : (horizon : ℕ) (envelopes : List EnvelopeBounds) (groups : List ℕ) (place : ℕ)
+    → ((i j : ℕ) → j < i → i < place → PairIsRight horizon envelopes groups i j)
+    → (i j : ℕ) → j < i → i < place → PairIsRight horizon envelopes (set groups place place) i j
+numbered_pairs horizon envelopes groups place before i j lt low d ne =
     before i j lt low d (λ same. ne (get_or-set_other groups place i place 0 (below_differs i place low) ∙ same
     ∙ sym (get_or-set_other groups place j place 0 (below_differs j place (omega (arith, lt, low))))))
 
 -- one pair more of a cluster and one before it is right
-pub places_more : (horizon : ℕ) (sweeps : List Sweep) (old new : List ℕ) (place other : ℕ) → place < length sweeps → length old ≡ length sweeps
-    → other < place → Coarser old new → ((j : ℕ) → j < other → PairIsRight horizon sweeps old place j) → PairIsRight horizon sweeps new place other
-    → (j : ℕ) → j < other + 1 → PairIsRight horizon sweeps new place j
-places_more horizon sweeps old new place other there count before coarser each here j low = elim (eq-or-lt_of_le (le_of_lt_one j other low)) [
-  | inl is ↦ subst (λ (k : ℕ). PairIsRight horizon sweeps new place k) (sym is) here
+pub places_more : (horizon : ℕ) (envelopes : List EnvelopeBounds) (old new : List ℕ) (place other : ℕ) → place < length envelopes → length old ≡ length envelopes
+    → other < place → Coarser old new → ((j : ℕ) → j < other → PairIsRight horizon envelopes old place j) → PairIsRight horizon envelopes new place other
+    → (j : ℕ) → j < other + 1 → PairIsRight horizon envelopes new place j
+places_more horizon envelopes old new place other there count before coarser each here j low = elim (eq-or-lt_of_le (le_of_lt_one j other low)) [
+  | inl is ↦ subst (λ (k : ℕ). PairIsRight horizon envelopes new place k) (sym is) here
   | inr less ↦ λ d ne. each j less d (coarser place j (subst (λ (n : ℕ). place < n) (sym count) there)
       (subst (λ (n : ℕ). j < n) (sym count) (omega (arith, less, before, there))) ne)
 ]
 
 -- an element of a list that has one
-pub first_of : (sweeps : List Sweep) (i : ℕ) → i < length sweeps → Sweep
+pub first_of : (envelopes : List EnvelopeBounds) (i : ℕ) → i < length envelopes → EnvelopeBounds
 first_of [] i low = absurd (omega arith)
 first_of (s ∷ ss) i low = s
 
 -- sweeps of different groups stay apart, whichever stands first
-pub groups_stay_apart : (rule : Numbers) (limit horizon : ℕ) (parts : List (List Cell)) (sweeps : List Sweep) (groups : List ℕ)
-    → AreSweeps rule limit parts sweeps → AreGroups horizon sweeps groups → GroupsStayApart rule groups parts horizon
-groups_stay_apart rule limit horizon parts sweeps groups are right i j d g one other ne low = go (nat_lt i j) refl
+pub groups_stay_apart : (rule : Numbers) (limit horizon : ℕ) (parts : List (List Cell)) (envelopes : List EnvelopeBounds) (groups : List ℕ)
+    → AreEnvelopes rule limit parts envelopes → AreGroups horizon envelopes groups → GroupsStayApart rule groups parts horizon
+groups_stay_apart rule limit horizon parts envelopes groups are right i j d g one other ne low = go (nat_lt i j) refl
   where
-    in_sweeps : (k : ℕ) → k < length parts → k < length sweeps
-    in_sweeps k there = subst (λ (n : ℕ). k < n) (sym are.count) there
+    in_envelopes : (k : ℕ) → k < length parts → k < length envelopes
+    in_envelopes k there = subst (λ (n : ℕ). k < n) (sym are.count) there
 
-    any : Sweep
-    any = get_or sweeps i (first_of sweeps i (in_sweeps i one))
+    any : EnvelopeBounds
+    any = get_or envelopes i (first_of envelopes i (in_envelopes i one))
 
     later_first : (a b : ℕ) → b < a → a < length parts → b < length parts → get_or groups a 0 ≢ get_or groups b 0
         → LieApart (after rule (get_or parts a d) g) (after rule (get_or parts b d) g)
     later_first a b lt low_a low_b differ =
-        right.apart a b lt (in_sweeps a low_a) any differ rule limit (get_or parts a d) (get_or parts b d) (are.each a d any low_a)
+        right.apart a b lt (in_envelopes a low_a) any differ rule limit (get_or parts a d) (get_or parts b d) (are.each a d any low_a)
         (are.each b d any low_b) g low
 
     go : (b : Bool) → nat_lt i j ≡ b → LieApart (after rule (get_or parts i d) g) (after rule (get_or parts j d) g)
@@ -172,27 +172,27 @@ groups_stay_apart rule limit horizon parts sweeps groups are right i j d g one o
 
 -- ---- at rest, by groups
 
-pub rest_by_groups : (rule : Numbers) (profile : Settling) (cells : List Cell) (clusters : List (List Cell)) (sweeps : List Sweep) (groups : List ℕ)
-    → InOrder cells → AreClusters cells clusters → AreSweeps rule profile.period clusters sweeps → AreGroups profile.horizon sweeps groups
+pub rest_by_groups : (rule : Numbers) (profile : Settling) (cells : List Cell) (clusters : List (List Cell)) (envelopes : List EnvelopeBounds) (groups : List ℕ)
+    → InOrder cells → AreClusters cells clusters → AreEnvelopes rule profile.period clusters envelopes → AreGroups profile.horizon envelopes groups
     → ((k : ℕ) → k < length clusters → GroupKeeps rule groups clusters profile.horizon k) → RestsAs rule profile cells clusters
-rest_by_groups rule profile cells clusters sweeps groups order are found right each = record {
+rest_by_groups rule profile cells clusters envelopes groups order are found right each = record {
   parts = are;
   back = λ k d low.
-      let there : k < length sweeps = subst (λ (n : ℕ). k < n) (sym found.count) low in
-      let is = found.each k d (first_of sweeps k there) low in
-      ((get_or sweeps k (first_of sweeps k there)).recurrence, is.recurs);
+      let there : k < length envelopes = subst (λ (n : ℕ). k < n) (sym found.count) low in
+      let is = found.each k d (first_of envelopes k there) low in
+      ((get_or envelopes k (first_of envelopes k there)).recurrence, is.recurs);
   apart = whole_keeps rule cells groups clusters profile.horizon order (right.numbers.count ∙ found.count)
-      (groups_stay_apart rule profile.period profile.horizon clusters sweeps groups found right) (partition_law cells clusters are)
+      (groups_stay_apart rule profile.period profile.horizon clusters envelopes groups found right) (partition_law cells clusters are)
       (λ i there. each (get_or groups i 0) (subst (λ (n : ℕ). get_or groups i 0 < n) found.count
       (right.numbers.below i 0 (subst (λ (n : ℕ). i < n) (sym (right.numbers.count ∙ found.count)) there))));
 }
 
-pub groups_of_rest : (rule : Numbers) (profile : Settling) (cells : List Cell) (clusters : List (List Cell)) (sweeps : List Sweep) (groups : List ℕ)
-    → InOrder cells → AreSweeps rule profile.period clusters sweeps → AreGroups profile.horizon sweeps groups
+pub groups_of_rest : (rule : Numbers) (profile : Settling) (cells : List Cell) (clusters : List (List Cell)) (envelopes : List EnvelopeBounds) (groups : List ℕ)
+    → InOrder cells → AreEnvelopes rule profile.period clusters envelopes → AreGroups profile.horizon envelopes groups
     → RestsAs rule profile cells clusters → (k : ℕ) → GroupKeeps rule groups clusters profile.horizon k
-groups_of_rest rule profile cells clusters sweeps groups order found right rest k =
+groups_of_rest rule profile cells clusters envelopes groups order found right rest k =
     group_keeps rule cells groups clusters profile.horizon order (right.numbers.count ∙ found.count)
-    (groups_stay_apart rule profile.period profile.horizon clusters sweeps groups found right) (partition_law cells clusters rest.parts) rest.apart k
+    (groups_stay_apart rule profile.period profile.horizon clusters envelopes groups found right) (partition_law cells clusters rest.parts) rest.apart k
 
 -- what is given if a test is passed
 pub some_if : {X : Type 0} (b : Bool) (x : X) (P : X → Type 0) → (b ≡ true → P x) → IfSome (then_some b x) P

@@ -6,37 +6,37 @@ use Rattle.plane_core.specs.declared.plane.cell.Cell.{Cell}
 use Rattle.plane_core.specs.plane.Generations.{after}
 use Rattle.plane_core.specs.plane.Rules.{Numbers}
 use Rattle.plane_core.proofs.lemmas.plane.GenerationLemmas.{after-none}
-use Rattle.survey_core.specs.rest.KnownRestless.{AreNoes, is_known}
+use Rattle.survey_core.specs.rest.KnownRestless.{AreKnownRestless, is_known}
 use Rattle.survey_core.specs.Profiles.{Settling}
 use Rattle.survey_core.specs.rest.Rest.{IsAtRest}
 use Rattle.survey_core.proofs.lemmas.FindingLemmas.{after-then}
 
 -- where nothing is known, nothing is claimed
-pub none_known : (rule : Numbers) (profile : Settling) (cells : List Cell) (t : ℕ) → AreNoes rule profile cells t (replicate 2 false)
+pub none_known : (rule : Numbers) (profile : Settling) (cells : List Cell) (t : ℕ) → AreKnownRestless rule profile cells t (replicate 2 false)
 none_known rule profile cells t n known = absurd (false≢true (sym (get_or-replicate 2 ((t + n) % 2) false false (omega arith)) ∙ known))
 
 -- a look that is known says no
-pub known_now : (rule : Numbers) (profile : Settling) (cells : List Cell) (t : ℕ) (noes : List Bool) → AreNoes rule profile cells t noes
-    → is_known noes t ≡ true → ¬ IsAtRest rule profile cells
-known_now rule profile cells t noes are known rest =
-    are 0 (ap (is_known noes) same ∙ known) (subst (IsAtRest rule profile) (sym (after-none rule cells)) rest)
+pub known_now : (rule : Numbers) (profile : Settling) (cells : List Cell) (t : ℕ) (known_restless : List Bool) → AreKnownRestless rule profile cells t known_restless
+    → is_known known_restless t ≡ true → ¬ IsAtRest rule profile cells
+known_now rule profile cells t known_restless are known rest =
+    are 0 (ap (is_known known_restless) same ∙ known) (subst (IsAtRest rule profile) (sym (after-none rule cells)) rest)
   where
     same : t + 0 ≡ t
     same = omega arith
 
 -- and s generations later the same is known
-pub known_later : (rule : Numbers) (profile : Settling) (cells : List Cell) (t s : ℕ) (noes : List Bool) → AreNoes rule profile cells t noes
-    → AreNoes rule profile (after rule cells s) (t + s) noes
-known_later rule profile cells t s noes are n known rest =
-    are (s + n) (ap (is_known noes) same ∙ known) (subst (IsAtRest rule profile) (after-then rule cells s n) rest)
+pub known_later : (rule : Numbers) (profile : Settling) (cells : List Cell) (t s : ℕ) (known_restless : List Bool) → AreKnownRestless rule profile cells t known_restless
+    → AreKnownRestless rule profile (after rule cells s) (t + s) known_restless
+known_later rule profile cells t s known_restless are n known rest =
+    are (s + n) (ap (is_known known_restless) same ∙ known) (subst (IsAtRest rule profile) (after-then rule cells s n) rest)
   where
     same : t + (s + n) ≡ (t + s) + n
     same = omega arith
 
 -- one look more that says no, where an even number of generations changes nothing
-pub known_more : (rule : Numbers) (profile : Settling) (cells : List Cell) (t : ℕ) (noes : List Bool) → AreNoes rule profile cells t noes
-    → ¬ IsAtRest rule profile cells → ((n : ℕ) → n % 2 ≡ 0 → after rule cells n ≡ cells) → AreNoes rule profile cells t (set noes (t % 2) true)
-known_more rule profile cells t noes are moves still n known = elim (cases_eq ((t + n) % 2) (t % 2)) [
+pub known_more : (rule : Numbers) (profile : Settling) (cells : List Cell) (t : ℕ) (known_restless : List Bool) → AreKnownRestless rule profile cells t known_restless
+    → ¬ IsAtRest rule profile cells → ((n : ℕ) → n % 2 ≡ 0 → after rule cells n ≡ cells) → AreKnownRestless rule profile cells t (set known_restless (t % 2) true)
+known_more rule profile cells t known_restless are moves still n known = elim (cases_eq ((t + n) % 2) (t % 2)) [
   | inl same ↦ λ rest. moves (subst (IsAtRest rule profile) (still n (omega (arith, same))) rest)
-  | inr differs ↦ are n (sym (get_or-set_other noes (t % 2) ((t + n) % 2) true false differs) ∙ known)
+  | inr differs ↦ are n (sym (get_or-set_other known_restless (t % 2) ((t + n) % 2) true false differs) ∙ known)
 ]

@@ -6,15 +6,15 @@ use Rattle.std.proofs.lemmas.List.Folds.{list_any-from_Any}
 use Rattle.plane_core.specs.declared.plane.cell.Cell.{Cell}
 use Rattle.plane_core.specs.plane.Cells.{has}
 use Rattle.plane_core.specs.clusters.Clusters.{AreClusters, IsCluster, Linked}
-use Rattle.plane_core.specs.plane.Generations.{NeverBack, after}
-use Rattle.plane_core.specs.one_sided.RestlessClusters.{HasRestlessCluster, Strays}
+use Rattle.plane_core.specs.plane.Generations.{NeverRecurs, after}
+use Rattle.plane_core.specs.one_sided.RestlessClusters.{HasRestlessCluster, Diverges}
 use Rattle.plane_core.specs.plane.Rules.{Numbers}
 use Rattle.plane_core.proofs.lemmas.clusters.ClusterLemmas.{linked-sym, linked-trans}
 use Rattle.plane_core.proofs.lemmas.plane.SetLemmas.{same_lists}
 use Rattle.survey_core.specs.Profiles.{Settling}
-use Rattle.survey_core.specs.rest.Rest.{ComesBack, IsAtRest}
+use Rattle.survey_core.specs.rest.Rest.{RecursWithin, IsAtRest}
 use Rattle.survey_core.proofs.lemmas.rest.GroupLemmas.{keeps_adds}
-use Rattle.survey_core.proofs.lemmas.shapes.MemoLemmas.{never_back}
+use Rattle.survey_core.proofs.lemmas.shapes.MemoLemmas.{never_recurs}
 
 -- a cluster of a pattern is one of its clusters
 is_one_of : (cells cluster : List Cell) (clusters : List (List Cell)) → AreClusters cells clusters → IsCluster cells cluster
@@ -38,16 +38,16 @@ is_one_of cells cluster clusters are is = go (are.every is.start is.has_start)
             (λ h. (other.members x).1 (linked-trans cells other.start is.start x way ((is.members x).0 h))))
 
 -- each cluster of a pattern at rest comes back
-rest_comes_back : (rule : Numbers) (profile : Settling) (cells cluster : List Cell) → IsAtRest rule profile cells → IsCluster cells cluster
-    → ComesBack rule profile.period cluster
-rest_comes_back rule profile cells cluster (clusters, rest) is = go (is_one_of cells cluster clusters rest.parts is)
+rest_recurs : (rule : Numbers) (profile : Settling) (cells cluster : List Cell) → IsAtRest rule profile cells → IsCluster cells cluster
+    → RecursWithin rule profile.period cluster
+rest_recurs rule profile cells cluster (clusters, rest) is = go (is_one_of cells cluster clusters rest.parts is)
   where
-    go : Any (λ one. one ≡ cluster) clusters → ComesBack rule profile.period cluster
-    go (k, one, low, at, same) = subst (ComesBack rule profile.period) same (subst (ComesBack rule profile.period) at (rest.back k one low))
+    go : Any (λ one. one ≡ cluster) clusters → RecursWithin rule profile.period cluster
+    go (k, one, low, at, same) = subst (RecursWithin rule profile.period) same (subst (RecursWithin rule profile.period) at (rest.back k one low))
 
 -- and none of them strays
 rest_holds : (rule : Numbers) (profile : Settling) (cells cluster : List Cell) → IsAtRest rule profile cells → IsCluster cells cluster
-    → Strays rule cells cluster profile.horizon → ⊥
+    → Diverges rule cells cluster profile.horizon → ⊥
 rest_holds rule profile cells cluster (clusters, rest) is strays = go (is_one_of cells cluster clusters rest.parts is)
   where
     g : ℕ
@@ -60,17 +60,17 @@ rest_holds rule profile cells cluster (clusters, rest) is strays = go (is_one_of
         false≢true (sym strays.missing ∙ keeps_adds rule cells clusters g (rest.apart g strays.early) strays.cell ∙ some)
 
 -- so what is refused is not at rest
-pub refused_moves : (rule : Numbers) (profile : Settling) (cells : List Cell) → HasRestlessCluster rule cells profile.horizon profile.period
+pub ruled_out_moves : (rule : Numbers) (profile : Settling) (cells : List Cell) → HasRestlessCluster rule cells profile.horizon profile.period
     → ¬ IsAtRest rule profile cells
-refused_moves rule profile cells refused rest = go refused.why
+ruled_out_moves rule profile cells refused rest = go refused.why
   where
-    go : Strays rule cells refused.cluster profile.horizon ⊎ NeverBack rule refused.cluster profile.period → ⊥
+    go : Diverges rule cells refused.cluster profile.horizon ⊎ NeverRecurs rule refused.cluster profile.period → ⊥
     go (inl strays) = rest_holds rule profile cells refused.cluster rest refused.is strays
-    go (inr never) = never_back rule profile.period refused.cluster never (rest_comes_back rule profile cells refused.cluster rest refused.is)
+    go (inr never) = never_recurs rule profile.period refused.cluster never (rest_recurs rule profile cells refused.cluster rest refused.is)
 
 -- the same, said of the same
-pub refused_same : (r q : Numbers) (S T : List Cell) (h k p n : ℕ) → r ≡ q → S ≡ T → h ≡ k → p ≡ n → HasRestlessCluster r S h p → HasRestlessCluster q T k n
-refused_same r q S T h k p n a b d e refused =
+pub ruled_out_same : (r q : Numbers) (S T : List Cell) (h k p n : ℕ) → r ≡ q → S ≡ T → h ≡ k → p ≡ n → HasRestlessCluster r S h p → HasRestlessCluster q T k n
+ruled_out_same r q S T h k p n a b d e refused =
     subst (λ (v : ℕ). HasRestlessCluster q T k v) e
     (subst (λ (v : ℕ). HasRestlessCluster q T v p) d
     (subst (λ (v : List Cell). HasRestlessCluster q v h p) b (subst (λ (v : Numbers). HasRestlessCluster v S h p) a refused)))

@@ -87,15 +87,15 @@ start_more rule k gs parts i d list alone low same number are is =
     ∙ sym (ap (map (alone_at rule 0)) (members_one k gs parts i d low same number)
     ∙ map-append (alone_at rule 0) (members k (take i gs) (take i parts)) (get_or parts i d ∷ []))
 
-front : (rule : Numbers) (list : List Alone) (i : ℕ) → i < length list → length (map (stepped rule) (take i list)) ≡ i
-front rule list i low = length-map _ _ ∙ length-take-le i list (omega arith)
+prefix : (rule : Numbers) (list : List Alone) (i : ℕ) → i < length list → length (map (stepped rule) (take i list)) ≡ i
+prefix rule list i low = length-map _ _ ∙ length-take-le i list (omega arith)
 
 -- while each is run for a generation, one after another: the next one is as it was, and then it is stepped
 pub as_it_was : (rule : Numbers) (list now : List Alone) (i : ℕ) (d : Alone) → i < length list → now ≡ map (stepped rule) (take i list) ++ drop i list
     → get_or now i d ≡ get_or list i d
 as_it_was rule list now i d low is =
     ap (λ (all : List Alone). get_or all i d) (is ∙ ap (λ (more : List Alone). map (stepped rule) (take i list) ++ more) (drop_more list i d low))
-    ∙ get_or_at (map (stepped rule) (take i list)) (get_or list i d) (drop (i + 1) list) d i (front rule list i low)
+    ∙ get_or_at (map (stepped rule) (take i list)) (get_or list i d) (drop (i + 1) list) d i (prefix rule list i low)
 
 pub step_more : (rule : Numbers) (list now : List Alone) (i : ℕ) (d : Alone) (latest : List Cell) → i < length list
     → now ≡ map (stepped rule) (take i list) ++ drop i list → latest ≡ next rule (get_or now i d).latest
@@ -107,7 +107,7 @@ step_more rule list now i d latest low is later =
     (λ j. record { cluster = (here j).cluster; first = (here j).first; latest = (later ∙ ap (λ (a : Alone). next rule a.latest) here) j }) in
     (λ j. set (is j) i (one j))
     ∙ ap (λ (more : List Alone). set (map (stepped rule) (take i list) ++ more) i (stepped rule (get_or list i d))) (drop_more list i d low)
-    ∙ set_at (map (stepped rule) (take i list)) (get_or list i d) (drop (i + 1) list) (stepped rule (get_or list i d)) i (front rule list i low)
+    ∙ set_at (map (stepped rule) (take i list)) (get_or list i d) (drop (i + 1) list) (stepped rule (get_or list i d)) i (prefix rule list i low)
     ∙ sym (append_assoc (map (stepped rule) (take i list)) (stepped rule (get_or list i d) ∷ []) (drop (i + 1) list))
     ∙ ap (λ (all : List Alone). all ++ drop (i + 1) list) (sym (map_more (stepped rule) list i d low))
 

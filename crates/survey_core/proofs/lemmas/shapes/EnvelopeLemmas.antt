@@ -14,20 +14,20 @@ use Rattle.plane_core.specs.plane.Generations.{after}
 use Rattle.plane_core.specs.plane.Rules.{Numbers}
 use Rattle.plane_core.proofs.lemmas.plane.SetLemmas.{has-all}
 use Rattle.code_core.proofs.MovedCodes.{after-shifted}
-use Rattle.survey_core.specs.declared.shapes.envelope_bounds.Sweep.{Sweep}
-use Rattle.survey_core.specs.shapes.Envelopes.{AreSweeps, IsSweep, Serves, ShipsMoveByTurns, StayApart, StayClear, gap_stays, gaps_of, is_clear, is_past, times}
+use Rattle.survey_core.specs.declared.shapes.envelope_bounds.EnvelopeBounds.{EnvelopeBounds}
+use Rattle.survey_core.specs.shapes.Envelopes.{AreEnvelopes, IsEnvelope, Serves, SpaceshipsMoveByCycles, StayApart, StayClear, gap_stays, gaps_of, is_clear, is_past, times}
 use Rattle.survey_core.proofs.lemmas.FindingLemmas.{after-then}
 use Rattle.survey_core.proofs.lemmas.rest.ForGoodLemmas.{after_remainder, shifted-none}
 
 -- ---- turns
 
 -- the box of turn n
-abbrev carried : ℕ → Sweep → Bounds
-carried n sweep = record {
-  left = sweep.bounds.left +ℤ times n sweep.recurrence.dx;
-  top = sweep.bounds.top +ℤ times n sweep.recurrence.dy;
-  right = sweep.bounds.right +ℤ times n sweep.recurrence.dx;
-  bottom = sweep.bounds.bottom +ℤ times n sweep.recurrence.dy;
+abbrev carried : ℕ → EnvelopeBounds → Bounds
+carried n envelope = record {
+  left = envelope.bounds.left +ℤ times n envelope.recurrence.dx;
+  top = envelope.bounds.top +ℤ times n envelope.recurrence.dy;
+  right = envelope.bounds.right +ℤ times n envelope.recurrence.dx;
+  bottom = envelope.bounds.bottom +ℤ times n envelope.recurrence.dy;
 }
 
 one_more : (a s t : ℤ) → (a +ℤ s) +ℤ t ≡ a +ℤ (s +ℤ t)
@@ -38,13 +38,13 @@ shifted-twice sx sy tx ty [] = refl
 shifted-twice sx sy tx ty (c ∷ cs) = λ i. cell_at (one_more c.x sx tx i) (one_more c.y sy ty i) ∷ shifted-twice sx sy tx ty cs i
 
 -- what comes back moves by its shift each period
-pub after_turns : ShipsMoveByTurns
-after_turns rule cells p dx dy order back zero r =
+pub after_cycles : SpaceshipsMoveByCycles
+after_cycles rule cells p dx dy order back zero r =
     ap (after rule cells) (ap (λ (m : ℕ). m + r) (zero-mul p) ∙ zero-add r) ∙ sym (shifted-none (after rule cells r))
-after_turns rule cells p dx dy order back (suc n) r =
+after_cycles rule cells p dx dy order back (suc n) r =
     ap (after rule cells) (later (n * p) (suc n * p) (suc-mul n p)) ∙ sym (after-then rule cells p (n * p + r))
     ∙ ap (λ (S : List Cell). after rule S (n * p + r)) back ∙ after-shifted dx dy rule cells (n * p + r) order
-    ∙ ap (shifted dx dy) (after_turns rule cells p dx dy order back n r)
+    ∙ ap (shifted dx dy) (after_cycles rule cells p dx dy order back n r)
     ∙ shifted-twice (times n dx) (times n dy) dx dy (after rule cells r)
   where
     later : (m k : ℕ) → k ≡ m + p → k + r ≡ p + (m + r)
@@ -81,15 +81,15 @@ within_shifted b tx ty cells all =
         low a e t h = omega (arith, ints, h)
 
 -- in each generation of turn n the pattern lies in its box of that turn
-pub in_turn : (rule : Numbers) (limit : ℕ) (cells : List Cell) (s : Sweep) (p n r : ℕ) → IsSweep rule limit cells s → Serves p s → r < p
+pub in_cycle : (rule : Numbers) (limit : ℕ) (cells : List Cell) (s : EnvelopeBounds) (p n r : ℕ) → IsEnvelope rule limit cells s → Serves p s → r < p
     → All (IsWithin (carried n s)) (after rule cells (n * p + r))
-in_turn rule limit cells s p n r is (inl same) low =
+in_cycle rule limit cells s p n r is (inl same) low =
     let part : r < s.recurrence.period = subst (λ (m : ℕ). r < m) same low in
     subst (λ (m : ℕ). All (IsWithin (carried n s)) (after rule cells (n * m + r))) (sym same)
     (subst (All (IsWithin (carried n s)))
-    (sym (after_turns rule cells s.recurrence.period s.recurrence.dx s.recurrence.dy is.in_order is.recurs.back n r))
+    (sym (after_cycles rule cells s.recurrence.period s.recurrence.dx s.recurrence.dy is.in_order is.recurs.back n r))
     (within_shifted s.bounds (times n s.recurrence.dx) (times n s.recurrence.dy) (after rule cells r) (is.within r part)))
-in_turn rule limit cells s p n r is (inr still) low =
+in_cycle rule limit cells s p n r is (inr still) low =
     let q : ℕ = s.recurrence.period in
     let some : 1 ≤ s.recurrence.period = is.recurs.some in
     let back : after rule cells s.recurrence.period ≡ cells =
@@ -133,7 +133,7 @@ far_ahead end begin x t u a b h e low high =
     strict m n k = grind (arith, ints)
 
 -- cells of boxes that are clear of each other in a turn
-clear_apart : (one other : Sweep) (n : ℕ) (c d : Cell)
+clear_apart : (one other : EnvelopeBounds) (n : ℕ) (c d : Cell)
     → is_clear one.bounds other.bounds (times n (other.recurrence.dx -ℤ one.recurrence.dx)) (times n (other.recurrence.dy -ℤ one.recurrence.dy)) ≡ true
     → IsWithin (carried n one) c → IsWithin (carried n other) d → 3 ≤ king_distance c d
 clear_apart one other n c d clear v w = elim (or_cases _ _ clear) [
@@ -164,20 +164,20 @@ clear_apart one other n c d clear v w = elim (or_cases _ _ clear) [
     down h = omega arith
 
 -- boxes that are clear in all turns up to the horizon
-pub apart_by_turns : (horizon p : ℕ) (one other : Sweep) → 1 ≤ p → Serves p one → Serves p other → StayClear (horizon / p + 1) one other
+pub apart_by_cycles : (horizon p : ℕ) (one other : EnvelopeBounds) → 1 ≤ p → Serves p one → Serves p other → StayClear (horizon / p + 1) one other
     → StayApart horizon one other
-apart_by_turns horizon p one other some s t clear rule limit cells others is that g low c d in_one in_other =
+apart_by_cycles horizon p one other some s t clear rule limit cells others is that g low c d in_one in_other =
     let whole : g ≡ g / p * p + g % p = sym (div-add-mod g p) ∙ ap (λ (m : ℕ). m + g % p) (mul_comm p (g / p)) in
     let inside : g % p < p = omega arith in
     let below : g / p * p ≤ horizon = omega (arith, whole) in
-    let turn : g / p ≤ horizon / p = (le-div_iff_mul-le some).1 below in
-    clear_apart one other (g / p) c d (clear (g / p) (omega (arith, turn)))
+    let cycle : g / p ≤ horizon / p = (le-div_iff_mul-le some).1 below in
+    clear_apart one other (g / p) c d (clear (g / p) (omega (arith, cycle)))
     (has-all (IsWithin (carried (g / p) one)) (after rule cells g) c
     (recursion_from_All (IsWithin (carried (g / p) one)) (after rule cells g)
-    (subst (λ (m : ℕ). All (IsWithin (carried (g / p) one)) (after rule cells m)) (sym whole) (in_turn rule limit cells one p (g / p) (g % p) is s inside))) in_one)
+    (subst (λ (m : ℕ). All (IsWithin (carried (g / p) one)) (after rule cells m)) (sym whole) (in_cycle rule limit cells one p (g / p) (g % p) is s inside))) in_one)
     (has-all (IsWithin (carried (g / p) other)) (after rule others g) d
     (recursion_from_All (IsWithin (carried (g / p) other)) (after rule others g)
-    (subst (λ (m : ℕ). All (IsWithin (carried (g / p) other)) (after rule others m)) (sym whole) (in_turn rule limit others other p (g / p) (g % p) that t inside))) in_other)
+    (subst (λ (m : ℕ). All (IsWithin (carried (g / p) other)) (after rule others m)) (sym whole) (in_cycle rule limit others other p (g / p) (g % p) that t inside))) in_other)
 
 -- ---- the loop over turns
 
@@ -191,14 +191,14 @@ times_small (suc n) d small =
     both : (a b : ℤ) → unsigned_abs (a +ℤ b) ≤ unsigned_abs a + unsigned_abs b
     both a b = omega (arith, ints)
 
-pub offset_small : (n turns : ℕ) (d o : ℤ) → n < turns → turns ≤ 4097 → unsigned_abs d ≤ 8589934592 → o ≡ times n d
+pub offset_small : (n cycles : ℕ) (d o : ℤ) → n < cycles → cycles ≤ 4097 → unsigned_abs d ≤ 8589934592 → o ≡ times n d
     → unsigned_abs o + unsigned_abs d ≤ 70368744177664
-offset_small n turns d o low few small is =
+offset_small n cycles d o low few small is =
     let whole : unsigned_abs (times n d) ≤ n * 8589934592 = times_small n d small in
     let same : unsigned_abs o ≡ unsigned_abs (times n d) = ap unsigned_abs is in
     omega (arith, whole, same, small, low, few)
 
-pub clear_more : (one other : Sweep) (n : ℕ) (x y : ℤ) → x ≡ times n (other.recurrence.dx -ℤ one.recurrence.dx)
+pub clear_more : (one other : EnvelopeBounds) (n : ℕ) (x y : ℤ) → x ≡ times n (other.recurrence.dx -ℤ one.recurrence.dx)
     → y ≡ times n (other.recurrence.dy -ℤ one.recurrence.dy) → StayClear n one other → is_clear one.bounds other.bounds x y ≡ true
     → StayClear (n + 1) one other
 clear_more one other n x y is_x is_y before now m low = elim (eq-or-lt_of_le (m_low m low)) [
@@ -212,11 +212,11 @@ clear_more one other n x y is_x is_y before now m low = elim (eq-or-lt_of_le (m_
     m_low m h = omega arith
 
 -- what holds in a turn, and in the turn after each in which it holds, holds in all later turns
-in_later_turns : (P : ℕ → Type 0) (n : ℕ) → ((m : ℕ) → P m → P (suc m)) → P n → (m : ℕ) → n ≤ m → P m
-in_later_turns P n more now zero low = subst P (omega (arith, low)) now
-in_later_turns P n more now (suc m) low = elim (eq-or-lt_of_le low) [
+in_later_cycles : (P : ℕ → Type 0) (n : ℕ) → ((m : ℕ) → P m → P (suc m)) → P n → (m : ℕ) → n ≤ m → P m
+in_later_cycles P n more now zero low = subst P (omega (arith, low)) now
+in_later_cycles P n more now (suc m) low = elim (eq-or-lt_of_le low) [
   | inl same ↦ subst P same now
-  | inr less ↦ more m (in_later_turns P n more now m (omega (arith, less)))
+  | inr less ↦ more m (in_later_cycles P n more now m (omega (arith, less)))
 ]
 
 -- what begins past an end, and isn't led back, stays past it
@@ -224,7 +224,7 @@ past_later : (end begin d : ℤ) (n m : ℕ) → n ≤ m → (is_past end (pos 0
     → is_past end (pos 0) begin (times m d) ≡ true
 past_later end begin d n m low h =
     let parts = and_parts (is_past end (pos 0) begin (times n d)) (int_le (pos 0) d) h in
-    in_later_turns (λ (k : ℕ). is_past end (pos 0) begin (times k d) ≡ true) n (λ k there. one (times k d) there parts.1) parts.0 m low
+    in_later_cycles (λ (k : ℕ). is_past end (pos 0) begin (times k d) ≡ true) n (λ k there. one (times k d) there parts.1) parts.0 m low
   where
     one : (t : ℤ) → is_past end (pos 0) begin t ≡ true → int_le (pos 0) d ≡ true → is_past end (pos 0) begin (t +ℤ d) ≡ true
     one t there on = grind (arith, ints)
@@ -234,7 +234,7 @@ ahead_later : (end begin d : ℤ) (n m : ℕ) → n ≤ m → (is_past end (time
     → is_past end (times m d) begin (pos 0) ≡ true
 ahead_later end begin d n m low h =
     let parts = and_parts (is_past end (times n d) begin (pos 0)) (int_le d (pos 0)) h in
-    in_later_turns (λ (k : ℕ). is_past end (times k d) begin (pos 0) ≡ true) n (λ k there. one (times k d) there parts.1) parts.0 m low
+    in_later_cycles (λ (k : ℕ). is_past end (times k d) begin (pos 0) ≡ true) n (λ k there. one (times k d) there parts.1) parts.0 m low
   where
     one : (t : ℤ) → is_past end t begin (pos 0) ≡ true → int_le d (pos 0) ≡ true → is_past end (t +ℤ d) begin (pos 0) ≡ true
     one t there on = grind (arith, ints)
@@ -254,10 +254,10 @@ parting_clear one other dx dy n m low =
     (past_later one.bottom other.top dy n m low)) (ahead_later other.bottom one.top dy n m low)
 
 -- so once they part nothing more has to be asked
-pub clear_from_here : (one other : Sweep) (n turns : ℕ) (x y s t : ℤ) → s ≡ other.recurrence.dx -ℤ one.recurrence.dx
+pub clear_from_here : (one other : EnvelopeBounds) (n cycles : ℕ) (x y s t : ℤ) → s ≡ other.recurrence.dx -ℤ one.recurrence.dx
     → t ≡ other.recurrence.dy -ℤ one.recurrence.dy → x ≡ times n s → y ≡ times n t → StayClear n one other
-    → is_parting one.bounds other.bounds x y s t ≡ true → StayClear turns one other
-clear_from_here one other n turns x y s t is_s is_t is_x is_y before part m low = elim (cases_lt m n) [
+    → is_parting one.bounds other.bounds x y s t ≡ true → StayClear cycles one other
+clear_from_here one other n cycles x y s t is_s is_t is_x is_y before part m low = elim (cases_lt m n) [
   | inl early ↦ before m early
   | inr late ↦ parting_clear one.bounds other.bounds (other.recurrence.dx -ℤ one.recurrence.dx) (other.recurrence.dy -ℤ one.recurrence.dy) n m late
       ((λ i. is_parting one.bounds other.bounds (sym (is_x ∙ ap (times n) is_s) i) (sym (is_y ∙ ap (times n) is_t) i) (sym is_s i) (sym is_t i)) ∙ part)
@@ -265,11 +265,11 @@ clear_from_here one other n turns x y s t is_s is_t is_x is_y before part m low 
 
 -- ---- the box of all phases
 
-pub swept_more : (rule : Numbers) (cells : List Cell) (age : ℕ) (phase : List Cell) (bounds box both : Bounds)
+pub phases_more : (rule : Numbers) (cells : List Cell) (age : ℕ) (phase : List Cell) (bounds box both : Bounds)
     → ((c : Cell) → IsWithin bounds c → IsWithin both c) → ((c : Cell) → IsWithin box c → IsWithin both c)
     → phase ≡ after rule cells (age + 1) → All (IsWithin box) phase → ((g : ℕ) → g ≤ age → All (IsWithin bounds) (after rule cells g))
     → (g : ℕ) → g ≤ age + 1 → All (IsWithin both) (after rule cells g)
-swept_more rule cells age phase bounds box both first second at now before g low = elim (eq-or-lt_of_le low) [
+phases_more rule cells age phase bounds box both first second at now before g low = elim (eq-or-lt_of_le low) [
   | inl same ↦
       subst (λ (h : ℕ). All (IsWithin both) (after rule cells h)) (sym same)
       (subst (All (IsWithin both)) at (λ k d there. second (get_or phase k d) (now k d there)))
@@ -278,34 +278,34 @@ swept_more rule cells age phase bounds box both first second at now before g low
 
 -- ---- the sweeps of some patterns, one after another
 
-sweeps_push : (rule : Numbers) (limit : ℕ) (parts : List (List Cell)) (sweeps : List Sweep) (part : List Cell) (sweep : Sweep)
-    → AreSweeps rule limit parts sweeps → IsSweep rule limit part sweep → AreSweeps rule limit (parts ++ part ∷ []) (sweeps ++ sweep ∷ [])
-sweeps_push rule limit parts sweeps part sweep are is = record {
-  count = length-append sweeps (sweep ∷ []) ∙ ap (λ (n : ℕ). n + 1) are.count ∙ sym (length-append parts (part ∷ []));
+envelopes_push : (rule : Numbers) (limit : ℕ) (parts : List (List Cell)) (envelopes : List EnvelopeBounds) (part : List Cell) (envelope : EnvelopeBounds)
+    → AreEnvelopes rule limit parts envelopes → IsEnvelope rule limit part envelope → AreEnvelopes rule limit (parts ++ part ∷ []) (envelopes ++ envelope ∷ [])
+envelopes_push rule limit parts envelopes part envelope are is = record {
+  count = length-append envelopes (envelope ∷ []) ∙ ap (λ (n : ℕ). n + 1) are.count ∙ sym (length-append parts (part ∷ []));
   each = λ i d e low. go i d e (eq-or-lt_of_le (below i low));
 }
   where
     below : (i : ℕ) → i < length (parts ++ part ∷ []) → i ≤ length parts
     below i low = omega (arith, low, length-append parts (part ∷ []))
 
-    go : (i : ℕ) (d : List Cell) (e : Sweep) → (i ≡ length parts) ⊎ (i < length parts)
-        → IsSweep rule limit (get_or (parts ++ part ∷ []) i d) (get_or (sweeps ++ sweep ∷ []) i e)
+    go : (i : ℕ) (d : List Cell) (e : EnvelopeBounds) → (i ≡ length parts) ⊎ (i < length parts)
+        → IsEnvelope rule limit (get_or (parts ++ part ∷ []) i d) (get_or (envelopes ++ envelope ∷ []) i e)
     go i d e (inl last) =
-        let at : length sweeps ≡ i = are.count ∙ sym last in
-        subst (λ (s : Sweep). IsSweep rule limit (get_or (parts ++ part ∷ []) i d) s) (sym (get_or_push sweeps sweep e i at))
-        (subst (λ (p : List Cell). IsSweep rule limit p sweep) (sym (get_or_push parts part d i (sym last))) is)
+        let at : length envelopes ≡ i = are.count ∙ sym last in
+        subst (λ (s : EnvelopeBounds). IsEnvelope rule limit (get_or (parts ++ part ∷ []) i d) s) (sym (get_or_push envelopes envelope e i at))
+        (subst (λ (p : List Cell). IsEnvelope rule limit p envelope) (sym (get_or_push parts part d i (sym last))) is)
     go i d e (inr low) =
-        let there : i < length sweeps = subst (λ (n : ℕ). i < n) (sym are.count) low in
-        subst (λ (s : Sweep). IsSweep rule limit (get_or (parts ++ part ∷ []) i d) s) (sym (get_or_append_left sweeps (sweep ∷ []) e i there))
-        (subst (λ (p : List Cell). IsSweep rule limit p (get_or sweeps i e)) (sym (get_or_append_left parts (part ∷ []) d i low)) (are.each i d e low))
+        let there : i < length envelopes = subst (λ (n : ℕ). i < n) (sym are.count) low in
+        subst (λ (s : EnvelopeBounds). IsEnvelope rule limit (get_or (parts ++ part ∷ []) i d) s) (sym (get_or_append_left envelopes (envelope ∷ []) e i there))
+        (subst (λ (p : List Cell). IsEnvelope rule limit p (get_or envelopes i e)) (sym (get_or_append_left parts (part ∷ []) d i low)) (are.each i d e low))
 
-pub sweeps_more : (rule : Numbers) (limit : ℕ) (parts : List (List Cell)) (i : ℕ) (part : List Cell) (sweeps : List Sweep) (sweep : Sweep) (items : List Sweep)
-    → i < length parts → part ≡ get_or parts i part → AreSweeps rule limit (take i parts) sweeps → IsSweep rule limit part sweep
-    → items ≡ sweeps ++ sweep ∷ [] → AreSweeps rule limit (take (i + 1) parts) items
-sweeps_more rule limit parts i part sweeps sweep items low at are is made =
-    subst (AreSweeps rule limit (take (i + 1) parts)) (sym made)
-    (subst (λ (front : List (List Cell)). AreSweeps rule limit front (sweeps ++ sweep ∷ [])) (sym (take_more parts i part low))
-    (sweeps_push rule limit (take i parts) sweeps (get_or parts i part) sweep are (subst (λ (p : List Cell). IsSweep rule limit p sweep) at is)))
+pub envelopes_more : (rule : Numbers) (limit : ℕ) (parts : List (List Cell)) (i : ℕ) (part : List Cell) (envelopes : List EnvelopeBounds) (envelope : EnvelopeBounds) (items : List EnvelopeBounds)
+    → i < length parts → part ≡ get_or parts i part → AreEnvelopes rule limit (take i parts) envelopes → IsEnvelope rule limit part envelope
+    → items ≡ envelopes ++ envelope ∷ [] → AreEnvelopes rule limit (take (i + 1) parts) items
+envelopes_more rule limit parts i part envelopes envelope items low at are is made =
+    subst (AreEnvelopes rule limit (take (i + 1) parts)) (sym made)
+    (subst (λ (prefix : List (List Cell)). AreEnvelopes rule limit prefix (envelopes ++ envelope ∷ [])) (sym (take_more parts i part low))
+    (envelopes_push rule limit (take i parts) envelopes (get_or parts i part) envelope are (subst (λ (p : List Cell). IsEnvelope rule limit p envelope) at is)))
 
 -- ---- numbers that come out of their bits
 

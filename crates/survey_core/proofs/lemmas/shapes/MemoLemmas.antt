@@ -6,16 +6,16 @@ use Rattle.plane_core.specs.declared.plane.bounds.Bounds.{Bounds}
 use Rattle.plane_core.specs.declared.plane.cell.Cell.{Cell}
 use Rattle.plane_core.specs.plane.Bounds.{IsWithin, shifted}
 use Rattle.plane_core.specs.plane.Cells.{moved_by}
-use Rattle.plane_core.specs.plane.Generations.{NeverBack, after}
+use Rattle.plane_core.specs.plane.Generations.{NeverRecurs, after}
 use Rattle.plane_core.specs.plane.Rules.{Numbers}
 use Rattle.plane_core.proofs.lemmas.plane.TransformLemmas.{in_order-shifted}
 use Rattle.code_core.specs.Names.{IsCode}
 use Rattle.code_core.proofs.MovedCodes.{after-shifted, codes_moved, recurs-shifted}
-use Rattle.survey_core.specs.declared.shapes.envelope_bounds.Sweep.{Sweep}
+use Rattle.survey_core.specs.declared.shapes.envelope_bounds.EnvelopeBounds.{EnvelopeBounds}
 use Rattle.survey_core.specs.Jobs.{same_rule}
 use Rattle.survey_core.specs.shapes.Memos.{Fact, IsAbout, IsKnown}
-use Rattle.survey_core.specs.rest.Rest.{ComesBack}
-use Rattle.survey_core.specs.shapes.Envelopes.{IsSweep}
+use Rattle.survey_core.specs.rest.Rest.{RecursWithin}
+use Rattle.survey_core.specs.shapes.Envelopes.{IsEnvelope}
 use Rattle.survey_core.proofs.lemmas.JobLemmas.{rules_decide}
 
 -- a box, moved
@@ -28,12 +28,12 @@ moved_bounds shift b = record {
 }
 
 -- the sweep of a moved pattern: it comes back as before, in the moved box
-abbrev pub moved_sweep : ℤ × ℤ → Sweep → Sweep
-moved_sweep shift sweep = record { recurrence = sweep.recurrence; bounds = moved_bounds shift sweep.bounds }
+abbrev pub moved_envelope : ℤ × ℤ → EnvelopeBounds → EnvelopeBounds
+moved_envelope shift envelope = record { recurrence = envelope.recurrence; bounds = moved_bounds shift envelope.bounds }
 
 -- what is never itself again doesn't come back
-pub never_back : (rule : Numbers) (limit : ℕ) (cells : List Cell) → NeverBack rule cells limit → ¬ ComesBack rule limit cells
-never_back rule limit cells never (r, recurs) = never r.period r.dx r.dy recurs.some recurs.within recurs.back
+pub never_recurs : (rule : Numbers) (limit : ℕ) (cells : List Cell) → NeverRecurs rule cells limit → ¬ RecursWithin rule limit cells
+never_recurs rule limit cells never (r, recurs) = never r.period r.dx r.dy recurs.some recurs.within recurs.back
 
 -- a cell moved with its box stays within it
 within_moved : (shift : ℤ × ℤ) (b : Bounds) (c : Cell) → IsWithin b c → IsWithin (moved_bounds shift b) (moved_by shift.0 shift.1 c)
@@ -45,25 +45,25 @@ within_moved shift b c w = record {
 }
 
 -- the sweep of a moved pattern
-sweep_moved : (shift : ℤ × ℤ) (rule : Numbers) (limit : ℕ) (cells : List Cell) (sweep : Sweep) → IsSweep rule limit cells sweep
-    → IsSweep rule limit (shifted shift.0 shift.1 cells) (moved_sweep shift sweep)
-sweep_moved shift rule limit cells sweep is = record {
+envelope_moved : (shift : ℤ × ℤ) (rule : Numbers) (limit : ℕ) (cells : List Cell) (envelope : EnvelopeBounds) → IsEnvelope rule limit cells envelope
+    → IsEnvelope rule limit (shifted shift.0 shift.1 cells) (moved_envelope shift envelope)
+envelope_moved shift rule limit cells envelope is = record {
   in_order = in_order-shifted shift.0 shift.1 cells is.in_order;
-  recurs = recurs-shifted shift.0 shift.1 rule cells limit sweep.recurrence is.in_order is.recurs;
+  recurs = recurs-shifted shift.0 shift.1 rule cells limit envelope.recurrence is.in_order is.recurs;
   within = λ g low.
-      subst (All (IsWithin (moved_bounds shift sweep.bounds))) (sym (after-shifted shift.0 shift.1 rule cells g is.in_order))
-      (All-map (IsWithin (moved_bounds shift sweep.bounds)) (moved_by shift.0 shift.1) (after rule cells g)
-      (λ k d there. within_moved shift sweep.bounds _ (is.within g low k d there)));
+      subst (All (IsWithin (moved_bounds shift envelope.bounds))) (sym (after-shifted shift.0 shift.1 rule cells g is.in_order))
+      (All-map (IsWithin (moved_bounds shift envelope.bounds)) (moved_by shift.0 shift.1) (after rule cells g)
+      (λ k d there. within_moved shift envelope.bounds _ (is.within g low k d there)));
 }
 
 -- the sweep of a pattern that the fact is about
-pub sweep_known : (rule : Numbers) (limit : ℕ) (cells : List Cell) (shift : ℤ × ℤ) (fact : Fact) → IsKnown fact → IsAbout rule limit cells shift fact
-    → IsSweep rule limit cells (moved_sweep shift fact.sweep)
-sweep_known rule limit cells shift fact known about =
-    subst (λ (r : Numbers). IsSweep r limit cells (moved_sweep shift fact.sweep)) about.rule_is
-    (subst (λ (n : ℕ). IsSweep fact.rule n cells (moved_sweep shift fact.sweep)) about.limit_is
-    (subst (λ (S : List Cell). IsSweep fact.rule fact.limit S (moved_sweep shift fact.sweep)) about.shape_is
-    (sweep_moved shift fact.rule fact.limit fact.shape fact.sweep known.swept)))
+pub envelope_known : (rule : Numbers) (limit : ℕ) (cells : List Cell) (shift : ℤ × ℤ) (fact : Fact) → IsKnown fact → IsAbout rule limit cells shift fact
+    → IsEnvelope rule limit cells (moved_envelope shift fact.envelope)
+envelope_known rule limit cells shift fact known about =
+    subst (λ (r : Numbers). IsEnvelope r limit cells (moved_envelope shift fact.envelope)) about.rule_is
+    (subst (λ (n : ℕ). IsEnvelope fact.rule n cells (moved_envelope shift fact.envelope)) about.limit_is
+    (subst (λ (S : List Cell). IsEnvelope fact.rule fact.limit S (moved_envelope shift fact.envelope)) about.shape_is
+    (envelope_moved shift fact.rule fact.limit fact.shape fact.envelope known.enveloped)))
 
 -- and its code
 pub code_known : (rule : Numbers) (limit : ℕ) (cells : List Cell) (shift : ℤ × ℤ) (fact : Fact) → IsKnown fact → IsAbout rule limit cells shift fact
@@ -72,7 +72,7 @@ code_known rule limit cells shift fact known about =
     subst (λ (r : Numbers). IsCode r cells limit fact.code) about.rule_is
     (subst (λ (n : ℕ). IsCode fact.rule cells n fact.code) about.limit_is
     (subst (λ (S : List Cell). IsCode fact.rule S fact.limit fact.code) about.shape_is
-    (codes_moved shift.0 shift.1 fact.rule fact.shape fact.limit fact.code known.swept.in_order known.named)))
+    (codes_moved shift.0 shift.1 fact.rule fact.shape fact.limit fact.code known.enveloped.in_order known.named)))
 
 -- two rules that don't differ
 pub same_rules : (one other : Numbers) (differs : Bool) → differs ≡ not (same_rule one other) → differs ≡ false → one ≡ other

@@ -121,7 +121,7 @@ pub codes_more : (rule : Numbers) (limit : ℕ) (clusters : List (List Cell)) (i
     → AllZip (λ cluster code. IsCode rule cluster limit code) (take i clusters) codes → IsCode rule cluster limit code
     → AllZip (λ cluster code. IsCode rule cluster limit code) (take (i + 1) clusters) (codes ++ code ∷ [])
 codes_more rule limit clusters i cluster codes code low at all is =
-    subst (λ (front : List (List Cell)). AllZip (λ cluster code. IsCode rule cluster limit code) front (codes ++ code ∷ []))
+    subst (λ (prefix : List (List Cell)). AllZip (λ cluster code. IsCode rule cluster limit code) prefix (codes ++ code ∷ []))
     (sym (take_more clusters i cluster low))
     (zip_more rule limit (take i clusters) codes (get_or clusters i cluster) code all (subst (λ (x : List Cell). IsCode rule x limit code) at is))
 

@@ -126,15 +126,15 @@ returns-then-not-same c =
     )
 
 -- each cluster is itself again, so what follows has been seen
-pub returns-then-are_back : goal.returns-then-are_back
-returns-then-are_back c =
+pub returns-then-have_recurred : goal.returns-then-have_recurred
+returns-then-have_recurred c =
     let clusters = clusters_of c.args.clusters.now in
     let whole : c.in_ok-whole-2.whole ≡ after c.args.rule.now (union_of clusters) (c.loop.counter + 1) =
     c.in_ok-whole-2.ensures ∙ ap (next c.args.rule.now) c.loop.invariant.whole ∙ sym (after-more c.args.rule.now (union_of clusters) c.loop.counter) in
     let alone = later_is c.args.rule.now c.loop.counter clusters c.loop.clusters c.step_each.new.clusters c.loop.invariant.alone c.in_ok-step_each.ensures in
     let run = latest_is c.args.rule.now (c.loop.counter + 1) clusters c.step_each.new.clusters alone in
     let back : latest_of c.step_each.new.clusters ≡ clusters =
-    c.if-are_back.ensures.0 refl ∙ clusters_are c.args.rule.now (c.loop.counter + 1) clusters c.step_each.new.clusters alone in (
+    c.if-have_recurred.ensures.0 refl ∙ clusters_are c.args.rule.now (c.loop.counter + 1) clusters c.step_each.new.clusters alone in (
       λ e g low. apart_once_back c.args.rule.now (union_of clusters) clusters (latest_of c.step_each.new.clusters) (c.loop.counter + 1) (omega arith)
           (in_order-set_of (flat_map (λ (part : List Cell). part) clusters)) (union_partition clusters c.requires.off) run back
           (apart_more c.args.rule.now (union_of clusters) clusters c.loop.counter c.in_ok-whole-2.whole (latest_of c.step_each.new.clusters) whole

@@ -1,8 +1,8 @@
 use Rattle.std.proofs.Common.{◌≡◌, ◌∙◌, ℕ, List, All, ap, map, subst, sym}
-use Rattle.handover.specs.BeltRule.{IsFront, TellsWhatIsLeft, left_over, with_senders}
+use Rattle.handover.specs.BeltRule.{IsPrefix, TellsWhatIsLeft, left_over, with_senders}
 use Rattle.handover.specs.Belts.{IsWhole, BeltId, Received, left_of, notes_of}
 use Rattle.handover.specs.declared.belt.Share.{Share}
-use Rattle.handover.proofs.BeltLemmas.{fronts_kept, seen_remainder, told, whole}
+use Rattle.handover.proofs.BeltLemmas.{prefixes_kept, seen_remainder, told, whole}
 use Rattle.handover.proofs.belt.Belt.gather.Goals as goal
 
 pub invariant_of-result : goal.invariant_of-result
@@ -14,8 +14,8 @@ invariant_of-result g c =
           ∙ ap (λ (b : BeltId). b.name) (c.requires.receiver ∙ sym c.self.view_is),
       c.learn_as.ensures.queue.0.2 ∙ c.absorb_all.ensures.queue.2 ∙ c.receiver.invariant.2,
       ap (λ (u : Share g.row.N.Denot). u.receives) is ∙ c.receiver.invariant.0,
-      subst (λ (u : Share g.row.N.Denot). All (λ (e : ℕ × List g.row.N.Denot). IsFront (notes_of e.0 u.got) e.1) u.senders) (sym kept)
-          (fronts_kept c.absorb_all.new.pass.me.0.client c.learn_as.ensures.rule.0 c.learn_as.ensures.rule.1),
+      subst (λ (u : Share g.row.N.Denot). All (λ (e : ℕ × List g.row.N.Denot). IsPrefix (notes_of e.0 u.got) e.1) u.senders) (sym kept)
+          (prefixes_kept c.absorb_all.new.pass.me.0.client c.learn_as.ensures.rule.0 c.learn_as.ensures.rule.1),
     )
 
 pub returns-clause-workers : goal.returns-clause-workers

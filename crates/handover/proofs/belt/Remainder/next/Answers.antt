@@ -1,6 +1,6 @@
 use Rattle.std.proofs.Common.{◌≤◌, ◌∙◌, ℕ, List, All, ap, map, subst, sym}
 use Rattle.crossbeam_queue.specs.Passes.{view}
-use Rattle.handover.specs.BeltRule.{IsFront, left_over}
+use Rattle.handover.specs.BeltRule.{IsPrefix, left_over}
 use Rattle.handover.specs.Belts.{Left, NothingLeft, notes_of, with_first}
 use Rattle.handover.specs.declared.belt.Share.{Share}
 use Rattle.handover.proofs.BeltLemmas.{if_none, learns, none_left, pops, took}
@@ -19,7 +19,7 @@ invariant_of-self g c =
       c.pop_as.ensures.queue.0 ∙ before.0,
       c.pop_as.ensures.queue.2 ∙ before.1,
       ap (λ (v : Share g.row.N.Denot). v.receives) kept ∙ before.2,
-      subst (λ (v : Share g.row.N.Denot). All (λ (e : ℕ × List g.row.N.Denot). IsFront (notes_of e.0 v.got) e.1) v.senders) (sym kept) before.3,
+      subst (λ (v : Share g.row.N.Denot). All (λ (e : ℕ × List g.row.N.Denot). IsPrefix (notes_of e.0 v.got) e.1) v.senders) (sym kept) before.3,
     )
 
 pub returns-in_err-note-clause-none : goal.returns-in_err-note-clause-none
@@ -35,7 +35,7 @@ invariant_of-self-2 g c =
       c.pop_as.ensures.queue.0 ∙ before.0,
       c.pop_as.ensures.queue.2 ∙ before.1,
       ap (λ (u : Share g.row.N.Denot). u.receives) gets.got ∙ before.2,
-      subst (λ (u : Share g.row.N.Denot). All (λ (e : ℕ × List g.row.N.Denot). IsFront (notes_of e.0 u.got) e.1) u.senders) (sym gets.got) gets.fronts,
+      subst (λ (u : Share g.row.N.Denot). All (λ (e : ℕ × List g.row.N.Denot). IsPrefix (notes_of e.0 u.got) e.1) u.senders) (sym gets.got) gets.prefixes,
     )
 
 pub returns-clause-taken : goal.returns-clause-taken
@@ -48,6 +48,6 @@ returns-clause-taken g c =
       sender = sender;
       some_worker = subst (λ (left : Left g.row.N.Denot). (1 ≤ sender) × (sender ≤ left.workers)) c.self.view_is gets.made;
       workers = ap (λ (u : Share g.row.N.Denot). u.made) gets.got ∙ ap (λ (left : Left g.row.N.Denot). left.workers) c.self.view_is;
-      lists = ap (λ (left : Left g.row.N.Denot). left.lists) (sym c.self.view_is) ∙ took v.got (sender, note) v.senders gets.fronts
+      lists = ap (λ (left : Left g.row.N.Denot). left.lists) (sym c.self.view_is) ∙ took v.got (sender, note) v.senders gets.prefixes
           ∙ ap (λ (u : Share g.row.N.Denot). map (with_first sender note) (map (left_over u.got) u.senders)) (sym gets.got);
     }

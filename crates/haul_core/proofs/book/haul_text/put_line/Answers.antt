@@ -19,35 +19,35 @@ put_number-requires g c = c.loop-number.invariant.2.remembers
 
 pub loop-number-preserved : goal.loop-number-preserved
 loop-number-preserved g c =
-    let front = c.loop-number.invariant in
+    let prefix = c.loop-number.invariant in
     let numbers = c.args.numbers.now in
     let i = c.loop-number.number-index in
     let text : g.row.N.Denot → List ℕ = (λ n. spaced (g.N.Integer.text n)) in (
-      front.0 ++ text c.number-item.result,
-      text_more text numbers i c.number-item.result (c.args.name.now ++ flat_map text numbers) front.0 c.loop-number-test.true c.number-item.is front.1,
-      Writes_then front.2 c.in_ok-put_number.ensures,
+      prefix.0 ++ text c.number-item.result,
+      text_more text numbers i c.number-item.result (c.args.name.now ++ flat_map text numbers) prefix.0 c.loop-number-test.true c.number-item.is prefix.1,
+      Writes_then prefix.2 c.in_ok-put_number.ensures,
     )
 
 pub returns-in_err-put_number : goal.returns-in_err-put_number
 returns-in_err-put_number g c =
-    let front = c.loop-number.invariant in
+    let prefix = c.loop-number.invariant in
     let numbers = c.args.numbers.now in
     let name = c.args.name.now in
     let i = c.loop-number.number-index in
     let text : g.row.N.Denot → List ℕ = (λ n. spaced (g.N.Integer.text n)) in
-    let more = text_more text numbers i c.number-item.result (name ++ flat_map text numbers) front.0 c.loop-number-test.true c.number-item.is front.1 in
+    let more = text_more text numbers i c.number-item.result (name ++ flat_map text numbers) prefix.0 c.loop-number-test.true c.number-item.is prefix.1 in
     let err = c.from_residual-in_err-put_number.ensures.0 in
     Writes_same (ap (λ (t : List ℕ). t ++ codes "\n") (sym more) ∙ line_spelled g.N.Integer.text name numbers)
-    (Writes_longer (codes "\n") err (Writes_stops (flat_map text (drop (i + 1) numbers)) err (Writes_then front.2 c.in_err-put_number.ensures)))
+    (Writes_longer (codes "\n") err (Writes_stops (flat_map text (drop (i + 1) numbers)) err (Writes_then prefix.2 c.in_err-put_number.ensures)))
 
 pub put-requires-2 : goal.put-requires-2
 put-requires-2 g c = c.loop-number.invariant.2.remembers
 
 pub returns : goal.returns
 returns g c =
-    let front = c.loop-number.invariant in
+    let prefix = c.loop-number.invariant in
     let numbers = c.args.numbers.now in
     let name = c.args.name.now in
     let text : g.row.N.Denot → List ℕ = (λ n. spaced (g.N.Integer.text n)) in
-    let all = text_done text numbers c.loop-number.number-index (name ++ flat_map text numbers) front.0 c.loop-number-test.false front.1 in
-    Writes_same (ap (λ (t : List ℕ). t ++ codes "\n") all ∙ line_spelled g.N.Integer.text name numbers) (Writes_then front.2 c.put-2.ensures)
+    let all = text_done text numbers c.loop-number.number-index (name ++ flat_map text numbers) prefix.0 c.loop-number-test.false prefix.1 in
+    Writes_same (ap (λ (t : List ℕ). t ++ codes "\n") all ∙ line_spelled g.N.Integer.text name numbers) (Writes_then prefix.2 c.put-2.ensures)

@@ -7,6 +7,6 @@ use Rattle.haul_core.proofs.book.haul_text.put_line.Given as goal
 -- the name and those numbers that were passed have been written
 abbrev pub invariant-loop-number : goal.invariant-loop-number
 invariant-loop-number g l =
-    (front : List ℕ) × (l.name ++ flat_map (λ n. spaced (g.N.Integer.text n)) l.fn.numbers
-    ≡ front ++ flat_map (λ n. spaced (g.N.Integer.text n)) (drop l.number-index l.numbers))
-    × Writes {E = WriteError} g.W.Write.contents l.fn.out l.out (Ok tt) front
+    (prefix : List ℕ) × (l.name ++ flat_map (λ n. spaced (g.N.Integer.text n)) l.fn.numbers
+    ≡ prefix ++ flat_map (λ n. spaced (g.N.Integer.text n)) (drop l.number-index l.numbers))
+    × Writes {E = WriteError} g.W.Write.contents l.fn.out l.out (Ok tt) prefix

@@ -14,30 +14,30 @@ loop-range-init g c =
 
 pub loop-range-preserved : goal.loop-range-preserved
 loop-range-preserved g c =
-    let front = c.loop-range.invariant in
+    let prefix = c.loop-range.invariant in
     let ranges = c.args.ranges.now in
     let i = c.loop-range.range-index in
     let none : Range = record { first = 0; count = 0 } in
     let text : Range → List ℕ = (λ range. ended (range_line range)) in (
-      front.0 ++ text (get_or ranges i none),
-      text_more_at text ranges i none (text_of (range_lines ranges)) front.0 c.loop-range-test.true front.1,
-      Writes_then front.2 c.in_ok-put_range.ensures,
+      prefix.0 ++ text (get_or ranges i none),
+      text_more_at text ranges i none (text_of (range_lines ranges)) prefix.0 c.loop-range-test.true prefix.1,
+      Writes_then prefix.2 c.in_ok-put_range.ensures,
     )
 
 pub returns-in_err-put_range : goal.returns-in_err-put_range
 returns-in_err-put_range g c =
-    let front = c.loop-range.invariant in
+    let prefix = c.loop-range.invariant in
     let ranges = c.args.ranges.now in
     let i = c.loop-range.range-index in
     let none : Range = record { first = 0; count = 0 } in
     let text : Range → List ℕ = (λ range. ended (range_line range)) in
-    let more = text_more_at text ranges i none (text_of (range_lines ranges)) front.0 c.loop-range-test.true front.1 in
+    let more = text_more_at text ranges i none (text_of (range_lines ranges)) prefix.0 c.loop-range-test.true prefix.1 in
     Writes_same (sym more) (Writes_stops (flat_map text (drop (i + 1) ranges)) c.from_residual.ensures.0
-    (Writes_then front.2 c.in_err-put_range.ensures))
+    (Writes_then prefix.2 c.in_err-put_range.ensures))
 
 pub returns : goal.returns
 returns g c =
-    let front = c.loop-range.invariant in
+    let prefix = c.loop-range.invariant in
     let ranges = c.args.ranges.now in
     let text : Range → List ℕ = (λ range. ended (range_line range)) in
-    Writes_same (text_done text ranges c.loop-range.range-index (text_of (range_lines ranges)) front.0 c.loop-range-test.false front.1) front.2
+    Writes_same (text_done text ranges c.loop-range.range-index (text_of (range_lines ranges)) prefix.0 c.loop-range-test.false prefix.1) prefix.2

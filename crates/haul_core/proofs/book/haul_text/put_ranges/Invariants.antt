@@ -7,6 +7,6 @@ use Rattle.haul_core.proofs.book.haul_text.put_ranges.Given as goal
 -- those ranges that were passed have been written
 abbrev pub invariant-loop-range : goal.invariant-loop-range
 invariant-loop-range g l =
-    (front : List ℕ) × (text_of (range_lines l.fn.ranges)
-    ≡ front ++ flat_map (λ range. ended (range_line range)) (drop l.range-index l.ranges))
-    × Writes {E = WriteError} g.W.Write.contents l.fn.out l.out (Ok tt) front
+    (prefix : List ℕ) × (text_of (range_lines l.fn.ranges)
+    ≡ prefix ++ flat_map (λ range. ended (range_line range)) (drop l.range-index l.ranges))
+    × Writes {E = WriteError} g.W.Write.contents l.fn.out l.out (Ok tt) prefix

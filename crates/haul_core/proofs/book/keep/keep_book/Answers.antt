@@ -4,7 +4,7 @@ use Rattle.std.specs.Vec.Iter.{into_iter_items}
 use Rattle.haul_core.specs.declared.book.arrival.Arrival.{Arrival}
 use Rattle.haul_core.specs.Books.{StandsFor, Terms}
 use Rattle.haul_core.specs.Refusals.{reply_to}
-use Rattle.haul_core.proofs.BookLemmas.{pushed, replies_push, stopped_at, taken_front}
+use Rattle.haul_core.proofs.BookLemmas.{pushed, replies_push, stopped_at, taken_prefix}
 use Rattle.haul_core.proofs.book.keep.keep_book.Goals as goal
 
 pub loop-arrival-init : goal.loop-arrival-init
@@ -20,7 +20,7 @@ returns-in_err-reply-clause-memory c = λ before s.
     let here : StandsFor (before ++ c.loop-arrival.yielded) c.loop-arrival.haul = c.loop-arrival.invariant.stands before s in
     stopped_at c.from_residual-in_err-reply.result before c.args.arrivals.items c.loop-arrival.yielded c.in-Some.arrival (into_iter_items c.next.new.self)
     c.loop-arrival.haul c.answer.new.haul
-    (sym c.into_iter-arrival-iterator.ensures.into_iter_gives.0 ∙ taken_front _ c.loop-arrival.yielded _ c.loop-arrival.yielded_by
+    (sym c.into_iter-arrival-iterator.ensures.into_iter_gives.0 ∙ taken_prefix _ c.loop-arrival.yielded _ c.loop-arrival.yielded_by
     ∙ ap (λ (xs : List Arrival). c.loop-arrival.yielded ++ xs) c.in-Some.ensures.steps.0) c.in_err-reply.ensures.kept
     (c.in_err-reply.ensures.memory (before ++ c.loop-arrival.yielded) here) here
 

@@ -13,11 +13,11 @@ missing_more : (workers : List (ℕ × ℕ)) (ranges : List Range) (i : ℕ) (d 
     ≡ filter (has_no_worker workers) (numbers_of (take i ranges)) ++ filter (has_no_worker workers) (numbers_of_range (get_or ranges i d))
 missing_more workers ranges i d h =
     let range : Range = get_or ranges i d in
-    let front : List Range = take i ranges in
+    let prefix : List Range = take i ranges in
     ap (λ (rs : List Range). filter (has_no_worker workers) (numbers_of rs)) (take_more ranges i d h)
-    ∙ ap (filter (has_no_worker workers)) (flat_map-append numbers_of_range front (range ∷ [])
-    ∙ ap (λ (ns : List ℕ). numbers_of front ++ ns) (append-nil (numbers_of_range range)))
-    ∙ filter-append (has_no_worker workers) (numbers_of front) (numbers_of_range range)
+    ∙ ap (filter (has_no_worker workers)) (flat_map-append numbers_of_range prefix (range ∷ [])
+    ∙ ap (λ (ns : List ℕ). numbers_of prefix ++ ns) (append-nil (numbers_of_range range)))
+    ∙ filter-append (has_no_worker workers) (numbers_of prefix) (numbers_of_range range)
 
 pub loop-range-init : goal.loop-range-init
 loop-range-init c = c.new-missing.ensures.items

@@ -7,5 +7,5 @@ use Rattle.haul_core.proofs.report.write.put_counts.Given as goal
 -- those codes that were passed have been written
 abbrev pub invariant-loop-object : goal.invariant-loop-object
 invariant-loop-object g l =
-    (front : List ℕ) × (counts_text l.fn.counts ≡ front ++ counts_text (drop l.object-index l.counts))
-    × Writes {E = WriteError} g.W.Write.contents l.fn.out l.out (Ok tt) front
+    (prefix : List ℕ) × (counts_text l.fn.counts ≡ prefix ++ counts_text (drop l.object-index l.counts))
+    × Writes {E = WriteError} g.W.Write.contents l.fn.out l.out (Ok tt) prefix

@@ -5,4 +5,4 @@ use Rattle.plane_core.specs.engine.WindowOrigins.{IsCovered}
 use Rattle.plane_core.proofs.engine.cover.cover.Given as goal
 
 abbrev pub invariant-loop-rectangle : goal.invariant-loop-rectangle
-invariant-loop-rectangle l = (c : Cell) → IsInOne (take l.rectangle-index l.rectangle-items) c → IsCovered l.places.items c
+invariant-loop-rectangle l = (c : Cell) → IsInOne (take l.rectangle-index l.rectangle-items) c → IsCovered l.origins.items c

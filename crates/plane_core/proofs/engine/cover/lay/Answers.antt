@@ -96,8 +96,8 @@ loop-i-preserved c =
     let right : FitsSigned w32 c.args.rectangle.right = search rules in
     record {
       kept = λ d some. c.in_ok-lay_row.ensures.kept d (c.loop-i.invariant.kept d some);
-      laid = rows_more c.args.rectangle c.side_by_side-across.result c.side_by_side-down.result.first _ c.loop-i.i c.loop-i.places.items
-          c.lay_row.new.places.items (row_is c.side_by_side-down.result.first c.loop-i.i c.side_by_side-down.result.count c.loop-i-test.true
+      laid = rows_more c.args.rectangle c.side_by_side-across.result c.side_by_side-down.result.first _ c.loop-i.i c.loop-i.origins.items
+          c.lay_row.new.origins.items (row_is c.side_by_side-down.result.first c.loop-i.i c.side_by_side-down.result.count c.loop-i-test.true
           (few_rows _ _ c.side_by_side-down.result c.side_by_side-down.ensures
           (passed c.args.rectangle.top _ (search rules) c.requires.top) (passed c.args.rectangle.bottom _ (search rules) c.requires.bottom))
           (spans_begin _ _ 32 c.side_by_side-down.result c.side_by_side-down.ensures rows (passed c.args.rectangle.top _ (search rules) c.requires.top)))

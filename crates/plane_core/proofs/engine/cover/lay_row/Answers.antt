@@ -1,7 +1,7 @@
 use Rattle.std.proofs.Common.{◌*ℤ◌, ◌<◌, ◌≤◌, ◌^◌, arith, unsigned_abs, ℕ, ◌*◌, ◌+ℤ◌, ◌-ℤ◌, ℤ, inl, inr, pos, w32, of_z, to_z}
 use Rattle.std.proofs.lemmas.Result.{IfOk-from_err}
 use Rattle.std.proofs.lemmas.Int.{ints}
-use Rattle.plane_core.specs.declared.engine.window_origin.Place.{Place}
+use Rattle.plane_core.specs.declared.engine.window_origin.WindowOrigin.{WindowOrigin}
 use Rattle.plane_core.specs.engine.WindowOrigins.{IsInnerCell}
 use Rattle.plane_core.proofs.lemmas.engine.ActiveBoxLemmas.{any_pushed}
 use Rattle.plane_core.proofs.lemmas.engine.CoverLemmas.{fits_column, fits_columns, fits_count, row_more}
@@ -21,10 +21,10 @@ loop-i-preserved c =
     let at = begins c.args.across.first c.args.top c.loop-i.i c.args.across.count c.loop-i-test.true c.requires.count c.requires.first c.requires.top in
     record {
       kept = λ d some.
-          any_pushed (λ (p : Place). IsInnerCell p d) c.loop-i.places.items c.push.new.self.items _ c.in_ok-push.ensures.items
+          any_pushed (λ (p : WindowOrigin). IsInnerCell p d) c.loop-i.origins.items c.push.new.self.items _ c.in_ok-push.ensures.items
           (inl (c.loop-i.invariant.kept d some));
       laid = λ d row.
-          any_pushed (λ (p : Place). IsInnerCell p d) c.loop-i.places.items c.push.new.self.items _ c.in_ok-push.ensures.items (
+          any_pushed (λ (p : WindowOrigin). IsInnerCell p d) c.loop-i.origins.items c.push.new.self.items _ c.in_ok-push.ensures.items (
           elim (row_more c.args.across.first c.loop-i.i (to_z w32 (of_z w32 c.args.top)) _ d at row) [
             | inl before ↦ inl (c.loop-i.invariant.laid d before)
             | inr inner ↦ inr inner

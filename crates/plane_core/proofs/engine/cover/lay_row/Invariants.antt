@@ -5,6 +5,6 @@ use Rattle.plane_core.proofs.engine.cover.lay_row.Given as goal
 
 abbrev pub invariant-loop-i : goal.invariant-loop-i
 invariant-loop-i l = record {
-  kept : (c : Cell) → IsCovered l.fn.places.items c → IsCovered l.places.items c;
-  laid : (c : Cell) → IsInRow (record { first = l.across.first; count = l.i }) l.top c → IsCovered l.places.items c;
+  kept : (c : Cell) → IsCovered l.fn.origins.items c → IsCovered l.origins.items c;
+  laid : (c : Cell) → IsInRow (record { first = l.across.first; count = l.i }) l.top c → IsCovered l.origins.items c;
 }

@@ -1,10 +1,10 @@
 use Rattle.std.proofs.Common.{◌≡◌, ◌<◌, ◌≤◌, ◌∙◌, ℕ, ap, arith, inr, pos, refl, subst, sym}
 use Rattle.std.proofs.lemmas.List.{get_or_default}
-use Rattle.plane_core.specs.declared.engine.window_origin.Place.{Place}
+use Rattle.plane_core.specs.declared.engine.window_origin.WindowOrigin.{WindowOrigin}
 use Rattle.plane_core.specs.engine.Frames.{board_cell}
 use Rattle.plane_core.specs.engine.Leaps.{ArePutBack}
 use Rattle.plane_core.specs.engine.WindowOrigins.{IsInnerCell}
-use Rattle.plane_core.proofs.lemmas.engine.FrameFits.{fits_lane_beside, fits_window_end, two_lanes, window_low}
+use Rattle.plane_core.proofs.lemmas.engine.FrameFits.{fits_word_column_beside, fits_window_end, two_word_columns, window_low}
 use Rattle.plane_core.proofs.lemmas.engine.LeapLemmas.{back_more}
 use Rattle.plane_core.proofs.lemmas.engine.RowSpanLemmas.{inner_held, places_more}
 use Rattle.plane_core.proofs.engine.leap.put_all.Goals as goal
@@ -23,8 +23,8 @@ loop-k-init c = record {
   covered = λ k p low. absurd (omega (arith, low));
 }
 
-pub bounds-places-k : goal.bounds-places-k
-bounds-places-k c = c.loop-k-test.true
+pub bounds-origins-k : goal.bounds-origins-k
+bounds-origins-k c = c.loop-k-test.true
 
 pub column_of-x-requires-clause-frame : goal.column_of-x-requires-clause-frame
 column_of-x-requires-clause-frame c = c.requires.frame
@@ -44,8 +44,8 @@ bounds-held-k c = subst (λ (n : ℕ). c.loop-k.k < n) (sym c.requires.each) c.l
 pub write-requires-clause-long : goal.write-requires-clause-long
 write-requires-clause-long c = c.loop-k.auto.words ∙ c.requires.long
 
-pub write-requires-clause-lanes : goal.write-requires-clause-lanes
-write-requires-clause-lanes c = c.column_of-x.ensures.lanes
+pub write-requires-clause-word_columns : goal.write-requires-clause-word_columns
+write-requires-clause-word_columns c = c.column_of-x.ensures.word_columns
 
 pub write-requires-clause-rows : goal.write-requires-clause-rows
 write-requires-clause-rows c = c.row_of-y.ensures.rows
@@ -57,31 +57,31 @@ pub overflow_add-rows-in-loop-k : goal.overflow_add-rows-in-loop-k
 overflow_add-rows-in-loop-k c = fits_window_end c.row_of-y.result 36 (window_low c.args.at c.row_of-y.result c.requires.frame c.row_of-y.ensures.rows) most
 
 pub widen-requires : goal.widen-requires
-widen-requires c = (two_lanes c.column_of-x.result c.args.at.lanes _ c.column_of-x.ensures.lanes (c.loop-k.auto.spans ∙ c.requires.lanes)).0
+widen-requires c = (two_word_columns c.column_of-x.result c.args.at.word_columns _ c.column_of-x.ensures.word_columns (c.loop-k.auto.spans ∙ c.requires.word_columns)).0
 
-pub overflow_add-lane : goal.overflow_add-lane
-overflow_add-lane c = fits_lane_beside c.args.at c.column_of-x.result c.requires.frame c.column_of-x.ensures.lanes
+pub overflow_add-word_column : goal.overflow_add-word_column
+overflow_add-word_column c = fits_word_column_beside c.args.at c.column_of-x.result c.requires.frame c.column_of-x.ensures.word_columns
 
 pub widen-requires-in-loop-k : goal.widen-requires-in-loop-k
 widen-requires-in-loop-k c =
-    (two_lanes c.column_of-x.result c.args.at.lanes _ c.column_of-x.ensures.lanes
-    (c.widen.auto.spans ∙ c.loop-k.auto.spans ∙ c.requires.lanes)).1
+    (two_word_columns c.column_of-x.result c.args.at.word_columns _ c.column_of-x.ensures.word_columns
+    (c.widen.auto.spans ∙ c.loop-k.auto.spans ∙ c.requires.word_columns)).1
 
 pub loop-k-smaller : goal.loop-k-smaller
 loop-k-smaller c = falls _ _ c.loop-k-test.true
 
 pub loop-k-preserved : goal.loop-k-preserved
 loop-k-preserved c =
-    let places = c.args.places.now in
+    let origins = c.args.origins.now in
     let k = c.loop-k.k in
     let before = c.loop-k.invariant in
     record {
-      put = back_more c.args.at places c.args.held.now c.args.words.now c.loop-k.words c.write.new.words k c.column_of-x.result c.row_of-y.result
-          (λ p. ap (λ (q : Place). q.left) (get_or_default places k p (record { left = pos 0; top = pos 0 }) c.loop-k-test.true) ∙ c.column_of-x.ensures.is)
-          (λ p. ap (λ (q : Place). q.top) (get_or_default places k p (record { left = pos 0; top = pos 0 }) c.loop-k-test.true) ∙ c.row_of-y.ensures.is)
+      put = back_more c.args.at origins c.args.held.now c.args.words.now c.loop-k.words c.write.new.words k c.column_of-x.result c.row_of-y.result
+          (λ p. ap (λ (q : WindowOrigin). q.left) (get_or_default origins k p (record { left = pos 0; top = pos 0 }) c.loop-k-test.true) ∙ c.column_of-x.ensures.is)
+          (λ p. ap (λ (q : WindowOrigin). q.top) (get_or_default origins k p (record { left = pos 0; top = pos 0 }) c.loop-k-test.true) ∙ c.row_of-y.ensures.is)
           before.put c.write.ensures;
       kept = λ s r h. c.widen-in-loop-k.ensures.kept s r (c.widen.ensures.kept s r (before.kept s r h));
-      covered = places_more c.args.at c.loop-k.spans c.widen-in-loop-k.new.spans places k
+      covered = places_more c.args.at c.loop-k.spans c.widen-in-loop-k.new.spans origins k
           (record { left = pos 0; top = pos 0 }) c.loop-k-test.true (λ s r h. c.widen-in-loop-k.ensures.kept s r (c.widen.ensures.kept s r h)) before.covered
           (inner_held c.args.at _ c.column_of-x.result c.row_of-y.result c.widen.new.spans c.widen-in-loop-k.new.spans c.column_of-x.ensures.is
           c.row_of-y.ensures.is c.widen.ensures.held c.widen-in-loop-k.ensures.kept c.widen-in-loop-k.ensures.held);
@@ -92,7 +92,7 @@ same a b low high = omega arith
 
 pub returns-clause-put : goal.returns-clause-put
 returns-clause-put c =
-    subst (λ (n : ℕ). ArePutBack c.args.at c.args.places.now c.args.held.now n c.args.words.now c.loop-k.words)
+    subst (λ (n : ℕ). ArePutBack c.args.at c.args.origins.now c.args.held.now n c.args.words.now c.loop-k.words)
     (same _ _ c.loop-k.auto.k-end c.loop-k-test.false) c.loop-k.invariant.put
 
 pub returns-clause-kept : goal.returns-clause-kept
@@ -101,4 +101,4 @@ returns-clause-kept c = c.loop-k.invariant.kept
 pub returns-clause-covered : goal.returns-clause-covered
 returns-clause-covered c = λ s r i hs hr hi (k, p, low, is, inner).
     c.loop-k.invariant.covered k p (omega (arith, low, c.loop-k-test.false)) s r i hs hr hi
-    (subst (λ (q : Place). IsInnerCell q (board_cell c.args.at s r i)) (sym is) inner)
+    (subst (λ (q : WindowOrigin). IsInnerCell q (board_cell c.args.at s r i)) (sym is) inner)

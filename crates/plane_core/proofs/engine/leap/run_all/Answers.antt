@@ -5,7 +5,7 @@ use Rattle.std.proofs.lemmas.List.Elements.{All-more, All-nil, All-push, All-sam
 use Rattle.std.proofs.lemmas.Bool.{false≢true}
 use Rattle.std.proofs.lemmas.Result.{IfOk-from_err}
 use Rattle.plane_core.specs.windows.RuleLogic.{rule_of}
-use Rattle.plane_core.specs.declared.engine.window_origin.Place.{Place}
+use Rattle.plane_core.specs.declared.engine.window_origin.WindowOrigin.{WindowOrigin}
 use Rattle.plane_core.specs.declared.plane.bounds.Bounds.{Bounds}
 use Rattle.plane_core.specs.plane.Bounds.{AreSidesWithin, IsWithin}
 use Rattle.plane_core.specs.engine.ActiveBoxes.{box_bound}
@@ -15,8 +15,8 @@ use Rattle.plane_core.proofs.lemmas.engine.LeapLemmas.{run_more, run_place, show
 use Rattle.plane_core.proofs.lemmas.engine.WindowIoLemmas.{read_packed}
 use Rattle.plane_core.proofs.engine.leap.run_all.Goals as goal
 
-abbrev origin : Place
-origin = record { left = pos 0; top = pos 0 }
+abbrev nowhere : WindowOrigin
+nowhere = record { left = pos 0; top = pos 0 }
 
 pub column_of-requires-clause-frame : goal.column_of-requires-clause-frame
 column_of-requires-clause-frame c = c.requires.frame
@@ -57,78 +57,78 @@ returns-then-not-is_on_board-clause-on_board c = λ e. absurd (false≢true e)
 pub returns-then-not-is_on_board-clause-run : goal.returns-then-not-is_on_board-clause-run
 returns-then-not-is_on_board-clause-run c = λ e. absurd (false≢true e)
 
-pub loop-place-preserved : goal.loop-place-preserved
-loop-place-preserved c =
-    let before = c.loop-place.boxes.items in
-    let later = c.push-in-loop-place.new.self.items in
+pub loop-origin-preserved : goal.loop-origin-preserved
+loop-origin-preserved c =
+    let before = c.loop-origin.boxes.items in
+    let later = c.push-in-loop-origin.new.self.items in
     let at = c.args.at in
     let words = c.args.words.now in
-    let place = get_or c.args.places.now c.loop-place.place-index origin in
+    let origin = get_or c.args.origins.now c.loop-origin.origin-index nowhere in
     let x = c.column_of.result in
     let y = c.row_of.result in
     let window = c.packed-window.result in
-    let ran = run_place at place words (rule_of c.args.rule.now) c.args.count window c.run-change.new.window c.unpacked.result c.run-change.result
-    (λ cells shows. shown_read at place words x y 10 window cells c.column_of.ensures.lanes c.row_of.ensures.rows c.column_of.ensures.is
+    let ran = run_place at origin words (rule_of c.args.rule.now) c.args.count window c.run-change.new.window c.unpacked.result c.run-change.result
+    (λ cells shows. shown_read at origin words x y 10 window cells c.column_of.ensures.word_columns c.row_of.ensures.rows c.column_of.ensures.is
     c.row_of.ensures.is shows (read_packed at words x y 10 c.read_rows-rows.result window c.read_rows-rows.ensures c.packed-window.ensures))
     c.run-change.ensures c.unpacked.ensures in
     record {
-      on_board = All-more (IsOnBoard c.args.at) c.args.places.now c.loop-place.place-index origin c.loop-place-test.true c.loop-place.invariant.on_board
+      on_board = All-more (IsOnBoard c.args.at) c.args.origins.now c.loop-origin.origin-index nowhere c.loop-origin-test.true c.loop-origin.invariant.on_board
           (c.is_on_board.ensures c.if-not-is_on_board.false);
       run =
-          run_more c.args.at c.args.words.now (rule_of c.args.rule.now) c.args.count c.args.places.now c.loop-place.held.items c.push.new.self.items
-          before later c.loop-place.place-index origin c.unpacked.result c.run-change.result c.bounds.result
-          c.loop-place.invariant.run c.loop-place-test.true ran c.bounds.ensures.difference c.in_ok-push.ensures.items
+          run_more c.args.at c.args.words.now (rule_of c.args.rule.now) c.args.count c.args.origins.now c.loop-origin.held.items c.push.new.self.items
+          before later c.loop-origin.origin-index nowhere c.unpacked.result c.run-change.result c.bounds.result
+          c.loop-origin.invariant.run c.loop-origin-test.true ran c.bounds.ensures.difference c.in_ok-push.ensures.items
           (λ d some. any_pushed (λ (b : Bounds). IsWithin b d) before later c.in-Some.bounds c.in_ok-push-2.ensures.items (inl some))
           (λ d here. any_pushed (λ (b : Bounds). IsWithin b d) before later c.in-Some.bounds c.in_ok-push-2.ensures.items (inr (rw c.in-Some.is at here)))
           (subst (λ (boxes : List Bounds). All (AreSidesWithin box_bound) boxes) (sym c.in_ok-push-2.ensures.items)
-          (All-push (AreSidesWithin box_bound) before c.in-Some.bounds c.loop-place.invariant.run.sides c.in-Some.ensures.sides));
+          (All-push (AreSidesWithin box_bound) before c.in-Some.bounds c.loop-origin.invariant.run.sides c.in-Some.ensures.sides));
     }
 
-pub loop-place-preserved-in_default : goal.loop-place-preserved-in_default
-loop-place-preserved-in_default c =
-    let before = c.loop-place.boxes.items in
+pub loop-origin-preserved-in_default : goal.loop-origin-preserved-in_default
+loop-origin-preserved-in_default c =
+    let before = c.loop-origin.boxes.items in
     let at = c.args.at in
     let words = c.args.words.now in
-    let place = get_or c.args.places.now c.loop-place.place-index origin in
+    let origin = get_or c.args.origins.now c.loop-origin.origin-index nowhere in
     let x = c.column_of.result in
     let y = c.row_of.result in
     let window = c.packed-window.result in
-    let ran = run_place at place words (rule_of c.args.rule.now) c.args.count window c.run-change.new.window c.unpacked.result c.run-change.result
-    (λ cells shows. shown_read at place words x y 10 window cells c.column_of.ensures.lanes c.row_of.ensures.rows c.column_of.ensures.is
+    let ran = run_place at origin words (rule_of c.args.rule.now) c.args.count window c.run-change.new.window c.unpacked.result c.run-change.result
+    (λ cells shows. shown_read at origin words x y 10 window cells c.column_of.ensures.word_columns c.row_of.ensures.rows c.column_of.ensures.is
     c.row_of.ensures.is shows (read_packed at words x y 10 c.read_rows-rows.result window c.read_rows-rows.ensures c.packed-window.ensures))
     c.run-change.ensures c.unpacked.ensures in
     record {
-      on_board = All-more (IsOnBoard c.args.at) c.args.places.now c.loop-place.place-index origin c.loop-place-test.true c.loop-place.invariant.on_board
+      on_board = All-more (IsOnBoard c.args.at) c.args.origins.now c.loop-origin.origin-index nowhere c.loop-origin-test.true c.loop-origin.invariant.on_board
           (c.is_on_board.ensures c.if-not-is_on_board.false);
       run =
-          run_more c.args.at c.args.words.now (rule_of c.args.rule.now) c.args.count c.args.places.now c.loop-place.held.items c.push.new.self.items
-          before before c.loop-place.place-index origin c.unpacked.result c.run-change.result c.bounds.result
-          c.loop-place.invariant.run c.loop-place-test.true ran c.bounds.ensures.difference c.in_ok-push.ensures.items
-          (λ d some. some) (λ d here. absurd (rw c.in_default.is at here)) c.loop-place.invariant.run.sides;
+          run_more c.args.at c.args.words.now (rule_of c.args.rule.now) c.args.count c.args.origins.now c.loop-origin.held.items c.push.new.self.items
+          before before c.loop-origin.origin-index nowhere c.unpacked.result c.run-change.result c.bounds.result
+          c.loop-origin.invariant.run c.loop-origin-test.true ran c.bounds.ensures.difference c.in_ok-push.ensures.items
+          (λ d some. some) (λ d here. absurd (rw c.in_default.is at here)) c.loop-origin.invariant.run.sides;
     }
 
 pub returns-clause-on_board : goal.returns-clause-on_board
 returns-clause-on_board c = λ _.
-    All-same (IsOnBoard c.args.at) c.args.places.now _
-    (sym (take_whole c.args.places.now c.loop-place.place-index c.loop-place.auto.place-index-end c.loop-place-test.false)) c.loop-place.invariant.on_board
+    All-same (IsOnBoard c.args.at) c.args.origins.now _
+    (sym (take_whole c.args.origins.now c.loop-origin.origin-index c.loop-origin.auto.origin-index-end c.loop-origin-test.false)) c.loop-origin.invariant.on_board
 
 pub returns-clause-run : goal.returns-clause-run
 returns-clause-run c = λ _.
-    let places = c.args.places.now in
-    let inv = c.loop-place.invariant.run in
-    let all : c.loop-place.place-index ≡ length places = omega arith in
+    let origins = c.args.origins.now in
+    let inv = c.loop-origin.invariant.run in
+    let all : c.loop-origin.origin-index ≡ length origins = omega arith in
     record {
       long = inv.long ∙ all;
       run = λ k p cells low. inv.run k p cells (omega arith);
-      differences = λ cells o shows. hold_all places _ _ c.loop-place.boxes.items (λ k p d low. inv.differences cells o shows k p d (omega arith));
+      differences = λ cells o shows. hold_all origins _ _ c.loop-origin.boxes.items (λ k p d low. inv.differences cells o shows k p d (omega arith));
       sides = inv.sides;
     }
 
 none_done : (k : ℕ) → k < 0 → ⊥
 none_done k low = omega (arith, low)
 
-pub loop-place-init : goal.loop-place-init
-loop-place-init c = record {
+pub loop-origin-init : goal.loop-origin-init
+loop-origin-init c = record {
   on_board = All-nil (IsOnBoard c.args.at);
   run = record {
     long = ap length c.clear.ensures.items;
@@ -138,8 +138,8 @@ loop-place-init c = record {
   };
 }
 
-pub loop-place-smaller : goal.loop-place-smaller
-loop-place-smaller c = falls _ _ c.loop-place-test.true
+pub loop-origin-smaller : goal.loop-origin-smaller
+loop-origin-smaller c = falls _ _ c.loop-origin-test.true
 
-pub loop-place-smaller-in_default : goal.loop-place-smaller-in_default
-loop-place-smaller-in_default c = falls _ _ c.loop-place-test.true
+pub loop-origin-smaller-in_default : goal.loop-origin-smaller-in_default
+loop-origin-smaller-in_default c = falls _ _ c.loop-origin-test.true

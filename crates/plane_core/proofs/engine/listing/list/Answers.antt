@@ -18,8 +18,8 @@ pub loop-band-preserved : goal.loop-band-preserved
 loop-band-preserved c =
     subst (λ (n : ℕ). HasReadRows c.args.at c.args.words.now n c.read_band.new.cells.items) (omega arith) (c.in_ok-read_band.ensures c.loop-band.invariant)
 
-pub read_band-requires-clause-lanes : goal.read_band-requires-clause-lanes
-read_band-requires-clause-lanes c = λ s r hs inside. c.below-lanes.ensures.held s hs (c.hull_of-hull.ensures s r hs inside).lane
+pub read_band-requires-clause-word_columns : goal.read_band-requires-clause-word_columns
+read_band-requires-clause-word_columns c = λ s r hs inside. c.below-word_columns.ensures.held s hs (c.hull_of-hull.ensures s r hs inside).word_column
 
 pub from_ordered-requires : goal.from_ordered-requires
 from_ordered-requires c =
@@ -53,10 +53,10 @@ pub read_band-requires-clause-live : goal.read_band-requires-clause-live
 read_band-requires-clause-live c = c.requires.live
 
 pub read_band-requires-clause-order : goal.read_band-requires-clause-order
-read_band-requires-clause-order c = c.below-lanes.ensures.order
+read_band-requires-clause-order c = c.below-word_columns.ensures.order
 
 pub read_band-requires-clause-most : goal.read_band-requires-clause-most
-read_band-requires-clause-most c = c.below-lanes.ensures.most
+read_band-requires-clause-most c = c.below-word_columns.ensures.most
 
 pub loop-band-smaller : goal.loop-band-smaller
 loop-band-smaller c = falls ((c.min.result + 7) / 8) c.loop-band.band c.loop-band-test.true

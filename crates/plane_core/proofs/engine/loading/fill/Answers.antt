@@ -27,8 +27,8 @@ down-row-requires-clause-within c = c.requires.on _ (has-at _ _ _ c.loop-cell-te
 pub index-requires-clause-frame : goal.index-requires-clause-frame
 index-requires-clause-frame c = c.requires.frame
 
-pub index-requires-clause-lane : goal.index-requires-clause-lane
-index-requires-clause-lane c = (spot_inside c.args.at _ _ _ (c.requires.on _ (has-at _ _ _ c.loop-cell-test.true)) c.across-across.ensures c.down-row.ensures).0
+pub index-requires-clause-word_column : goal.index-requires-clause-word_column
+index-requires-clause-word_column c = (spot_inside c.args.at _ _ _ (c.requires.on _ (has-at _ _ _ c.loop-cell-test.true)) c.across-across.ensures c.down-row.ensures).0
 
 pub index-requires-clause-row : goal.index-requires-clause-row
 index-requires-clause-row c = (spot_inside c.args.at _ _ _ (c.requires.on _ (has-at _ _ _ c.loop-cell-test.true)) c.across-across.ensures c.down-row.ensures).1
@@ -45,7 +45,7 @@ overflow_add-rows c = fits_row_below c.args.at c.down-row.result c.requires.fram
 
 pub widen-requires : goal.widen-requires
 widen-requires c =
-    subst (λ (n : ℕ). c.across-across.result / 64 < n) (sym (c.loop-cell.auto.spans ∙ c.requires.lanes))
+    subst (λ (n : ℕ). c.across-across.result / 64 < n) (sym (c.loop-cell.auto.spans ∙ c.requires.word_columns))
     (spot_inside c.args.at _ _ _ (c.requires.on _ (has-at _ _ _ c.loop-cell-test.true)) c.across-across.ensures c.down-row.ensures).0
 
 pub loop-cell-init : goal.loop-cell-init

@@ -35,10 +35,10 @@ returns g c =
     subst (λ (n : ℕ). AreRowsRead c.args.at c.args.words.now c.args.x c.args.y n c.loop-r.rows) all c.loop-r.invariant.read
 
 pub bounds-words-first : goal.bounds-words-first
-bounds-words-first g c = (read_in c.args.at c.args.words.now c.args.x c.args.y c.loop-r.r g.row.R c.requires.long c.requires.lanes c.requires.rows c.loop-r-test.true).0
+bounds-words-first g c = (read_in c.args.at c.args.words.now c.args.x c.args.y c.loop-r.r g.row.R c.requires.long c.requires.word_columns c.requires.rows c.loop-r-test.true).0
 
 pub bounds-words-second : goal.bounds-words-second
-bounds-words-second g c = (read_in c.args.at c.args.words.now c.args.x c.args.y c.loop-r.r g.row.R c.requires.long c.requires.lanes c.requires.rows c.loop-r-test.true).1
+bounds-words-second g c = (read_in c.args.at c.args.words.now c.args.x c.args.y c.loop-r.r g.row.R c.requires.long c.requires.word_columns c.requires.rows c.loop-r-test.true).1
 
 pub bounds-rows-r : goal.bounds-rows-r
 bounds-rows-r g c = c.loop-r-test.true
@@ -48,22 +48,22 @@ loop-r-smaller g c = falls g.row.R c.loop-r.r c.loop-r-test.true
 
 pub overflow_mul-first : goal.overflow_mul-first
 overflow_mul-first g c =
-    (fits_begin c.args.at c.args.words.now c.args.x c.args.y g.row.R c.well_formed.0.1 c.requires.long c.requires.lanes c.requires.rows).0
+    (fits_begin c.args.at c.args.words.now c.args.x c.args.y g.row.R c.well_formed.0.1 c.requires.long c.requires.word_columns c.requires.rows).0
 
 pub overflow_add-first : goal.overflow_add-first
 overflow_add-first g c =
-    (fits_begin c.args.at c.args.words.now c.args.x c.args.y g.row.R c.well_formed.0.1 c.requires.long c.requires.lanes c.requires.rows).1
+    (fits_begin c.args.at c.args.words.now c.args.x c.args.y g.row.R c.well_formed.0.1 c.requires.long c.requires.word_columns c.requires.rows).1
 
 pub overflow_add-second : goal.overflow_add-second
 overflow_add-second g c =
-    (fits_begin c.args.at c.args.words.now c.args.x c.args.y g.row.R c.well_formed.0.1 c.requires.long c.requires.lanes c.requires.rows).2
+    (fits_begin c.args.at c.args.words.now c.args.x c.args.y g.row.R c.well_formed.0.1 c.requires.long c.requires.word_columns c.requires.rows).2
 
 pub overflow_add-rows : goal.overflow_add-rows
 overflow_add-rows g c =
     fits_place _ c.args.words.now c.well_formed.0.1
-    (read_in c.args.at c.args.words.now c.args.x c.args.y c.loop-r.r g.row.R c.requires.long c.requires.lanes c.requires.rows c.loop-r-test.true).0
+    (read_in c.args.at c.args.words.now c.args.x c.args.y c.loop-r.r g.row.R c.requires.long c.requires.word_columns c.requires.rows c.loop-r-test.true).0
 
 pub overflow_add-rows-in-loop-r : goal.overflow_add-rows-in-loop-r
 overflow_add-rows-in-loop-r g c =
     fits_place _ c.args.words.now c.well_formed.0.1
-    (read_in c.args.at c.args.words.now c.args.x c.args.y c.loop-r.r g.row.R c.requires.long c.requires.lanes c.requires.rows c.loop-r-test.true).1
+    (read_in c.args.at c.args.words.now c.args.x c.args.y c.loop-r.r g.row.R c.requires.long c.requires.word_columns c.requires.rows c.loop-r-test.true).1

@@ -20,8 +20,8 @@ returns c =
 pub bounds-rows-r : goal.bounds-rows-r
 bounds-rows-r c = below_too _ _ _ c.loop-r-test.true (omega arith)
 
-pub write_row-requires-clause-lanes : goal.write_row-requires-clause-lanes
-write_row-requires-clause-lanes c = c.requires.lanes
+pub write_row-requires-clause-word_columns : goal.write_row-requires-clause-word_columns
+write_row-requires-clause-word_columns c = c.requires.word_columns
 
 pub write_row-requires-clause-long : goal.write_row-requires-clause-long
 write_row-requires-clause-long c = c.loop-r.auto.words ∙ c.requires.long

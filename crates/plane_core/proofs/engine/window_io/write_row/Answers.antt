@@ -16,7 +16,7 @@ pub in_first-requires-2 : goal.in_first-requires-2
 in_first-requires-2 c = column_low c.args.x
 
 pub put_word-requires : goal.put_word-requires
-put_word-requires c = (words_in c.args.at c.args.words.now c.args.x c.args.y c.requires.long c.requires.lanes c.requires.rows).0
+put_word-requires c = (words_in c.args.at c.args.words.now c.args.x c.args.y c.requires.long c.requires.word_columns c.requires.rows).0
 
 pub in_second-requires : goal.in_second-requires
 in_second-requires c = column_low c.args.x
@@ -27,13 +27,13 @@ in_second-requires-2 c = column_low c.args.x
 pub put_word-requires-2 : goal.put_word-requires-2
 put_word-requires-2 c =
     subst (λ (n : ℕ). c.args.x / 64 * c.args.at.rows + c.args.y + c.args.at.rows < n) (sym c.put_word.auto.words)
-    (words_in c.args.at c.args.words.now c.args.x c.args.y c.requires.long c.requires.lanes c.requires.rows).1
+    (words_in c.args.at c.args.words.now c.args.x c.args.y c.requires.long c.requires.word_columns c.requires.rows).1
 
 pub overflow_mul-i : goal.overflow_mul-i
-overflow_mul-i c = (fits_row c.args.at c.args.words.now c.args.x c.args.y c.well_formed.0.1 c.requires.long c.requires.lanes c.requires.rows).0
+overflow_mul-i c = (fits_row c.args.at c.args.words.now c.args.x c.args.y c.well_formed.0.1 c.requires.long c.requires.word_columns c.requires.rows).0
 
 pub overflow_add-i : goal.overflow_add-i
-overflow_add-i c = (fits_row c.args.at c.args.words.now c.args.x c.args.y c.well_formed.0.1 c.requires.long c.requires.lanes c.requires.rows).1
+overflow_add-i c = (fits_row c.args.at c.args.words.now c.args.x c.args.y c.well_formed.0.1 c.requires.long c.requires.word_columns c.requires.rows).1
 
 pub overflow_add-i-2 : goal.overflow_add-i-2
-overflow_add-i-2 c = (fits_row c.args.at c.args.words.now c.args.x c.args.y c.well_formed.0.1 c.requires.long c.requires.lanes c.requires.rows).2
+overflow_add-i-2 c = (fits_row c.args.at c.args.words.now c.args.x c.args.y c.well_formed.0.1 c.requires.long c.requires.word_columns c.requires.rows).2

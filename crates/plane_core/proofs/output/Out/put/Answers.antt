@@ -45,11 +45,11 @@ returns g c =
     let P : Inside g.row.V.Denot → Type 0 = λ self. Writes {E = WriteError} g.V.Write.contents c.args.self.now
     (record { writer = self.writer; failed = true }) (Err (record { kind = c.loop-test.kind })) c.args.piece.now in
     elim c.loop-test.branch [
-      | else-loop-test w ↦ subst P (sym w.self-inside-is) (record { remembers = refl; whole = tt; front = (written.0, left, written.1, written.2) })
+      | else-loop-test w ↦ subst P (sym w.self-inside-is) (record { remembers = refl; whole = tt; prefix = (written.0, left, written.1, written.2) })
       | then-loop-test+else-is_empty+in-Ok-eq0 w ↦ subst P (sym w.self-inside-is) (record {
         remembers = refl;
         whole = tt;
-        front = (
+        prefix = (
           written.0 ++ take w.in-Ok-eq0.field-0 left,
           _,
           cut _ _ _ _ written.1 w.in-Ok-eq0.ensures.bound,
@@ -57,5 +57,5 @@ returns g c =
         );
       })
       | then-loop-test+else-is_empty+in-Err+in_default w ↦ subst P (sym w.self-inside-is)
-          (record { remembers = refl; whole = tt; front = (written.0, left, written.1, Appends-kept _ _ _ written.0 written.2 w.in-Err.ensures.bytes) })
+          (record { remembers = refl; whole = tt; prefix = (written.0, left, written.1, Appends-kept _ _ _ written.0 written.2 w.in-Err.ensures.bytes) })
     ]

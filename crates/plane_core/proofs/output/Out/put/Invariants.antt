@@ -6,4 +6,4 @@ use Rattle.plane_core.proofs.output.Out.put.Given as goal
 abbrev pub invariant-loop : goal.invariant-loop
 invariant-loop g l =
     (l.self-inside.failed ≡ false)
-    × ((front : List ℕ) × (l.fn.piece ≡ front ++ l.remainder) × Appends (g.V.Write.contents l.fn.self.writer) (g.V.Write.contents l.self-inside.writer) front)
+    × ((prefix : List ℕ) × (l.fn.piece ≡ prefix ++ l.remainder) × Appends (g.V.Write.contents l.fn.self.writer) (g.V.Write.contents l.self-inside.writer) prefix)

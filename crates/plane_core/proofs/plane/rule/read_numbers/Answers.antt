@@ -9,23 +9,23 @@ pub loop-i-preserved : goal.loop-i-preserved
 loop-i-preserved g c =
     elim c.if-starts_with.branch [
       | then-starts_with w ↦
-          let P : List ℕ → Type 0 = λ remainder. ReadUpTo g.row.N c.args.least c.args.text.now (c.loop-i.i + 1) (set c.loop-i.answers c.loop-i.i true) remainder in
-          rw (w.answers-is, w.remainder-is)
+          let P : List ℕ → Type 0 = λ remainder. ReadUpTo g.row.N c.args.least c.args.text.now (c.loop-i.i + 1) (set c.loop-i.logic c.loop-i.i true) remainder in
+          rw (w.logic-is, w.remainder-is)
           (subst P (sym (take-drop-remainder 1 c.loop-i.remainder.now))
           (ReadUpTo_hit _ _ _ _ _ _ c.loop-i-test.true (sym c.starts_with.ensures.value ∙ w.if-starts_with.true) c.loop-i.invariant))
       | else-starts_with w ↦
-          rw (w.answers-is, w.remainder-is)
+          rw (w.logic-is, w.remainder-is)
           (ReadUpTo_miss _ _ _ _ _ _ c.loop-i-test.true (sym c.starts_with.ensures.value ∙ w.if-starts_with.false) c.loop-i.invariant)
     ]
 
-pub returns-clause-answers : goal.returns-clause-answers
-returns-clause-answers g c = sym (ap (λ (r : Reading). r.answers) (ReadUpTo_done _ _ _ _ _ _ c.loop-i-test.false c.loop-i.auto.i-end c.loop-i.invariant))
+pub returns-clause-logic : goal.returns-clause-logic
+returns-clause-logic g c = sym (ap (λ (r : Reading). r.logic) (ReadUpTo_done _ _ _ _ _ _ c.loop-i-test.false c.loop-i.auto.i-end c.loop-i.invariant))
 
 pub returns-clause-remainder : goal.returns-clause-remainder
 returns-clause-remainder g c = sym (ap (λ (r : Reading). r.remainder) (ReadUpTo_done _ _ _ _ _ _ c.loop-i-test.false c.loop-i.auto.i-end c.loop-i.invariant))
 
-pub bounds-answers-i : goal.bounds-answers-i
-bounds-answers-i g c = c.loop-i-test.true
+pub bounds-logic-i : goal.bounds-logic-i
+bounds-logic-i g c = c.loop-i-test.true
 
 pub slice_bounds-remainder-count : goal.slice_bounds-remainder-count
 slice_bounds-remainder-count g c = c.if-starts_with.ensures.bound refl

@@ -6,7 +6,7 @@ use Rattle.std.proofs.lemmas.List.{take_all}
 use Rattle.plane_core.specs.declared.plane.cell.Cell.{Cell}
 use Rattle.plane_core.specs.plane.Bounds.{box_of, grown}
 use Rattle.plane_core.specs.plane.Cells.{on_plane, plane_bound}
-use Rattle.plane_core.specs.declared.plane.transform.Placement.{Placement}
+use Rattle.plane_core.specs.declared.plane.transform.Transform.{Transform}
 use Rattle.plane_core.specs.plane.Orientations.{turned_cell}
 use Rattle.plane_core.proofs.lemmas.plane.BoundsLemmas.{image_box_more}
 use Rattle.plane_core.proofs.lemmas.plane.TransformLemmas.{all_at}
@@ -44,18 +44,18 @@ pub returns-in_default-clause-plane : goal.returns-in_default-clause-plane
 returns-in_default-clause-plane c =
     nothing_on_plane c.args.orientation c.args.cells.now (sym (all (goal.at.returns-in_default-clause-plane c).After-loop-cell) ∙ c.in_default.is)
 
-told : (b : Bool) (x y : Placement) → x ≡ y → IfSome (then_some b x) (λ p. p ≡ y)
+told : (b : Bool) (x y : Transform) → x ≡ y → IfSome (then_some b x) (λ p. p ≡ y)
 told true x y same = same
 told false x y same = tt
 
-is_told : (b : Bool) (x : Placement) → is_some (then_some b x) ≡ b
+is_told : (b : Bool) (x : Transform) → is_some (then_some b x) ≡ b
 is_told true x = refl
 is_told false x = refl
 
-pub returns-clause-placement : goal.returns-clause-placement
-returns-clause-placement c =
+pub returns-clause-transform : goal.returns-clause-transform
+returns-clause-transform c =
     let box : box_of (map (turned_cell c.args.orientation) c.args.cells.now) ≡ Some c.in-Some.bounds =
-    sym (all (goal.at.returns-clause-placement c).After-loop-cell) ∙ c.in-Some.is in
+    sym (all (goal.at.returns-clause-transform c).After-loop-cell) ∙ c.in-Some.is in
     rw (c.then_some.ensures, box) (told _ _ _ (search rules))
 
 pub returns-clause-plane : goal.returns-clause-plane

@@ -12,6 +12,6 @@ invariant-loop-k g l =
       up : AreAbove n x l.up l.k;
       here : AreHere n x l.here.all l.k;
       beside : AreBeside l.here (slice_index_or x l.k []);
-      made : AreMade (g.A.Answering.rule l.rule) n x l.window l.k;
+      made : AreMade (g.A.CellLogic.rule l.rule) n x l.window l.k;
       rest : (k : ℕ) → l.k ≤ k → slice_index_or l.window k [] ≡ slice_index_or x k [];
     }

@@ -10,8 +10,8 @@ all_new n xs ws e = take-append-le n ws xs (omega (arith, e)) ∙ take_all n ws 
 
 pub join-requires-clause-numbers : goal.join-requires-clause-numbers
 join-requires-clause-numbers c =
-    subst (AreNumbers c.args.sweeps.now) (sym c.as_mut_slice.ensures.value)
-    (numbered c.args.sweeps.now c.loop-place.groups.items c.loop-place.place c.loop-place-test.true c.loop-place.invariant.numbers)
+    subst (AreNumbers c.args.envelopes.now) (sym c.as_mut_slice.ensures.value)
+    (numbered c.args.envelopes.now c.loop-place.groups.items c.loop-place.place c.loop-place-test.true c.loop-place.invariant.numbers)
 
 pub loop-place-preserved : goal.loop-place-preserved
 loop-place-preserved c =
@@ -23,9 +23,9 @@ loop-place-preserved c =
     let coarser : Coarser own new = subst (λ (gs : List ℕ). Coarser gs new) c.as_mut_slice.ensures.value c.join.ensures.coarser in
     rw (all_new old.len (drop (length new) own) new long) record {
       numbers = c.join.ensures.numbers;
-      apart = pairs_more c.args.horizon c.args.sweeps.now own new place c.loop-place-test.true
+      apart = pairs_more c.args.horizon c.args.envelopes.now own new place c.loop-place-test.true
           (length-set old.items place place ∙ c.loop-place.invariant.numbers.count) coarser
-          (numbered_pairs c.args.horizon c.args.sweeps.now old.items place c.loop-place.invariant.apart) c.join.ensures.apart;
+          (numbered_pairs c.args.horizon c.args.envelopes.now old.items place c.loop-place.invariant.apart) c.join.ensures.apart;
     }
 
 pub returns : goal.returns

@@ -4,6 +4,6 @@ use Rattle.survey_core.proofs.rest.groups.groups.Given as goal
 
 abbrev pub invariant-loop-place : goal.invariant-loop-place
 invariant-loop-place l = record {
-  numbers : AreNumbers l.sweeps l.groups.items;
-  apart : (i j : ℕ) → j < i → i < l.place → PairIsRight l.horizon l.sweeps l.groups.items i j;
+  numbers : AreNumbers l.envelopes l.groups.items;
+  apart : (i j : ℕ) → j < i → i < l.place → PairIsRight l.horizon l.envelopes l.groups.items i j;
 }

@@ -37,11 +37,11 @@ invariant_of-result c =
     c.loop-place.invariant.padded ∙ padded_all bytes c.loop-place.place c.loop-place.auto.place-end c.loop-place-test.false in
     let none : position is_invisible bytes ≡ None =
     sym c.loop-place.invariant.seen ∙ invisible_nowhere bytes c.loop-place.place c.loop-place-test.false in
-    let front : take (length bytes) c.loop-place.padded ≡ bytes = ap (take (length bytes)) padded
+    let prefix : take (length bytes) c.loop-place.padded ≡ bytes = ap (take (length bytes)) padded
     ∙ take-append_seam bytes (replicate (most_bytes - length bytes) 0) in (
-      (λ i. front i ++ replicate (most_bytes - length (front i)) 0) ∙ sym padded,
-      ap length front,
-      subst IsSeed (sym front) (record { short = short; visible = all_visible bytes none }),
+      (λ i. prefix i ++ replicate (most_bytes - length (prefix i)) 0) ∙ sym padded,
+      ap length prefix,
+      subst IsSeed (sym prefix) (record { short = short; visible = all_visible bytes none }),
     )
 
 pub returns : goal.returns
@@ -49,8 +49,8 @@ returns c =
     let bytes : List ℕ = c.as_bytes-bytes.result.now in
     let none : position is_invisible bytes ≡ None =
     sym c.loop-place.invariant.seen ∙ invisible_nowhere bytes c.loop-place.place c.loop-place-test.false in
-    let front : take (length bytes) c.loop-place.padded ≡ bytes = ap (take (length bytes)) (c.loop-place.invariant.padded
+    let prefix : take (length bytes) c.loop-place.padded ≡ bytes = ap (take (length bytes)) (c.loop-place.invariant.padded
     ∙ padded_all bytes c.loop-place.place c.loop-place.auto.place-end c.loop-place-test.false)
     ∙ take-append_seam bytes (replicate (most_bytes - length bytes) 0) in
     let short : length bytes ≤ 64 = omega arith in
-    (λ i. Ok (front i)) ∙ read_as bytes None short none ∙ ap seed_read c.as_bytes-bytes.ensures.value
+    (λ i. Ok (prefix i)) ∙ read_as bytes None short none ∙ ap seed_read c.as_bytes-bytes.ensures.value

@@ -7,29 +7,29 @@ use Rattle.survey_core.proofs.shapes.envelope_bounds.are_clear_for.Goals as goal
 -- they part
 pub returns-then-stay : goal.returns-then-stay
 returns-then-stay c = λ e.
-    clear_from_here c.args.one.now c.args.other.now c.loop.counter c.args.turns c.loop.offset.x c.loop.offset.y c.step-step.result.x c.step-step.result.y
+    clear_from_here c.args.one.now c.args.other.now c.loop.counter c.args.cycles c.loop.offset.x c.loop.offset.y c.step-step.result.x c.step-step.result.y
     c.step-step.ensures.x c.step-step.ensures.y c.loop.invariant.x c.loop.invariant.y c.loop.invariant.clear
     (ap (λ (gaps : Gaps). gap_stays gaps c.step-step.result.x c.step-step.result.y) (sym c.between-gaps.ensures) ∙ sym c.stay.ensures ∙ c.if-stay.true)
 
 pub between-gaps-requires-clause-across : goal.between-gaps-requires-clause-across
 between-gaps-requires-clause-across c =
-    let small = offset_small c.loop.counter c.args.turns c.step-step.result.x c.loop.offset.x c.loop-test.true c.requires c.step-step.ensures.across
+    let small = offset_small c.loop.counter c.args.cycles c.step-step.result.x c.loop.offset.x c.loop-test.true c.requires c.step-step.ensures.across
     c.loop.invariant.x in
     omega (arith, small)
 
 pub between-gaps-requires-clause-down : goal.between-gaps-requires-clause-down
 between-gaps-requires-clause-down c =
-    let small = offset_small c.loop.counter c.args.turns c.step-step.result.y c.loop.offset.y c.loop-test.true c.requires c.step-step.ensures.down
+    let small = offset_small c.loop.counter c.args.cycles c.step-step.result.y c.loop.offset.y c.loop-test.true c.requires c.step-step.ensures.down
     c.loop.invariant.y in
     omega (arith, small)
 
 pub moved-offset-requires-clause-across : goal.moved-offset-requires-clause-across
 moved-offset-requires-clause-across c =
-    offset_small c.loop.counter c.args.turns c.step-step.result.x c.loop.offset.x c.loop-test.true c.requires c.step-step.ensures.across c.loop.invariant.x
+    offset_small c.loop.counter c.args.cycles c.step-step.result.x c.loop.offset.x c.loop-test.true c.requires c.step-step.ensures.across c.loop.invariant.x
 
 pub moved-offset-requires-clause-down : goal.moved-offset-requires-clause-down
 moved-offset-requires-clause-down c =
-    offset_small c.loop.counter c.args.turns c.step-step.result.y c.loop.offset.y c.loop-test.true c.requires c.step-step.ensures.down c.loop.invariant.y
+    offset_small c.loop.counter c.args.cycles c.step-step.result.y c.loop.offset.y c.loop-test.true c.requires c.step-step.ensures.down c.loop.invariant.y
 
 -- one turn more
 pub loop-preserved : goal.loop-preserved

@@ -1,12 +1,12 @@
 use Rattle.std.proofs.Common.{◌≤◌, ℕ, arith, subst}
 use Rattle.survey_core.specs.shapes.Envelopes.{StayClear}
-use Rattle.survey_core.proofs.lemmas.shapes.EnvelopeLemmas.{apart_by_turns}
+use Rattle.survey_core.proofs.lemmas.shapes.EnvelopeLemmas.{apart_by_cycles}
 use Rattle.survey_core.proofs.shapes.envelope_bounds.stay_apart.Goals as goal
 
 pub returns : goal.returns
 returns c = λ e.
     let period = c.if-is_still.period in
     let some : 1 ≤ period = omega (arith, c.if-period-eq0.false) in
-    apart_by_turns c.args.horizon period c.args.one.now c.args.other.now some (c.serves.ensures c.if-not-serves.false)
+    apart_by_cycles c.args.horizon period c.args.one.now c.args.other.now some (c.serves.ensures c.if-not-serves.false)
     (c.serves-else-not-serves.ensures c.if-not-serves-2.false)
-    (subst (λ (turns : ℕ). StayClear turns c.args.one.now c.args.other.now) c.turns_in.ensures (c.are_clear_for.ensures e))
+    (subst (λ (cycles : ℕ). StayClear cycles c.args.one.now c.args.other.now) c.cycles_in.ensures (c.are_clear_for.ensures e))

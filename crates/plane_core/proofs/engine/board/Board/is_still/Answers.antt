@@ -16,5 +16,5 @@ returns c none n even =
     let words = c.self.inside.words.items in
     let empty = no_boxes c.self.inside.boxes.items (omega (arith, eqb-true _ _ (sym c.is_empty.ensures ∙ none))) in
     subst (λ (b : Running). after b.rule b.cells n ≡ b.cells) c.self.view_is
-    (still_forever (rule_of c.self.inside.answers) (cells_on at words) n (cells_in_order at words)
-    (subst (λ (boxes : List Bounds). IsQuiet (rule_of c.self.inside.answers) (cells_on at words) boxes) empty c.self.invariant.board.quiet) even)
+    (still_forever (rule_of c.self.inside.logic) (cells_on at words) n (cells_in_order at words)
+    (subst (λ (boxes : List Bounds). IsQuiet (rule_of c.self.inside.logic) (cells_on at words) boxes) empty c.self.invariant.board.quiet) even)

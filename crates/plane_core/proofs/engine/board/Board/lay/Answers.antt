@@ -44,8 +44,8 @@ fill-requires-clause-empty c =
     shown-empty c.args.at c.as_mut_slice.result.now
     (λ i. ap (λ (ws : List ℕ). slice_index ws i) (c.as_mut_slice.ensures.value ∙ c.in_ok-words.ensures.items_if_clones_equal (λ y h. h)) ∙ zeros _ i)
 
-pub fill-requires-clause-lanes : goal.fill-requires-clause-lanes
-fill-requires-clause-lanes c =
+pub fill-requires-clause-word_columns : goal.fill-requires-clause-word_columns
+fill-requires-clause-word_columns c =
     ap length (c.as_mut_slice-2.ensures.value ∙ c.in_ok-spans.ensures.items_if_clones_equal (λ y h. h)) ∙ length-replicate _ _
 
 laid : (c : goal.After-new-4) → IsSpannedBoard c.args.at (rule_of c.new.result) c.fill.new.words c.boxes_round.new.boxes.items true

@@ -5,8 +5,8 @@ use Rattle.std.proofs.lemmas.Result.{IfOk-from_err}
 use Rattle.plane_core.specs.windows.RuleLogic.{rule_of}
 use Rattle.plane_core.specs.declared.plane.bounds.Bounds.{Bounds}
 use Rattle.plane_core.specs.declared.engine.frame.Frame.{Frame}
-use Rattle.plane_core.specs.declared.engine.window_origin.Place.{Place}
-use Rattle.plane_core.specs.declared.engine.row_spans.Span.{Span}
+use Rattle.plane_core.specs.declared.engine.window_origin.WindowOrigin.{WindowOrigin}
+use Rattle.plane_core.specs.declared.engine.row_spans.RowSpan.{RowSpan}
 use Rattle.plane_core.specs.engine.Boards.{Running}
 use Rattle.plane_core.specs.plane.Bounds.{AreSidesWithin}
 use Rattle.plane_core.specs.engine.ActiveBoxes.{AreCovered, box_bound}
@@ -26,15 +26,15 @@ nothing : (n : ℕ) → 0 ≤ n
 nothing n = omega arith
 
 -- the same lists by other names
-covered_by : (ps qs : List Place) (bs cs : List Bounds) → qs ≡ ps → bs ≡ cs → AreCovered ps bs → AreCovered qs cs
-covered_by ps qs bs cs places boxes covered =
-    subst (λ (xs : List Place). AreCovered xs cs) (sym places) (subst (λ (xs : List Bounds). AreCovered ps xs) boxes covered)
+covered_by : (ps qs : List WindowOrigin) (bs cs : List Bounds) → qs ≡ ps → bs ≡ cs → AreCovered ps bs → AreCovered qs cs
+covered_by ps qs bs cs origins boxes covered =
+    subst (λ (xs : List WindowOrigin). AreCovered xs cs) (sym origins) (subst (λ (xs : List Bounds). AreCovered ps xs) boxes covered)
 
-put_back : (at : Frame) (places : List Place) (hs held : List (List ℕ)) (ws old new : List ℕ) → hs ≡ held → ws ≡ old
-    → ArePutBack at places hs (length places) ws new → ArePutBack at places held (length places) old new
-put_back at places hs held ws old new rows words put =
-    subst (λ (us : List ℕ). ArePutBack at places held (length places) us new) words
-    (subst (λ (xs : List (List ℕ)). ArePutBack at places xs (length places) ws new) rows put)
+put_back : (at : Frame) (origins : List WindowOrigin) (hs held : List (List ℕ)) (ws old new : List ℕ) → hs ≡ held → ws ≡ old
+    → ArePutBack at origins hs (length origins) ws new → ArePutBack at origins held (length origins) old new
+put_back at origins hs held ws old new rows words put =
+    subst (λ (us : List ℕ). ArePutBack at origins held (length origins) us new) words
+    (subst (λ (xs : List (List ℕ)). ArePutBack at origins xs (length origins) ws new) rows put)
 
 pub returns-then-not-are_enough-clause-rule : goal.returns-then-not-are_enough-clause-rule
 returns-then-not-are_enough-clause-rule c = refl
@@ -88,26 +88,26 @@ returns-clause-rule c = ap (λ (b : Running). b.rule) c.self.view_is
 pub returns-clause-most : goal.returns-clause-most
 returns-clause-most c = itself c.args.count
 
-gone_on : (c : goal.After-self-3-1) → HasGoneOn (rule_of c.self.inside.answers) c.self.inside.at c.args.count c.self.inside.words.items c.put_all.new.words
+gone_on : (c : goal.After-self-3-1) → HasGoneOn (rule_of c.self.inside.logic) c.self.inside.at c.args.count c.self.inside.words.items c.put_all.new.words
     c.run_all.new.boxes.items c.put_all.new.spans
 gone_on c =
     let inside = c.self.inside in
-    let rule = rule_of inside.answers in
+    let rule = rule_of inside.logic in
     let old = inside.words.items in
-    let places = c.as_slice-places.result.now in
+    let origins = c.as_slice-origins.result.now in
     let held = c.run_all.new.held.items in
     let on = c.in_ok-inside.ensures.on_board c.if-not-inside.false in
-    let ran = subst (λ (ws : List ℕ). AreRun inside.at ws rule c.args.count places held c.run_all.new.boxes.items) c.as_slice-2.ensures.value
+    let ran = subst (λ (ws : List ℕ). AreRun inside.at ws rule c.args.count origins held c.run_all.new.boxes.items) c.as_slice-2.ensures.value
     (c.in_ok-inside.ensures.run c.if-not-inside.false) in
     has_gone_on rule inside.at c.args.count old c.put_all.new.words inside.boxes.items c.run_all.new.boxes.items inside.spans.items
-    c.put_all.new.spans places
+    c.put_all.new.spans origins
     (is_ready rule inside.at c.args.count old inside.boxes.items inside.holds_all inside.spans.items c.self.invariant
     (c.are_enough.ensures c.if-not-are_enough.false))
-    (covered_by _ places _ inside.boxes.items c.as_slice-places.ensures.value c.as_slice.ensures.value c.in_ok-cover.ensures)
+    (covered_by _ origins _ inside.boxes.items c.as_slice-origins.ensures.value c.as_slice.ensures.value c.in_ok-cover.ensures)
     c.requires.some c.requires.few on
-    (subst (λ (ss : List Span). AreWidened ss c.put_all.new.spans) c.as_mut_slice-2.ensures.value c.put_all.ensures.kept) c.put_all.ensures.covered
-    (leapt inside.at rule c.args.count places held c.run_all.new.boxes.items old c.put_all.new.words ran
-    (put_back inside.at places c.as_slice-3.result.now held c.as_mut_slice.result.now old c.put_all.new.words c.as_slice-3.ensures.value
+    (subst (λ (ss : List RowSpan). AreWidened ss c.put_all.new.spans) c.as_mut_slice-2.ensures.value c.put_all.ensures.kept) c.put_all.ensures.covered
+    (leapt inside.at rule c.args.count origins held c.run_all.new.boxes.items old c.put_all.new.words ran
+    (put_back inside.at origins c.as_slice-3.result.now held c.as_mut_slice.result.now old c.put_all.new.words c.as_slice-3.ensures.value
     c.as_mut_slice.ensures.value c.put_all.ensures.put))
     ran.sides (ran.differences (cells_on inside.at old) (cells_in_order inside.at old) (shows_cells inside.at old))
 
@@ -123,7 +123,7 @@ invariant_of-self-2 c =
       with_items_is inside.spans spans (held ∙ c.as_mut_slice-2.ensures.len),
       c.swap.ensures.x_after,
     )
-    (leapt_board (rule_of inside.answers) inside.at c.args.count inside.words.items new inside.boxes.items c.run_all.new.boxes.items inside.holds_all
+    (leapt_board (rule_of inside.logic) inside.at c.args.count inside.words.items new inside.boxes.items c.run_all.new.boxes.items inside.holds_all
     inside.spans.items spans c.self.invariant (kept ∙ ap length c.as_mut_slice.ensures.value) (held ∙ ap length c.as_mut_slice-2.ensures.value)
     (gone_on c))
 
@@ -158,8 +158,8 @@ put_all-requires-clause-long c = ap length c.as_mut_slice.ensures.value ∙ c.se
 pub put_all-requires-clause-on_board : goal.put_all-requires-clause-on_board
 put_all-requires-clause-on_board c = c.in_ok-inside.ensures.on_board c.if-not-inside.false
 
-pub put_all-requires-clause-lanes : goal.put_all-requires-clause-lanes
-put_all-requires-clause-lanes c = ap length c.as_mut_slice-2.ensures.value ∙ c.self.invariant.spanned.lanes
+pub put_all-requires-clause-word_columns : goal.put_all-requires-clause-word_columns
+put_all-requires-clause-word_columns c = ap length c.as_mut_slice-2.ensures.value ∙ c.self.invariant.spanned.word_columns
 
 pub put_all-requires-clause-each : goal.put_all-requires-clause-each
 put_all-requires-clause-each c = ap length c.as_slice-3.ensures.value ∙ (c.in_ok-inside.ensures.run c.if-not-inside.false).long

@@ -2,7 +2,7 @@ use Rattle.std.proofs.Common.{◌≡◌, ◌∙◌, ◌*◌, ◌++◌, ℕ, List
 use Rattle.std.proofs.lemmas.List.{take-append-le, take_all, with_items_is}
 use Rattle.plane_core.specs.declared.plane.bounds.Bounds.{Bounds}
 use Rattle.plane_core.specs.declared.engine.frame.Frame.{Frame}
-use Rattle.plane_core.specs.declared.engine.row_spans.Span.{Span}
+use Rattle.plane_core.specs.declared.engine.row_spans.RowSpan.{RowSpan}
 use Rattle.plane_core.specs.engine.Boards.{IsSpannedBoard}
 use Rattle.plane_core.specs.engine.ActiveBoxes.{box_bound}
 use Rattle.plane_core.specs.engine.Frames.{Shows}
@@ -17,8 +17,8 @@ use Rattle.plane_core.proofs.engine.board.Board.show.Goals as goal
 pub empty-requires-clause-long : goal.empty-requires-clause-long
 empty-requires-clause-long c = rw c.as_mut_slice.ensures.value c.self.invariant.board.long
 
-pub empty-requires-clause-lanes : goal.empty-requires-clause-lanes
-empty-requires-clause-lanes c = rw c.as_mut_slice-2.ensures.value c.self.invariant.spanned.lanes
+pub empty-requires-clause-word_columns : goal.empty-requires-clause-word_columns
+empty-requires-clause-word_columns c = rw c.as_mut_slice-2.ensures.value c.self.invariant.spanned.word_columns
 
 pub empty-requires-clause-live : goal.empty-requires-clause-live
 empty-requires-clause-live c = rw (c.as_mut_slice.ensures.value, c.as_mut_slice-2.ensures.value) c.self.invariant.spanned.live
@@ -30,10 +30,10 @@ pub centred-requires-clause-plane : goal.centred-requires-clause-plane
 centred-requires-clause-plane c = c.self.invariant.plane
 
 -- the same lists by other names
-same_board : (at : Frame) (rule : Numbers) (ws vs : List ℕ) (bs : List Bounds) (ss ts : List Span) → vs ≡ ws → ts ≡ ss
+same_board : (at : Frame) (rule : Numbers) (ws vs : List ℕ) (bs : List Bounds) (ss ts : List RowSpan) → vs ≡ ws → ts ≡ ss
     → IsSpannedBoard at rule ws bs true ss → IsSpannedBoard at rule vs bs true ts
 same_board at rule ws vs bs ss ts words spans board =
-    subst (λ (us : List Span). IsSpannedBoard at rule vs bs true us) (sym spans)
+    subst (λ (us : List RowSpan). IsSpannedBoard at rule vs bs true us) (sym spans)
     (subst (λ (us : List ℕ). IsSpannedBoard at rule us bs true ss) (sym words) board)
 
 taken : {A : Type 0} (new rest : List A) (n : ℕ) → length new ≡ n → take n (new ++ rest) ≡ new
@@ -48,7 +48,7 @@ invariant_of-self c =
       board = blank_board c.self.inside.at (rule_of c.new-self-inside.result) c.empty.new.words c.clear.new.self.items true c.self.invariant.board.frame
           (c.empty.auto.words ∙ ap length c.as_mut_slice.ensures.value ∙ c.self.invariant.board.long) (no_sides box_bound _ c.clear.ensures.items) c.empty.ensures;
       spanned = empty_spans c.self.inside.at c.empty.new.words c.empty.new.spans c.empty.ensures
-          (c.empty.auto.spans ∙ ap length c.as_mut_slice-2.ensures.value ∙ c.self.invariant.spanned.lanes);
+          (c.empty.auto.spans ∙ ap length c.as_mut_slice-2.ensures.value ∙ c.self.invariant.spanned.word_columns);
       plane = c.self.invariant.plane;
     })
 
@@ -68,18 +68,18 @@ pub fill-requires-clause-long : goal.fill-requires-clause-long
 fill-requires-clause-long c =
     ap length (c.as_mut_slice-3.ensures.value ∙ with_items_is c.self.inside.words c.empty.new.words (c.empty.auto.words ∙ c.as_mut_slice.ensures.len))
     ∙ c.empty.auto.words ∙ ap length c.as_mut_slice.ensures.value ∙ c.self.invariant.board.long
-    ∙ sym (λ i. c.in-Some.ensures.lanes i * c.in-Some.ensures.rows i)
+    ∙ sym (λ i. c.in-Some.ensures.word_columns i * c.in-Some.ensures.rows i)
 
 pub fill-requires-clause-empty : goal.fill-requires-clause-empty
 fill-requires-clause-empty c =
     subst (λ (ws : List ℕ). Shows c.in-Some.at ws [])
     (sym (c.as_mut_slice-3.ensures.value ∙ with_items_is c.self.inside.words c.empty.new.words (c.empty.auto.words ∙ c.as_mut_slice.ensures.len)))
-    (moved_empty c.self.inside.at c.in-Some.at c.empty.new.words c.in-Some.ensures.lanes c.in-Some.ensures.rows c.empty.ensures)
+    (moved_empty c.self.inside.at c.in-Some.at c.empty.new.words c.in-Some.ensures.word_columns c.in-Some.ensures.rows c.empty.ensures)
 
-pub fill-requires-clause-lanes : goal.fill-requires-clause-lanes
-fill-requires-clause-lanes c =
+pub fill-requires-clause-word_columns : goal.fill-requires-clause-word_columns
+fill-requires-clause-word_columns c =
     ap length (c.as_mut_slice-4.ensures.value ∙ with_items_is c.self.inside.spans c.empty.new.spans (c.empty.auto.spans ∙ c.as_mut_slice-2.ensures.len))
-    ∙ c.empty.auto.spans ∙ ap length c.as_mut_slice-2.ensures.value ∙ c.self.invariant.spanned.lanes ∙ sym c.in-Some.ensures.lanes
+    ∙ c.empty.auto.spans ∙ ap length c.as_mut_slice-2.ensures.value ∙ c.self.invariant.spanned.word_columns ∙ sym c.in-Some.ensures.word_columns
 
 laid : (c : goal.After-self-6-1) → IsSpannedBoard c.in-Some.at (rule_of c.new-self-inside.result) c.fill.new.words
     c.boxes_round.new.boxes.items true c.fill.new.spans × (cells_on c.in-Some.at c.fill.new.words ≡ c.args.pattern.now)
@@ -89,9 +89,9 @@ laid c =
     c.in-Some.ensures.frame c.in-Some.ensures.plane
     (c.fill.auto.words ∙ ap length (c.as_mut_slice-3.ensures.value ∙ with_items_is c.self.inside.words c.empty.new.words (c.empty.auto.words ∙ c.as_mut_slice.ensures.len))
     ∙ c.empty.auto.words ∙ ap length c.as_mut_slice.ensures.value ∙ c.self.invariant.board.long
-    ∙ sym (λ i. c.in-Some.ensures.lanes i * c.in-Some.ensures.rows i))
+    ∙ sym (λ i. c.in-Some.ensures.word_columns i * c.in-Some.ensures.rows i))
     (c.fill.auto.spans ∙ ap length (c.as_mut_slice-4.ensures.value ∙ with_items_is c.self.inside.spans c.empty.new.spans (c.empty.auto.spans ∙ c.as_mut_slice-2.ensures.len))
-    ∙ c.empty.auto.spans ∙ ap length c.as_mut_slice-2.ensures.value ∙ c.self.invariant.spanned.lanes ∙ sym c.in-Some.ensures.lanes)
+    ∙ c.empty.auto.spans ∙ ap length c.as_mut_slice-2.ensures.value ∙ c.self.invariant.spanned.word_columns ∙ sym c.in-Some.ensures.word_columns)
     c.in-Some.ensures.on c.fill.ensures.shown c.fill.ensures.held
     c.in_ok-boxes_round.ensures.held c.boxes_round.ensures.sides
 
@@ -112,7 +112,7 @@ invariant_of-self-in_err-boxes_round c =
           (c.empty.auto.words ∙ ap length c.as_mut_slice.ensures.value ∙ c.self.invariant.board.long) (box_sides c.args.pattern.now c.cells-cells.result.now _ c.cells-cells.ensures.cells c.cells-cells.ensures.pattern
           c.boxes_round.ensures.sides) c.empty.ensures;
       spanned = empty_spans c.self.inside.at c.empty.new.words c.empty.new.spans c.empty.ensures
-          (c.empty.auto.spans ∙ ap length c.as_mut_slice-2.ensures.value ∙ c.self.invariant.spanned.lanes);
+          (c.empty.auto.spans ∙ ap length c.as_mut_slice-2.ensures.value ∙ c.self.invariant.spanned.word_columns);
       plane = c.self.invariant.plane;
     })
 

@@ -12,7 +12,7 @@ use Rattle.plane_core.proofs.engine.board.Board.take_out.Goals as goal
 pub invariant_of-self : goal.invariant_of-self
 invariant_of-self c =
     let inside = c.self.inside in
-    wider_board inside.at (rule_of inside.answers) inside.words.items inside.boxes.items c.put_in_boxes.new.boxes.items inside.holds_all
+    wider_board inside.at (rule_of inside.logic) inside.words.items inside.boxes.items c.put_in_boxes.new.boxes.items inside.holds_all
     inside.spans.items c.self.invariant
     (c.put_in_boxes.ensures.sides box_bound (rw c.cells-gone.ensures.cells (lies_in_bound c.args.cells.now c.cells-gone.ensures.pattern))
     c.self.invariant.board.sides) c.put_in_boxes.ensures.wider
@@ -25,7 +25,7 @@ invariant_of-self-2 c =
     let kept : length new ≡ length c.as_mut_slice.result.now = c.take_off.auto.words in
     let long : length new ≡ inside.words.len = kept ∙ c.as_mut_slice.ensures.len in
     rw (with_items_is inside.words new long)
-    (fewer_board inside.at (rule_of inside.answers) inside.words.items new inside.boxes.items c.put_in_boxes.new.boxes.items
+    (fewer_board inside.at (rule_of inside.logic) inside.words.items new inside.boxes.items c.put_in_boxes.new.boxes.items
     inside.holds_all inside.spans.items gone c.self.invariant (kept ∙ ap length c.as_mut_slice.ensures.value)
     (c.take_off.ensures ∙ ap (λ (words : List ℕ). without (cells_on inside.at words) gone) c.as_mut_slice.ensures.value)
     (c.put_in_boxes.ensures.sides box_bound (rw c.cells-gone.ensures.cells (lies_in_bound c.args.cells.now c.cells-gone.ensures.pattern))

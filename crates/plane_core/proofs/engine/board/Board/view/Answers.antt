@@ -3,7 +3,7 @@ use Rattle.plane_core.specs.engine.Boards.{Running}
 use Rattle.plane_core.specs.engine.Frames.{IsFrame, Shows}
 use Rattle.plane_core.specs.declared.engine.frame.Frame.{Frame}
 use Rattle.plane_core.proofs.lemmas.plane.CoordinateLemmas.{IsMoved, moved_by, view_is_frame, view_on_plane}
-use Rattle.plane_core.proofs.lemmas.engine.FrameFits.{fits_next_lane, fits_window_end}
+use Rattle.plane_core.proofs.lemmas.engine.FrameFits.{fits_next_word_column, fits_window_end}
 use Rattle.plane_core.proofs.lemmas.engine.LeapLemmas.{rows_shown}
 use Rattle.plane_core.specs.plane.Cells.{InOrder}
 use Rattle.plane_core.proofs.lemmas.engine.OnBoardLemmas.{cells_in_order, shows_cells}
@@ -12,10 +12,10 @@ use Rattle.plane_core.proofs.engine.board.Board.view.Goals as goal
 whole : 64 ≤ 64
 whole = omega arith
 
-right : (at : Frame) (x : ℕ) → IsFrame at → x / 64 + 1 < at.lanes → IsMoved at.left x
-right at x frame lane =
-    let few = frame.lanes in
-    moved_by at.left x (omega (arith, frame.left)) (omega (arith, lane, few))
+right : (at : Frame) (x : ℕ) → IsFrame at → x / 64 + 1 < at.word_columns → IsMoved at.left x
+right at x frame word_column =
+    let few = frame.word_columns in
+    moved_by at.left x (omega (arith, frame.left)) (omega (arith, word_column, few))
 
 down : (at : Frame) (y : ℕ) → IsFrame at → y + 64 ≤ at.rows → IsMoved at.top y
 down at y frame row =
@@ -23,7 +23,7 @@ down at y frame row =
     moved_by at.top y (omega (arith, frame.top)) (omega (arith, row, few))
 
 pub overflow_add-x : goal.overflow_add-x
-overflow_add-x c = fits_next_lane c.in-Some.x c.in-Some.ensures
+overflow_add-x c = fits_next_word_column c.in-Some.x c.in-Some.ensures
 
 pub overflow_add-y : goal.overflow_add-y
 overflow_add-y c = fits_window_end c.in-Some-first_of.y 64 c.in-Some-first_of.ensures whole
@@ -48,16 +48,16 @@ returns-clause-frame c =
       frame = view_is_frame at c.in-Some.x c.in-Some-first_of.y _ plane c.if-x-at.false c.if-y-at.false record {
         left = (right c.self.inside.at c.in-Some.x c.self.invariant.board.frame c.if-x-at.false).is;
         top = (down c.self.inside.at c.in-Some-first_of.y c.self.invariant.board.frame c.if-y-at.false).is;
-        lanes = refl;
+        word_columns = refl;
         rows = refl;
       };
       plane = view_on_plane at c.in-Some.x c.in-Some-first_of.y _ plane c.if-x-at.false c.if-y-at.false record {
         left = (right c.self.inside.at c.in-Some.x c.self.invariant.board.frame c.if-x-at.false).is;
         top = (down c.self.inside.at c.in-Some-first_of.y c.self.invariant.board.frame c.if-y-at.false).is;
-        lanes = refl;
+        word_columns = refl;
         rows = refl;
       };
-      lanes = refl;
+      word_columns = refl;
       rows = refl;
     }
 

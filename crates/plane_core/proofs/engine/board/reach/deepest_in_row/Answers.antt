@@ -34,8 +34,8 @@ all_gone gone k first bits low high are i inside =
 pub returns-clause-deeper : goal.returns-clause-deeper
 returns-clause-deeper c =
     let S = without (cells_on c.args.at c.args.words.now) c.args.gone.now in
-    let left = row_left c.args.at c.args.words.now c.args.gone.now c.args.lane c.args.row c.index.result c.loop-cell.gone_here c.corner-first.result
-    c.requires.lane c.requires.row c.loop-cell.auto.gone_here-fits.fits c.index.ensures.index c.corner-first.ensures.corner
+    let left = row_left c.args.at c.args.words.now c.args.gone.now c.args.word_column c.args.row c.index.result c.loop-cell.gone_here c.corner-first.result
+    c.requires.word_column c.requires.row c.loop-cell.auto.gone_here-fits.fits c.index.ensures.index c.corner-first.ensures.corner
     (all_gone c.args.gone.now c.loop-cell.cell-index c.corner-first.result c.loop-cell.gone_here c.loop-cell.auto.cell-index-end c.loop-cell-test.false
     c.loop-cell.invariant) in
     let f : FitsSigned w32 c.max.result = search rules in
@@ -44,14 +44,14 @@ returns-clause-deeper c =
     let greater = greater_or c.args.found c.depth_at-depth.result c.unwrap_or.result c.max.result (search rules) g c.unwrap_or.ensures c.max.ensures.value in
     let at_column = to_z-of_z w32 c.depth_at-depth.result g ∙ c.depth_at-depth.ensures in
     subst (λ (z : ℤ). GoesDeeper c.args.way S c.args.found (Some z)) (sym (to_z-of_z w32 c.max.result f))
-    (row_deeper c.args.at c.args.way S c.args.lane c.args.row _ c.farthest.result c.args.found deep
+    (row_deeper c.args.at c.args.way S c.args.word_column c.args.row _ c.farthest.result c.args.found deep
     c.max.result left c.farthest.ensures.small c.farthest.ensures.one at_column greater.kept greater.either)
 
 pub returns-clause-seen : goal.returns-clause-seen
 returns-clause-seen c =
     let S = without (cells_on c.args.at c.args.words.now) c.args.gone.now in
-    let left = row_left c.args.at c.args.words.now c.args.gone.now c.args.lane c.args.row c.index.result c.loop-cell.gone_here c.corner-first.result
-    c.requires.lane c.requires.row c.loop-cell.auto.gone_here-fits.fits c.index.ensures.index c.corner-first.ensures.corner
+    let left = row_left c.args.at c.args.words.now c.args.gone.now c.args.word_column c.args.row c.index.result c.loop-cell.gone_here c.corner-first.result
+    c.requires.word_column c.requires.row c.loop-cell.auto.gone_here-fits.fits c.index.ensures.index c.corner-first.ensures.corner
     (all_gone c.args.gone.now c.loop-cell.cell-index c.corner-first.result c.loop-cell.gone_here c.loop-cell.auto.cell-index-end c.loop-cell-test.false
     c.loop-cell.invariant) in
     let f : FitsSigned w32 c.max.result = search rules in
@@ -59,8 +59,8 @@ returns-clause-seen c =
     let deep = to_z w32 (of_z w32 c.depth_at-depth.result) in
     let greater = greater_or c.args.found c.depth_at-depth.result c.unwrap_or.result c.max.result (search rules) g c.unwrap_or.ensures c.max.ensures.value in
     let at_column = to_z-of_z w32 c.depth_at-depth.result g ∙ c.depth_at-depth.ensures in
-    subst (λ (z : ℤ). IsSeen c.args.at c.args.way S c.args.lane c.args.row (Some z)) (sym (to_z-of_z w32 c.max.result f))
-    (row_seen c.args.at c.args.way S c.args.lane c.args.row _ c.farthest.result deep c.max.result
+    subst (λ (z : ℤ). IsSeen c.args.at c.args.way S c.args.word_column c.args.row (Some z)) (sym (to_z-of_z w32 c.max.result f))
+    (row_seen c.args.at c.args.way S c.args.word_column c.args.row _ c.farthest.result deep c.max.result
     left c.farthest.ensures.far at_column greater.least)
 
 pub returns-then-word-eq0-clause-deeper : goal.returns-then-word-eq0-clause-deeper
@@ -72,8 +72,8 @@ depth_at-depth-requires-clause-frame c = c.requires.frame
 pub depth_at-depth-requires-clause-plane : goal.depth_at-depth-requires-clause-plane
 depth_at-depth-requires-clause-plane c = c.requires.plane
 
-pub depth_at-depth-requires-clause-lane : goal.depth_at-depth-requires-clause-lane
-depth_at-depth-requires-clause-lane c = c.requires.lane
+pub depth_at-depth-requires-clause-word_column : goal.depth_at-depth-requires-clause-word_column
+depth_at-depth-requires-clause-word_column c = c.requires.word_column
 
 pub depth_at-depth-requires-clause-row : goal.depth_at-depth-requires-clause-row
 depth_at-depth-requires-clause-row c = c.requires.row
@@ -83,12 +83,12 @@ depth_at-depth-requires-clause-column c = c.farthest.ensures.small
 
 pub returns-then-word-eq0-clause-seen : goal.returns-then-word-eq0-clause-seen
 returns-then-word-eq0-clause-seen c =
-    let left = row_left c.args.at c.args.words.now c.args.gone.now c.args.lane c.args.row c.index.result c.loop-cell.gone_here c.corner-first.result
-    c.requires.lane c.requires.row c.loop-cell.auto.gone_here-fits.fits c.index.ensures.index c.corner-first.ensures.corner
+    let left = row_left c.args.at c.args.words.now c.args.gone.now c.args.word_column c.args.row c.index.result c.loop-cell.gone_here c.corner-first.result
+    c.requires.word_column c.requires.row c.loop-cell.auto.gone_here-fits.fits c.index.ensures.index c.corner-first.ensures.corner
     (all_gone c.args.gone.now c.loop-cell.cell-index c.corner-first.result c.loop-cell.gone_here c.loop-cell.auto.cell-index-end c.loop-cell-test.false
     c.loop-cell.invariant) in
-    none_seen c.args.at c.args.way (without (cells_on c.args.at c.args.words.now) c.args.gone.now) c.args.lane c.args.row _ c.args.found left
+    none_seen c.args.at c.args.way (without (cells_on c.args.at c.args.words.now) c.args.gone.now) c.args.word_column c.args.row _ c.args.found left
     c.if-word-eq0.true
 
 pub index-requires : goal.index-requires
-index-requires c = record { frame = c.requires.frame; lane = c.requires.lane; row = c.requires.row }
+index-requires c = record { frame = c.requires.frame; word_column = c.requires.word_column; row = c.requires.row }

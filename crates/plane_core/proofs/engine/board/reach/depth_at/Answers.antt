@@ -6,12 +6,12 @@ use Rattle.plane_core.proofs.engine.board.reach.depth_at.Goals as goal
 
 pub depth-requires : goal.depth-requires
 depth-requires c =
-    cell_on_plane c.args.at c.args.lane c.args.row c.args.column c.along.result c.requires.lane c.requires.row c.requires.column c.requires.plane
-    (cell_along c.args.at c.args.lane c.args.row c.args.column c.corner.result c.along.result c.corner.ensures.corner c.along.ensures)
+    cell_on_plane c.args.at c.args.word_column c.args.row c.args.column c.along.result c.requires.word_column c.requires.row c.requires.column c.requires.plane
+    (cell_along c.args.at c.args.word_column c.args.row c.args.column c.corner.result c.along.result c.corner.ensures.corner c.along.ensures)
 
 pub returns : goal.returns
 returns c =
     let f : FitsSigned w32 c.depth.result = search rules in
     to_z-of_z w32 c.depth.result f ∙ c.depth.ensures
     ∙ ap (depth_in c.args.way)
-    (cell_along c.args.at c.args.lane c.args.row c.args.column c.corner.result c.along.result c.corner.ensures.corner c.along.ensures)
+    (cell_along c.args.at c.args.word_column c.args.row c.args.column c.corner.result c.along.result c.corner.ensures.corner c.along.ensures)

@@ -10,14 +10,14 @@ row_inwards-requires c = below_too _ _ _ c.loop-step-test.true c.requires.end
 pub index-requires-clause-frame : goal.index-requires-clause-frame
 index-requires-clause-frame c = c.requires.frame
 
-pub index-requires-clause-lane : goal.index-requires-clause-lane
-index-requires-clause-lane c = c.requires.lane
+pub index-requires-clause-word_column : goal.index-requires-clause-word_column
+index-requires-clause-word_column c = c.requires.word_column
 
 pub index-requires-clause-row : goal.index-requires-clause-row
 index-requires-clause-row c = below_too _ _ _ c.row_inwards.ensures.high c.requires.rows
 
 pub bounds-words-index : goal.bounds-words-index
-bounds-words-index c = index_in c.args.at c.args.words.now c.args.lane c.row_inwards.result c.index.result c.requires.long c.requires.lane
+bounds-words-index c = index_in c.args.at c.args.words.now c.args.word_column c.row_inwards.result c.index.result c.requires.long c.requires.word_column
     (below_too _ _ _ c.row_inwards.ensures.high c.requires.rows) c.index.ensures.index
 
 pub returns-then-words-index-ne0-clause-later : goal.returns-then-words-index-ne0-clause-later
@@ -41,7 +41,7 @@ loop-step-init c = record { later = itself c.args.from; dead = λ step from to. 
 pub loop-step-preserved : goal.loop-step-preserved
 loop-step-preserved c = record {
   later = past_too _ _ c.loop-step.invariant.later;
-  dead = dead_more c.args.at c.args.way c.args.words.now c.args.lane c.args.rows c.args.from c.loop-step.step c.index.result c.row_inwards.result
+  dead = dead_more c.args.at c.args.way c.args.words.now c.args.word_column c.args.rows c.args.from c.loop-step.step c.index.result c.row_inwards.result
       c.loop-step.invariant.dead c.row_inwards.ensures.row c.index.ensures.index c.if-words-index-ne0.false;
 }
 

@@ -5,7 +5,7 @@ use Rattle.plane_core.proofs.engine.board.reach.next_live.Given as goal
 abbrev pub invariant-loop-step : goal.invariant-loop-step
 invariant-loop-step l = record {
   later : l.fn.from ≤ l.step;
-  dead : AreDeadRows l.at l.way l.words l.lane l.rows l.fn.from l.step;
+  dead : AreDeadRows l.at l.way l.words l.word_column l.rows l.fn.from l.step;
 }
 
 abbrev pub decreases-loop-step : goal.decreases-loop-step

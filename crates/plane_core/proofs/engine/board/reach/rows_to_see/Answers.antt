@@ -13,9 +13,9 @@ returns-then-outermost-deepest-clause-beyond c =
     let f : FitsSigned w32 o = search rules in
     let g : FitsSigned w32 m = search rules in
     let low = rw (to_z-of_z w32 o f, to_z-of_z w32 m g) at c.if-outermost-deepest.true in
-    no_deeper c.args.at c.args.way c.args.lane c.args.rows 0 c.args.found m o c.in-Some.is
+    no_deeper c.args.at c.args.way c.args.word_column c.args.rows 0 c.args.found m o c.in-Some.is
     (c.depth_at-outermost.ensures
-    ∙ (λ t. depth_in c.args.way (board_cell c.args.at c.args.lane (c.row_inwards-row.ensures.row t) (c.outer_column.ensures.column t))))
+    ∙ (λ t. depth_in c.args.way (board_cell c.args.at c.args.word_column (c.row_inwards-row.ensures.row t) (c.outer_column.ensures.column t))))
     (λ step from to. omega (arith, ints, low))
 
 pub returns-clause-beyond : goal.returns-clause-beyond
@@ -25,9 +25,9 @@ returns-clause-beyond c =
     let f : FitsSigned w32 o = search rules in
     let g : FitsSigned w32 m = search rules in
     let apart = rw (to_z-of_z w32 o f, to_z-of_z w32 m g) at c.abs_diff.ensures in
-    no_deeper c.args.at c.args.way c.args.lane c.args.rows c.min.result c.args.found m o c.in-Some.is
+    no_deeper c.args.at c.args.way c.args.word_column c.args.rows c.min.result c.args.found m o c.in-Some.is
     (c.depth_at-outermost.ensures
-    ∙ (λ t. depth_in c.args.way (board_cell c.args.at c.args.lane (c.row_inwards-row.ensures.row t) (c.outer_column.ensures.column t))))
+    ∙ (λ t. depth_in c.args.way (board_cell c.args.at c.args.word_column (c.row_inwards-row.ensures.row t) (c.outer_column.ensures.column t))))
     (λ step low high. enough_steps o m _ c.abs_diff.result c.min.result step apart c.min.ensures low high)
 
 pub overflow_sub-count : goal.overflow_sub-count
@@ -45,8 +45,8 @@ depth_at-outermost-requires-clause-frame c = c.requires.frame
 pub depth_at-outermost-requires-clause-plane : goal.depth_at-outermost-requires-clause-plane
 depth_at-outermost-requires-clause-plane c = c.requires.plane
 
-pub depth_at-outermost-requires-clause-lane : goal.depth_at-outermost-requires-clause-lane
-depth_at-outermost-requires-clause-lane c = c.requires.lane
+pub depth_at-outermost-requires-clause-word_column : goal.depth_at-outermost-requires-clause-word_column
+depth_at-outermost-requires-clause-word_column c = c.requires.word_column
 
 pub depth_at-outermost-requires-clause-row : goal.depth_at-outermost-requires-clause-row
 depth_at-outermost-requires-clause-row c = below_too _ _ _ c.row_inwards-row.ensures.high c.requires.end

@@ -30,8 +30,8 @@ down-requires-clause-within c = c.has.ensures.0 c.if-not-has.false
 pub index-i-requires-clause-frame : goal.index-i-requires-clause-frame
 index-i-requires-clause-frame c = c.requires.frame
 
-pub index-i-requires-clause-lane : goal.index-i-requires-clause-lane
-index-i-requires-clause-lane c = (spot_inside c.args.at _ _ _ (c.has.ensures.0 c.if-not-has.false) c.across-across.ensures c.down.ensures).0
+pub index-i-requires-clause-word_column : goal.index-i-requires-clause-word_column
+index-i-requires-clause-word_column c = (spot_inside c.args.at _ _ _ (c.has.ensures.0 c.if-not-has.false) c.across-across.ensures c.down.ensures).0
 
 pub index-i-requires-clause-row : goal.index-i-requires-clause-row
 index-i-requires-clause-row c = (spot_inside c.args.at _ _ _ (c.has.ensures.0 c.if-not-has.false) c.across-across.ensures c.down.ensures).1

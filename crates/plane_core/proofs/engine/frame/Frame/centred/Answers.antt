@@ -23,8 +23,8 @@ returns-in_default-clause-frame c = c.requires.frame
 pub returns-in_default-clause-plane : goal.returns-in_default-clause-plane
 returns-in_default-clause-plane c = c.requires.plane
 
-pub returns-in_default-clause-lanes : goal.returns-in_default-clause-lanes
-returns-in_default-clause-lanes c = refl
+pub returns-in_default-clause-word_columns : goal.returns-in_default-clause-word_columns
+returns-in_default-clause-word_columns c = refl
 
 pub returns-in_default-clause-rows : goal.returns-in_default-clause-rows
 returns-in_default-clause-rows c = refl
@@ -38,8 +38,8 @@ returns-clause-frame c = c.round_middle.ensures.frame
 pub returns-clause-plane : goal.returns-clause-plane
 returns-clause-plane c = c.round_middle.ensures.plane
 
-pub returns-clause-lanes : goal.returns-clause-lanes
-returns-clause-lanes c = c.round_middle.ensures.lanes
+pub returns-clause-word_columns : goal.returns-clause-word_columns
+returns-clause-word_columns c = c.round_middle.ensures.word_columns
 
 pub returns-clause-rows : goal.returns-clause-rows
 returns-clause-rows c = c.round_middle.ensures.rows

@@ -10,8 +10,8 @@ fits_margin generations low = record { fits = omega arith }
 below_bound : (generations : ℕ) → generations ≤ 1000 → generations + 40 ≤ plane_bound
 below_bound generations low = omega arith
 
-lane_below : (generations : ℕ) → generations ≤ 1000 → 64 ≤ plane_bound - (generations + 40)
-lane_below generations low = omega arith
+word_column_below : (generations : ℕ) → generations ≤ 1000 → 64 ≤ plane_bound - (generations + 40)
+word_column_below generations low = omega arith
 
 small_margin : (generations : ℕ) → generations ≤ 1000 → generations + 40 ≤ 2000
 small_margin generations low = omega arith
@@ -88,7 +88,7 @@ pub overflow_sub-margin : goal.overflow_sub-margin
 overflow_sub-margin c = below_bound c.args.generations c.requires
 
 pub overflow_sub-margin-2 : goal.overflow_sub-margin-2
-overflow_sub-margin-2 c = lane_below c.args.generations c.requires
+overflow_sub-margin-2 c = word_column_below c.args.generations c.requires
 
 pub round_box-at-requires-clause-margin : goal.round_box-at-requires-clause-margin
 round_box-at-requires-clause-margin c = small_margin c.args.generations c.requires

@@ -1,20 +1,20 @@
 use Rattle.std.proofs.Common.{ap, ℕ, ◌+◌, ◌*◌, ◌/◌, w32, FitsSigned}
 use Rattle.std.proofs.lemmas.Int.{to_z-of_z}
-use Rattle.plane_core.proofs.lemmas.engine.FrameFits.{apart_is, apart_small, back_is, fits_back, fits_bands, fits_more, fits_new_lanes, fits_new_rows}
-use Rattle.plane_core.proofs.lemmas.engine.FrameFits.{fits_one_more, fits_twice, fits_wide_lanes, fits_wide_rows, margin_small, passed_near, twice_small}
+use Rattle.plane_core.proofs.lemmas.engine.FrameFits.{apart_is, apart_small, back_is, fits_back, fits_bands, fits_more, fits_new_word_columns, fits_new_rows}
+use Rattle.plane_core.proofs.lemmas.engine.FrameFits.{fits_one_more, fits_twice, fits_wide_word_columns, fits_wide_rows, margin_small, passed_near, twice_small}
 use Rattle.plane_core.proofs.lemmas.engine.FrameLemmas.{IsRoundBox, round_is_frame, round_has_on, round_on_plane, sides_on_plane}
 use Rattle.plane_core.proofs.engine.frame.Frame.round_box.Goals as goal
 
 is_round : (c : goal.After-back-2) → IsRoundBox c.args.bounds c.args.margin (record {
   left = c.back.result;
   top = c.back-2.result;
-  lanes = (c.apart.result + 2 * c.args.margin + 1) / 64 + 1;
+  word_columns = (c.apart.result + 2 * c.args.margin + 1) / 64 + 1;
   rows = (c.apart-2.result + 2 * c.args.margin + 1) / 8 * 8 + 8;
 })
 is_round c = record {
   left = back_is c.args.bounds.left c.args.margin c.back.result (sides_on_plane c.args.bounds c.args.margin c.requires.sides).left c.back.ensures;
   top = back_is c.args.bounds.top c.args.margin c.back-2.result (sides_on_plane c.args.bounds c.args.margin c.requires.sides).top c.back-2.ensures;
-  lanes = ap (λ (n : ℕ). (n + 2 * c.args.margin + 1) / 64 + 1)
+  word_columns = ap (λ (n : ℕ). (n + 2 * c.args.margin + 1) / 64 + 1)
       (apart_is c.args.bounds.left c.args.bounds.right c.apart.result (sides_on_plane c.args.bounds c.args.margin c.requires.sides).left
       (sides_on_plane c.args.bounds c.args.margin c.requires.sides).right c.apart.ensures);
   rows = ap (λ (n : ℕ). (n + 2 * c.args.margin + 1) / 8 * 8 + 8)
@@ -84,14 +84,14 @@ overflow_add-width-2 c =
 
 pub overflow_add-result : goal.overflow_add-result
 overflow_add-result c =
-    fits_new_lanes c.apart.result (2 * c.args.margin)
+    fits_new_word_columns c.apart.result (2 * c.args.margin)
     (apart_small c.args.bounds.left c.args.bounds.right c.apart.result (sides_on_plane c.args.bounds c.args.margin c.requires.sides).left
     (sides_on_plane c.args.bounds c.args.margin c.requires.sides).right c.apart.ensures)
     (twice_small c.args.margin c.requires.margin)
 
 pub overflow_cast-result : goal.overflow_cast-result
 overflow_cast-result c =
-    fits_wide_lanes c.apart.result (2 * c.args.margin)
+    fits_wide_word_columns c.apart.result (2 * c.args.margin)
     (apart_small c.args.bounds.left c.args.bounds.right c.apart.result (sides_on_plane c.args.bounds c.args.margin c.requires.sides).left
     (sides_on_plane c.args.bounds c.args.margin c.requires.sides).right c.apart.ensures)
     (twice_small c.args.margin c.requires.margin)

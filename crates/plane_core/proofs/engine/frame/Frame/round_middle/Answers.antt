@@ -1,6 +1,6 @@
 use Rattle.std.proofs.Common.{ap, arith, ℕ, ◌∙◌, ◌≤◌, ◌+◌, ◌-◌, ◌-ℤ◌, ◌*◌, ◌/◌, pos, refl, subst, sym, w32, Fits, FitsSigned}
 use Rattle.std.proofs.lemmas.Int.{to_z-of_z}
-use Rattle.plane_core.proofs.lemmas.engine.FrameFits.{apart_is, apart_small, back_is, fits_around, fits_back, fits_columns, fits_lanes, fits_more, fits_room, fits_rows}
+use Rattle.plane_core.proofs.lemmas.engine.FrameFits.{apart_is, apart_small, back_is, fits_around, fits_back, fits_columns, fits_word_columns, fits_more, fits_room, fits_rows}
 use Rattle.plane_core.proofs.lemmas.engine.FrameFits.{half_low, half_near, has_room, passed_near, room_sides, sides_near}
 use Rattle.plane_core.proofs.lemmas.engine.FrameLemmas.{IsRoundMiddle, middle_has_on, middle_is_frame, middle_on_plane}
 use Rattle.plane_core.proofs.engine.frame.Frame.round_middle.Goals as goal
@@ -14,7 +14,7 @@ room : Fits w32 400
 room = record { fits = omega arith }
 
 pub overflow_cast-columns : goal.overflow_cast-columns
-overflow_cast-columns c = fits_lanes c.args.self c.requires.frame
+overflow_cast-columns c = fits_word_columns c.args.self c.requires.frame
 
 pub overflow_mul-columns : goal.overflow_mul-columns
 overflow_mul-columns c = fits_columns c.args.self c.requires.frame
@@ -85,7 +85,7 @@ room_found c =
 is_middle : (c : After-back-2) → HasRoom c.args.self c.args.bounds → IsRoundMiddle c.args.self c.args.bounds (record {
   left = c.back.result;
   top = c.back-2.result;
-  lanes = c.args.self.lanes;
+  word_columns = c.args.self.word_columns;
   rows = c.args.self.rows;
 })
 is_middle c room =
@@ -94,22 +94,22 @@ is_middle c room =
     let height = apart_is c.args.bounds.top c.args.bounds.bottom c.apart-height.result sides.top sides.bottom c.apart-height.ensures in
     record {
       left = back_is c.args.bounds.left _ c.back.result sides.left c.back.ensures
-          ∙ ap (λ (n : ℕ). c.args.bounds.left -ℤ pos ((64 * c.args.self.lanes - (n + 1)) / 2)) width;
+          ∙ ap (λ (n : ℕ). c.args.bounds.left -ℤ pos ((64 * c.args.self.word_columns - (n + 1)) / 2)) width;
       top = back_is c.args.bounds.top _ c.back-2.result sides.top c.back-2.ensures
           ∙ ap (λ (n : ℕ). c.args.bounds.top -ℤ pos ((c.args.self.rows - (n + 1)) / 2)) height;
-      lanes = refl;
+      word_columns = refl;
       rows = refl;
     }
 
 fits_left : (c : After-back-2) → HasRoom c.args.self c.args.bounds → FitsSigned w32 c.back.result
 fits_left c room =
     fits_back c.args.bounds.left _ c.back.result (room_sides c.args.self c.args.bounds room).left
-    (half_near (64 * c.args.self.lanes) (c.apart-width.result + 1) c.args.self.rows room.plane) c.back.ensures
+    (half_near (64 * c.args.self.word_columns) (c.apart-width.result + 1) c.args.self.rows room.plane) c.back.ensures
 
 fits_top : (c : After-back-2) → HasRoom c.args.self c.args.bounds → FitsSigned w32 c.back-2.result
 fits_top c room =
     fits_back c.args.bounds.top _ c.back-2.result (room_sides c.args.self c.args.bounds room).top
-    (half_low c.args.self.rows (c.apart-height.result + 1) (64 * c.args.self.lanes) room.plane) c.back-2.ensures
+    (half_low c.args.self.rows (c.apart-height.result + 1) (64 * c.args.self.word_columns) room.plane) c.back-2.ensures
 
 pub returns-clause-frame : goal.returns-clause-frame
 returns-clause-frame c =
@@ -129,7 +129,7 @@ returns-clause-on c =
 pub overflow_sub-columns : goal.overflow_sub-columns
 overflow_sub-columns c =
     let sides = room_sides c.args.self c.args.bounds (room_found (goal.at.overflow_sub-columns c).Else-height-room) in
-    subst (λ (d : ℕ). d + 1 ≤ 64 * c.args.self.lanes)
+    subst (λ (d : ℕ). d + 1 ≤ 64 * c.args.self.word_columns)
     (sym (apart_is c.args.bounds.left c.args.bounds.right c.apart-width.result sides.left sides.right c.apart-width.ensures))
     (room_found (goal.at.overflow_sub-columns c).Else-height-room).across
 
@@ -137,7 +137,7 @@ pub back-requires-clause-from : goal.back-requires-clause-from
 back-requires-clause-from c = passed_near c.args.bounds.left (room_sides c.args.self c.args.bounds (room_found (goal.at.back-requires-clause-from c).Else-height-room)).left
 
 pub back-requires-clause-cells : goal.back-requires-clause-cells
-back-requires-clause-cells c = half_near (64 * c.args.self.lanes) (c.apart-width.result + 1) c.args.self.rows (room_found (goal.at.back-requires-clause-cells c).Else-height-room).plane
+back-requires-clause-cells c = half_near (64 * c.args.self.word_columns) (c.apart-width.result + 1) c.args.self.rows (room_found (goal.at.back-requires-clause-cells c).Else-height-room).plane
 
 pub overflow_sub-rows : goal.overflow_sub-rows
 overflow_sub-rows c =
@@ -150,10 +150,10 @@ pub back-requires-2-clause-from : goal.back-requires-2-clause-from
 back-requires-2-clause-from c = passed_near c.args.bounds.top (room_sides c.args.self c.args.bounds (room_found (goal.at.back-requires-2-clause-from c).Else-height-room)).top
 
 pub back-requires-2-clause-cells : goal.back-requires-2-clause-cells
-back-requires-2-clause-cells c = half_low c.args.self.rows (c.apart-height.result + 1) (64 * c.args.self.lanes) (room_found (goal.at.back-requires-2-clause-cells c).Else-height-room).plane
+back-requires-2-clause-cells c = half_low c.args.self.rows (c.apart-height.result + 1) (64 * c.args.self.word_columns) (room_found (goal.at.back-requires-2-clause-cells c).Else-height-room).plane
 
-pub returns-clause-lanes : goal.returns-clause-lanes
-returns-clause-lanes c = refl
+pub returns-clause-word_columns : goal.returns-clause-word_columns
+returns-clause-word_columns c = refl
 
 pub returns-clause-rows : goal.returns-clause-rows
 returns-clause-rows c = refl

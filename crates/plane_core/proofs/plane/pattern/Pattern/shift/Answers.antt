@@ -49,15 +49,15 @@ returns-then-not-is_on_plane-clause-refused c =
     c.loop-cell-test.true (lands (goal.at.returns-then-not-is_on_plane-clause-refused c).After-landing ∙ sym c.if-not-is_on_plane.ensures) in
     rw c.cells-cells.ensures.cells at (sym off)
 
-pub place_all-requires-clause-cells : goal.place_all-requires-clause-cells
-place_all-requires-clause-cells c = cells_on (goal.at.place_all-requires-clause-cells c).After-cells-cells
+pub transform_all-requires-clause-cells : goal.transform_all-requires-clause-cells
+transform_all-requires-clause-cells c = cells_on (goal.at.transform_all-requires-clause-cells c).After-cells-cells
 
-pub place_all-requires-clause-landed : goal.place_all-requires-clause-landed
-place_all-requires-clause-landed c =
+pub transform_all-requires-clause-landed : goal.transform_all-requires-clause-landed
+transform_all-requires-clause-landed c =
     let fits_x : FitsSigned w32 c.args.dx = c.ranges.dx in
     let fits_y : FitsSigned w32 c.args.dy = c.ranges.dy in
     let moved : list_all on_plane (shifted c.args.dx c.args.dy c.cells-cells.result.now) ≡ true =
-    rw c.cells-cells.ensures.cells (on (goal.at.place_all-requires-clause-landed c).After-loop-cell) in
+    rw c.cells-cells.ensures.cells (on (goal.at.transform_all-requires-clause-landed c).After-loop-cell) in
     simp to_z-of_z moved
 
 pub from_ordered-requires : goal.from_ordered-requires

@@ -8,8 +8,8 @@ use Rattle.plane_core.proofs.lemmas.plane.CutLemmas.{is_pattern-image, landed_im
 use Rattle.plane_core.proofs.plane.pattern.Pattern.transposed.Goals.{After-in_order}
 use Rattle.plane_core.proofs.plane.pattern.Pattern.transposed.Goals as goal
 
-pub place_all-requires-clause-landed : goal.place_all-requires-clause-landed
-place_all-requires-clause-landed c =
+pub transform_all-requires-clause-landed : goal.transform_all-requires-clause-landed
+transform_all-requires-clause-landed c =
     landed_on_plane _ (subst (λ (cells : List Cell). list_all on_plane cells ≡ true) (sym c.cells.ensures.cells) c.cells.ensures.pattern.on_plane)
 
 turned : (c : After-in_order) → c.in_order.result.items ≡ image Diagonal c.args.self.now

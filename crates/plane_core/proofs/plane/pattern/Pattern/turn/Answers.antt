@@ -3,14 +3,14 @@ use Rattle.std.proofs.lemmas.Result.{err_from_is_err_and}
 use Rattle.std.specs.List.{list_all}
 use Rattle.plane_core.specs.plane.Bounds.{box_of}
 use Rattle.plane_core.specs.plane.Cells.{on_plane, set_of}
-use Rattle.plane_core.specs.plane.Orientations.{corner_placement, turned, turned_cell}
+use Rattle.plane_core.specs.plane.Orientations.{corner_transform, turned, turned_cell}
 use Rattle.plane_core.proofs.lemmas.plane.TurnLemmas.{placed-turned, placed-plane, is_pattern-turned}
 use Rattle.plane_core.proofs.plane.pattern.Pattern.turn.Goals.{After-in_order, In-Some}
 use Rattle.plane_core.proofs.plane.pattern.Pattern.turn.Goals as goal
 
 -- the placement takes the image to the corner
-at_corner : (c : In-Some) → c.in-Some.placement ≡ corner_placement c.args.orientation (box_of (map (turned_cell c.args.orientation) c.args.self.now))
-at_corner c = rw (c.in-Some.is, c.cells-cells.ensures.cells) at c.to_corner.ensures.placement
+at_corner : (c : In-Some) → c.in-Some.transform ≡ corner_transform c.args.orientation (box_of (map (turned_cell c.args.orientation) c.args.self.now))
+at_corner c = rw (c.in-Some.is, c.cells-cells.ensures.cells) at c.to_corner.ensures.transform
 
 -- the image lies on the plane
 on : (c : In-Some) → list_all on_plane (turned c.args.orientation c.args.self.now) ≡ true
@@ -23,9 +23,9 @@ placed c =
     ∙ ap set_of (rw (at_corner (goal.at.from_ordered-requires c).In-Some, c.cells-cells.ensures.cells) at c.in_ok-placed.ensures)
     ∙ placed-turned c.args.orientation c.args.self.now
 
-pub place_all-requires-clause-landed : goal.place_all-requires-clause-landed
-place_all-requires-clause-landed c =
-    let here = (goal.at.place_all-requires-clause-landed c).In-Some in
+pub transform_all-requires-clause-landed : goal.transform_all-requires-clause-landed
+transform_all-requires-clause-landed c =
+    let here = (goal.at.transform_all-requires-clause-landed c).In-Some in
     rw (at_corner here, c.cells-cells.ensures.cells) (placed-plane c.args.orientation c.args.self.now ∙ on here)
 
 pub returns-in_default-clause-refused : goal.returns-in_default-clause-refused

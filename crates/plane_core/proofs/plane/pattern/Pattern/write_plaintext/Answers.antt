@@ -78,16 +78,16 @@ loop-y-preserved g c =
     let l : y <ℤ end = lt_z-true y end test in
     let next = next_inside b y box inv.0 l in
     let below : c.below-remainder.result.now ≡ drop (len_in_row y remainder) remainder = c.below-remainder.ensures in
-    let front = inv.4 in
+    let prefix = inv.4 in
     rw (to_z-of_z w32 (y +ℤ pos 1) (next_fits b y box inv.0 l), below) (
       next.0,
       next.1,
       IsAhead-next y b remainder inv.2,
       SameFrom-next y cells remainder inv.3,
       (
-        front.0 ++ row_text remainder b y,
-        rows_remainder-at cells remainder b y front.0 (box_text (Some b) cells) l inv.3 front.1,
-        Writes_then {r = Ok tt} front.2 c.in_ok-write_row.ensures,
+        prefix.0 ++ row_text remainder b y,
+        rows_remainder-at cells remainder b y prefix.0 (box_text (Some b) cells) l inv.3 prefix.1,
+        Writes_then {r = Ok tt} prefix.2 c.in_ok-write_row.ensures,
       ),
     )
 
@@ -104,10 +104,10 @@ returns-in_err-write_row g c =
     let at_end = past_bottom b box in
     let test = rw at_end at c.loop-y-test.true in
     let l : y <ℤ end = lt_z-true y end test in
-    let front = inv.4 in
-    Writes_as {r = c.from_residual.result} (sym (rows_remainder-at cells remainder b y front.0 (box_text (Some b) cells) l inv.3 front.1)
+    let prefix = inv.4 in
+    Writes_as {r = c.from_residual.result} (sym (rows_remainder-at cells remainder b y prefix.0 (box_text (Some b) cells) l inv.3 prefix.1)
     ∙ ap (λ o. box_text o cells) c.in-Some.ensures.bounds)
-    (Writes_stops (rows_remainder cells b (y +ℤ pos 1)) c.from_residual.ensures.0 (Writes_then {r = Err c.in_err-write_row.field-0.0} front.2 c.in_err-write_row.ensures))
+    (Writes_stops (rows_remainder cells b (y +ℤ pos 1)) c.from_residual.ensures.0 (Writes_then {r = Err c.in_err-write_row.field-0.0} prefix.2 c.in_err-write_row.ensures))
 
 pub returns : goal.returns
 unfolding plain
@@ -119,9 +119,9 @@ returns g c =
     let inv = c.loop-y.invariant in
     let at_end = past_bottom b (is_box g (goal.at.returns g c).After-cells-remainder) in
     let test = rw at_end at c.loop-y-test.false in
-    let front = inv.4 in
-    Writes_as {r = Ok tt} (sym (rows_remainder-end cells b y front.0 (box_text (Some b) cells) (lt_z-false y end test) inv.1 front.1)
-    ∙ ap (λ o. box_text o cells) c.in-Some.ensures.bounds) front.2
+    let prefix = inv.4 in
+    Writes_as {r = Ok tt} (sym (rows_remainder-end cells b y prefix.0 (box_text (Some b) cells) (lt_z-false y end test) inv.1 prefix.1)
+    ∙ ap (λ o. box_text o cells) c.in-Some.ensures.bounds) prefix.2
 
 pub write_row-requires-clause-bounds : goal.write_row-requires-clause-bounds
 write_row-requires-clause-bounds g c = is_box g (goal.at.write_row-requires-clause-bounds g c).After-cells-remainder

@@ -10,5 +10,5 @@ use Rattle.plane_core.proofs.plane.pattern.Pattern.write_plaintext.Given as goal
 abbrev pub invariant-loop-y : goal.invariant-loop-y
 invariant-loop-y g l =
     (l.bounds.top ≤ℤ l.y) × (l.y ≤ℤ (l.bounds.bottom +ℤ pos 1)) × IsAhead l.y l.bounds l.remainder × SameFrom l.y l.self l.remainder
-    × ((front : List ℕ) × (box_text (Some l.bounds) l.self ≡ front ++ rows_remainder l.self l.bounds l.y)
-    × Writes {E = WriteError} g.V.Write.contents l.fn.out l.out (Ok tt) front)
+    × ((prefix : List ℕ) × (box_text (Some l.bounds) l.self ≡ prefix ++ rows_remainder l.self l.bounds l.y)
+    × Writes {E = WriteError} g.V.Write.contents l.fn.out l.out (Ok tt) prefix)

@@ -57,8 +57,8 @@ returns c =
     ap (λ (xs : List ℕ). begins xs (codes "s")) (sym remainder) ∙ sym c.starts_with-3.ensures.value ∙ c.if-not-starts_with-2.false in
     let none : (length (survivals_in text).remainder == 0) ≡ true =
     ap (λ (xs : List ℕ). length xs == 0) (sym end) ∙ sym c.is_empty.ensures ∙ c.if-not-is_empty.false in
-    let births : c.read_numbers.result.0 ≡ (births_in text).answers = c.read_numbers.ensures.answers ∙ ap (λ (r : Reading). r.answers) (sliced 8 1 text) in
-    let others : c.read_numbers-2.result.0 ≡ (survivals_in text).answers = c.read_numbers-2.ensures.answers ∙ ap (λ (r : Reading). r.answers) survivals in
+    let births : c.read_numbers.result.0 ≡ (births_in text).logic = c.read_numbers.ensures.logic ∙ ap (λ (r : Reading). r.logic) (sliced 8 1 text) in
+    let others : c.read_numbers-2.result.0 ≡ (survivals_in text).logic = c.read_numbers-2.ensures.logic ∙ ap (λ (r : Reading). r.logic) survivals in
     rw (births, others) (sym (rule_read-all text (sym c.starts_with.ensures.value ∙ c.if-not-starts_with.false) (sym c.starts_with-2.ensures.value
     ∙ c.if-starts_with.false) s none))
 

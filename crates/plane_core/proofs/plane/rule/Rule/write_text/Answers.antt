@@ -8,7 +8,7 @@ unfolding rule_text
 returns-clause-text g c =
     let rule = c.self.inside in
     let text : take c.put_numbers-end.result c.put_numbers-end.new.text ≡ (98 ∷ digits 1 rule.births) ++ 115 ∷ digits 0 rule.survivals =
-    c.put_numbers-end.ensures.text ∙ ap (λ (front : List ℕ). front ++ 115 ∷ digits 0 rule.survivals) c.put_numbers-middle.ensures.text in
+    c.put_numbers-end.ensures.text ∙ ap (λ (prefix : List ℕ). prefix ++ 115 ∷ digits 0 rule.survivals) c.put_numbers-middle.ensures.text in
     rw (← c.self.view_is) (Writes_as {r = c.put.result} text c.put.ensures)
 
 pub returns-clause-rule : goal.returns-clause-rule

@@ -8,15 +8,15 @@ use Rattle.code_core.specs.Names.{IsCode}
 use Rattle.plane_core.specs.declared.plane.cell.Cell.{Cell}
 use Rattle.plane_core.specs.plane.Generations.{lies_within}
 use Rattle.survey_core.specs.shapes.Objects.{AreObjects, count_of, is_code}
-use Rattle.survey_core.specs.rest.Rest.{ComesBack}
+use Rattle.survey_core.specs.rest.Rest.{RecursWithin}
 use Rattle.survey_core.specs.evolution.UnderWay.{survey_reach}
 use Rattle.survey_core.proofs.lemmas.shapes.ObjectLemmas.{codes_more, count_by_more, counted_more, entries_are_objects, length_more, number_more, some_more}
 use Rattle.survey_core.proofs.shapes.objects.Objects.of_clusters.Goals as goal
 
-pub code-requires-clause-back : goal.code-requires-clause-back
-code-requires-clause-back c =
-    subst (ComesBack c.args.rule.now c.args.limit) (sym c.cluster-item.is)
-    (c.requires.back c.loop-cluster.cluster-index c.cluster-item.result c.loop-cluster-test.true)
+pub code-requires-clause-recurs : goal.code-requires-clause-recurs
+code-requires-clause-recurs c =
+    subst (RecursWithin c.args.rule.now c.args.limit) (sym c.cluster-item.is)
+    (c.requires.recurs c.loop-cluster.cluster-index c.cluster-item.result c.loop-cluster-test.true)
 
 -- one cluster more, with its code
 pub loop-cluster-preserved : goal.loop-cluster-preserved

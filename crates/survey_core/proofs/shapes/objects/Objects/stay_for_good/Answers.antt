@@ -10,7 +10,7 @@ returns-then-is_common_multiple c =
     λ m is. elim (cases_lt c.loop-below.below m) [ inl more ↦ omega arith | inr low ↦ absurd (c.loop-below.invariant m low is) ] in
     let common : IsCommonMultiple c.as_slice-objects.result.now (c.loop-below.below + 1) = c.is_common_multiple.ensures.0 c.if-is_common_multiple.true in (
       λ e. subst (StayForGood c.args.horizon) c.as_slice-objects.ensures.objects (record {
-        none = c.none_is_ship.ensures.0 c.if-not-none_is_ship.false;
+        none = c.none_is_spaceship.ensures.0 c.if-not-none_is_spaceship.false;
         multiple = c.loop-below.below + 1;
         common = common;
         least = least;

@@ -1,0 +1,65 @@
+-- The laws: what the calls of the program ask for, whatever the arguments.
+use Rattle.std.specs.Prelude.{◌≡◌, ◌++◌, false, true, List, [], ◌∷◌, None, Some, codes}
+use Rattle.std.specs.List.{list_any}
+use Rattle.std.specs.Str.{bytes_eq}
+use Rattle.std.specs.Str.Parse.{starts_with_minus}
+use Rattle.clap.specs.Words.{Text}
+use Rattle.arguments.specs.declared.request.Request.{Request}
+use Rattle.arguments.specs.declared.request.Request.TheVariants.{Run, Name, Show, Soup, Take, Work, Gather, Version}
+use Rattle.arguments.specs.Entries.{Command}
+use Rattle.arguments.specs.GivenValues.{number_given, plan_given, profile_given, text_given}
+use Rattle.arguments.specs.LawfulUses.{AreUses, IsIn, IsOutOfRange, IsShort, IsUnknown, IsUse, lacks_some}
+use Rattle.arguments.specs.Requests.{asked_by}
+use Rattle.arguments.specs.Table.{commands}
+use Rattle.arguments.specs.Table as table
+use Rattle.arguments.specs.Uses.{Use, entry_in, is_used, arguments_in, arguments_of}
+
+-- The command's name and then its arguments, each at most once, in any order, with values that they take, ask for this request if no
+-- argument that has to be there is missing.
+abbrev pub AsksFor : Command → (List Use → Request) → Type 0
+AsksFor command request =
+    (program : Text) (uses : List Use) → AreUses command uses → lacks_some command uses ≡ false
+    → asked_by (program ∷ command.name ∷ arguments_in uses) ≡ Some (request uses)
+
+-- each command asks for the request with the values that are given, and the defaults of the others
+pub record AskForTheirValues : Type 0 where
+  pub run : AsksFor table.run_command (λ uses. Run (number_given table.generations uses) (text_given table.rule uses))
+  pub name : AsksFor table.name_command (λ uses. Name (profile_given uses) (text_given table.rule uses))
+  pub show : AsksFor table.show_command (λ uses. Show (text_given table.code uses))
+  pub soup : AsksFor table.soup_command (λ uses. Soup (text_given table.seed uses) (number_given table.number uses))
+  pub take : AsksFor table.take_command
+      (λ uses. Take (plan_given uses) (number_given table.workers uses) (is_used table.progress.name uses))
+  pub work : AsksFor table.work_command (λ uses. Work (plan_given uses) (number_given table.worker uses))
+  pub gather : AsksFor table.gather_command (λ uses. Gather (plan_given uses) (number_given table.workers uses))
+
+-- Words of a command that ask for nothing: an argument that has to be there is missing; or after arguments that are lawful there is one
+-- a second time, one with a value out of its range, an unknown option, a word as `-x` or `-h`, or `--help`, whatever comes after it.
+pub record AskForNothing (command : Command) : Type 0 where
+  pub missing : (program : Text) (uses : List Use) → AreUses command uses → lacks_some command uses ≡ true
+      → asked_by (program ∷ command.name ∷ arguments_in uses) ≡ None
+  pub twice : (program : Text) (uses : List Use) (u : Use) (more : List Text) → AreUses command uses → IsUse command u
+      → is_used (entry_in u).name uses ≡ true → asked_by (program ∷ command.name ∷ (arguments_in uses ++ (arguments_of u ++ more))) ≡ None
+  pub out_of_range : (program : Text) (uses : List Use) (u : Use) (more : List Text) → AreUses command uses → IsOutOfRange command u
+      → asked_by (program ∷ command.name ∷ (arguments_in uses ++ (arguments_of u ++ more))) ≡ None
+  pub unknown : (program argument : Text) (uses : List Use) (more : List Text) → AreUses command uses → IsUnknown command argument
+      → asked_by (program ∷ command.name ∷ (arguments_in uses ++ argument ∷ more)) ≡ None
+  pub short : (program argument : Text) (uses : List Use) (more : List Text) → AreUses command uses → IsShort argument
+      → asked_by (program ∷ command.name ∷ (arguments_in uses ++ argument ∷ more)) ≡ None
+  pub help : (program : Text) (uses : List Use) (more : List Text) → AreUses command uses
+      → asked_by (program ∷ command.name ∷ (arguments_in uses ++ codes "--help" ∷ more)) ≡ None
+
+abbrev pub OthersAskForNothing : Type 0
+OthersAskForNothing = (command : Command) → IsIn command commands → AskForNothing command
+
+-- `--version` alone, and `-V`
+pub record AsksForVersion : Type 0 where
+  pub long : (program : Text) → asked_by (program ∷ codes "--version" ∷ []) ≡ Some Version
+  pub short : (program : Text) → asked_by (program ∷ codes "-V" ∷ []) ≡ Some Version
+
+-- no command, another word in its place, whatever comes after it, and a call for help
+pub record NoCommandAsksForNothing : Type 0 where
+  pub no_command : (program : Text) → asked_by (program ∷ []) ≡ None
+  pub unknown : (program argument : Text) (arguments : List Text) → starts_with_minus argument ≡ false
+      → list_any (λ command. bytes_eq command.name argument) commands ≡ false → bytes_eq (codes "help") argument ≡ false
+      → asked_by (program ∷ argument ∷ arguments) ≡ None
+  pub help : (program : Text) → asked_by (program ∷ codes "--help" ∷ []) ≡ None

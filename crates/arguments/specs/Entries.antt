@@ -1,0 +1,56 @@
+-- What a row of the table says of an argument, and of a command.
+use Rattle.std.specs.Prelude.{List, Option, None, Some, Bool, true, false, map}
+use Rattle.std.specs.Option.{option_map}
+use Rattle.clap.specs.Words.{Text}
+use Rattle.arguments.specs.declared.commands.CommandRow.{CommandRow}
+use Rattle.arguments.specs.declared.options.Parameter.{Parameter}
+use Rattle.arguments.specs.declared.options.ValueKind.{ValueKind}
+use Rattle.arguments.specs.declared.options.ValueKind.TheVariants as kind
+use Rattle.arguments.specs.declared.options.Place.{Place}
+use Rattle.arguments.specs.declared.options.Place.TheVariants as place
+
+-- what a row of the table says of an argument, but for the texts of help
+pub record Entry : Type 0 where
+  pub name : Text
+  pub is_named : Bool
+  pub kind : ValueKind
+  pub default : Option Text
+
+-- the command's name, and its arguments
+pub record Command : Type 0 where
+  pub name : Text
+  pub parameters : List Entry
+
+abbrev pub is_named : Place → Bool
+is_named place.Position = false
+is_named (place.Named shown) = true
+
+-- what a row of the program says
+abbrev pub entry_of : Parameter → Entry
+entry_of row = record {
+  name = row.name.now;
+  is_named = is_named row.place;
+  kind = row.kind;
+  default = option_map (λ text. text.now) row.default;
+}
+
+abbrev pub command_of : CommandRow → Command
+command_of row = record { name = row.name.now; parameters = map entry_of row.parameters.now }
+
+-- ---- forms of rows
+
+-- an argument that stands by itself, and must be given
+abbrev pub position : Text → ValueKind → Entry
+position name kind = record { name = name; is_named = false; kind = kind; default = None }
+
+-- `--name`, with what is meant if it isn't given
+abbrev pub option : Text → ValueKind → Text → Entry
+option name kind default = record { name = name; is_named = true; kind = kind; default = Some default }
+
+-- `--name`, which must be given
+abbrev pub required : Text → ValueKind → Entry
+required name kind = record { name = name; is_named = true; kind = kind; default = None }
+
+-- a flag: `--name` alone
+abbrev pub flag : Text → Entry
+flag name = record { name = name; is_named = true; kind = kind.Flag; default = None }

@@ -1,0 +1,38 @@
+-- The values of the arguments of a call.
+use Rattle.std.specs.Prelude.{ℕ, List, [], ◌∷◌, unwrap_or, if◌then◌else◌}
+use Rattle.std.specs.Str.{bytes_eq}
+use Rattle.std.specs.Str.Parse.{digits_value}
+use Rattle.clap.specs.Words.{Text}
+use Rattle.requests.specs.declared.plan.Plan.{Plan}
+use Rattle.requests.specs.declared.profile_numbers.ProfileNumbers.{ProfileNumbers}
+use Rattle.requests.specs.declared.soup_set.SoupSet.{SoupSet}
+use Rattle.arguments.specs.Entries.{Entry}
+use Rattle.arguments.specs.Table as table
+use Rattle.arguments.specs.Uses.{Use, entry_in, value_in}
+
+-- the value of an argument: the one that is given, or else the default
+abbrev pub text_given : Entry → List Use → Text
+text_given entry [] = unwrap_or entry.default []
+text_given entry (u ∷ more) = if bytes_eq (entry_in u).name entry.name then value_in u else text_given entry more
+
+abbrev pub number_given : Entry → List Use → ℕ
+number_given entry uses = digits_value 10 (text_given entry uses)
+
+abbrev pub profile_given : List Use → ProfileNumbers
+profile_given uses = record {
+  period = number_given table.period uses;
+  horizon = number_given table.horizon uses;
+  stride = number_given table.stride uses;
+  limit = number_given table.limit uses;
+}
+
+abbrev pub set_given : List Use → SoupSet
+set_given uses = record {
+  seed = text_given table.seed uses;
+  first = number_given table.first uses;
+  count = number_given table.count uses;
+  also = text_given table.also uses;
+}
+
+abbrev pub plan_given : List Use → Plan
+plan_given uses = record { set = set_given uses; profile = profile_given uses; rule = text_given table.rule uses }

@@ -1,0 +1,79 @@
+-- Which arguments, with which values, a command takes, and which it refuses.
+use Rattle.std.specs.Prelude.{◌≡◌, ◌⊎◌, ◌≤◌, ◌&&◌, ℕ, Bool, false, not, List, [], ◌∷◌, Option, Some, ⊤, codes, is_some, slice_get}
+use Rattle.std.specs.List.{list_any}
+use Rattle.std.specs.Str.{bytes_eq, chars}
+use Rattle.std.specs.Str.Parse.{IsNumeral, digits_value, starts_with_minus, without_leading_plus}
+use Rattle.clap.specs.Words.{Text}
+use Rattle.clap.specs.Lexer.{long_of, short_of}
+use Rattle.arguments.specs.declared.options.ValueKind.{ValueKind}
+use Rattle.arguments.specs.declared.options.ValueKind.TheVariants as kind
+use Rattle.arguments.specs.Entries.{Command, Entry}
+use Rattle.arguments.specs.Uses.{Stands, Use, entry_in, is_flag, is_used, value_in}
+
+abbrev pub IsIn : {X : Type 0} → X → List X → Type 0
+IsIn x [] = ⊥
+IsIn x (y ∷ more) = (y ≡ x) ⊎ IsIn x more
+
+-- digits of a number in a range
+pub record IsNumberFromTo (least most : ℕ) (text : Text) : Type 0 where
+  pub numeral : IsNumeral 10 text
+  pub low : least ≤ digits_value 10 text
+  pub high : digits_value 10 text ≤ most
+
+-- a value is one of this kind
+abbrev pub IsOfKind : ValueKind → Text → Type 0
+IsOfKind (kind.Number least most) value = IsNumberFromTo least most value
+IsOfKind (kind.LargeNumber most) value = IsNumberFromTo 0 most value
+IsOfKind kind.Flag value = value ≡ codes "true"
+IsOfKind kind.Text value = ⊤
+
+-- an argument of the command, with a value that it takes
+pub record IsUse (command : Command) (u : Use) : Type 0 where
+  pub parameter : IsIn (entry_in u) command.parameters
+  pub stands : Stands u
+  pub taken : IsOfKind (entry_in u).kind (value_in u)
+
+-- arguments of the command in any order, each at most once
+abbrev pub AreUses : Command → List Use → Type 0
+AreUses command [] = ⊤
+AreUses command (u ∷ more) = IsUse command u × (is_used (entry_in u).name more ≡ false) × AreUses command more
+
+-- an argument without a default must be given, unless it is a flag
+abbrev pub is_required : Entry → Bool
+is_required entry = not (is_flag entry.kind) && not (is_some entry.default)
+
+abbrev pub lacks_some : Command → List Use → Bool
+lacks_some command uses = list_any (λ entry. is_required entry && not (is_used entry.name uses)) command.parameters
+
+-- ---- and which it refuses
+
+-- a text without a sign that isn't digits of a number in the range
+abbrev pub IsNoNumber : ℕ → ℕ → Text → Type 0
+IsNoNumber least most text =
+    (starts_with_minus text ≡ false) × (without_leading_plus text ≡ text) × (IsNumberFromTo least most text → ⊥)
+
+abbrev pub IsNotOfKind : ValueKind → Text → Type 0
+IsNotOfKind (kind.Number least most) value = IsNoNumber least most value
+IsNotOfKind (kind.LargeNumber most) value = IsNoNumber 0 most value
+IsNotOfKind _ value = ⊥
+
+-- an argument of the command, with a value that is out of its range
+pub record IsOutOfRange (command : Command) (u : Use) : Type 0 where
+  pub parameter : IsIn (entry_in u) command.parameters
+  pub stands : Stands u
+  pub refused : IsNotOfKind (entry_in u).kind (value_in u)
+
+-- `-x`, with whatever follows in the word: a hyphen, and then a character that isn't one
+pub record IsShort (argument : Text) : Type 0 where
+  pub letters : Text
+  pub letter : ℕ
+  pub is_short : short_of argument ≡ Some letters
+  pub first : slice_get (chars letters) 0 ≡ Some letter
+
+-- `--name` or `--name=VALUE`, which is no option of the command, nor `--help`
+pub record IsUnknown (command : Command) (argument : Text) : Type 0 where
+  pub name : Text
+  pub value : Option Text
+  pub is_option : long_of argument ≡ Some (name, value)
+  pub no_option : list_any (λ entry. entry.is_named && bytes_eq entry.name name) command.parameters ≡ false
+  pub no_help : bytes_eq (codes "help") name ≡ false

@@ -1,0 +1,61 @@
+-- Each command with its values, put together from what was found for the arguments.
+use Rattle.std.specs.Prelude.{ℕ, Bool, List, Option, None, Some}
+use Rattle.clap.specs.Words.{Row, Text}
+use Rattle.requests.specs.declared.plan.Plan.{Plan}
+use Rattle.requests.specs.declared.profile_numbers.ProfileNumbers.{ProfileNumbers}
+use Rattle.arguments.specs.declared.request.Request.{Request}
+use Rattle.arguments.specs.declared.request.Request.TheVariants.{Run, Name, Show, Soup, Take, Work, Gather}
+use Rattle.arguments.specs.Plans.{plan_in, profile_in}
+use Rattle.arguments.specs.Table.{code, generations, number, progress, rule, seed, worker, workers}
+use Rattle.arguments.specs.Values.{is_given, number_found, text_found}
+
+-- each command, if its values are there
+abbrev pub run_from : Option ℕ → Option Text → Option Request
+run_from (Some n) (Some rule) = Some (Run n rule)
+run_from _ _ = None
+
+abbrev pub name_from : Option ProfileNumbers → Option Text → Option Request
+name_from (Some profile) (Some rule) = Some (Name profile rule)
+name_from _ _ = None
+
+abbrev pub show_from : Option Text → Option Request
+show_from (Some code) = Some (Show code)
+show_from None = None
+
+abbrev pub soup_from : Option ℕ → Option Text → Option Request
+soup_from (Some n) (Some seed) = Some (Soup seed n)
+soup_from _ _ = None
+
+abbrev pub take_from : Bool → Option Plan → Option ℕ → Option Request
+take_from asked (Some plan) (Some workers) = Some (Take plan workers asked)
+take_from asked _ _ = None
+
+abbrev pub work_from : Option Plan → Option ℕ → Option Request
+work_from (Some plan) (Some worker) = Some (Work plan worker)
+work_from _ _ = None
+
+abbrev pub gather_from : Option Plan → Option ℕ → Option Request
+gather_from (Some plan) (Some workers) = Some (Gather plan workers)
+gather_from _ _ = None
+
+-- each command, with what was found for its arguments
+abbrev pub run_request : List Row → Option Request
+run_request rows = run_from (number_found generations rows) (text_found rule rows)
+
+abbrev pub name_request : List Row → Option Request
+name_request rows = name_from (profile_in rows) (text_found rule rows)
+
+abbrev pub show_request : List Row → Option Request
+show_request rows = show_from (text_found code rows)
+
+abbrev pub soup_request : List Row → Option Request
+soup_request rows = soup_from (number_found number rows) (text_found seed rows)
+
+abbrev pub take_request : List Row → Option Request
+take_request rows = take_from (is_given progress rows) (plan_in rows) (number_found workers rows)
+
+abbrev pub work_request : List Row → Option Request
+work_request rows = work_from (plan_in rows) (number_found worker rows)
+
+abbrev pub gather_request : List Row → Option Request
+gather_request rows = gather_from (plan_in rows) (number_found workers rows)

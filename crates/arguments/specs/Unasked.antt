@@ -1,0 +1,24 @@
+-- Why arguments give no request.
+use Rattle.std.specs.Prelude.{◌≡◌, ◌<◌, ◌++◌, ℕ, List, codes, length, string_bytes}
+use Rattle.clap.specs.Words.{kind_of}
+use Rattle.clap.specs.declared.error.kind.ErrorKind.TheVariants.{OutOfMemory}
+use Rattle.arguments.specs.declared.calls.Unasked.{Unasked}
+use Rattle.arguments.specs.declared.calls.Unasked.TheVariants.{Memory, Unread, Usage}
+
+-- the arguments are not understood, or ask for help
+abbrev pub IsUsage : Unasked → Type 0
+IsUsage (Usage text) = Unit {0}
+IsUsage (Unread error) = ⊥
+IsUsage (Memory error) = ⊥
+
+-- a text that says something, and ends with a line feed
+pub record IsUsageText (text : List ℕ) : Type 0 where
+  pub prefix : List ℕ
+  pub some : 0 < length prefix
+  pub ended : text ≡ prefix ++ codes "\n"
+
+-- there is a text to be told, or memory was refused
+abbrev pub SaysWhy : Unasked → Type 0
+SaysWhy (Usage text) = IsUsageText (string_bytes text)
+SaysWhy (Unread error) = kind_of error ≡ OutOfMemory
+SaysWhy (Memory error) = Unit {0}

@@ -1,0 +1,196 @@
+//! The program as `clap` reads arguments by it, made from the table.
+//!
+//! ```text
+//! COMMANDS ── a row ── command ──┐
+//!               └─ arguments ────┴─ program with its commands
+//! ```
+
+ghost use Rattle.std.specs.Prelude.{◌≡◌, IfOk, map, true, false};
+ghost use Rattle.clap.specs.Words.{app_of, rule_of, shape_of, with_rule, with_subcommand};
+ghost use Rattle.clap.specs.declared.builder.command.Command.TheViews.{out-Command as fields_of};
+ghost use Rattle.arguments.specs.Application.{census_app, named, placed, program, rule_in, shape_in};
+ghost use Rattle.arguments.specs.Application.{with_commands, with_rules};
+ghost use Rattle.arguments.specs.Entries.{command_of, entry_of};
+ghost use Rattle.arguments.specs.Table.{commands};
+
+use crate::commands::{COMMANDS, CommandRow};
+use crate::options::{Parameter, Place, ValueKind};
+use clap::builder::ValueParser;
+use clap::{Arg, ArgAction, Command};
+use memory::OutOfMemory;
+use std::alloc::Global;
+
+/// The program's version, as `clap` prints it.
+const VERSION: &str = "0.2.0";
+
+/// What help says of the program.
+const ABOUT: &str = "Runs patterns of Conway's Game of Life and its kin, names and draws their\n\
+         objects, makes soups, and counts what they leave";
+
+/// What help shows after the commands.
+const EXAMPLES: &str = "To begin with:\n  \
+         census take --seed abc --count 100     a census of 100 soups\n  \
+         census soup --seed abc 12              one of its soups\n  \
+         census show xs7_178c                   draws an object\n\n\
+         Run `census help take` for details of a command.";
+
+/// The program as `clap` reads its arguments.
+///
+/// # Errors
+///
+/// `OutOfMemory` if memory runs out.
+pub fn census_command<'a>(alloc: Global) -> Result<Command<'a>, OutOfMemory>
+    ensures { IfOk result (λ command. app_of command ≡ census_app) }
+{
+    with_commands(alloc, program(alloc), &rows())
+}
+
+/// The rows of all commands, in a function that owns no `Command`: beside one the table is dear to prove.
+fn rows() -> [CommandRow; 7]
+    ensures { map command_of result ≡ commands }
+{
+    COMMANDS
+}
+
+/// The program without its commands.
+fn program<'a>(alloc: Global) -> Command<'a>
+    ensures { app_of result ≡ program }
+{
+    let command = Command::new(alloc, "census")
+        .about(ABOUT)
+        .version(VERSION)
+        .after_help(EXAMPLES);
+    needing_a_command(command)
+}
+
+/// The program where a command must be named; help is shown where no word follows.
+fn needing_a_command<'a>(program: Command<'a>) -> Command<'a>
+    ensures { fields_of result
+        ≡ record (fields_of program.entry) { subcommand_required = true; arg_required_else_help = true } }
+{
+    program
+        .subcommand_required(true)
+        .arg_required_else_help(true)
+}
+
+/// The program with these commands too.
+fn with_commands<'a>(
+    alloc: Global,
+    program: Command<'a>,
+    rows: &[CommandRow],
+) -> Result<Command<'a>, OutOfMemory>
+    ensures { IfOk result (λ new.
+        app_of new ≡ with_commands (app_of program.entry) (map shape_in (map command_of rows.now))) }
+{
+    let mut program = program;
+    for row in rows {
+        program = with_command(alloc, program, row)?;
+    }
+    Ok(program)
+}
+
+/// The program with the command of a row too.
+fn with_command<'a>(
+    alloc: Global,
+    program: Command<'a>,
+    row: &CommandRow,
+) -> Result<Command<'a>, OutOfMemory>
+    ensures { IfOk result (λ new. app_of new ≡ with_subcommand (app_of program.entry) (shape_in (command_of row.now))) }
+{
+    let command = command(alloc, row)?;
+    let program = program.subcommand(command)?;
+    Ok(program)
+}
+
+/// The command of a row.
+fn command<'a>(alloc: Global, row: &CommandRow) -> Result<Command<'a>, OutOfMemory>
+    ensures shape { IfOk result (λ command. shape_of command ≡ shape_in (command_of row.now)) }
+    ensures local { IfOk result (λ command. (fields_of command).has_globals ≡ false) }
+{
+    let command = Command::new(alloc, row.name)
+        .about(row.about)
+        .long_about(row.long_about)
+        .after_help(row.after_help);
+    with_parameters(alloc, command, row.parameters)
+}
+
+/// The command with these arguments too.
+fn with_parameters<'a>(
+    alloc: Global,
+    command: Command<'a>,
+    rows: &[Parameter],
+) -> Result<Command<'a>, OutOfMemory>
+    ensures app { IfOk result (λ new.
+        app_of new ≡ with_rules (app_of command.entry) (map rule_in (map entry_of rows.now))) }
+    ensures local { (fields_of command.entry).has_globals ≡ false →
+        IfOk result (λ new. (fields_of new).has_globals ≡ false) }
+{
+    let mut command = command;
+    for row in rows {
+        command = with_parameter(alloc, command, row)?;
+    }
+    Ok(command)
+}
+
+/// The command with the argument of a row too.
+fn with_parameter<'a>(
+    alloc: Global,
+    command: Command<'a>,
+    row: &Parameter,
+) -> Result<Command<'a>, OutOfMemory>
+    ensures app { IfOk result (λ new. app_of new ≡ with_rule (app_of command.entry) (rule_in (entry_of row.now))) }
+    ensures local { (fields_of command.entry).has_globals ≡ false →
+        IfOk result (λ new. (fields_of new).has_globals ≡ false) }
+{
+    let command = command.arg(parameter(alloc, row))?;
+    Ok(command)
+}
+
+/// The argument of a row.
+fn parameter<'a>(alloc: Global, row: &Parameter) -> Arg<'a>
+    ensures rule { rule_of result ≡ rule_in (entry_of row.now) }
+    ensures local { result.global ≡ false }
+{
+    match row.kind {
+        ValueKind::Text => with_value(alloc, row),
+        ValueKind::Flag => Arg::new(alloc, row.name)
+            .long(row.name)
+            .action(ArgAction::SetTrue)
+            .help(row.help),
+        ValueKind::Number(least, most) => {
+            let parser = ValueParser::signed(i64::from(least), i64::from(most));
+            with_value(alloc, row).value_parser(parser)
+        }
+        ValueKind::LargeNumber(most) => {
+            with_value(alloc, row).value_parser(ValueParser::unsigned(0, most))
+        }
+    }
+}
+
+/// The argument of a row that has a value, which may be any text.
+fn with_value<'a>(alloc: Global, row: &Parameter) -> Arg<'a>
+    ensures rule { rule_of result ≡ placed (entry_of row.now) }
+    ensures local { result.global ≡ false }
+{
+    let parameter = with_place(alloc, row);
+    match row.default {
+        Some(text) => parameter.default_value(text),
+        None => parameter.required(true),
+    }
+}
+
+/// The argument of a row, with its name and place alone.
+fn with_place<'a>(alloc: Global, row: &Parameter) -> Arg<'a>
+    ensures rule { rule_of result ≡ named (entry_of row.now) }
+    ensures local { result.global ≡ false }
+{
+    let parameter = Arg::new(alloc, row.name).help(row.help);
+    let parameter = match row.heading {
+        Some(heading) => parameter.help_heading(heading),
+        None => parameter,
+    };
+    match row.place {
+        Place::Position => parameter,
+        Place::Named(shown) => parameter.long(row.name).value_name(shown),
+    }
+}

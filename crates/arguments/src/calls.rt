@@ -1,0 +1,204 @@
+//! From the arguments of a call to its request, or to why there is none.
+//!
+//! ```text
+//! arguments ──┬─ --version or -V alone ───────────────> Request::Version
+//!         └─ clap ──┬─ a command with its values ──> its request
+//!                   └─ an error ──────────────────> a text that ends with a line feed, or want of memory
+//! ```
+
+ghost use Rattle.std.specs.Prelude.{◌≡◌, ◌≢◌, ◌<◌, false, None, Some, IfOk, IfErr, IfSome, IsTrue, length, map};
+ghost use Rattle.std.specs.Prelude.{option_and_then, string_bytes};
+ghost use Rattle.memory.specs.Witness.{out_of_memory};
+ghost use Rattle.clap.specs.Words.{found_of, kind_of, rows_of, subcommand_rows_of};
+ghost use Rattle.arguments.specs.Calls.{AskForTheirValues, AsksForVersion, NoCommandAsksForNothing, OthersAskForNothing};
+ghost use Rattle.arguments.specs.Unasked.{IsUsage, IsUsageText, SaysWhy};
+ghost use Rattle.arguments.specs.Requests.{AreInTheirRanges, asked_by, asks_version, request_in};
+
+use crate::application::census_command;
+use crate::reading::{
+    gather_request, name_request, run_request, show_request, soup_request, take_request,
+    work_request,
+};
+use crate::request::Request;
+use clap::ArgMatches;
+use clap::error::ErrorKind;
+use memory::OutOfMemory;
+use std::alloc::Global;
+use std::convert::AsStr;
+
+/// What is said of arguments where `clap` says nothing.
+const NOT_UNDERSTOOD: &str = "error: the words are not understood";
+
+/// Why arguments give no request.
+#[derive(Debug, Drop)]
+pub enum Unasked {
+    /// They are not understood, or ask for help: the text that says so, which ends with a line feed.
+    Usage(String),
+    /// Memory ran out while they were read: `clap`'s own error says so.
+    Unread(clap::Error),
+    /// Memory ran out for the commands, or for a text.
+    Memory(OutOfMemory),
+}
+
+impl<E: Into<OutOfMemory>> From<E> for Unasked {
+    ghost use Rattle.arguments.specs.declared.calls.Unasked.TheVariants.{Memory};
+
+    ghost from_gives = { λ _ unasked. unasked ≡ Memory out_of_memory };
+
+    fn from(refused: E) -> Unasked {
+        Unasked::Memory(refused.into())
+    }
+}
+
+/// What the arguments ask for, of which the first is the program's name.
+///
+/// # Errors
+///
+/// - [`Unasked::Usage`] if `clap` finds a fault in the arguments, or they ask for help.
+/// - [`Unasked::Unread`] and [`Unasked::Memory`] if memory runs out.
+pub fn request_of<'a, S: AsStr>(alloc: Global, arguments: &'a [S]) -> Result<Request<'a>, Unasked>
+    ensures asked { IfOk result (λ request. asked_by (map S.text arguments.entry.now) ≡ Some request) }
+    ensures ranges { IfOk result AreInTheirRanges }
+    ensures usage { IfErr result (λ unasked. IsUsage unasked → asked_by (map S.text arguments.entry.now) ≡ None) }
+    ensures why { IfErr result SaysWhy }
+    ensures version { IfErr result (λ _. asks_version (map S.text arguments.entry.now) ≡ false) }
+{
+    if asks_version(arguments) {
+        return Ok(Request::Version);
+    }
+    let command = census_command(alloc)?;
+    match command.try_get_matches_from(arguments) {
+        Ok(matches) => match request_in(&matches) {
+            Some(request) => Ok(request),
+            None => Err(usage(alloc, "error: a value is missing")),
+        },
+        Err(error) => Err(unasked_by(alloc, error)),
+    }
+}
+
+/// A law of all arguments: a command asks for the values that are given, in any order, and for the defaults of the others.
+#[tactic(auto, using(crate::proofs::LawLemmas::ask_for_their_values))]
+pub fn commands_ask_for_their_values()
+    ensures { AskForTheirValues }
+{}
+
+/// A law of all arguments: an argument that is missing, one a second time, a value out of its range, an unknown option and
+/// `--help` ask for nothing.
+#[tactic(auto, using(crate::proofs::RefuseLemmas::others_ask_for_nothing))]
+pub fn others_ask_for_nothing()
+    ensures { OthersAskForNothing }
+{}
+
+/// A law of all arguments: what `--version` and `-V` ask for.
+#[tactic(auto, using(crate::proofs::LawLemmas::asks_for_version))]
+pub fn asks_for_version()
+    ensures { AsksForVersion }
+{}
+
+/// A law of all arguments: no command, an unknown one and `--help` ask for nothing.
+#[tactic(auto, using(crate::proofs::RefuseLemmas::no_command_asks_for_nothing))]
+pub fn no_command_asks_for_nothing()
+    ensures { NoCommandAsksForNothing }
+{}
+
+/// Whether the arguments are the program's name and `--version` or `-V` alone.
+pub fn asks_version<S: AsStr>(arguments: &[S]) -> bool
+    ensures { result ≡ asks_version (map S.text arguments.now) }
+{
+    match arguments {
+        [_, argument] => argument.as_str() == "--version" || argument.as_str() == "-V",
+        _ => false,
+    }
+}
+
+/// The command that `clap` found, with its values.
+fn request_in<'a>(matches: &ArgMatches<'a>) -> Option<Request<'a>>
+    ensures request { result ≡ option_and_then request_in (subcommand_rows_of matches.now) }
+    ensures ranges { IfSome result AreInTheirRanges }
+{
+    let (name, found) = matches.subcommand()?;
+    request_named(name, found)
+}
+
+/// The command of this name, with its values.
+fn request_named<'a>(name: &str, found: &ArgMatches<'a>) -> Option<Request<'a>>
+    ensures request { result ≡ request_in (name.now, rows_of (found_of found.now)) }
+    ensures ranges { IfSome result AreInTheirRanges }
+{
+    match name {
+        "run" => run_request(found),
+        "name" => name_request(found),
+        "show" => show_request(found),
+        "soup" => soup_request(found),
+        "take" => take_request(found),
+        "work" => work_request(found),
+        "gather" => gather_request(found),
+        _ => None,
+    }
+}
+
+/// What `clap`'s error says of arguments that name no command, or ask for help.
+fn unasked_by(alloc: Global, error: clap::Error) -> Unasked
+    ensures usage { IsUsage result → kind_of error ≢ ErrorKind.OutOfMemory }
+    ensures why { SaysWhy result }
+{
+    if matches!(error.kind(), ErrorKind::OutOfMemory) {
+        return Unasked::Unread(error);
+    }
+    match text_of(alloc, &error) {
+        Ok(text) => Unasked::Usage(text),
+        Err(refused) => Unasked::Memory(refused),
+    }
+}
+
+/// The usage fault with this text.
+fn usage(alloc: Global, text: &str) -> Unasked
+    ensures { SaysWhy result }
+{
+    match usage_text(alloc, text) {
+        Ok(text) => Unasked::Usage(text),
+        Err(refused) => Unasked::Memory(refused),
+    }
+}
+
+/// The text of `clap`'s error, as the program prints it.
+fn text_of(alloc: Global, error: &clap::Error) -> Result<String, OutOfMemory>
+    ensures { IfOk result (λ text. IsUsageText (string_bytes text)) }
+{
+    let text = error.to_string(alloc)?;
+    usage_text(alloc, text.as_str())
+}
+
+/// The text, with a line feed at its end if it lacks one. A text of nothing becomes one that says something.
+fn usage_text(alloc: Global, text: &str) -> Result<String, OutOfMemory>
+    ensures { IfOk result (λ text. IsUsageText (string_bytes text)) }
+{
+    let text = some_text(text);
+    let mut told = String::from_str(alloc, text)?;
+    if is_ended(text.as_bytes()) {
+        return Ok(told);
+    }
+    told.push_str("\n")?;
+    Ok(told)
+}
+
+/// The text, or another where it is empty.
+fn some_text(text: &str) -> &str
+    ensures { 0 < length result.now }
+{
+    if text.is_empty() {
+        NOT_UNDERSTOOD
+    } else {
+        text
+    }
+}
+
+/// Whether a text has a line feed at its end, and something before that.
+fn is_ended(text: &[u8]) -> bool
+    ensures { IsTrue result → IsUsageText text.now }
+{
+    match text.split_last() {
+        Some((last, prefix)) => *last == b'\n' && !prefix.is_empty(),
+        None => false,
+    }
+}

@@ -1,0 +1,150 @@
+//! The request of each command, put together from the values of its arguments.
+//!
+//! ```text
+//! what clap found ── a value for each row ──┬─ profile ─┐
+//!                                           ├─ set ─────┼─ plan ── request
+//!                                           └─ rule ────┘
+//! ```
+
+ghost use Rattle.std.specs.Prelude.{◌≡◌, IfSome};
+ghost use Rattle.clap.specs.Words.{found_of, rows_of};
+ghost use Rattle.arguments.specs.NumbersInRange.{AreInTheirRanges, ArePlanNumbers, AreProfileNumbers};
+ghost use Rattle.arguments.specs.Plans.{plan_in, profile_in, set_in};
+ghost use Rattle.arguments.specs.Reading.{gather_request, name_request, run_request, show_request, soup_request};
+ghost use Rattle.arguments.specs.Reading.{take_request, work_request};
+ghost use Rattle.arguments.specs.Table.{count, first};
+ghost use Rattle.arguments.specs.Values.{IsInRange};
+
+use crate::options;
+use crate::request::Request;
+use crate::values::{is_given, number_found, text_found};
+use clap::ArgMatches;
+use requests::plan::Plan;
+use requests::profile_numbers::ProfileNumbers;
+use requests::soup_set::SoupSet;
+
+/// The numbers of a profile that were found.
+pub fn profile_in(found: &ArgMatches<'_>) -> Option<ProfileNumbers>
+    ensures profile { result ≡ profile_in (rows_of (found_of found.now)) }
+    ensures ranges { IfSome result AreProfileNumbers }
+{
+    let period = number_found(found, &options::PERIOD)?;
+    let horizon = number_found(found, &options::HORIZON)?;
+    let stride = number_found(found, &options::STRIDE)?;
+    let limit = number_found(found, &options::LIMIT)?;
+    Some(ProfileNumbers {
+        period: period as u32,
+        horizon: horizon as u32,
+        stride: stride as u32,
+        limit: limit as u32,
+    })
+}
+
+/// The set of soups that was found.
+pub fn set_in<'a>(found: &ArgMatches<'a>) -> Option<SoupSet<'a>>
+    ensures set { result ≡ set_in (rows_of (found_of found.now)) }
+    ensures ranges { IfSome result (λ set. IsInRange first.kind set.first × IsInRange count.kind set.count) }
+{
+    let seed = text_found(found, &options::SEED)?;
+    let first = number_found(found, &options::FIRST)?;
+    let count = number_found(found, &options::COUNT)?;
+    let also = text_found(found, &options::ALSO)?;
+    Some(SoupSet {
+        seed,
+        first,
+        count,
+        also,
+    })
+}
+
+/// Which soups are meant, and how they are run.
+pub fn plan_in<'a>(found: &ArgMatches<'a>) -> Option<Plan<'a>>
+    ensures plan { result ≡ plan_in (rows_of (found_of found.now)) }
+    ensures ranges { IfSome result ArePlanNumbers }
+{
+    let set = set_in(found)?;
+    let profile = profile_in(found)?;
+    let rule = text_found(found, &options::RULE)?;
+    Some(Plan { set, profile, rule })
+}
+
+/// `run` with its values.
+pub(crate) fn run_request<'a>(found: &ArgMatches<'a>) -> Option<Request<'a>>
+    ensures request { result ≡ run_request (rows_of (found_of found.now)) }
+    ensures ranges { IfSome result AreInTheirRanges }
+{
+    let generations = number_found(found, &options::GENERATIONS)?;
+    let rule = text_found(found, &options::RULE)?;
+    Some(Request::Run {
+        generations: generations as u32,
+        rule,
+    })
+}
+
+/// `name` with its values.
+pub(crate) fn name_request<'a>(found: &ArgMatches<'a>) -> Option<Request<'a>>
+    ensures request { result ≡ name_request (rows_of (found_of found.now)) }
+    ensures ranges { IfSome result AreInTheirRanges }
+{
+    let profile = profile_in(found)?;
+    let rule = text_found(found, &options::RULE)?;
+    Some(Request::Name { profile, rule })
+}
+
+/// `show` with its value.
+pub(crate) fn show_request<'a>(found: &ArgMatches<'a>) -> Option<Request<'a>>
+    ensures { result ≡ show_request (rows_of (found_of found.now)) }
+{
+    let code = text_found(found, &options::CODE)?;
+    Some(Request::Show { code })
+}
+
+/// `soup` with its values.
+pub(crate) fn soup_request<'a>(found: &ArgMatches<'a>) -> Option<Request<'a>>
+    ensures request { result ≡ soup_request (rows_of (found_of found.now)) }
+    ensures ranges { IfSome result AreInTheirRanges }
+{
+    let number = number_found(found, &options::NUMBER)?;
+    let seed = text_found(found, &options::SEED)?;
+    Some(Request::Soup { seed, number })
+}
+
+/// `take` with its values.
+pub(crate) fn take_request<'a>(found: &ArgMatches<'a>) -> Option<Request<'a>>
+    ensures request { result ≡ take_request (rows_of (found_of found.now)) }
+    ensures ranges { IfSome result AreInTheirRanges }
+{
+    let plan = plan_in(found)?;
+    let workers = number_found(found, &options::WORKERS)?;
+    Some(Request::Take {
+        plan,
+        workers: workers as u8,
+        progress: is_given(found, &options::PROGRESS),
+    })
+}
+
+/// `work` with its values.
+pub(crate) fn work_request<'a>(found: &ArgMatches<'a>) -> Option<Request<'a>>
+    ensures request { result ≡ work_request (rows_of (found_of found.now)) }
+    ensures ranges { IfSome result AreInTheirRanges }
+{
+    let plan = plan_in(found)?;
+    let worker = number_found(found, &options::WORKER)?;
+    Some(Request::Work {
+        plan,
+        worker: worker as u8,
+    })
+}
+
+/// `gather` with its values.
+pub(crate) fn gather_request<'a>(found: &ArgMatches<'a>) -> Option<Request<'a>>
+    ensures request { result ≡ gather_request (rows_of (found_of found.now)) }
+    ensures ranges { IfSome result AreInTheirRanges }
+{
+    let plan = plan_in(found)?;
+    let reporters = number_found(found, &options::REPORTERS)?;
+    Some(Request::Gather {
+        plan,
+        workers: reporters as u8,
+    })
+}

@@ -1,0 +1,67 @@
+//! The value of an argument: what `clap` found for it, looked up by its row in the table.
+
+ghost use Rattle.std.specs.Prelude.{◌≡◌, ◌≤◌, IfSome, option_and_then};
+ghost use Rattle.clap.specs.Words.{found_of, rows_of};
+ghost use Rattle.arguments.specs.Entries.{entry_of};
+ghost use Rattle.arguments.specs.Values.{IsInRange, is_given, number_found, number_up_to, text_found, within};
+
+use crate::options::{Parameter, ValueKind};
+use clap::ArgMatches;
+use requests::text::Text;
+
+/// The number that was found for the argument of a row, in its range.
+///
+/// None if there is none, or if the row is not one of a number.
+pub fn number_found(found: &ArgMatches<'_>, row: &Parameter) -> Option<u64>
+    ensures number { result ≡ number_found (entry_of row.now) (rows_of (found_of found.now)) }
+    ensures range { IfSome result (IsInRange row.now.kind) }
+{
+    match row.kind {
+        ValueKind::Text | ValueKind::Flag => None,
+        ValueKind::Number(least, most) => {
+            let number = number_up_to(found, row.name, u64::from(most))?;
+            if number < u64::from(least) {
+                return None;
+            }
+            Some(number)
+        }
+        ValueKind::LargeNumber(most) => number_up_to(found, row.name, most),
+    }
+}
+
+/// The number up to a limit that was found for an argument.
+fn number_up_to(found: &ArgMatches<'_>, id: &str, most: u64) -> Option<u64>
+    ensures number { result ≡ number_up_to most id.now (rows_of (found_of found.now)) }
+    ensures most { IfSome result (λ n. n ≤ most) }
+{
+    within(most, found.get_one::<u64>(id))
+}
+
+/// The number, where it is within the limit.
+fn within(most: u64, number: Option<u64>) -> Option<u64>
+    ensures number { result ≡ option_and_then (within most) number }
+    ensures most { IfSome result (λ n. n ≤ most) }
+{
+    match number {
+        Some(number) if number <= most => Some(number),
+        _ => None,
+    }
+}
+
+/// The text that was found for the argument of a row.
+pub fn text_found<'a>(found: &ArgMatches<'a>, row: &Parameter) -> Option<Text<'a>>
+    ensures { result ≡ text_found (entry_of row.now) (rows_of (found_of found.now)) }
+{
+    let text = found.get_str(row.name)?;
+    Some(Text::new(text))
+}
+
+/// Whether the flag of a row was given.
+pub fn is_given(found: &ArgMatches<'_>, row: &Parameter) -> bool
+    ensures { result ≡ is_given (entry_of row.now) (rows_of (found_of found.now)) }
+{
+    match text_found(found, row) {
+        Some(value) => value.as_str() == "true",
+        None => false,
+    }
+}
