@@ -15,4 +15,4 @@ mod small;
 #[cfg(test)]
 mod tickets;
 #[cfg(test)]
-mod observer;
+mod progress_observer;
