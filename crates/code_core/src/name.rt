@@ -31,8 +31,8 @@ use memory::OutOfMemory;
 use plane_core::generation::StepError;
 use plane_core::plane::orientation::{Orientation, orientations};
 use plane_core::plane::pattern::Pattern;
-use plane_core::plane::transform::PlaceError;
 use plane_core::plane::rule::Rule;
+use plane_core::plane::transform::PlaceError;
 use std::alloc::Global;
 use std::cmp::Ordering;
 

@@ -16,8 +16,8 @@ ghost use Rattle.plane_core.specs.clusters.UnionFind.{IsForest, IsGatheringCells
 
 pub(crate) mod union_find;
 
-use crate::plane::cell::Cell;
 use crate::clusters::union_find::{join_all, roots};
+use crate::plane::cell::Cell;
 use crate::plane::pattern::Pattern;
 use memory::OutOfMemory;
 use std::alloc::Global;

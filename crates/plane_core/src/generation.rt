@@ -22,11 +22,11 @@ ghost use Rattle.plane_core.specs.declared.plane.cell.Cell.{Cell};
 ghost use Rattle.plane_core.specs.declared.generation.StepError.TheVariants.{Memory};
 
 use crate::engine::board::Board;
-use crate::plane::cell::Cell;
 use crate::engine::frame::Frame;
+use crate::engine::lone_window::next_in_window;
+use crate::plane::cell::Cell;
 use crate::plane::pattern::Pattern;
 use crate::plane::rule::Rule;
-use crate::engine::lone_window::next_in_window;
 use memory::OutOfMemory;
 use std::alloc::Global;
 use std::fmt::{self, Display};

@@ -23,9 +23,9 @@ ghost use Rattle.plane_core.specs.Plaintext.{is_live, first_fault, live_cells, p
 ghost use Rattle.plane_core.specs.Plaintext.{plain, FitsThousandSquare};
 ghost use Rattle.plane_core.specs.PlaintextPlaces.{byte_at, dot, is_comment, line_feed, places_of_row, places, side_limit};
 
+use crate::output::{Out, WriteError};
 use crate::plane::bounds::Bounds;
 use crate::plane::cell::Cell;
-use crate::output::{Out, WriteError};
 use crate::plane::pattern::Pattern;
 use memory::OutOfMemory;
 use std::alloc::Global;

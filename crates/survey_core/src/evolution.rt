@@ -26,10 +26,10 @@ pub mod escaped_spaceships;
 /// A board, and the spaceships that were removed from it.
 pub(crate) mod split_pattern;
 
-use crate::evolution::split_pattern::{SplitPattern, LATEST_TIME, whole};
+use crate::evolution::split_pattern::{LATEST_TIME, SplitPattern, whole};
 use crate::patterns::{next, run_on};
-use crate::shapes::memo::Memo;
 use crate::profile::Profile;
+use crate::shapes::memo::Memo;
 use memory::OutOfMemory;
 use plane_core::plane::pattern::Pattern;
 use plane_core::plane::rule::Rule;

@@ -17,10 +17,10 @@ ghost use Rattle.survey_core.specs.Soups.{soup};
 
 use crate::evolution::Evolution;
 use crate::job::Job;
-use crate::shapes::memo::Memo;
-use crate::shapes::objects::Objects;
 use crate::profile::Profile;
 use crate::rest::clusters_at_rest;
+use crate::shapes::memo::Memo;
+use crate::shapes::objects::Objects;
 use crate::soup::soup;
 use memory::OutOfMemory;
 use plane_core::plane::pattern::Pattern;
@@ -125,7 +125,15 @@ pub fn survey_pattern_with(
     let mut known_restless = [false; 2];
     let mut checkpoint = 0;
     loop {
-        let found = examine(alloc, profile, rule, checkpoint, &evolution, &mut known_restless, memo)?;
+        let found = examine(
+            alloc,
+            profile,
+            rule,
+            checkpoint,
+            &evolution,
+            &mut known_restless,
+            memo,
+        )?;
         if let Some(finding) = found {
             evolution.end(memo);
             return Ok(finding);

@@ -5,8 +5,8 @@ ghost use Rattle.plane_core.specs.plane.Generations.{after, lies_within, next};
 ghost use Rattle.survey_core.specs.evolution.UnderWay.{survey_reach};
 
 use memory::OutOfMemory;
-use plane_core::plane::cell::Cell;
 use plane_core::generation::StepError;
+use plane_core::plane::cell::Cell;
 use plane_core::plane::pattern::{FromCellsError, Pattern};
 use plane_core::plane::rule::Rule;
 use std::alloc::Global;

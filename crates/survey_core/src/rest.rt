@@ -35,11 +35,11 @@ mod alone;
 /// Groups of clusters that may meet.
 mod groups;
 
+use crate::patterns::{are_same, next};
+use crate::profile::Profile;
 use crate::rest::alone::{Alone, have_recurred, joined, step_each};
 use crate::rest::groups::groups;
-use crate::patterns::{are_same, next};
 use crate::shapes::memo::Memo;
-use crate::profile::Profile;
 use memory::OutOfMemory;
 use plane_core::plane::pattern::Pattern;
 use plane_core::plane::rule::Rule;

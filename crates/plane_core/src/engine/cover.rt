@@ -21,8 +21,8 @@ ghost use Rattle.plane_core.specs.plane.Bounds.{AreSidesWithin};
 ghost use Rattle.plane_core.specs.engine.WindowOrigins.{IsCovered};
 ghost use Rattle.plane_core.specs.declared.plane.cell.Cell.{Cell};
 
-use crate::plane::bounds::Bounds;
 use crate::engine::window_origin::WindowOrigin;
+use crate::plane::bounds::Bounds;
 use memory::OutOfMemory;
 
 /// With how many of the last rectangles a box may be united.

@@ -14,8 +14,8 @@ ghost use Rattle.plane_core.specs.plane.Bounds.{AreSidesWithin};
 ghost use Rattle.plane_core.specs.engine.WindowOrigins.{MarksDifferences};
 ghost use Rattle.plane_core.specs.declared.plane.cell.Cell.{Cell};
 
-use crate::plane::bounds::Bounds;
 use crate::engine::window_origin::WindowOrigin;
+use crate::plane::bounds::Bounds;
 
 /// The columns 4 to 59 of a window, which its inner part has.
 const INNER_COLUMNS: u64 = 0x0fff_ffff_ffff_fff0;

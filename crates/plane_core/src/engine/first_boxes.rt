@@ -14,8 +14,8 @@ ghost use Rattle.plane_core.specs.engine.ActiveBoxes.{HoldAll};
 ghost use Rattle.plane_core.specs.plane.Generations.{lies_within};
 ghost use Rattle.plane_core.specs.declared.plane.cell.Cell.{Cell};
 
-use crate::plane::bounds::Bounds;
 use crate::engine::active_boxes::put_in_box;
+use crate::plane::bounds::Bounds;
 use crate::plane::cell::Cell;
 use memory::OutOfMemory;
 

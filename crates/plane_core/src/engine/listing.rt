@@ -22,10 +22,10 @@ ghost use Rattle.plane_core.specs.engine.Listing.{HasRead, HasReadRows, IsBandEm
 ghost use Rattle.plane_core.specs.engine.Listing.{IsWordColumnEmpty};
 ghost use Rattle.plane_core.specs.declared.plane.cell.Cell.{Cell};
 
-use crate::plane::cell::Cell;
 use crate::engine::frame::Frame;
-use crate::plane::pattern::{Pattern, in_order};
 use crate::engine::row_spans::{RowSpan, hull_of};
+use crate::plane::cell::Cell;
+use crate::plane::pattern::{Pattern, in_order};
 use memory::OutOfMemory;
 use std::alloc::Global;
 
@@ -138,7 +138,13 @@ fn read_band(
 
 /// The lanes from the first to the last in which a cell of a band is alive, of these lanes. If there is none, they end
 /// where they begin.
-fn word_columns_of_band(at: Frame, words: &[u64], spans: &[RowSpan], word_columns: RowSpan, band: usize) -> RowSpan
+fn word_columns_of_band(
+    at: Frame,
+    words: &[u64],
+    spans: &[RowSpan],
+    word_columns: RowSpan,
+    band: usize,
+) -> RowSpan
     requires frame { IsFrame at }
     requires band { band < at.rows / 8 }
     requires long { FillsFrame at words.now }
@@ -164,7 +170,13 @@ fn word_columns_of_band(at: Frame, words: &[u64], spans: &[RowSpan], word_column
 }
 
 /// Whether no cell of a band is alive in a lane.
-fn is_word_column_empty(at: Frame, words: &[u64], spans: &[RowSpan], word_column: usize, band: usize) -> bool
+fn is_word_column_empty(
+    at: Frame,
+    words: &[u64],
+    spans: &[RowSpan],
+    word_column: usize,
+    band: usize,
+) -> bool
     requires frame { IsFrame at }
     requires word_column { word_column < at.word_columns }
     requires band { band < at.rows / 8 }

@@ -4,9 +4,9 @@ ghost use Rattle.std.specs.Prelude.{◌≡◌, ◌*◌, [], length};
 ghost use Rattle.plane_core.specs.engine.Frames.{FillsFrame, IsFrame, LieOn, Shows};
 ghost use Rattle.plane_core.specs.engine.RowSpans.{LieInSpans};
 
-use crate::plane::cell::Cell;
 use crate::engine::frame::Frame;
 use crate::engine::row_spans::{RowSpan, widen};
+use crate::plane::cell::Cell;
 
 /// Puts all cells on an empty board, and widens its spans by them.
 pub(crate) fn fill(at: Frame, words: &mut [u64], spans: &mut [RowSpan], cells: &[Cell])

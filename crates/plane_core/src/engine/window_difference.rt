@@ -15,8 +15,8 @@ ghost use Rattle.plane_core.specs.engine.WindowIo.{inner_mask};
 ghost use Rattle.plane_core.specs.engine.WindowDifferences.{DiffersOnlyIn};
 
 use crate::engine::difference_box::DifferenceMask;
-use crate::windows::window_queries::{either, in_any_lane};
 use crate::engine::window_io::INNER;
+use crate::windows::window_queries::{either, in_any_lane};
 use std::simd::cmp::SimdPartialEq;
 use std::simd::u64x4;
 

@@ -6,9 +6,9 @@
 //! . O O . . . . O      . . . . . . . .      are alive.
 //! . . . . . O O O      . . . . . . 1 .
 //! ```
-use crate::windows::rule_logic::RuleLogic;
 use crate::one_sided::flood::INSIDE;
 use crate::windows::row_packing::unpacked;
+use crate::windows::rule_logic::RuleLogic;
 use crate::windows::window::generations;
 use std::simd::u64x4;
 

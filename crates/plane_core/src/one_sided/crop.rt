@@ -12,8 +12,8 @@
 ghost use Rattle.std.specs.Prelude.{◌≤◌, IfSome};
 ghost use Rattle.plane_core.specs.one_sided.RestlessClusters.{IsCrop, LiesInCrop};
 
-use crate::windows::window_queries::{first_row, last_row, row};
 use crate::windows::row_packing::packed;
+use crate::windows::window_queries::{first_row, last_row, row};
 use std::simd::u64x4;
 
 /// How many rows a cluster has at most for which there is an excerpt. Larger ones mostly grow out of it.

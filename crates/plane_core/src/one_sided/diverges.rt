@@ -14,8 +14,8 @@ ghost use Rattle.plane_core.specs.windows.RuleLogic.{rule_of};
 ghost use Rattle.plane_core.specs.one_sided.RestlessClusters.{HasDivergingCell, DivergesFromWhole};
 
 use crate::windows::rule_logic::RuleLogic;
-use crate::windows::window_queries::{are_alike, in_any_lane, row};
 use crate::windows::window::generation;
+use crate::windows::window_queries::{are_alike, in_any_lane, row};
 use std::simd::u64x4;
 
 /// Whether it is seen within so many generations, and within 15, that what one window shows alone strays from the whole

@@ -16,12 +16,12 @@ ghost use Rattle.std.specs.Prelude.{◌≡◌, ◌≤◌, ℕ, IsTrue, false};
 ghost use Rattle.plane_core.specs.plane.Generations.{NeverRecurs, after, touches_edge};
 ghost use Rattle.plane_core.specs.one_sided.RestlessClusters.{HasRestlessCluster};
 
-use crate::windows::rule_logic::RuleLogic;
 use crate::engine::lone_window::{origin_round, window_of};
 use crate::one_sided::never_recurs::never_recurs;
-use crate::plane::pattern::Pattern;
 use crate::one_sided::rules_out_rest::rules_out_rest;
+use crate::plane::pattern::Pattern;
 use crate::plane::rule::Rule;
+use crate::windows::rule_logic::RuleLogic;
 
 impl Pattern {
     /// Whether it is seen at a glance that no generation from 1 to this one is the pattern again, moved or not, and

@@ -12,13 +12,13 @@ ghost use Rattle.std.specs.Prelude.{◌≤◌, IsTrue};
 ghost use Rattle.plane_core.specs.windows.RuleLogic.{rule_of};
 ghost use Rattle.plane_core.specs.one_sided.RestlessClusters.{AreAllRestless};
 
-use crate::windows::rule_logic::RuleLogic;
 use crate::one_sided::active_cells::{changing_cells, first_cell};
 use crate::one_sided::crop::{crop, crop_round};
+use crate::one_sided::diverges::diverges_from_whole;
 use crate::one_sided::flood::flood;
 use crate::one_sided::never_recurs::never_recurs;
 use crate::windows::row_packing::{packed, unpacked};
-use crate::one_sided::diverges::diverges_from_whole;
+use crate::windows::rule_logic::RuleLogic;
 use std::simd::u64x4;
 
 /// Whether it is seen that no pattern which the window shows at this depth is at rest: one of its clusters strays from

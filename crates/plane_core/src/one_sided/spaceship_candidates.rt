@@ -21,13 +21,13 @@ ghost use Rattle.plane_core.specs.declared.plane.cell.Cell.{Cell};
 
 use crate::engine::board::Board;
 use crate::engine::board::view::longer_side;
-use crate::plane::bounds::Bounds;
+use crate::engine::frame::Frame;
+use crate::engine::lone_window::pattern_of;
 use crate::one_sided::active_cells::{changing_cells, first_cell};
 use crate::one_sided::flood::flood;
-use crate::engine::frame::Frame;
+use crate::plane::bounds::Bounds;
 use crate::plane::pattern::Pattern;
 use crate::windows::row_packing::packed;
-use crate::engine::lone_window::pattern_of;
 use memory::OutOfMemory;
 use std::alloc::Global;
 

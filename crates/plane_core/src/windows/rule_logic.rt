@@ -2,8 +2,8 @@
 ghost use Rattle.std.specs.Prelude.{◌≡◌};
 ghost use Rattle.plane_core.specs.windows.RuleLogic.{rule_of};
 
-use crate::windows::rule_tables::RuleTables;
 use crate::plane::rule::Rule;
+use crate::windows::rule_tables::RuleTables;
 
 /// The answers of a rule.
 #[derive(Clone, Copy)]

@@ -20,8 +20,8 @@ ghost use Rattle.plane_core.specs.plane.Rules.{Numbers, is_birth, is_survival};
 ghost use Rattle.plane_core.specs.plane.Generations.{lives_by};
 ghost use Rattle.plane_core.specs.windows.Words.{life, one_if};
 
-use crate::windows::lane_sums::{RowSums, Sum, added, choice, only_one, summed};
 use crate::plane::rule::Rule;
+use crate::windows::lane_sums::{RowSums, Sum, added, choice, only_one, summed};
 use std::simd::u64x4;
 
 /// What answers which cells live next.

@@ -19,9 +19,9 @@ ghost use Rattle.plane_core.specs.plane.Generations.{after};
 ghost use Rattle.plane_core.specs.windows.Windows.{IsNextWindow, IsShownInside};
 ghost use Rattle.plane_core.specs.declared.plane.cell.Cell.{Cell};
 
+use crate::windows::lane_sums::{across, earlier_sum, later_sum};
 use crate::windows::rule_logic::RuleLogic;
 use crate::windows::rule_tables::{CellLogic, Life};
-use crate::windows::lane_sums::{across, earlier_sum, later_sum};
 use std::simd::u64x4;
 
 /// Makes the next generation. Life has a loop of its own.

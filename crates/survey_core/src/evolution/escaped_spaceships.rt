@@ -27,16 +27,16 @@ ghost use Rattle.survey_core.specs.shapes.Envelopes.{times};
 ghost use Rattle.survey_core.specs.evolution.UnderWay.{survey_reach};
 
 use crate::patterns::run_on;
-use crate::shapes::memo::Memo;
 use crate::shapes::envelope_bounds::{EnvelopeBounds, difference};
+use crate::shapes::memo::Memo;
 use code_core::recurrence::Recurrence;
 use memory::OutOfMemory;
 use plane_core::engine::board::Board;
 use plane_core::plane::bounds::Bounds;
 use plane_core::plane::orientation::Orientation;
 use plane_core::plane::pattern::Pattern;
-use plane_core::plane::transform::PlaceError;
 use plane_core::plane::rule::Rule;
+use plane_core::plane::transform::PlaceError;
 use std::alloc::Global;
 
 /// Within how many generations a ship has to come back, so that it is taken off the board. All that soups of Life leave

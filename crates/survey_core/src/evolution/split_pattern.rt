@@ -17,9 +17,9 @@ ghost use Rattle.survey_core.specs.evolution.SplitPatterns.{AreCandidates, IsSpl
 ghost use Rattle.survey_core.specs.evolution.SplitPatterns.{whole_at, whole_of};
 ghost use Rattle.survey_core.specs.evolution.UnderWay.{survey_reach};
 
+use crate::evolution::escaped_spaceships::{Spaceship, at_time, spaceship_of};
 use crate::patterns::{are_same, pattern_of};
 use crate::shapes::memo::Memo;
-use crate::evolution::escaped_spaceships::{Spaceship, at_time, spaceship_of};
 use memory::OutOfMemory;
 use plane_core::engine::board::Board;
 use plane_core::plane::frontier::is_slow;

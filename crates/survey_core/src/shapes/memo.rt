@@ -25,14 +25,14 @@ ghost use Rattle.survey_core.specs.rest.Rest.{RecursWithin};
 ghost use Rattle.survey_core.specs.shapes.Envelopes.{AreEnvelopes, IsEnvelope};
 ghost use Rattle.survey_core.specs.evolution.UnderWay.{survey_reach};
 
-use crate::shapes::slot::slot_of;
 use crate::shapes::envelope_bounds::EnvelopeBounds;
+use crate::shapes::slot::slot_of;
 use code_core::apgcode::Apgcode;
 use code_core::name::name;
 use memory::OutOfMemory;
 use plane_core::engine::board::Board;
-use plane_core::plane::bounds::Bounds;
 use plane_core::generation::StepError;
+use plane_core::plane::bounds::Bounds;
 use plane_core::plane::pattern::Pattern;
 use plane_core::plane::rule::Rule;
 use std::alloc::Global;
@@ -282,7 +282,12 @@ impl Memo {
     }
 
     /// The sweep of a pattern, if it is remembered: that of the shape, moved, if 32 bits can say its numbers.
-    fn recalled_envelope(&self, rule: &Rule, limit: u32, pattern: &Pattern) -> Option<EnvelopeBounds>
+    fn recalled_envelope(
+        &self,
+        rule: &Rule,
+        limit: u32,
+        pattern: &Pattern,
+    ) -> Option<EnvelopeBounds>
         ensures { IfSome result (IsEnvelope rule.now limit pattern.now) }
     {
         let Some((known, shift)) = self.recalled(rule, limit, pattern) else {

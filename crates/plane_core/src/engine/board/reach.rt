@@ -22,13 +22,13 @@ ghost use Rattle.plane_core.specs.engine.OnBoard.{cells_on};
 ghost use Rattle.plane_core.specs.plane.Without.{without};
 
 use crate::engine::board::Board;
-use crate::plane::cell::Cell;
 use crate::engine::direction::Direction;
 use crate::engine::frame::Frame;
 use crate::engine::listing::along;
+use crate::engine::row_spans::RowSpan;
+use crate::plane::cell::Cell;
 use crate::plane::orientation::Orientation;
 use crate::plane::pattern::Pattern;
-use crate::engine::row_spans::RowSpan;
 
 impl Board {
     /// How far the pattern reaches in a diagonal direction without these cells: turned by the orientation, none of its
@@ -88,7 +88,13 @@ fn deepest_in_word_column(
 }
 
 /// How many of the rows of a lane, from the outermost on, could have a cell that is deeper than the deepest so far.
-fn rows_to_see(at: Frame, word_column: usize, rows: RowSpan, way: Direction, found: Option<i32>) -> usize
+fn rows_to_see(
+    at: Frame,
+    word_column: usize,
+    rows: RowSpan,
+    way: Direction,
+    found: Option<i32>,
+) -> usize
     requires frame { IsFrame at }
     requires plane { AreSidesWithin plane_bound (bounds_of at) }
     requires word_column { word_column < at.word_columns }

@@ -14,10 +14,10 @@ ghost use Rattle.plane_core.specs.engine.Frames.{FillsFrame, IsFrame};
 ghost use Rattle.plane_core.specs.engine.OnBoard.{cells_on};
 ghost use Rattle.plane_core.specs.plane.Without.{without};
 
-use crate::engine::board::Board;
 use crate::engine::active_boxes::put_in_boxes;
-use crate::plane::cell::Cell;
+use crate::engine::board::Board;
 use crate::engine::frame::Frame;
+use crate::plane::cell::Cell;
 use crate::plane::pattern::Pattern;
 use memory::OutOfMemory;
 

@@ -17,9 +17,9 @@ ghost use Rattle.plane_core.specs.one_sided.Floods.{ShowsInAllRows};
 ghost use Rattle.plane_core.specs.engine.Frames.{IsViewFrame};
 
 use crate::engine::board::Board;
-use crate::plane::bounds::Bounds;
 use crate::engine::frame::Frame;
 use crate::engine::window_io::read_rows;
+use crate::plane::bounds::Bounds;
 
 /// What is seen, and where it lies: a board of its own, of one lane.
 #[derive(Clone, Copy)]
