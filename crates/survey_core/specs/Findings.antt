@@ -1,5 +1,5 @@
 -- Findings: at which checkpoint a pattern is at rest, which objects it consists of then, and whether they stay for good.
-use Rattle.std.specs.Prelude.{◌≡◌, ◌<◌, ◌↔◌, ℕ, Bool, IsTrue, List, sum}
+use Rattle.std.specs.Prelude.{◌≡◌, ◌<◌, ◌^◌, ◌↔◌, ℕ, Bool, IsTrue, List, sum}
 use Rattle.std.specs.Map.{values_of}
 use Rattle.plane_core.specs.declared.plane.cell.Cell.{Cell}
 use Rattle.plane_core.specs.plane.Generations.{after}
@@ -36,3 +36,8 @@ abbrev pub IsFinding : Numbers → Settling → List Cell → Finding → Type 0
 IsFinding rule profile cells (Settled t objects for_good) =
     IsCheckpoint profile t × NoRestBefore rule profile cells t × IsSettled rule profile (after rule cells t) objects for_good
 IsFinding rule profile cells Unsettled = (u : ℕ) → IsCheckpoint profile u → ¬ IsAtRest rule profile (after rule cells u)
+
+-- what a survey returns: the finding of the pattern, which has fewer than 2^64 objects
+pub record IsSurvey (rule : Numbers) (profile : Settling) (cells : List Cell) (found : Finding) : Type 0 where
+  pub finding : IsFinding rule profile cells found
+  pub few : objects_in found < 2 ^ 64

@@ -23,12 +23,15 @@ ghost use Rattle.survey_core.specs.evolution.UnderWay.{StaysNear};
 
 /// Spaceships that escape from all the rest of a pattern.
 pub mod escaped_spaceships;
+/// The board that a worker keeps from pattern to pattern.
+pub(crate) mod spare_board;
 /// A board, and the spaceships that were removed from it.
 pub(crate) mod split_pattern;
 
 use crate::evolution::split_pattern::{LATEST_TIME, SplitPattern, whole};
 use crate::patterns::{next, run_on};
 use crate::profile::Profile;
+use crate::evolution::spare_board::SpareBoard;
 use crate::shapes::memo::Memo;
 use memory::OutOfMemory;
 use plane_core::plane::pattern::Pattern;
@@ -94,6 +97,7 @@ impl Evolution {
         rule: &Rule,
         profile: &Profile,
         memo: &mut Memo,
+        spare: &mut SpareBoard,
     ) -> Result<Evolution, OutOfMemory>
         requires kept { IsKept rule.now self }
         requires near { StaysNear rule.now (kept rule.now self) profile.now.stride }
@@ -103,19 +107,19 @@ impl Evolution {
     {
         let generations = profile.stride();
         match self {
-            Evolution::Listed(pattern) => from_list(alloc, rule, &pattern, generations, memo),
+            Evolution::Listed(pattern) => from_list(alloc, rule, &pattern, generations, spare),
             Evolution::Shown(mut split, ahead) => {
                 let total = ahead + generations;
                 split.remove_escaped(alloc, rule, profile.period(), total, memo)?;
-                on_board(alloc, rule, split, total, memo)
+                on_board(alloc, rule, split, total, spare)
             }
         }
     }
 
     /// Gives the board back on which the pattern was, for the next one.
-    pub(crate) fn end(self, memo: &mut Memo) {
+    pub(crate) fn end(self, spare: &mut SpareBoard) {
         if let Evolution::Shown(split, _) = self {
-            memo.board = Some(split.board);
+            spare.give_back(split.board);
         }
     }
 }
@@ -126,7 +130,7 @@ fn from_list(
     rule: &Rule,
     pattern: &Pattern,
     generations: u32,
-    memo: &mut Memo,
+    spare: &mut SpareBoard,
 ) -> Result<Evolution, OutOfMemory>
     requires few { generations ≤ 10001 }
     requires near { StaysNear rule.now pattern.now generations }
@@ -135,7 +139,7 @@ fn from_list(
 {
     // That a pattern's cells stand in order is known of them where they are asked for.
     let _in_order = pattern.cells();
-    let Some(board) = memo.board_with(alloc, rule, pattern)? else {
+    let Some(board) = spare.board_with(alloc, rule, pattern)? else {
         let later = run_on(alloc, rule, generations, pattern)?;
         return Ok(Evolution::Listed(later));
     };
@@ -144,7 +148,7 @@ fn from_list(
         spaceships: Vec::new(alloc),
         time: 0,
     };
-    on_board(alloc, rule, split, generations, memo)
+    on_board(alloc, rule, split, generations, spare)
 }
 
 /// Goes on by so many generations from what a board and its ships are. Where the board has no room, it goes back to the
@@ -154,7 +158,7 @@ fn on_board(
     rule: &Rule,
     mut split: SplitPattern,
     generations: u32,
-    memo: &mut Memo,
+    spare: &mut SpareBoard,
 ) -> Result<Evolution, OutOfMemory>
     requires is_split { IsSplit rule.now split }
     requires few { generations ≤ 10001 }
@@ -173,6 +177,6 @@ fn on_board(
     }
     let pattern = whole(alloc, rule, time, &split.board, split.spaceships.as_slice())?;
     let later = run_on(alloc, rule, generations - made, &pattern)?;
-    memo.outgrow(split.board);
+    spare.outgrow(split.board);
     Ok(Evolution::Listed(later))
 }

@@ -3,7 +3,8 @@
 //! The folders are floors. Each knows only those below it:
 //!
 //! ```text
-//! finding        what becomes of a soup: checkpoint after checkpoint, until the pattern is at rest
+//! finding        what becomes of a soup
+//! surveyor       checkpoint after checkpoint, until the pattern is at rest; what is kept from soup to soup
 //! evolution      a pattern between two checkpoints, as a list or on a board without its escaped spaceships
 //! rest           whether a pattern is at rest
 //! shapes         what is known of a cluster: how it recurs, its envelope, its apgcode
@@ -29,3 +30,5 @@ pub mod seed;
 pub mod shapes;
 /// Random patterns of 16 by 16 cells.
 pub mod soup;
+/// What a worker keeps from soup to soup.
+pub mod surveyor;

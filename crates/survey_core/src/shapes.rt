@@ -3,7 +3,7 @@
 /// The box round all phases of a cluster that recurs, and how it moves.
 pub mod envelope_bounds;
 /// What a worker remembers of shapes.
-pub mod memo;
+pub(crate) mod memo;
 /// The objects of a finding, with how many there are of each.
 pub mod objects;
 /// In which slot of a memo a pattern belongs.

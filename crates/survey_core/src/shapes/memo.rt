@@ -14,7 +14,6 @@
 //! shape, moved. Else the cluster is run and named, and is what stands in the slot from then on.
 //!
 //! Which slot is chosen and what is kept are free choices: a memo that forgets makes a survey slower, and nothing else.
-//! It also keeps a board for the next pattern, so that its words needn't be made anew each time.
 
 ghost use Rattle.std.specs.Prelude.{◌≡◌, ◌≢◌, ◌+ℤ◌, ◌≤◌, [], All, IfNone, IfOk, IfSome, IsTrue, true};
 ghost use Rattle.plane_core.specs.plane.Cells.{InOrder};
@@ -30,7 +29,6 @@ use crate::shapes::slot::slot_of;
 use code_core::apgcode::Apgcode;
 use code_core::name::name;
 use memory::OutOfMemory;
-use plane_core::engine::board::Board;
 use plane_core::generation::StepError;
 use plane_core::plane::bounds::Bounds;
 use plane_core::plane::pattern::Pattern;
@@ -44,23 +42,10 @@ const SLOTS: usize = 4096;
 /// How many cells a shape that is kept has at the most. Larger ones hardly ever come twice, and would take memory.
 const MOST_CELLS: usize = 64;
 
-/// What is remembered of clusters that came back, and a board for the next pattern. It serves any rule and profile, one
-/// after another, and changes no finding: only how long it takes.
-pub struct Memo {
+/// A table of the shapes of clusters that recur, with what is known of each. It serves any rule and profile, one after
+/// another, and changes no finding: only how long a survey takes.
+pub(crate) struct Memo {
     slots: Vec<Option<Known>>,
-    /// A board for the next pattern, unless there is none yet, or a pattern is on it.
-    pub(crate) board: Option<Board>,
-    /// How large a board is that is made.
-    size: Size,
-}
-
-/// How large a board is.
-#[derive(Clone, Copy)]
-enum Size {
-    /// Enough for most patterns, and made fast.
-    Small,
-    /// What is made once a pattern has had no room on a small one.
-    Large,
 }
 
 /// What is known of a shape.
@@ -86,13 +71,8 @@ impl Model for Known {
 // Written out, since a derived drop is proved anew wherever a memo is given up.
 impl Drop for Memo {
     fn drop(self) {
-        let Memo {
-            slots,
-            board,
-            size: _,
-        } = self;
+        let Memo { slots } = self;
         drop(slots);
-        drop(board);
     }
 }
 
@@ -113,7 +93,7 @@ impl Drop for Known {
 impl Memo {
     /// A memo that knows nothing yet, with room for 4,096 shapes: half a megabyte, and some three if all of them are
     /// large. If there is no memory for it, it has no room.
-    pub fn new(alloc: Global) -> Memo {
+    pub(crate) fn new(alloc: Global) -> Memo {
         let Ok(mut slots) = Vec::with_capacity(alloc, SLOTS) else {
             return Memo::without_room(alloc);
         };
@@ -122,55 +102,13 @@ impl Memo {
                 return Memo::without_room(alloc);
             };
         }
-        Memo {
-            slots,
-            board: None,
-            size: Size::Small,
-        }
+        Memo { slots }
     }
 
     /// A memo without room, which remembers no shape. It takes no memory.
-    pub fn without_room(alloc: Global) -> Memo {
+    pub(crate) fn without_room(alloc: Global) -> Memo {
         Memo {
             slots: Vec::new(alloc),
-            board: None,
-            size: Size::Small,
-        }
-    }
-
-    /// A board that shows the pattern: the one that is kept, or a new one. It leaves the memo until `Evolution::end` or
-    /// `outgrow` gives it back. It is `None` where there is no memory for a board, or the board has no room for the
-    /// pattern.
-    pub(crate) fn board_with(
-        &mut self,
-        alloc: Global,
-        rule: &Rule,
-        pattern: &Pattern,
-    ) -> Result<Option<Board>, OutOfMemory>
-        ensures rule { IfOk result (λ shown. IfSome shown (λ board. board.rule ≡ rule.now)) }
-        ensures cells { IfOk result (λ shown. IfSome shown (λ board. board.cells ≡ pattern.now)) }
-    {
-        let kept = match (self.board.take(), self.size) {
-            (Some(board), _) => Some(board),
-            (None, Size::Small) => Board::small(alloc, rule).ok(),
-            (None, Size::Large) => Board::new(alloc, rule).ok(),
-        };
-        let Some(mut board) = kept else {
-            return Ok(None);
-        };
-        let has_room = board.show(rule, pattern)?;
-        if has_room {
-            return Ok(Some(board));
-        }
-        self.outgrow(board);
-        Ok(None)
-    }
-
-    /// Takes a board back on which a pattern had no room. If it was a small one, the next that is made is large.
-    pub(crate) fn outgrow(&mut self, board: Board) {
-        match self.size {
-            Size::Small => self.size = Size::Large,
-            Size::Large => self.board = Some(board),
         }
     }
 

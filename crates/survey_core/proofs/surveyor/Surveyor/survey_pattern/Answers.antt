@@ -12,7 +12,7 @@ use Rattle.survey_core.proofs.lemmas.evolution.EvolutionLemmas.{stays_near}
 use Rattle.survey_core.proofs.lemmas.FindingLemmas.{after-then, finding_from, first_checkpoint, next_checkpoint, no_rest_more, no_room, none_at_last, room_for_more}
 use Rattle.survey_core.proofs.lemmas.rest.KnownRestlessLemmas.{known_later, none_known}
 use Rattle.survey_core.proofs.lemmas.PlaneLemmas.{within_later, within_more}
-use Rattle.survey_core.proofs.finding.survey_pattern_with.Goals as goal
+use Rattle.survey_core.proofs.surveyor.Surveyor.survey_pattern.Goals as goal
 
 pub loop-evolution-init : goal.loop-evolution-init
 loop-evolution-init c = record {
@@ -37,26 +37,27 @@ pub examine-requires-clause-known_restless : goal.examine-requires-clause-known_
 examine-requires-clause-known_restless c = c.loop-evolution.invariant.known_restless
 
 -- at rest for the first time
-pub returns-in-Some-clause-finding : goal.returns-in-Some-clause-finding
-returns-in-Some-clause-finding c =
-    finding_from c.args.rule.now c.args.profile.now c.args.pattern (kept c.args.rule.now c.loop-evolution.evolution) c.loop-evolution.checkpoint c.in-Some.finding
-    (rw c.in-Some.is at c.in_ok-found.ensures.settled) c.loop-evolution.invariant.latest c.loop-evolution.invariant.here c.loop-evolution.invariant.before
-
-pub returns-in-Some-clause-few : goal.returns-in-Some-clause-few
-returns-in-Some-clause-few c = rw c.in-Some.is at c.in_ok-found.ensures.few
+pub returns-in-Some : goal.returns-in-Some
+returns-in-Some c = record {
+  few = rw c.in-Some.is at c.in_ok-found.ensures.few;
+  finding = finding_from c.args.rule.now c.args.profile.now c.args.pattern (kept c.args.rule.now c.loop-evolution.evolution) c.loop-evolution.checkpoint c.in-Some.finding
+    (rw c.in-Some.is at c.in_ok-found.ensures.settled) c.loop-evolution.invariant.latest c.loop-evolution.invariant.here c.loop-evolution.invariant.before;
+}
 
 pub overflow_sub-limit : goal.overflow_sub-limit
 overflow_sub-limit c = subst (λ (n : ℕ). c.loop-evolution.checkpoint ≤ n) (sym c.limit-limit.ensures.limit) c.loop-evolution.invariant.here.within
 
--- no look is left
-pub returns-then-limit-checkpoint-clause-finding : goal.returns-then-limit-checkpoint-clause-finding
-returns-then-limit-checkpoint-clause-finding c =
-    none_at_last c.args.rule.now c.args.profile.now c.args.pattern (kept c.args.rule.now c.loop-evolution.evolution) c.loop-evolution.checkpoint
+-- no checkpoint is left
+pub returns-then-limit-checkpoint : goal.returns-then-limit-checkpoint
+returns-then-limit-checkpoint c = record {
+  few = omega arith;
+  finding = none_at_last c.args.rule.now c.args.profile.now c.args.pattern (kept c.args.rule.now c.loop-evolution.evolution) c.loop-evolution.checkpoint
     (rw c.in_default.is at c.in_ok-found.ensures.moves) c.loop-evolution.invariant.latest c.stride-stride.ensures.profile.onward
     c.loop-evolution.invariant.here
     (no_room c.args.profile.now.limit c.args.profile.now.stride c.limit-limit.result c.stride-stride.result c.loop-evolution.checkpoint
     c.limit-limit.ensures.limit c.stride-stride.ensures.stride c.if-limit-checkpoint.true)
-    c.loop-evolution.invariant.before
+    c.loop-evolution.invariant.before;
+}
 
 -- not yet
 pub go_on-requires-clause-kept : goal.go_on-requires-clause-kept
@@ -98,14 +99,8 @@ loop-evolution-preserved c =
           c.loop-evolution.invariant.here c.loop-evolution.invariant.latest c.loop-evolution.invariant.before (rw c.in_default.is at c.in_ok-found.ensures.moves));
     }
 
-pub returns-in_err-found-clause-finding : goal.returns-in_err-found-clause-finding
-returns-in_err-found-clause-finding c = IfOk-from_err _ _ c.from_residual.ensures.0
+pub returns-in_err-found : goal.returns-in_err-found
+returns-in_err-found c = IfOk-from_err _ _ c.from_residual.ensures.0
 
-pub returns-in_err-found-clause-few : goal.returns-in_err-found-clause-few
-returns-in_err-found-clause-few c = IfOk-from_err _ _ c.from_residual.ensures.0
-
-pub returns-in_err-evolution-clause-finding : goal.returns-in_err-evolution-clause-finding
-returns-in_err-evolution-clause-finding c = IfOk-from_err _ _ c.from_residual-in_err-evolution.ensures.0
-
-pub returns-in_err-evolution-clause-few : goal.returns-in_err-evolution-clause-few
-returns-in_err-evolution-clause-few c = IfOk-from_err _ _ c.from_residual-in_err-evolution.ensures.0
+pub returns-in_err-evolution : goal.returns-in_err-evolution
+returns-in_err-evolution c = IfOk-from_err _ _ c.from_residual-in_err-evolution.ensures.0

@@ -8,8 +8,8 @@ use Rattle.survey_core.specs.rest.Rest.{RecursWithin, IsAtRest, RestsAs}
 use Rattle.survey_core.specs.evolution.UnderWay.{survey_reach}
 use Rattle.survey_core.proofs.lemmas.rest.KnownRestlessLemmas.{known_more, known_now}
 use Rattle.survey_core.proofs.lemmas.rest.RestLemmas.{cluster_some, cluster_within}
-use Rattle.survey_core.proofs.finding.examine.Goals as goal
-use Rattle.survey_core.proofs.finding.examine.Goals.{then-is_still, else-is_still}
+use Rattle.survey_core.proofs.surveyor.examine.Goals as goal
+use Rattle.survey_core.proofs.surveyor.examine.Goals.{then-is_still, else-is_still}
 
 pub returns-then-known_restless-parity-clause-moves : goal.returns-then-known_restless-parity-clause-moves
 returns-then-known_restless-parity-clause-moves c =

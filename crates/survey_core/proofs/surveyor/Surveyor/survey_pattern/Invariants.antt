@@ -4,7 +4,7 @@ use Rattle.survey_core.specs.evolution.Evolutions.{IsKept, kept}
 use Rattle.survey_core.specs.Findings.{NoRestBefore}
 use Rattle.survey_core.specs.rest.KnownRestless.{AreKnownRestless}
 use Rattle.survey_core.specs.Profiles.{IsCheckpoint}
-use Rattle.survey_core.proofs.finding.survey_pattern_with.Given as goal
+use Rattle.survey_core.proofs.surveyor.Surveyor.survey_pattern.Given as goal
 
 abbrev pub decreases-loop-evolution : goal.decreases-loop-evolution
 decreases-loop-evolution l = l.limit - l.checkpoint

@@ -1,0 +1,87 @@
+//! The board that a worker keeps from one pattern to the next, so that its words needn't be allocated and cleared anew.
+//!
+//! ```text
+//! first soups      a small board, which is made in no time
+//! one outgrows it  the next board is a large one, and stays
+//! ```
+ghost use Rattle.std.specs.Prelude.{◌≡◌, IfOk, IfSome};
+
+use memory::OutOfMemory;
+use plane_core::engine::board::Board;
+use plane_core::plane::pattern::Pattern;
+use plane_core::plane::rule::Rule;
+use std::alloc::Global;
+
+/// A board for the next pattern.
+#[derive(Drop)]
+pub(crate) struct SpareBoard {
+    /// The board, unless there is none yet, or a pattern is on it.
+    board: Option<Board>,
+    /// The size of the next board that is made.
+    size: Size,
+}
+
+/// The size of a board.
+#[derive(Clone, Copy)]
+enum Size {
+    /// Enough for most patterns, and made fast.
+    Small,
+    /// For all patterns, once one of them had no room on a small board.
+    Large,
+}
+
+impl SpareBoard {
+    /// Returns a place for a board, without one. It takes no memory.
+    pub(crate) fn none() -> SpareBoard {
+        SpareBoard {
+            board: None,
+            size: Size::Small,
+        }
+    }
+
+    /// Returns a board that shows `pattern` under `rule`: the spare one, or a new one. The board belongs to the caller
+    /// until [`give_back`](SpareBoard::give_back) or [`outgrow`](SpareBoard::outgrow) returns it.
+    ///
+    /// `None` if there is no memory for a board, or if the board has no room for the pattern.
+    ///
+    /// # Errors
+    ///
+    /// `OutOfMemory` if memory runs out while the pattern is laid on the board.
+    pub(crate) fn board_with(
+        &mut self,
+        alloc: Global,
+        rule: &Rule,
+        pattern: &Pattern,
+    ) -> Result<Option<Board>, OutOfMemory>
+        ensures rule { IfOk result (λ shown. IfSome shown (λ board. board.rule ≡ rule.now)) }
+        ensures cells { IfOk result (λ shown. IfSome shown (λ board. board.cells ≡ pattern.now)) }
+    {
+        let kept = match (self.board.take(), self.size) {
+            (Some(board), _) => Some(board),
+            (None, Size::Small) => Board::small(alloc, rule).ok(),
+            (None, Size::Large) => Board::new(alloc, rule).ok(),
+        };
+        let Some(mut board) = kept else {
+            return Ok(None);
+        };
+        let has_room = board.show(rule, pattern)?;
+        if has_room {
+            return Ok(Some(board));
+        }
+        self.outgrow(board);
+        Ok(None)
+    }
+
+    /// Takes a board back that can show the next pattern.
+    pub(crate) fn give_back(&mut self, board: Board) {
+        self.board = Some(board);
+    }
+
+    /// Takes a board back on which a pattern had no room. If it was a small one, the next one that is made is large.
+    pub(crate) fn outgrow(&mut self, board: Board) {
+        match self.size {
+            Size::Small => self.size = Size::Large,
+            Size::Large => self.board = Some(board),
+        }
+    }
+}
