@@ -50,7 +50,7 @@ use std::alloc::Global;
 use std::io::{Read, Write};
 use survey_core::finding::findings_are_determined;
 use survey_core::job::Job;
-use survey_core::shapes::memo::Memo;
+use survey_core::surveyor::Surveyor;
 
 /// Reads report lines, checks each and offers it to a haul over the soups of a plan, and writes the haul text of what
 /// was taken.
@@ -166,11 +166,11 @@ fn gather_lines<R: Read, E: Write>(
 {
     let mut ahead = Ahead::new(alloc)?;
     let mut line = Vec::new(alloc);
-    let mut memo = Memo::new(alloc);
+    let mut surveyor = Surveyor::new(alloc);
     let mut size = 0u64;
     for before in 0..GATHER_LIMIT + 1 {
         let read = next_line(
-            alloc, input, &mut ahead, &mut line, before, &mut memo, haul, errors,
+            alloc, input, &mut ahead, &mut line, before, &mut surveyor, haul, errors,
         )?;
         size += read.size;
         if size > GATHER_LIMIT {
@@ -191,7 +191,7 @@ fn next_line<R: Read, E: Write>(
     ahead: &mut Ahead,
     line: &mut Vec<u8>,
     before: u64,
-    memo: &mut Memo,
+    surveyor: &mut Surveyor,
     haul: &mut Haul,
     errors: &mut Out<E>,
 ) -> Result<LineRead, Complaint>
@@ -223,7 +223,7 @@ fn next_line<R: Read, E: Write>(
 {
     let read = read_line(input, ahead, line)?;
     if read.size > 0 {
-        take_line(alloc, line.as_slice(), before, memo, haul, errors)?;
+        take_line(alloc, line.as_slice(), before, surveyor, haul, errors)?;
     }
     Ok(read)
 }
@@ -234,7 +234,7 @@ fn take_line<E: Write>(
     alloc: Global,
     kept: &[u8],
     before: u64,
-    memo: &mut Memo,
+    surveyor: &mut Surveyor,
     haul: &mut Haul,
     errors: &mut Out<E>,
 ) -> Result<(), Complaint>
@@ -247,7 +247,7 @@ fn take_line<E: Write>(
     ensures fine { OnOk result (errors.new.failed ≡ false) }
     ensures ended { IfErr result (EndsLine errors.old errors.new) }
 {
-    if let Some(fault) = offer_line(alloc, kept, memo, haul)? {
+    if let Some(fault) = offer_line(alloc, kept, surveyor, haul)? {
         fault.write_line(before + 1, errors)?;
     }
     Ok(())
@@ -258,7 +258,7 @@ fn take_line<E: Write>(
 fn offer_line(
     alloc: Global,
     kept: &[u8],
-    memo: &mut Memo,
+    surveyor: &mut Surveyor,
     haul: &mut Haul,
 ) -> Result<Option<LineFault>, OutOfMemory>
     ensures terms { haul.new.terms ≡ haul.old.terms }
@@ -267,7 +267,7 @@ fn offer_line(
         → IfOk result (λ fault. (arrived : List Arrival)
         × ComesOf haul.old.terms arrivals line arrived fault × StandsFor (arrivals ++ arrived) haul.new) }
 {
-    let report = match report_of(alloc, kept, &haul.job(), memo)? {
+    let report = match report_of(alloc, kept, &haul.job(), surveyor)? {
         Ok(report) => report,
         Err(fault) => return Ok(Some(fault)),
     };
@@ -284,7 +284,7 @@ fn report_of(
     alloc: Global,
     kept: &[u8],
     job: &Job,
-    memo: &mut Memo,
+    surveyor: &mut Surveyor,
 ) -> Result<Result<Report, LineFault>, OutOfMemory>
     ensures { (line : List ℕ) → kept.now ≡ take (2 ^ 24 + 1) line → IfOk result (IsLookedAt job.now line) }
 {
@@ -292,7 +292,7 @@ fn report_of(
         let place = prefix_fault(alloc, &kept[..LINE_LIMIT])?;
         return Ok(Err(LineFault::BadLine { place }));
     }
-    checked_report(alloc, kept, job, memo)
+    checked_report(alloc, kept, job, surveyor)
 }
 
 /// Where a line is bad that begins with these 2^24 bytes, and is longer.
@@ -311,7 +311,7 @@ fn checked_report(
     alloc: Global,
     line: &[u8],
     job: &Job,
-    memo: &mut Memo,
+    surveyor: &mut Surveyor,
 ) -> Result<Result<Report, LineFault>, OutOfMemory>
     ensures { IfOk result (IsChecked job.now line.now) }
 {
@@ -320,7 +320,7 @@ fn checked_report(
         Err(LineError::BadLine { place }) => return Ok(Err(LineFault::BadLine { place })),
         Err(LineError::Memory(error)) => return Err(error),
     };
-    match claim.check_with(alloc, job, memo) {
+    match claim.check_by(alloc, surveyor, job) {
         Ok(report) => Ok(Ok(report)),
         Err((_, CheckError::OtherJob)) => Ok(Err(LineFault::OtherJob)),
         Err((_, CheckError::Disagrees { .. })) => {

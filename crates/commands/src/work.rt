@@ -35,7 +35,7 @@ use std::alloc::Global;
 use std::io::Write;
 use survey_core::finding::findings_are_determined;
 use survey_core::job::Job;
-use survey_core::shapes::memo::Memo;
+use survey_core::surveyor::Surveyor;
 
 /// Surveys all soups of a plan for a worker, 1 to 16, and writes a report line for each, ascending by the soups'
 /// numbers.
@@ -106,8 +106,8 @@ fn put_all<W: Write>(
     ensures { Puts (reports_on haul.now.terms.job worker (numbers_of haul.now.terms.ranges)) result
         (stream W.contents output.old output.new) }
 {
-    let mut memo = Memo::new(alloc);
-    put_reports(alloc, &haul.job(), worker, haul.ranges(), &mut memo, output)
+    let mut surveyor = Surveyor::new(alloc);
+    put_reports(alloc, &haul.job(), worker, haul.ranges(), &mut surveyor, output)
 }
 
 /// Writes the reports on the soups of some ranges.
@@ -116,7 +116,7 @@ fn put_reports<W: Write>(
     job: &Job,
     worker: u8,
     ranges: &[Range],
-    memo: &mut Memo,
+    surveyor: &mut Surveyor,
     output: &mut Out<W>,
 ) -> Result<(), Complaint>
     requires worker { IsWorker worker }
@@ -126,7 +126,7 @@ fn put_reports<W: Write>(
         (stream W.contents output.old output.new) }
 {
     for range in ranges {
-        put_range(alloc, job, worker, *range, memo, output)?;
+        put_range(alloc, job, worker, *range, surveyor, output)?;
     }
     Ok(())
 }
@@ -137,7 +137,7 @@ fn put_range<W: Write>(
     job: &Job,
     worker: u8,
     range: Range,
-    memo: &mut Memo,
+    surveyor: &mut Surveyor,
     output: &mut Out<W>,
 ) -> Result<(), Complaint>
     requires worker { IsWorker worker }
@@ -147,7 +147,7 @@ fn put_range<W: Write>(
         (stream W.contents output.old output.new) }
 {
     for number in range.first..range.first + range.count {
-        put_report(alloc, job, worker, number, memo, output)?;
+        put_report(alloc, job, worker, number, surveyor, output)?;
     }
     Ok(())
 }
@@ -158,7 +158,7 @@ fn put_report<W: Write>(
     job: &Job,
     worker: u8,
     number: u64,
-    memo: &mut Memo,
+    surveyor: &mut Surveyor,
     output: &mut Out<W>,
 ) -> Result<(), Complaint>
     requires worker { IsWorker worker }
@@ -166,7 +166,7 @@ fn put_report<W: Write>(
     requires output { output.old.failed ≡ false }
     ensures { Puts (reports_on job.now worker (number ∷ [])) result (stream W.contents output.old output.new) }
 {
-    let report = match Report::make_with(alloc, job, worker, number, memo) {
+    let report = match Report::make_by(alloc, surveyor, job, worker, number) {
         Ok(report) => report,
         Err(ReportError::Memory(error)) => return Err(Complaint::Memory(error)),
         Err(ReportError::BadWorker) => unreachable!(),

@@ -21,7 +21,7 @@ use memory::OutOfMemory;
 use std::alloc::Global;
 use std::sync::Wait;
 use std::sync::atomic::Ordering;
-use survey_core::shapes::memo::Memo;
+use survey_core::surveyor::Surveyor;
 
 /// How a worker ended.
 #[derive(Clone, Copy)]
@@ -72,7 +72,7 @@ pub(crate) fn run_worker<G: Gate, R: Wait>(
     WorkerResult { pass, sender, end }
 }
 
-/// Surveys what is left, with a memo of the worker's own. Each report is presented. A function of its own: a memo is
+/// Surveys what is left, with a surveyor of the worker's own. Each report is presented. A function of its own: a surveyor is
 /// dear to prove at the ends of the one that owns pass and sender.
 fn survey_all<G: Gate, R: Wait>(
     alloc: Global,
@@ -90,8 +90,8 @@ fn survey_all<G: Gate, R: Wait>(
     ensures begun { has_begun result ≡ true }
     ensures not_done { AreNotDone sender.new.notes }
 {
-    let mut memo = Memo::new(alloc);
-    survey_left(alloc, rt, shared, gate, pass, sender, &mut memo)
+    let mut surveyor = Surveyor::new(alloc);
+    survey_left(alloc, rt, shared, gate, pass, sender, &mut surveyor)
 }
 
 /// Surveys one number after another, until none is left, the gate stops the worker, or memory runs out.
@@ -103,7 +103,7 @@ fn survey_left<G: Gate, R: Wait>(
     gate: &G,
     pass: &mut Pass,
     sender: &mut SenderPass<Note>,
-    memo: &mut Memo,
+    surveyor: &mut Surveyor,
 ) -> End
     requires pass { pass.old ≡ fresh shared.now.tickets }
     requires worker { IsWorker sender.old.number }
@@ -123,7 +123,7 @@ fn survey_left<G: Gate, R: Wait>(
             Ok(()) => {}
             Err(Stop) => return End::Stopped,
         }
-        let report = match Report::make_with(alloc, &shared.job, worker, number, memo) {
+        let report = match Report::make_by(alloc, surveyor, &shared.job, worker, number) {
             Ok(report) => report,
             Err(ReportError::Memory(error)) => return End::Memory(error),
             Err(ReportError::BadWorker) => unreachable!(),

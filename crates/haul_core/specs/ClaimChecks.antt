@@ -1,5 +1,6 @@
 -- What becomes of a claim that is checked: it is compared with the finding that its soup has by definition.
-use Rattle.std.specs.Prelude.{◌≡◌, true, false}
+use Rattle.std.specs.Prelude.{◌≡◌, IfErr, IfOk, MatchResult, Result, true, false}
+use Rattle.memory.specs.Witness.{out_of_memory}
 use Rattle.std.specs.List.{All}
 use Rattle.code_core.specs.Apgcodes.{HasCodeShape}
 use Rattle.survey_core.specs.Findings.{IsFinding}
@@ -33,6 +34,15 @@ abbrev pub Fails : Claimed → Job → CheckError → Type 0
 Fails claim job OtherJob = same_job claim.job job ≡ false
 Fails claim job (Disagrees found) = (same_job claim.job job ≡ true) × (IsFoundFor claim found × ¬ Agrees claim found)
 Fails claim job (Memory error) = same_job claim.job job ≡ true
+
+-- What comes of checking a claim for this job. A claim that is right becomes its report, unless memory runs out; every other claim comes
+-- back as it was, with the reason.
+pub record IsChecked (claim : Claimed) (job : Job) (result : Result Reported (Claimed × CheckError)) : Type 0 where
+  pub report : IfOk result (IsConfirmed claim job)
+  pub complete : (report : Reported) → IsConfirmed claim job report
+      → MatchResult result (λ made. made ≡ report) (λ refused. refused.1 ≡ Memory out_of_memory)
+  pub fails : IfErr result (λ refused. Fails claim job refused.1)
+  pub kept : IfErr result (λ refused. refused.0 ≡ claim)
 
 -- each code of a finding has the shape of one
 abbrev pub HaveShape : Finding → Type 0

@@ -1,5 +1,5 @@
 -- Reports: what a worker says of a soup.
-use Rattle.std.specs.Prelude.{◌<◌, ◌≤◌, ◌^◌, ℕ}
+use Rattle.std.specs.Prelude.{◌≡◌, ◌<◌, ◌≤◌, ◌^◌, ℕ}
 use Rattle.survey_core.specs.Findings.{IsFinding, objects_in}
 use Rattle.survey_core.specs.Soups.{soup}
 use Rattle.survey_core.specs.declared.finding.Finding.{Finding}
@@ -24,3 +24,10 @@ pub record IsReport (report : Reported) : Type 0 where
   pub number : report.number < number_bound
   pub finding : IsFinding report.job.rule report.job.profile (soup report.job.seed report.number) report.finding
   pub few : objects_in report.finding < 2 ^ 64
+
+-- the report of this worker on this soup of the job
+pub record IsReportOf (job : Job) (worker number : ℕ) (report : Reported) : Type 0 where
+  pub job_is : report.job ≡ job
+  pub worker_is : report.worker ≡ worker
+  pub number_is : report.number ≡ number
+  pub lawful : IsReport report

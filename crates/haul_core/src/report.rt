@@ -11,7 +11,7 @@
 ghost use Rattle.std.specs.Prelude.{◌≡◌, ◌<◌, ◌↔◌, IfOk, IsErrOf, IsTrue};
 ghost use Rattle.memory.specs.Witness.{out_of_memory};
 ghost use Rattle.ranges.specs.Ranges.{number_bound};
-ghost use Rattle.haul_core.specs.Reports.{IsReport, IsWorker};
+ghost use Rattle.haul_core.specs.Reports.{IsReport, IsReportOf, IsWorker};
 ghost use Rattle.haul_core.specs.declared.report.ReportError.TheVariants.{BadWorker, Memory};
 
 /// Claims: what report lines say.
@@ -22,9 +22,9 @@ pub mod write;
 use memory::OutOfMemory;
 use std::alloc::Global;
 use std::marker::Model;
-use survey_core::finding::{Finding, survey_with};
+use survey_core::finding::Finding;
 use survey_core::job::Job;
-use survey_core::shapes::memo::Memo;
+use survey_core::surveyor::Surveyor;
 use thiserror::Error;
 
 /// The most workers that a haul may have: as many threads as most machines run at a time. They are numbered from 1.
@@ -72,7 +72,7 @@ impl Model for Report {
 }
 
 impl Report {
-    /// Surveys the soup with this number, which is below 2^40, for this worker.
+    /// Surveys soup `number` of the job, for this worker. The number is below 2^40.
     ///
     /// # Errors
     ///
@@ -80,40 +80,33 @@ impl Report {
     /// - [`ReportError::Memory`] if memory runs out.
     pub fn make(alloc: Global, job: &Job, worker: u8, number: u64) -> Result<Report, ReportError>
         requires { number < number_bound }
-        ensures job { IfOk result (λ report. report.job ≡ job.now) }
-        ensures worker { IfOk result (λ report. report.worker ≡ worker) }
-        ensures number { IfOk result (λ report. report.number ≡ number) }
-        ensures report { IfOk result IsReport }
+        ensures report { IfOk result (IsReportOf job.now worker number) }
         ensures bad_worker { IsErrOf result BadWorker ↔ ¬ IsWorker worker }
     {
-        Report::make_with(alloc, job, worker, number, &mut Memo::without_room(alloc))
+        let mut surveyor = Surveyor::without_memo(alloc);
+        Report::make_by(alloc, &mut surveyor, job, worker, number)
     }
 
-    /// Surveys the soup with this number, which is below 2^40, for this worker. Whatever the memo remembers, the report
-    /// is the same; a memo that has seen other soups makes it faster.
+    /// Makes the report that [`make`](Report::make) makes, by a surveyor that may have seen other soups. It is faster.
     ///
     /// # Errors
     ///
-    /// - [`ReportError::BadWorker`] if the worker is not 1 to 16.
-    /// - [`ReportError::Memory`] if memory runs out.
-    pub fn make_with(
+    /// Those of [`make`](Report::make).
+    pub fn make_by(
         alloc: Global,
+        surveyor: &mut Surveyor,
         job: &Job,
         worker: u8,
         number: u64,
-        memo: &mut Memo,
     ) -> Result<Report, ReportError>
         requires { number < number_bound }
-        ensures job { IfOk result (λ report. report.job ≡ job.now) }
-        ensures worker { IfOk result (λ report. report.worker ≡ worker) }
-        ensures number { IfOk result (λ report. report.number ≡ number) }
-        ensures report { IfOk result IsReport }
+        ensures report { IfOk result (IsReportOf job.now worker number) }
         ensures bad_worker { IsErrOf result BadWorker ↔ ¬ IsWorker worker }
     {
         if !is_worker(worker) {
             return Err(ReportError::BadWorker);
         }
-        let finding = survey_with(alloc, job, number, memo)?;
+        let finding = surveyor.survey(alloc, job, number)?;
         Ok(Report {
             job: *job,
             worker,

@@ -8,9 +8,9 @@ use plane_core::plaintext::PlaintextError;
 use plane_core::plane::rule::Rule;
 use std::alloc::Global;
 use std::test::Fail;
-use survey_core::finding::{Finding, survey, survey_pattern, survey_pattern_with};
+use survey_core::finding::{Finding, survey, survey_pattern};
 use survey_core::job::Job;
-use survey_core::shapes::memo::Memo;
+use survey_core::surveyor::Surveyor;
 use survey_core::profile::Profile;
 use survey_core::seed::Seed;
 
@@ -139,23 +139,23 @@ fn leaves_a_soup_unsettled(rt: HostRuntime) -> Result<(), Fail> {
 
 /// Whether the R-pentomino settles as it does without a memo. It comes to rest in generation 1103 (LifeWiki,
 /// "R-pentomino"), and 1111 is the first multiple of 101 after that.
-fn settles_with(alloc: Global, memo: &mut Memo) -> Result<bool, Fail> {
+fn settles_with(alloc: Global, surveyor: &mut Surveyor) -> Result<bool, Fail> {
     let pattern = drawn(alloc, ".OO\nOO.\n.O.")?;
-    let finding = survey_pattern_with(alloc, &Profile::standard(), &Rule::life(), pattern, memo)?;
+    let finding = surveyor.survey_pattern(alloc, &Profile::standard(), &Rule::life(), pattern)?;
     Ok(is_settled(&finding, 1111, false))
 }
 
 #[test]
-fn finds_the_same_with_a_memo(rt: HostRuntime) -> Result<(), Fail> {
-    let mut memo = Memo::new(rt.alloc());
-    assert!(rt; settles_with(rt.alloc(), &mut memo)?);
-    assert!(rt; settles_with(rt.alloc(), &mut memo)?);
+fn finds_the_same_with_a_surveyor_that_has_seen_it(rt: HostRuntime) -> Result<(), Fail> {
+    let mut surveyor = Surveyor::new(rt.alloc());
+    assert!(rt; settles_with(rt.alloc(), &mut surveyor)?);
+    assert!(rt; settles_with(rt.alloc(), &mut surveyor)?);
     Ok(())
 }
 
 #[test]
-fn finds_the_same_without_room(rt: HostRuntime) -> Result<(), Fail> {
-    let mut none = Memo::without_room(rt.alloc());
+fn finds_the_same_without_a_memo(rt: HostRuntime) -> Result<(), Fail> {
+    let mut none = Surveyor::without_memo(rt.alloc());
     assert!(rt; settles_with(rt.alloc(), &mut none)?);
     Ok(())
 }

@@ -25,9 +25,9 @@ use std::alloc::Global;
 use std::env;
 use std::io::{self, Read};
 use std::time::Instant;
-use survey_core::finding::{Finding, survey_with};
+use survey_core::finding::Finding;
 use survey_core::job::Job;
-use survey_core::shapes::memo::Memo;
+use survey_core::surveyor::Surveyor;
 use survey_core::profile::Profile;
 use survey_core::seed::Seed;
 
@@ -100,9 +100,9 @@ fn fly_gliders(rt: &HostRuntime, generations: u32) -> io::Result<()> {
 /// How many of the first soups of the empty seed settle, in Life and by the standard profile.
 fn settled_count(alloc: Global, job: &Job, soups: u32) -> Result<usize, OutOfMemory> {
     let mut settled = Vec::new(alloc);
-    let mut memo = Memo::new(alloc);
+    let mut surveyor = Surveyor::new(alloc);
     for number in 0..soups {
-        let finding = survey_with(alloc, job, u64::from(number), &mut memo)?;
+        let finding = surveyor.survey(alloc, job, u64::from(number))?;
         if let Finding::Settled { checkpoint, .. } = finding {
             settled.push(checkpoint)?;
         }

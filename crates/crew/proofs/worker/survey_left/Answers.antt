@@ -16,12 +16,12 @@ loop-preserved g c =
       c.draw.ensures.series ∙ so_far.0,
       ap (λ (s : Presented Note). s.number) c.present.ensures ∙ so_far.1,
       reported_next shared c.loop.pass.numbers c.draw.new.pass.numbers c.loop.sender c.present.new.pass place
-          c.in-Ok-make_with.report so_far.2 c.in-Some-draw.ensures.greater below
-          (own_report (g.G.Gate.lets c.args.gate.now) c.in-Ok-make_with.report (sym (c.number-worker.ensures ∙ sym so_far.1))
-          c.in-Ok-make_with.ensures.worker c.in-Ok-make_with.ensures.job
-          c.in-Ok-make_with.ensures.number c.in-Ok.ensures.lets)
-          (c.in-Ok-make_with.ensures.number ∙ get_or_read missing _ _ below c.index-number.ensures 0)
+          c.in-Ok-make_by.report so_far.2 c.in-Some-draw.ensures.greater below
+          (own_report (g.G.Gate.lets c.args.gate.now) c.in-Ok-make_by.report (sym (c.number-worker.ensures ∙ sym so_far.1))
+          c.in-Ok-make_by.ensures.report.worker_is c.in-Ok-make_by.ensures.report.job_is
+          c.in-Ok-make_by.ensures.report.number_is c.in-Ok.ensures.lets)
+          (c.in-Ok-make_by.ensures.report.number_is ∙ get_or_read missing _ _ below c.index-number.ensures 0)
           (ap (λ (d : Drawn). d.numbers) c.in-Some-draw.ensures.drawn) c.present.ensures,
-      not_done_more c.loop.sender.notes c.present.new.pass.notes c.in-Ok-make_with.report so_far.3
+      not_done_more c.loop.sender.notes c.present.new.pass.notes c.in-Ok-make_by.report so_far.3
           (ap (λ (s : Presented Note). s.notes) c.present.ensures),
     )

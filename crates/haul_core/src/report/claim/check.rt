@@ -3,7 +3,7 @@
 ghost use Rattle.std.specs.Prelude.{◌≡◌, ◌==◌, ◌↔◌, All, IfErr, IfOk, IsTrue, MatchResult, None, Some, if◌then◌else◌};
 ghost use Rattle.memory.specs.Witness.{out_of_memory};
 ghost use Rattle.code_core.specs.Apgcodes.{HasCodeShape};
-ghost use Rattle.haul_core.specs.ClaimChecks.{Agrees, Fails, HaveShape, IsConfirmed};
+ghost use Rattle.haul_core.specs.ClaimChecks.{Agrees, HaveShape, IsChecked, IsConfirmed};
 ghost use Rattle.haul_core.specs.ReportLines.{claim_of};
 ghost use Rattle.haul_core.specs.LawfulClaims.{IsClaim};
 ghost use Rattle.haul_core.specs.Reports.{Reported};
@@ -17,8 +17,8 @@ use memory::OutOfMemory;
 use std::alloc::Global;
 use survey_core::finding::{Finding, findings_are_determined};
 use survey_core::job::{Job, is_same_job};
-use survey_core::shapes::memo::Memo;
 use survey_core::shapes::objects::Objects;
+use survey_core::surveyor::Surveyor;
 
 /// Why a claim did not become a report.
 #[derive(Debug, Drop)]
@@ -32,8 +32,8 @@ pub enum CheckError {
 }
 
 impl Claim {
-    /// Surveys the soup that the claim is about, and makes the claim a report if it is of this job and says what was
-    /// found. A claim of version 1 is compared without the mark, which it doesn't have.
+    /// Surveys the soup that the claim is about, and turns the claim into a report if it is of this job and says what was
+    /// found. A claim of version 1 has no mark, so it is compared without one.
     ///
     /// # Errors
     ///
@@ -43,45 +43,31 @@ impl Claim {
     /// - [`CheckError::Memory`] if memory runs out, before anything is compared.
     /// - [`CheckError::Disagrees`] with what was found, if the claim says something else.
     pub fn check(self, alloc: Global, job: &Job) -> Result<Report, (Claim, CheckError)>
-        // The report has the claim's job, worker and number, and each claim that is right becomes its report.
-        ensures report { IfOk result (IsConfirmed self job.now) }
-        ensures complete { (report : Reported) → IsConfirmed self job.now report
-            → MatchResult result (λ made. made ≡ report) (λ refused. refused.1 ≡ Memory out_of_memory) }
-
-        // Which error it is, and what comes back.
-        ensures fails { IfErr result (λ refused. Fails self job.now refused.1) }
-        ensures kept { IfErr result (λ refused. refused.0 ≡ self) }
+        ensures { IsChecked self job.now result }
     {
-        self.check_with(alloc, job, &mut Memo::without_room(alloc))
+        let mut surveyor = Surveyor::without_memo(alloc);
+        self.check_by(alloc, &mut surveyor, job)
     }
 
-    /// Checks the claim as [`check`](Claim::check) does. Whatever the memo remembers, the answer is the same; a memo
-    /// that has seen other soups makes it faster.
+    /// Checks the claim as [`check`](Claim::check) does, by a surveyor that may have seen other soups. It is faster.
     ///
     /// # Errors
     ///
     /// Those of [`check`](Claim::check).
-    pub fn check_with(
+    pub fn check_by(
         self,
         alloc: Global,
+        surveyor: &mut Surveyor,
         job: &Job,
-        memo: &mut Memo,
     ) -> Result<Report, (Claim, CheckError)>
-        // The report has the claim's job, worker and number, and each claim that is right becomes its report.
-        ensures report { IfOk result (IsConfirmed self job.now) }
-        ensures complete { (report : Reported) → IsConfirmed self job.now report
-            → MatchResult result (λ made. made ≡ report) (λ refused. refused.1 ≡ Memory out_of_memory) }
-
-        // Which error it is, and what comes back.
-        ensures fails { IfErr result (λ refused. Fails self job.now refused.1) }
-        ensures kept { IfErr result (λ refused. refused.0 ≡ self) }
+        ensures { IsChecked self job.now result }
     {
         if !is_same_job(&self.job, job) {
             return Err((self, CheckError::OtherJob));
         }
         // For the prover: a finding that differs from the soup's shows that the claim is wrong.
         findings_are_determined();
-        let report = match Report::make_with(alloc, job, self.worker, self.number, memo) {
+        let report = match Report::make_by(alloc, surveyor, job, self.worker, self.number) {
             Ok(report) => report,
             Err(ReportError::Memory(error)) => return Err((self, CheckError::Memory(error))),
             Err(ReportError::BadWorker) => unreachable!(),
