@@ -6,6 +6,7 @@ both are that program.
 
 from __future__ import annotations
 
+import importlib.util
 import os
 import subprocess
 import sys
@@ -68,8 +69,21 @@ def need_program() -> None:
         count.end()
 
 
-def restart_with_debians_python() -> None:
-    """Starts this script again with the Python that sees Debian's packages, unless this is that Python or there is none."""
+def has_module(name: str) -> bool:
+    """Whether a module can be imported. If it can't, the script is started again with the Python that sees Debian's packages."""
+    if importlib.util.find_spec(name):
+        return True
     if sys.executable != DEBIANS_PYTHON and os.path.exists(DEBIANS_PYTHON):
-        sys.stdout.flush()
         os.execv(DEBIANS_PYTHON, [DEBIANS_PYTHON, *sys.argv])
+    return False
+
+
+def need_module(name: str, package: str) -> None:
+    """Ends the check as skipped if a module of a Debian package isn't there. In CI that is a failure."""
+    if not has_module(name):
+        count = Count()
+        if IN_CI:
+            count.check(package, "it isn't installed")
+        else:
+            count.skip(f"all, since {package} isn't installed")
+        count.end()
