@@ -2,6 +2,7 @@
 
 from __future__ import annotations
 
+import os
 from collections.abc import Iterable, Mapping
 from graphlib import CycleError, TopologicalSorter
 from pathlib import Path
@@ -59,8 +60,14 @@ class Crates:
 
 def weights_of(folders: Mapping[str, Path], names: Iterable[str]) -> dict[str, int]:
     """About how long it takes to prove each crate: how many kilobytes its sources have, and one more, since each takes some time."""
-    return {name: 1 + sum(path.stat().st_size for path in sources_in(folders[name])) // KILOBYTE for name in names}
+    return {name: 1 + bytes_in(folders[name]) // KILOBYTE for name in names}
 
 
-def sources_in(folder: Path) -> list[Path]:
-    return [path for kind in ("*.rt", "*.antt") for path in folder.rglob(kind) if "out" not in path.relative_to(folder).parts]
+def bytes_in(folder: Path) -> int:
+    """How many bytes the sources of a crate have."""
+    size = 0
+    for above, folders, files in os.walk(folder):
+        # What was built may be large.
+        folders[:] = [name for name in folders if name != "out"]
+        size += sum(os.path.getsize(os.path.join(above, name)) for name in files if name.endswith((".rt", ".antt")))
+    return size

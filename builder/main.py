@@ -45,7 +45,7 @@ def run_programs(places: Places, words: list[str]) -> int:
     ci_log = None
     if words[:1] == ["--look"] and len(words) == 2:
         return look_at(places, words[1])
-    if words[:1] == ["--of-gate"] and len(words) == 3:
+    if words[:1] == ["--of-ci"] and len(words) == 3:
         ci_log, words = Path(words[1]), words[2:]
     if len(words) != 1 or not words[0] or words[0].startswith("-"):
         return BAD_WORDS
@@ -57,6 +57,8 @@ def main() -> int:
     try:
         for each in SIGNALS:
             signal.signal(each, interrupt)
+        # A terminal may stop those in the background that write to it.
+        signal.signal(signal.SIGTTOU, signal.SIG_IGN)
         return run(sys.argv[1:])
     except Failed as why:
         say(str(why))

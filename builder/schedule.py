@@ -91,7 +91,11 @@ class Schedule:
             try:
                 self._run(work, pool)
             except BaseException:
-                work.end_all()
+                try:
+                    work.end_all()
+                finally:
+                    # A signal may have interrupted it.
+                    work.end_all()
                 raise
 
     def _run(self, work: Work, pool: ThreadPoolExecutor) -> None:

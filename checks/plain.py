@@ -46,8 +46,12 @@ LIFE = rule_named("b3s23")
 
 # ---- Generations
 
+# How far the eight neighbours of a cell are.
+NEIGHBOURS = [(dx, dy) for dx in (-1, 0, 1) for dy in (-1, 0, 1) if dx or dy]
+
+
 def next_of(rule: Rule, cells: Cells) -> Cells:
-    live_neighbours = Counter((x + dx, y + dy) for x, y in cells for dx in (-1, 0, 1) for dy in (-1, 0, 1) if dx or dy)
+    live_neighbours = Counter([(x + dx, y + dy) for x, y in cells for dx, dy in NEIGHBOURS])
     born = {cell for cell, live in live_neighbours.items() if live in rule.births and cell not in cells}
     return frozenset(born | {cell for cell in cells if live_neighbours[cell] in rule.survivals})
 
