@@ -28,13 +28,18 @@ MEMORY = Path("/proc/meminfo")
 
 
 def copies_for_longest() -> int:
-    """How many copies of the prover the crate with the longest way gets: one for each processor, as far as there is memory."""
-    copies = min(len(os.sched_getaffinity(0)), MOST_COPIES)
+    """How many copies of the prover the crate with the longest way gets here."""
     try:
         available = next((int(line.split()[1]) for line in MEMORY.read_text().splitlines() if line.startswith("MemAvailable:")), None)
     except (OSError, ValueError, IndexError):
         available = None
-    return copies if available is None else max(1, min(copies, available // COPY_KILOBYTES))
+    return copies_with(len(os.sched_getaffinity(0)), available)
+
+
+def copies_with(processors: int, kilobytes: int | None) -> int:
+    """One copy for each processor, as far as there is memory, if it is known how much there is."""
+    copies = min(processors, MOST_COPIES)
+    return copies if kilobytes is None else max(1, min(copies, kilobytes // COPY_KILOBYTES))
 
 
 @dataclass(frozen=True)
