@@ -167,5 +167,12 @@ def fault_of(places: Places, folder: str) -> str:
         return f"{folder} has no file 'from', so nothing says what its programs were built from"
     was = origin.split("\n")
     now = f"{Built(places).basis() or ''}\n{digests_of(Path(folder))}".rstrip("\n").split("\n")
-    differing = [line for line in was if line not in now] + [line for line in now if line not in was]
-    return f"what is in {folder} was built from something else than is here: {differing[0].rpartition('  ')[2]}" if differing else ""
+    differing = first_difference(was, now)
+    return f"what is in {folder} was built from something else than is here: {differing}" if differing else ""
+
+
+def first_difference(was: list[str], now: list[str]) -> str:
+    """The name in the first line that only one of two lists has."""
+    there, here = set(was), set(now)
+    differing = [line for line in was if line not in here] + [line for line in now if line not in there]
+    return differing[0].rpartition("  ")[2] if differing else ""

@@ -32,9 +32,13 @@ class Progress:
     def end(self, crate: str) -> None:
         self.proved.add(crate)
 
+    def running(self) -> list[str]:
+        """The crates that are being proved, and how far each is."""
+        return [self._place(crate) + self._functions(crate) for crate in self.places if crate not in self.proved]
+
     def show(self) -> None:
-        running = [self._place(crate) + self._functions(crate) for crate in self.places if crate not in self.proved]
-        if running and is_terminal():
+        running = self.running() if is_terminal() else []
+        if running:
             minutes = int(time.monotonic() - self.began) // 60
             tell(f"{WIPE}{NO_WRAP}census: proving {', and '.join(running)}, {minutes} min{WRAP}")
 

@@ -5,7 +5,7 @@ from __future__ import annotations
 import subprocess
 from typing import NamedTuple
 
-from checks.program import CENSUS
+from checks import program
 
 MOST_SECONDS = 120
 # What is longer is shown by its beginning and its length.
@@ -26,7 +26,7 @@ class Call(NamedTuple):
 def fault_of(call: Call) -> str:
     """What is wrong with the program's answer."""
     try:
-        ended = subprocess.run([CENSUS, *call.words], input=call.given, capture_output=True, check=False, timeout=MOST_SECONDS)
+        ended = subprocess.run([program.CENSUS, *call.words], input=call.given, capture_output=True, check=False, timeout=MOST_SECONDS)
     except subprocess.TimeoutExpired:
         return f"{call.name}: it takes over {MOST_SECONDS} seconds"
     faults = [
