@@ -37,8 +37,8 @@ get_cpu() {
     done 2>/dev/null </proc/cpuinfo
 }
 
-# Prints the digests of the sources, and of the program if it is named. Crates of tests, wrong bodies and tests' inputs aren't
-# built into it.
+# Prints the digests of the sources, and of the program if it is named. Crates of tests, mutants and tests' inputs aren't built into
+# it.
 digests() (
     set -o pipefail
     cd -- "$top" && find crates.txt crates "$@" \( -name out -o -path 'crates/*_tests' \) -prune -o \

@@ -39,16 +39,16 @@ end() {
     exit
 }
 
-# Sets `programs` to a folder that git ignores, with the programs for both levels of processors. They are those that the gate has
-# proved, if the variable GATE_LOG names what it said, and else those of bin/programs, which proves what isn't kept. More than one
-# check wants them, so the first that comes makes them.
+# Sets `programs` to a folder that git ignores, with the programs for both levels of processors. If the variable CI_LOG names what
+# `rt ci` said, they are the programs that it has proved, and otherwise those of bin/programs, which proves what isn't kept. More than
+# one check wants them, so the first that comes makes them.
 get_programs() {
     programs=$top/crates/census/out/programs
     mkdir -p -- "${programs%/*}" || return
     (
         flock 9
         "$top/bin/programs" --look "$programs" 2> /dev/null && exit
-        [[ ${GATE_LOG-} ]] && "$top/bin/programs" --of-gate "$GATE_LOG" "$programs" && exit
+        [[ ${CI_LOG-} ]] && "$top/bin/programs" --of-ci "$CI_LOG" "$programs" && exit
         "$top/bin/programs" "$programs"
     ) 9> "$programs.lock"
 }

@@ -35,9 +35,9 @@ def differences(name: str, given: bytes, made: bytes) -> list[str]:
 
 
 def differing_lines(given: bytes, made: bytes) -> Iterator[str]:
-    texts = [data.decode("utf-8", "replace").splitlines() for data in (given, made)]
+    known, wanted = (data.decode("utf-8", "replace").splitlines() for data in (given, made))
     found = False
-    for line in difflib.ndiff(*texts):
+    for line in difflib.ndiff(known, wanted):
         if line[0] in "-+":
             found = True
             yield f"{'has' if line[0] == '-' else 'should have'} the line: {line[2:]}"

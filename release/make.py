@@ -8,10 +8,13 @@ import sys
 import tempfile
 from pathlib import Path
 
-from release import Failed, tools
+from release import Failed
+from release.archive import PACKED_BY, archive
 from release.checkout import Checkout
+from release.files import Tree
+from release.package import PACKER, has, package, version_of
 from release.programs import LEVELS, rt_version, said_version, verdicts
-from release.tree import Tree, archive_tree, name_of, package_tree
+from release.tree import archive_tree, name_of, package_tree
 
 PROVENANCE, SUMS = "PROVENANCE.txt", "SHA256SUMS"
 
@@ -25,13 +28,11 @@ def files_of_release(checkout: Checkout, programs: Path) -> dict[str, bytes]:
     said = said_version(programs)
     if said != checkout.version:
         raise Failed(f"the program says that it is of version {said}, and haul/__init__.py says {checkout.version}")
-    made = {}
-    with tempfile.TemporaryDirectory() as room:
-        write_tree(archive_tree(checkout, programs), Path(room) / "archive", checkout.date)
-        made[f"{name_of(checkout)}.tar.gz"] = tools.archive(Path(room) / "archive", name_of(checkout), checkout.date)
-        if tools.has("dpkg-deb"):
-            write_tree(package_tree(checkout, programs), Path(room) / "package", checkout.date)
-            made[f"gokzerd_{checkout.version}_amd64.deb"] = tools.package(Path(room) / "package", checkout.date)
+    made = {f"{name_of(checkout)}.tar.gz": archive(archive_tree(checkout, programs), checkout.date)}
+    if has(PACKER):
+        with tempfile.TemporaryDirectory() as room:
+            write_tree(package_tree(checkout, programs), Path(room), checkout.date)
+            made[f"gokzerd_{checkout.version}_amd64.deb"] = package(Path(room), checkout.date)
     made[PROVENANCE] = provenance(checkout, programs, list(made)).encode()
     made[SUMS] = "".join(f"{sha256(data)}  {name}\n" for name, data in sorted(made.items())).encode()
     return made
@@ -58,7 +59,7 @@ def provenance(checkout: Checkout, programs: Path, archives: list[str]) -> str:
     lines.append(f"toolchain {rt_version(programs)}")
     lines += [f"program {sha256((programs / f'census-{level}').read_bytes())} census-{level}" for level in LEVELS]
     lines += ["", "What the prover said of each crate, and of the program for the processors of each level:", "", *verdicts(programs)]
-    lines += ["", "Packed by:", "", *(tools.version_of(tool) for tool in tools.TOOLS)]
+    lines += ["", "Packed by:", "", PACKED_BY, version_of(PACKER)]
     lines += ["", "In a clone of the repository, with this file beside the archives, these two commands make all of it anew and compare:", "",
               f"git checkout {checkout.commit}", f"bin/release --verify {' '.join(f'FOLDER/{name}' for name in archives)}"]
     return "".join(f"{line}\n" for line in lines)
@@ -76,5 +77,5 @@ def write_release(made: dict[str, bytes], folder: Path) -> None:
         raise Failed(f"{error.filename}: {error.strerror}") from None
     for name in made:
         print(folder / name)
-    if not tools.has("dpkg-deb"):
+    if not has(PACKER):
         print("release: there is no dpkg-deb, so no package was made", file=sys.stderr)

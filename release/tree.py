@@ -3,29 +3,18 @@
 from __future__ import annotations
 
 import hashlib
-from dataclasses import dataclass
 from email.utils import formatdate
 from pathlib import Path
 
 from release import Failed
+from release.archive import gzipped
 from release.checkout import Checkout
+from release.files import PROGRAM, TEXT, File, Tree
 from release.pages import moved_page
-from release.tools import packed
 
-PROGRAM, TEXT = 0o755, 0o644
 PAGES = ["README.md", "CHANGELOG.md", *(f"docs/{name}.md" for name in ("COMMANDS", "FORMATS", "PROFILE", "BOOK", "SCALE"))]
 DOC = "share/doc/gokzerd"
 LIBEXEC = "libexec/gokzerd"
-
-
-@dataclass(frozen=True)
-class File:
-    data: bytes
-    mode: int
-
-
-# Each file by its place.
-Tree = dict[str, File]
 
 
 def places_of(checkout: Checkout, zsh: str) -> dict[str, str]:
@@ -84,10 +73,10 @@ def package_tree(checkout: Checkout, programs: Path) -> Tree:
     tree = {}
     for place, file in installed(checkout, programs, "vendor-completions").items():
         if place.startswith("share/man/"):
-            place, file = f"{place}.gz", File(packed(file.data), file.mode)
+            place, file = f"{place}.gz", File(gzipped(file.data), file.mode)
         tree[f"usr/{place}"] = file
     tree[f"usr/{DOC}/copyright"] = File((own / "copyright").read_bytes(), TEXT)
-    tree[f"usr/{DOC}/changelog.gz"] = File(packed(debian_changelog(checkout)), TEXT)
+    tree[f"usr/{DOC}/changelog.gz"] = File(gzipped(debian_changelog(checkout)), TEXT)
     tree["usr/share/lintian/overrides/gokzerd"] = File((own / "lintian-overrides").read_bytes(), TEXT)
     return tree | package_description(checkout, tree)
 

@@ -1,4 +1,4 @@
-"""The programs that pack a release, called so that they make the same bytes of the same files."""
+"""The program that packs a package, called so that it makes the same bytes of the same files."""
 
 from __future__ import annotations
 
@@ -10,7 +10,7 @@ from pathlib import Path
 
 from release import Failed
 
-TOOLS = ("tar", "gzip", "dpkg-deb")
+PACKER = "dpkg-deb"
 
 
 def environment(date: int = 0) -> dict[str, str]:
@@ -41,20 +41,9 @@ def version_of(tool: str) -> str:
     return called([tool, "--version"]).decode("utf-8", "replace").splitlines()[0].rstrip(".")
 
 
-def packed(data: bytes) -> bytes:
-    """The data by gzip, without a name or a date."""
-    return called(["gzip", "-9n"], data)
-
-
-def archive(folder: Path, name: str, date: int) -> bytes:
-    """The archive of what has this name in a folder."""
-    words = ["tar", "--create", "--format=ustar", "--sort=name", "--owner=0", "--group=0", "--numeric-owner", f"--mtime=@{date}"]
-    return packed(called([*words, f"--directory={folder}", name], date=date))
-
-
 def package(folder: Path, date: int) -> bytes:
     """The Debian package of a folder that has its description."""
     with tempfile.TemporaryDirectory() as room:
         made = Path(room) / "made.deb"
-        called(["dpkg-deb", "--root-owner-group", "-Zgzip", "-z9", "--uniform-compression", "--build", str(folder), str(made)], date=date)
+        called([PACKER, "--root-owner-group", "-Zgzip", "-z9", "--uniform-compression", "--build", str(folder), str(made)], date=date)
         return made.read_bytes()

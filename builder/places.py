@@ -1,0 +1,52 @@
+"""Where the sources are, and where what is built is put."""
+
+from __future__ import annotations
+
+from dataclasses import dataclass
+from pathlib import Path
+
+# The crate of the program. All others are libraries.
+PROGRAM = "census"
+# The processors for which the program is built, as `rattle --cpu` names them: the least ones for which the toolchain builds, and those
+# for which the program is some fifth faster. Each with the ending that the program's name has for them.
+LEAST = "default"
+LEVELS = {LEAST: "v2", "x86-64-v3": "v3"}
+
+
+@dataclass(frozen=True)
+class Places:
+    """The paths in a checkout."""
+
+    top: Path
+
+    @property
+    def crates_list(self) -> Path:
+        return self.top / "crates.txt"
+
+    @property
+    def out(self) -> Path:
+        return self.top / "crates" / PROGRAM / "out"
+
+    @property
+    def program(self) -> Path:
+        return self.out / PROGRAM
+
+    @property
+    def stamp(self) -> Path:
+        return self.out / f"{PROGRAM}.built"
+
+    @property
+    def log(self) -> Path:
+        return self.out / f"{PROGRAM}.log"
+
+    @property
+    def lock(self) -> Path:
+        return self.out / f"{PROGRAM}.lock"
+
+    @property
+    def made(self) -> Path:
+        """The folder of what is kept between calls."""
+        return self.out / "made"
+
+    def crate(self, name: str) -> Path:
+        return self.top / "crates" / name

@@ -1,0 +1,178 @@
+"""The program for each level of processors, with what the prover said of each crate: what `bin/programs` puts into a folder."""
+
+from __future__ import annotations
+
+import hashlib
+import os
+import shutil
+import tempfile
+from collections.abc import Iterator
+from contextlib import contextmanager
+from dataclasses import replace
+from pathlib import Path
+from typing import NamedTuple
+
+from builder import Failed, say, tell
+from builder.basis import Built
+from builder.build import Build, get_ready
+from builder.kept import text_of, write_whole
+from builder.lock import take_lock
+from builder.places import LEAST, LEVELS, PROGRAM, Places
+
+# What a folder has beside the file `from`.
+FILES = [*(f"{PROGRAM}-{level}" for level in LEVELS.values()), "verdicts"]
+# The digest that `b2sum -l 256` prints.
+DIGEST_BYTES = 32
+
+
+class Asked(NamedTuple):
+    """A call of `bin/programs`."""
+
+    folder: Path
+    # The file of what `rt ci` has said, which has proved the crates here.
+    ci_log: Path | None
+    # Whether both programs are built anew.
+    again: bool
+
+
+def make_programs(places: Places, asked: Asked) -> None:
+    """Puts the programs into a folder, and says from what they were built."""
+    build = get_ready(places, take_lock(places))
+    if asked.ci_log is not None:
+        with own_folder(build) as own:
+            take_from_ci(own, asked.ci_log, asked.again)
+            # Two copies of the prover would take twice the time of the processors, which the rest of `rt ci` needs.
+            build_both(replace(own, copies=lambda: 1))
+            fill_folder(own, asked.folder)
+    elif asked.again:
+        with own_folder(build) as own:
+            take_libraries(build, own)
+            build_both(own)
+            fill_folder(own, asked.folder)
+    else:
+        build_both(build)
+        fill_folder(build, asked.folder)
+
+
+@contextmanager
+def own_folder(build: Build) -> Iterator[Build]:
+    """The build over a folder of this call alone, which goes when it ends."""
+    with tempfile.TemporaryDirectory(dir=build.places.out, prefix="made.") as made:
+        yield build.with_made(Path(made))
+
+
+def link_copy(origin: Path, copy: Path) -> None:
+    """Copies a file or a folder by links to its files."""
+    if origin.is_dir():
+        shutil.copytree(origin, copy, copy_function=os.link)
+    else:
+        os.link(origin, copy)
+
+
+def take_libraries(build: Build, own: Build) -> None:
+    """Fills the folder with the libraries that are kept."""
+    for crate in build.crates.order:
+        if crate != PROGRAM and build.has(crate, LEAST):
+            for path in (build.kept.result, build.kept.verdict, build.kept.origin):
+                origin = path(crate, LEAST)
+                link_copy(origin, own.kept.made / origin.name)
+
+
+def take_from_ci(own: Build, log: Path, again: bool) -> None:
+    """Fills the folder as if what `rt ci` has proved had been proved here: its libraries, its program, unless that is built anew, and its
+    verdicts. A library with a stamp is another check's, which rt has put back when `rt ci` had ended."""
+    verdicts = verdicts_in(text_of(log) or "")
+    for crate in own.crates.order:
+        if crate == PROGRAM and again:
+            continue
+        result = own.kept.result(crate, LEAST)
+        library = own.places.crate(crate) / "out" / "rlib"
+        try:
+            if crate == PROGRAM:
+                shutil.copy(own.places.program, result)
+            elif (library / "stamp").exists():
+                raise FileExistsError
+            else:
+                link_copy(library / f"{crate}.rlib", result)
+        except OSError:
+            raise Failed(f"the proof of {crate} isn't there that rt ci has made") from None
+        if crate not in verdicts:
+            raise Failed(f"{log} has no verdict on {crate}")
+        own.kept.keep(crate, LEAST, verdicts[crate], own.part_of(crate))
+
+
+def verdicts_in(log: str) -> dict[str, str]:
+    """The verdict that `rt ci` printed of each crate, or what it said if an earlier run had proved the same."""
+    verdicts: dict[str, str] = {}
+    crate = ""
+    for line in log.splitlines():
+        if line.startswith("== "):
+            crate = line.removeprefix("== ")
+        elif line.startswith("logic="):
+            verdicts[crate] = line
+        elif line.startswith("rt: ") and " is kept: " in line:
+            kept, _, why = line.removeprefix("rt: ").partition(" is kept: ")
+            verdicts[kept] = why
+    return verdicts
+
+
+def build_both(build: Build) -> None:
+    """Builds the program for both levels, with one line that says so if it isn't kept."""
+    missing = [cpu for cpu in LEVELS if not build.has(PROGRAM, cpu)]
+    if missing:
+        say("building the program for the processors of two levels, which is proved first")
+    for cpu in missing:
+        build.build_program(cpu)
+
+
+# ---- The folder
+
+def fill_folder(build: Build, folder: Path) -> None:
+    """Copies what is kept into a folder. The file `from` comes last, so what is cut off counts for nothing."""
+    try:
+        folder.mkdir(parents=True, exist_ok=True)
+        (folder / "from").unlink(missing_ok=True)
+        results = [(crate, LEAST) for crate in build.crates.order] + [(PROGRAM, cpu) for cpu in LEVELS if cpu != LEAST]
+        (folder / "verdicts").write_text("".join(f"{build.kept.name(*it)}: {text_of(build.kept.verdict(*it))}\n" for it in results))
+        for cpu in LEVELS:
+            shutil.copy(build.kept.result(PROGRAM, cpu), folder)
+        is_same = build.built.basis() == build.basis
+        if is_same:
+            write_whole(folder / "from", f"{build.basis}\n{digests_of(folder)}")
+    except OSError:
+        is_same = False
+    if not is_same:
+        raise Failed(f"a source or the toolchain changed during the build, or {folder} can't be written")
+
+
+def digests_of(folder: Path) -> str:
+    """The lines that `b2sum -l 256` prints of what a folder has beside the file `from`."""
+    there = [name for name in FILES if (folder / name).is_file()]
+    return "".join(f"{hashlib.blake2b((folder / name).read_bytes(), digest_size=DIGEST_BYTES).hexdigest()}  {name}\n" for name in there)
+
+
+def look_at(places: Places, folder: str) -> int:
+    """Says what a folder's programs were built from that isn't here, by the first line that differs. Returns 0 if there is none."""
+    wrong = fault_of(places, folder)
+    if wrong:
+        tell(f"programs: {wrong}\n")
+    return 1 if wrong else 0
+
+
+def fault_of(places: Places, folder: str) -> str:
+    if shutil.which("rt") is None:
+        return f"there is no command rt on the PATH, so what is in {folder} can't be compared with it"
+    origin = text_of(Path(folder) / "from")
+    if origin is None:
+        return f"{folder} has no file 'from', so nothing says what its programs were built from"
+    was = origin.split("\n")
+    now = f"{Built(places).basis() or ''}\n{digests_of(Path(folder))}".rstrip("\n").split("\n")
+    differing = first_difference(was, now)
+    return f"what is in {folder} was built from something else than is here: {differing}" if differing else ""
+
+
+def first_difference(was: list[str], now: list[str]) -> str:
+    """The name in the first line that only one of two lists has."""
+    there, here = set(was), set(now)
+    differing = [line for line in was if line not in here] + [line for line in now if line not in there]
+    return differing[0].rpartition("  ")[2] if differing else ""

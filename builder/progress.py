@@ -1,0 +1,56 @@
+"""What is told of how far a build is: on a terminal one line that is written anew, and elsewhere a line for each crate."""
+
+from __future__ import annotations
+
+import time
+from dataclasses import dataclass, field
+from pathlib import Path
+
+from builder import is_terminal, say, tell
+
+# Goes to the line's beginning and wipes it.
+WIPE = "\r\x1b[K"
+# A line that is wider than the terminal is cut off, since one that goes on below can't be written anew.
+NO_WRAP, WRAP = "\x1b[?7l", "\x1b[?7h"
+
+
+@dataclass
+class Progress:
+    """Of how many crates which are being proved."""
+
+    room: Path
+    crates: int
+    places: dict[str, int] = field(default_factory=dict)
+    proved: set[str] = field(default_factory=set)
+    began: float = field(default_factory=time.monotonic)
+
+    def begin(self, crate: str) -> None:
+        self.places[crate] = len(self.places) + 1
+        if not is_terminal():
+            say(f"proving {self._place(crate)}")
+
+    def end(self, crate: str) -> None:
+        self.proved.add(crate)
+
+    def running(self) -> list[str]:
+        """The crates that are being proved, and how far each is."""
+        return [self._place(crate) + self._functions(crate) for crate in self.places if crate not in self.proved]
+
+    def show(self) -> None:
+        running = self.running() if is_terminal() else []
+        if running:
+            minutes = int(time.monotonic() - self.began) // 60
+            tell(f"{WIPE}{NO_WRAP}census: proving {', and '.join(running)}, {minutes} min{WRAP}")
+
+    def wipe(self) -> None:
+        if is_terminal():
+            tell(WIPE)
+
+    def _place(self, crate: str) -> str:
+        return f"crate {self.places[crate]} of {self.crates}, {crate}"
+
+    def _functions(self, crate: str) -> str:
+        """Of how many functions the proof is begun, and of how many. For each function the prover leaves a file with its code first,
+        and later one with what the logic sees of it."""
+        seen, coded = (len(list(self.room.glob(f"{crate}/*/Rattle-{crate}-proofs.*.{kind}.oantt"))) for kind in ("Lts", "Code"))
+        return f": {seen} of {coded} functions" if seen else ""

@@ -1,0 +1,143 @@
+"""Calls of the prover, `rattle build`, and of the linker for the program."""
+
+from __future__ import annotations
+
+import os
+import shutil
+import signal
+import subprocess
+import threading
+from collections.abc import Sequence
+from dataclasses import dataclass, field
+from pathlib import Path
+from typing import BinaryIO
+
+from builder.crates import Crates
+from builder.kept import Kept
+from builder.places import LEAST, PROGRAM, Places
+
+TARGET = "x86_64-unknown-linux-gnu"
+# The line that the prover ends with if all is proved.
+VERDICT = b"logic=proved "
+
+
+class Ended(Exception):
+    """A crate isn't proved, since a command ended with this status, or since the build is being ended."""
+
+    def __init__(self, status: int) -> None:
+        super().__init__(status)
+        self.status = status
+
+
+class Log:
+    """What the provers say, each line after its crate's name."""
+
+    def __init__(self, file: BinaryIO) -> None:
+        self.file = file
+        self.turn = threading.Lock()
+
+    def add(self, crate: str, line: bytes) -> None:
+        with self.turn:
+            self.file.write(crate.encode() + b": " + line.rstrip(b"\n") + b"\n")
+            self.file.flush()
+
+
+@dataclass
+class Commands:
+    """Commands that run for a build, each in a process group of its own, and that can all be ended."""
+
+    # It holds the lock, as each command does: a prover that outlives this process is waited for.
+    lock: int
+    running: set[int] = field(default_factory=set)
+    turn: threading.Lock = field(default_factory=threading.Lock)
+    are_ended: bool = False
+
+    def run(self, words: Sequence[str], folder: Path, room: Path, log: Log, crate: str) -> list[bytes]:
+        """Runs a command, and returns the lines that it prints."""
+        with self.turn:
+            if self.are_ended:
+                raise Ended(1)
+            process = subprocess.Popen(words, cwd=folder, env=os.environ | {"TMPDIR": str(room)}, stdin=subprocess.DEVNULL, stdout=subprocess.PIPE,
+                                       stderr=subprocess.STDOUT, pass_fds=[self.lock], start_new_session=True)
+            self.running.add(process.pid)
+        lines = []
+        with process:
+            assert process.stdout
+            for line in process.stdout:
+                log.add(crate, line)
+                lines.append(line)
+        with self.turn:
+            self.running.remove(process.pid)
+        if process.returncode != 0:
+            raise Ended(process.returncode if process.returncode > 0 else 128 - process.returncode)
+        return lines
+
+    def end(self) -> None:
+        """Ends all that run, and lets no other begin."""
+        with self.turn:
+            self.are_ended = True
+            for group in self.running:
+                try:
+                    os.killpg(group, signal.SIGTERM)
+                except ProcessLookupError:
+                    pass
+
+
+@dataclass(frozen=True)
+class Prover:
+    """What the prover needs besides a crate."""
+
+    places: Places
+    kit: Path
+    crates: Crates
+    kept: Kept
+    # For which processors the program is built.
+    cpu: str
+    commands: Commands
+    log: Log
+
+    @property
+    def room(self) -> Path:
+        """The folder of what the prover leaves while it works."""
+        return self.kept.made / "room"
+
+    def prove(self, crate: str, copies: int, yielding: int) -> str:
+        """Proves a crate with so many copies of the prover, which yield so much to others, and returns the verdict. What is made of a
+        library are its statements: crates above need no more, and read these sooner than its proofs."""
+        folder, room = self.places.crate(crate), self.room / crate
+        room.mkdir(parents=True, exist_ok=True)
+        result = self.kept.result(crate, self.cpu)
+        made = room / f"{crate}.o" if crate == PROGRAM else result
+        words = ["nice", "-n", str(yielding), str(self.kit / "bin" / "rattle"), *self._words(crate, copies)]
+        lines = self.commands.run([*words, "-o", str(made)], folder, room, self.log, crate)
+        if crate == PROGRAM:
+            lines += self._link(crate, made, result, room)
+        shutil.rmtree(room)
+        return b"".join(line for line in lines if line.startswith(VERDICT)).decode().rstrip("\n")
+
+    def _words(self, crate: str, copies: int) -> list[str]:
+        """What the prover is told of a crate: its root, the libraries that it names, and where those are that these use."""
+        kit, made = self.kit, self.kept.made
+        words = ["build", "--crate-name", crate, "src/main.rt" if crate == PROGRAM else "src/lib.rt", "--extern", f"std={kit}/rlibs/std.rlib"]
+        for name in self.crates.uses[crate]:
+            folder = made if name in self.crates.uses else kit / "rlibs"
+            words += ["--extern", f"{name}={folder}/{name}.rlib"]
+        words += ["-L", f"dependency={made}", "-L", f"dependency={kit}/rlibs", "--links", f"{crate}="]
+        words += ["--antt-project", f"{kit}/rattle/logic/antt-project.json"]
+        if crate == PROGRAM and self.cpu != LEAST:
+            words.append(f"--cpu={self.cpu}")
+        words += ["--logic-built", f"{kit}/logic_built", "--jobs", str(copies)]
+        return [*words, "--toolchain", f"{kit}/toolchain"] if crate == PROGRAM else [*words, "--statements"]
+
+    def _link(self, crate: str, made: Path, result: Path, room: Path) -> list[bytes]:
+        """Links the program. What doesn't link takes no other program's place."""
+        kit, linked = self.kit, room / crate
+        words = [f"{kit}/bin/rattle-link", "--target", TARGET, "--toolchain", f"{kit}/toolchain", "-o", str(linked), str(made),
+                 f"{kit}/c/libos_c.a", f"{kit}/c/liblibc_c.a"]
+        lines = self.commands.run(words, self.places.crate(crate), room, self.log, crate)
+        try:
+            os.replace(linked, result)
+        except OSError as error:
+            self.log.add(crate, f"{linked}: {error.strerror}".encode())
+            raise Ended(1) from None
+        return lines
