@@ -37,7 +37,7 @@ Fails claim job (Memory error) = same_job claim.job job ≡ true
 
 -- What comes of checking a claim for this job. A claim that is right becomes its report, unless memory runs out; every other claim comes
 -- back as it was, with the reason.
-pub record IsChecked (claim : Claimed) (job : Job) (result : Result Reported (Claimed × CheckError)) : Type 0 where
+pub record IsCheckedClaim (claim : Claimed) (job : Job) (result : Result Reported (Claimed × CheckError)) : Type 0 where
   pub report : IfOk result (IsConfirmed claim job)
   pub complete : (report : Reported) → IsConfirmed claim job report
       → MatchResult result (λ made. made ≡ report) (λ refused. refused.1 ≡ Memory out_of_memory)

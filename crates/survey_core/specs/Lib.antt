@@ -4,6 +4,7 @@ pub mod Jobs
 pub mod Profiles
 pub mod Seeds
 pub mod Soups
+pub mod UnderWay
 pub mod evolution
 pub mod rest
 pub mod shapes

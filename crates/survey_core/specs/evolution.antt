@@ -1,4 +1,3 @@
 pub mod EscapedSpaceships
 pub mod Evolutions
 pub mod SplitPatterns
-pub mod UnderWay

@@ -1,3 +1,4 @@
 pub mod Envelopes
 pub mod Memos
 pub mod Objects
+pub mod RecurringShapes

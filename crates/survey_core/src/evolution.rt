@@ -19,7 +19,7 @@ ghost use Rattle.plane_core.specs.plane.Rules.{Numbers};
 ghost use Rattle.survey_core.specs.evolution.Evolutions.{IsKept, kept};
 ghost use Rattle.survey_core.specs.evolution.SplitPatterns.{IsSplit, whole_of};
 ghost use Rattle.survey_core.specs.rest.Rest.{IsAtRest};
-ghost use Rattle.survey_core.specs.evolution.UnderWay.{StaysNear};
+ghost use Rattle.survey_core.specs.UnderWay.{StaysNear};
 
 /// Spaceships that escape from all the rest of a pattern.
 pub mod escaped_spaceships;

@@ -2,7 +2,7 @@
 ghost use Rattle.std.specs.Prelude.{◌≡◌, ◌≤◌, ◌↔◌, IfOk, IsTrue, true};
 ghost use Rattle.plane_core.specs.plane.Cells.{set_of};
 ghost use Rattle.plane_core.specs.plane.Generations.{after, lies_within, next};
-ghost use Rattle.survey_core.specs.evolution.UnderWay.{survey_reach};
+ghost use Rattle.survey_core.specs.UnderWay.{survey_reach};
 
 use memory::OutOfMemory;
 use plane_core::generation::StepError;

@@ -28,7 +28,7 @@ ghost use Rattle.survey_core.specs.rest.Alone.{alone_at, clusters_of};
 ghost use Rattle.survey_core.specs.rest.Groups.{GroupKeeps, ShareNoCell, members, union_of};
 ghost use Rattle.survey_core.specs.rest.Rest.{IsAtRest, KeepApart, RestsAs};
 ghost use Rattle.survey_core.specs.rest.RestLaws.{AtRestForGood, EmptyIsAtRest, GroupsRunAlone, PartsRunAlone};
-ghost use Rattle.survey_core.specs.evolution.UnderWay.{survey_reach};
+ghost use Rattle.survey_core.specs.UnderWay.{survey_reach};
 
 /// Clusters that are run alone.
 mod alone;

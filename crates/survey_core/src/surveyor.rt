@@ -10,7 +10,7 @@ ghost use Rattle.std.specs.Prelude.{◌≡◌, IfNone, IfOk, IfSome, OnOk, true}
 ghost use Rattle.std.specs.Prelude.{◌<◌, ◌^◌};
 ghost use Rattle.plane_core.specs.plane.Generations.{lies_within};
 ghost use Rattle.survey_core.specs.evolution.Evolutions.{IsKept, kept};
-ghost use Rattle.survey_core.specs.evolution.UnderWay.{survey_reach};
+ghost use Rattle.survey_core.specs.UnderWay.{survey_reach};
 ghost use Rattle.survey_core.specs.Findings.{IsSurvey, SettlesAt, objects_in};
 ghost use Rattle.survey_core.specs.rest.KnownRestless.{AreKnownRestless};
 ghost use Rattle.survey_core.specs.rest.Rest.{IsAtRest};

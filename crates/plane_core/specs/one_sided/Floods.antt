@@ -4,24 +4,12 @@ use Rattle.std.specs.Int.{bit_at}
 use Rattle.plane_core.specs.declared.plane.cell.Cell.{Cell}
 use Rattle.plane_core.specs.plane.Cells.{cell_at, has}
 use Rattle.plane_core.specs.clusters.Clusters.{Linked}
-
--- bit i of row r
-abbrev pub bit_in : List ℕ → ℕ → ℕ → ℕ
-bit_in rows r i = bit_at (slice_index rows r) i
+use Rattle.plane_core.specs.windows.Rows.{ShowsInRows, bit_in}
 
 -- two columns or rows are at most so far apart
 pub record AreNear (reach a b : ℕ) : Type 0 where
   pub low : a ≤ b + reach
   pub high : b ≤ a + reach
-
--- each of 64 rows shows the pattern
-abbrev pub ShowsInAllRows : ℤ → ℤ → List ℕ → List Cell → Type 0
-ShowsInAllRows left top rows cells = (r i : ℕ) → r < 64 → i < 64 → has cells (cell_at (left +ℤ pos i) (top +ℤ pos r)) ≡ (bit_in rows r i == 1)
-
--- two or more inside the window the rows show the pattern
-abbrev pub ShowsInRows : ℤ → ℤ → List ℕ → List Cell → Type 0
-ShowsInRows left top rows cells = (r i : ℕ) → 2 ≤ r → r < 62 → 2 ≤ i → i < 62
-    → has cells (cell_at (left +ℤ pos i) (top +ℤ pos r)) ≡ (bit_in rows r i == 1)
 
 -- each cell of the flood is linked to the start
 abbrev pub AreLinked : ℤ → ℤ → Cell → List Cell → List ℕ → Type 0

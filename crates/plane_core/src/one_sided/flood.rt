@@ -11,7 +11,7 @@
 ghost use Rattle.std.specs.Prelude.{◌≡◌, ◌<◌, ◌≤◌, ℕ, IsTrue};
 ghost use Rattle.std.specs.Int.{bit_at};
 ghost use Rattle.plane_core.specs.one_sided.Floods.{AreNear, HasGrown, IsClosed, IsFlooded, IsWellInside, LiesInside};
-ghost use Rattle.plane_core.specs.one_sided.Floods.{bit_in};
+ghost use Rattle.plane_core.specs.windows.Rows.{bit_in};
 
 /// The columns in which a window is right two generations after it was read, 2 to 61.
 const COLUMNS: u64 = 0x3fff_ffff_ffff_fffc;

@@ -15,7 +15,7 @@
 ghost use Rattle.std.specs.Prelude.{All, IfOk, List, OnOk};
 ghost use Rattle.plane_core.specs.plane.Cells.{InOrder};
 ghost use Rattle.plane_core.specs.clusters.Clusters.{IsCluster};
-ghost use Rattle.plane_core.specs.one_sided.Floods.{ShowsInRows};
+ghost use Rattle.plane_core.specs.windows.Rows.{ShowsInRows};
 ghost use Rattle.plane_core.specs.engine.Frames.{IsViewFrame};
 ghost use Rattle.plane_core.specs.declared.plane.cell.Cell.{Cell};
 

@@ -29,7 +29,8 @@ use Rattle.survey_core.specs.FindingLaws.{FindingsMoved, FindingsOfImages, Findi
 use Rattle.survey_core.specs.Findings.{IsFinding, IsSettled}
 use Rattle.survey_core.specs.shapes.Objects.{is_code}
 use Rattle.survey_core.specs.Profiles.{Settling}
-use Rattle.survey_core.specs.rest.Rest.{RecursWithin, IsAtRest, KeepApart, RestsAs}
+use Rattle.survey_core.specs.rest.Rest.{IsAtRest, KeepApart, RestsAs}
+use Rattle.survey_core.specs.shapes.RecurringShapes.{RecursWithin}
 use Rattle.survey_core.proofs.lemmas.ImageLemmas.{after-image, clusters-image, image-back, image_by, images, images-permute, inverse, partition-image}
 use Rattle.survey_core.proofs.lemmas.ImageLemmas.{partition-permuted}
 use Rattle.survey_core.proofs.lemmas.rest.SortedClusters.{first, place, sorted, sorted-permutes}

@@ -4,7 +4,7 @@ use Rattle.plane_core.specs.declared.plane.cell.Cell.{Cell}
 use Rattle.plane_core.specs.plane.Generations.{after, lies_within}
 use Rattle.plane_core.specs.plane.Rules.{Numbers}
 use Rattle.survey_core.specs.evolution.SplitPatterns.{IsSplit, whole_of}
-use Rattle.survey_core.specs.evolution.UnderWay.{survey_reach}
+use Rattle.survey_core.specs.UnderWay.{survey_reach}
 use Rattle.survey_core.specs.declared.evolution.Evolution.{Evolution}
 use Rattle.survey_core.specs.declared.evolution.Evolution.TheVariants.{Listed, Shown}
 

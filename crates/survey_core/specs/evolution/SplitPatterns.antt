@@ -10,7 +10,7 @@ use Rattle.plane_core.specs.plane.Rules.{Numbers}
 use Rattle.survey_core.specs.declared.evolution.split_pattern.SplitPattern.{SplitPattern}
 use Rattle.survey_core.specs.declared.evolution.escaped_spaceships.Spaceship.{Spaceship}
 use Rattle.survey_core.specs.rest.Groups.{union_of}
-use Rattle.survey_core.specs.evolution.UnderWay.{survey_reach}
+use Rattle.survey_core.specs.UnderWay.{survey_reach}
 use Rattle.survey_core.specs.evolution.EscapedSpaceships.{IsAheadOf, IsPartOf, IsSpaceship}
 
 -- where a ship is at time t

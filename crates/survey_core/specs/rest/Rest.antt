@@ -1,22 +1,17 @@
--- When a pattern is at rest: its objects come back, and never come into each other's way as far as one looks ahead.
+-- When a pattern is at rest: each of its clusters recurs, and up to the horizon the clusters don't get into each other's way.
 use Rattle.std.specs.Prelude.{◌≤◌, ℕ, List, All, map}
 use Rattle.plane_core.specs.declared.plane.cell.Cell.{Cell}
 use Rattle.plane_core.specs.clusters.Clusters.{AreClusters, Partition}
 use Rattle.plane_core.specs.plane.Generations.{after}
 use Rattle.plane_core.specs.plane.Rules.{Numbers}
-use Rattle.code_core.specs.declared.recurrence.Recurrence.{Recurrence}
-use Rattle.code_core.specs.Recurrences.{Recurs}
 use Rattle.survey_core.specs.Profiles.{Settling}
-
--- the pattern comes back within so many generations, moved or not
-abbrev pub RecursWithin : Numbers → ℕ → List Cell → Type 0
-RecursWithin rule limit cells = (r : Recurrence) × Recurs rule cells limit r
+use Rattle.survey_core.specs.shapes.RecurringShapes.{RecursWithin}
 
 -- after g generations the parts, each run alone, share no cell, and together they are the whole
 abbrev pub KeepApart : Numbers → List Cell → List (List Cell) → ℕ → Type 0
 KeepApart rule cells parts g = Partition (after rule cells g) (map (λ part. after rule part g) parts)
 
--- a pattern with these clusters is at rest: each of them comes back within the period, and up to the horizon they keep apart
+-- a pattern with these clusters is at rest: each of them recurs within the period, and up to the horizon they keep apart
 pub record RestsAs (rule : Numbers) (profile : Settling) (cells : List Cell) (clusters : List (List Cell)) : Type 0 where
   pub parts : AreClusters cells clusters
   pub back : All (RecursWithin rule profile.period) clusters

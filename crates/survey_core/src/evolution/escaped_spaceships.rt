@@ -24,7 +24,7 @@ ghost use Rattle.survey_core.specs.evolution.EscapedSpaceships.{BeginsPast, IsFo
 ghost use Rattle.survey_core.specs.evolution.SplitPatterns.{latest_time, spaceship_at};
 ghost use Rattle.survey_core.specs.evolution.EscapedSpaceships.{SpaceshipsStayAhead};
 ghost use Rattle.survey_core.specs.shapes.Envelopes.{times};
-ghost use Rattle.survey_core.specs.evolution.UnderWay.{survey_reach};
+ghost use Rattle.survey_core.specs.UnderWay.{survey_reach};
 
 use crate::patterns::run_on;
 use crate::shapes::envelope_bounds::{EnvelopeBounds, difference};

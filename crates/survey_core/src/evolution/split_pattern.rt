@@ -15,7 +15,7 @@ ghost use Rattle.plane_core.specs.plane.Frontiers.{is_slow};
 ghost use Rattle.plane_core.specs.plane.Generations.{lies_within};
 ghost use Rattle.survey_core.specs.evolution.SplitPatterns.{AreCandidates, IsSplitAt, IsSplit, IsNoneOf, IsTraced, latest_time};
 ghost use Rattle.survey_core.specs.evolution.SplitPatterns.{whole_at, whole_of};
-ghost use Rattle.survey_core.specs.evolution.UnderWay.{survey_reach};
+ghost use Rattle.survey_core.specs.UnderWay.{survey_reach};
 
 use crate::evolution::escaped_spaceships::{Spaceship, at_time, spaceship_of};
 use crate::patterns::{are_same, pattern_of};

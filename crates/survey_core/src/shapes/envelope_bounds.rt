@@ -21,10 +21,10 @@ ghost use Rattle.std.specs.Int.{int_max, int_min};
 ghost use Rattle.plane_core.specs.plane.Bounds.{IsWithin};
 ghost use Rattle.plane_core.specs.plane.Cells.{InOrder};
 ghost use Rattle.plane_core.specs.plane.Generations.{lies_within};
-ghost use Rattle.survey_core.specs.rest.Rest.{RecursWithin};
+ghost use Rattle.survey_core.specs.shapes.RecurringShapes.{RecursWithin};
 ghost use Rattle.survey_core.specs.shapes.Envelopes.{IsEnvelope, Serves, SpaceshipsMoveByCycles, StayApart, StayClear};
 ghost use Rattle.survey_core.specs.shapes.Envelopes.{gap_stays, gaps_of, is_past};
-ghost use Rattle.survey_core.specs.evolution.UnderWay.{survey_reach};
+ghost use Rattle.survey_core.specs.UnderWay.{survey_reach};
 
 use crate::patterns::next;
 use code_core::recurrence::Recurrence;

@@ -20,9 +20,9 @@ ghost use Rattle.plane_core.specs.plane.Cells.{InOrder};
 ghost use Rattle.plane_core.specs.plane.Generations.{lies_within};
 ghost use Rattle.code_core.specs.Names.{IsCode};
 ghost use Rattle.survey_core.specs.shapes.Memos.{IsAbout};
-ghost use Rattle.survey_core.specs.rest.Rest.{RecursWithin};
+ghost use Rattle.survey_core.specs.shapes.RecurringShapes.{RecursWithin};
 ghost use Rattle.survey_core.specs.shapes.Envelopes.{AreEnvelopes, IsEnvelope};
-ghost use Rattle.survey_core.specs.evolution.UnderWay.{survey_reach};
+ghost use Rattle.survey_core.specs.UnderWay.{survey_reach};
 
 use crate::shapes::envelope_bounds::EnvelopeBounds;
 use crate::shapes::slot::slot_of;

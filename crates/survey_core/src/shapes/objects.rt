@@ -9,8 +9,8 @@ ghost use Rattle.code_core.specs.Names.{IsCode};
 ghost use Rattle.code_core.specs.declared.apgcode.Kind.TheVariants.{Ship};
 ghost use Rattle.survey_core.specs.shapes.Objects.{AreObjects, AreObjectsOf, IsCommonMultiple};
 ghost use Rattle.survey_core.specs.shapes.Objects.{StayForGood};
-ghost use Rattle.survey_core.specs.rest.Rest.{RecursWithin};
-ghost use Rattle.survey_core.specs.evolution.UnderWay.{survey_reach};
+ghost use Rattle.survey_core.specs.shapes.RecurringShapes.{RecursWithin};
+ghost use Rattle.survey_core.specs.UnderWay.{survey_reach};
 
 use crate::shapes::memo::Memo;
 use code_core::apgcode::{Apgcode, Kind};

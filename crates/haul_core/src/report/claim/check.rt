@@ -3,7 +3,7 @@
 ghost use Rattle.std.specs.Prelude.{◌≡◌, ◌==◌, ◌↔◌, All, IfErr, IfOk, IsTrue, MatchResult, None, Some, if◌then◌else◌};
 ghost use Rattle.memory.specs.Witness.{out_of_memory};
 ghost use Rattle.code_core.specs.Apgcodes.{HasCodeShape};
-ghost use Rattle.haul_core.specs.ClaimChecks.{Agrees, HaveShape, IsChecked, IsConfirmed};
+ghost use Rattle.haul_core.specs.ClaimChecks.{Agrees, HaveShape, IsCheckedClaim, IsConfirmed};
 ghost use Rattle.haul_core.specs.ReportLines.{claim_of};
 ghost use Rattle.haul_core.specs.LawfulClaims.{IsClaim};
 ghost use Rattle.haul_core.specs.Reports.{Reported};
@@ -43,7 +43,7 @@ impl Claim {
     /// - [`CheckError::Memory`] if memory runs out, before anything is compared.
     /// - [`CheckError::Disagrees`] with what was found, if the claim says something else.
     pub fn check(self, alloc: Global, job: &Job) -> Result<Report, (Claim, CheckError)>
-        ensures { IsChecked self job.now result }
+        ensures { IsCheckedClaim self job.now result }
     {
         let mut surveyor = Surveyor::without_memo(alloc);
         self.check_by(alloc, &mut surveyor, job)
@@ -60,7 +60,7 @@ impl Claim {
         surveyor: &mut Surveyor,
         job: &Job,
     ) -> Result<Report, (Claim, CheckError)>
-        ensures { IsChecked self job.now result }
+        ensures { IsCheckedClaim self job.now result }
     {
         if !is_same_job(&self.job, job) {
             return Err((self, CheckError::OtherJob));

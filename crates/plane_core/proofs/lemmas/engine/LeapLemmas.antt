@@ -17,7 +17,7 @@ use Rattle.plane_core.specs.plane.Bounds.{AreSidesWithin, IsWithin}
 use Rattle.plane_core.specs.engine.ActiveBoxes.{HoldsDifference, IsInOne, box_bound}
 use Rattle.plane_core.specs.plane.Cells.{InOrder, has}
 use Rattle.plane_core.specs.engine.WindowDifferences.{DiffersOnlyIn}
-use Rattle.plane_core.specs.one_sided.Floods.{ShowsInAllRows}
+use Rattle.plane_core.specs.windows.Rows.{ShowsInAllRows}
 use Rattle.plane_core.specs.engine.Frames.{Shows, board_cell, word_of}
 use Rattle.plane_core.specs.plane.Generations.{after}
 use Rattle.plane_core.specs.engine.Leaps.{ArePutBack, AreRun, IsRun, ShowsInner}

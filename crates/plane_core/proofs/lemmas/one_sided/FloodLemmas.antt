@@ -11,7 +11,8 @@ use Rattle.std.proofs.lemmas.Nat.Bits.{bit_at-pow_other, bit_at-pow_same, bit_at
 use Rattle.plane_core.specs.declared.plane.cell.Cell.{Cell}
 use Rattle.plane_core.specs.plane.Cells.{cell_at, distance, king_distance}
 use Rattle.plane_core.specs.clusters.Clusters.{Linked}
-use Rattle.plane_core.specs.one_sided.Floods.{AreLinked, AreNear, HasGrown, IsClosed, IsFlooded, IsWellInside, LiesInside, ShowsInRows, bit_in}
+use Rattle.plane_core.specs.one_sided.Floods.{AreLinked, AreNear, HasGrown, IsClosed, IsFlooded, IsWellInside, LiesInside}
+use Rattle.plane_core.specs.windows.Rows.{ShowsInRows, bit_in}
 use Rattle.plane_core.proofs.lemmas.plane.CaseLemmas.{less_or_not, same_or_not}
 use Rattle.plane_core.proofs.lemmas.clusters.ClusterLemmas.{linked-has, linked-itself, linked-near, linked-trans}
 use Rattle.plane_core.proofs.lemmas.one_sided.NeverRecursLemmas.{moved_bit}

@@ -9,7 +9,8 @@ use Rattle.plane_core.specs.declared.plane.cell.Cell.{Cell}
 use Rattle.plane_core.specs.declared.engine.frame.Frame.{Frame}
 use Rattle.plane_core.specs.plane.Cells.{InOrder, cell_at, distance, has, same_cell}
 use Rattle.plane_core.specs.clusters.Clusters.{IsCluster, Leads, Linked}
-use Rattle.plane_core.specs.one_sided.Floods.{AreNear, IsFlooded, ShowsInRows, bit_in}
+use Rattle.plane_core.specs.one_sided.Floods.{AreNear, IsFlooded}
+use Rattle.plane_core.specs.windows.Rows.{ShowsInRows, bit_in}
 use Rattle.plane_core.specs.engine.Frames.{board_cell, word_of}
 use Rattle.plane_core.specs.windows.LonePatterns.{Holds, IsInWindow}
 use Rattle.plane_core.specs.engine.OnBoard.{cells_on}

@@ -13,7 +13,7 @@
 //! ```
 ghost use Rattle.std.specs.Prelude.{◌<◌, ◌^◌, IfSome};
 ghost use Rattle.plane_core.specs.plane.Cells.{InOrder};
-ghost use Rattle.plane_core.specs.one_sided.Floods.{ShowsInAllRows};
+ghost use Rattle.plane_core.specs.windows.Rows.{ShowsInAllRows};
 ghost use Rattle.plane_core.specs.engine.Frames.{IsViewFrame};
 
 use crate::engine::board::Board;

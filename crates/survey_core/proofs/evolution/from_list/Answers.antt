@@ -8,7 +8,7 @@ use Rattle.survey_core.specs.declared.evolution.split_pattern.SplitPattern.{Spli
 use Rattle.survey_core.specs.evolution.SplitPatterns.{IsSplitAt, IsSplit, whole_at, whole_of}
 use Rattle.survey_core.proofs.lemmas.evolution.SplitPatternLemmas.{new_split}
 use Rattle.survey_core.proofs.lemmas.evolution.RemovedLemmas.{whole-none}
-use Rattle.survey_core.specs.evolution.UnderWay.{StaysNear, survey_reach}
+use Rattle.survey_core.specs.UnderWay.{StaysNear, survey_reach}
 use Rattle.survey_core.proofs.lemmas.evolution.EvolutionLemmas.{near_now}
 use Rattle.survey_core.proofs.evolution.from_list.Goals as goal
 

@@ -6,7 +6,7 @@ use Rattle.plane_core.proofs.lemmas.plane.RunLemmas.{in_order-after}
 use Rattle.survey_core.specs.declared.evolution.escaped_spaceships.Spaceship.{Spaceship}
 use Rattle.survey_core.specs.evolution.SplitPatterns.{IsTraced, whole_at, whole_of}
 use Rattle.survey_core.proofs.lemmas.evolution.SplitPatternLemmas.{board_later, split_later, traced_later, whole_later}
-use Rattle.survey_core.specs.evolution.UnderWay.{survey_reach}
+use Rattle.survey_core.specs.UnderWay.{survey_reach}
 use Rattle.survey_core.proofs.lemmas.evolution.EvolutionLemmas.{in_parts}
 use Rattle.survey_core.proofs.evolution.on_board.Goals as goal
 

@@ -5,7 +5,7 @@ use Rattle.plane_core.specs.plane.Generations.{after, lies_within}
 use Rattle.plane_core.specs.plane.Rules.{Numbers}
 use Rattle.plane_core.proofs.lemmas.plane.CaseLemmas.{less_or_not}
 use Rattle.plane_core.proofs.lemmas.plane.GenerationLemmas.{after-none}
-use Rattle.survey_core.specs.evolution.UnderWay.{StaysNear, survey_reach}
+use Rattle.survey_core.specs.UnderWay.{StaysNear, survey_reach}
 use Rattle.survey_core.proofs.lemmas.FindingLemmas.{after-then}
 use Rattle.survey_core.proofs.lemmas.PlaneLemmas.{within_later}
 

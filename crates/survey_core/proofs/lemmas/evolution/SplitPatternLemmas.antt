@@ -26,7 +26,7 @@ use Rattle.survey_core.specs.evolution.SplitPatterns.{AreCandidates, AreOff, Has
 use Rattle.survey_core.specs.evolution.SplitPatterns.{whole_at, whole_of}
 use Rattle.survey_core.specs.evolution.EscapedSpaceships.{IsForemost, IsPartOf}
 use Rattle.survey_core.specs.shapes.Envelopes.{IsEnvelope}
-use Rattle.survey_core.specs.evolution.UnderWay.{survey_reach}
+use Rattle.survey_core.specs.UnderWay.{survey_reach}
 use Rattle.survey_core.proofs.lemmas.PlaneLemmas.{within_later, within_more}
 use Rattle.survey_core.proofs.lemmas.evolution.SpaceshipLemmas.{cluster_part, no_faster}
 use Rattle.survey_core.proofs.lemmas.evolution.RemovedLemmas.{all_off_later, all_off_more, has-whole, none_off, whole-none}

@@ -14,7 +14,7 @@ use Rattle.plane_core.proofs.lemmas.plane.GenerationLemmas.{after-none}
 use Rattle.plane_core.proofs.lemmas.plane.SearchLemmas.{has-list_all, list_all-has}
 use Rattle.code_core.proofs.MovedCodes.{in_order-after}
 use Rattle.plane_core.proofs.lemmas.plane.SetLemmas.{has-set_of}
-use Rattle.survey_core.specs.evolution.UnderWay.{survey_reach}
+use Rattle.survey_core.specs.UnderWay.{survey_reach}
 use Rattle.survey_core.proofs.lemmas.PlaneLemmas.{within_all, within_later}
 use Rattle.survey_core.specs.rest.Groups.{ShareNoCell, union_of}
 use Rattle.survey_core.specs.Profiles.{Settling}

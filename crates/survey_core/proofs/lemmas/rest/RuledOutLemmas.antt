@@ -12,7 +12,8 @@ use Rattle.plane_core.specs.plane.Rules.{Numbers}
 use Rattle.plane_core.proofs.lemmas.clusters.ClusterLemmas.{linked-sym, linked-trans}
 use Rattle.plane_core.proofs.lemmas.plane.SetLemmas.{same_lists}
 use Rattle.survey_core.specs.Profiles.{Settling}
-use Rattle.survey_core.specs.rest.Rest.{RecursWithin, IsAtRest}
+use Rattle.survey_core.specs.rest.Rest.{IsAtRest}
+use Rattle.survey_core.specs.shapes.RecurringShapes.{RecursWithin}
 use Rattle.survey_core.proofs.lemmas.rest.GroupLemmas.{keeps_adds}
 use Rattle.survey_core.proofs.lemmas.shapes.MemoLemmas.{never_recurs}
 

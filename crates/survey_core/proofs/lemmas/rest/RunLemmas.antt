@@ -10,7 +10,7 @@ use Rattle.plane_core.proofs.lemmas.plane.GenerationLemmas.{after-more}
 use Rattle.survey_core.specs.declared.rest.alone.Alone.{Alone}
 use Rattle.survey_core.specs.rest.Alone.{alone_at, clusters_of, latest_of, stepped}
 use Rattle.survey_core.specs.rest.Groups.{members}
-use Rattle.survey_core.specs.evolution.UnderWay.{survey_reach}
+use Rattle.survey_core.specs.UnderWay.{survey_reach}
 use Rattle.survey_core.proofs.lemmas.rest.GroupLemmas.{members_one}
 use Rattle.survey_core.proofs.lemmas.PlaneLemmas.{within_later}
 use Rattle.survey_core.proofs.lemmas.rest.RestLemmas.{alone_at_once}

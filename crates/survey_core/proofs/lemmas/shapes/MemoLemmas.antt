@@ -14,7 +14,7 @@ use Rattle.code_core.proofs.MovedCodes.{after-shifted, codes_moved, recurs-shift
 use Rattle.survey_core.specs.declared.shapes.envelope_bounds.EnvelopeBounds.{EnvelopeBounds}
 use Rattle.survey_core.specs.Jobs.{same_rule}
 use Rattle.survey_core.specs.shapes.Memos.{Fact, IsAbout, IsKnown}
-use Rattle.survey_core.specs.rest.Rest.{RecursWithin}
+use Rattle.survey_core.specs.shapes.RecurringShapes.{RecursWithin}
 use Rattle.survey_core.specs.shapes.Envelopes.{IsEnvelope}
 use Rattle.survey_core.proofs.lemmas.JobLemmas.{rules_decide}
 

@@ -7,9 +7,10 @@ use Rattle.plane_core.specs.plane.Generations.{lies_within}
 use Rattle.survey_core.specs.declared.shapes.envelope_bounds.EnvelopeBounds.{EnvelopeBounds}
 use Rattle.survey_core.specs.rest.Grouping.{AreGroups}
 use Rattle.survey_core.specs.rest.Groups.{GroupKeeps, ShareNoCell}
-use Rattle.survey_core.specs.rest.Rest.{RecursWithin, IsAtRest, RestsAs}
+use Rattle.survey_core.specs.rest.Rest.{IsAtRest, RestsAs}
+use Rattle.survey_core.specs.shapes.RecurringShapes.{RecursWithin}
 use Rattle.survey_core.specs.shapes.Envelopes.{AreEnvelopes}
-use Rattle.survey_core.specs.evolution.UnderWay.{survey_reach}
+use Rattle.survey_core.specs.UnderWay.{survey_reach}
 use Rattle.survey_core.proofs.lemmas.rest.GroupingLemmas.{groups_of_rest, none_if, rest_by_groups, some_if}
 use Rattle.survey_core.proofs.lemmas.rest.RestLemmas.{clusters_near, clusters_off, clusters_some, same_clusters}
 use Rattle.survey_core.proofs.rest.clusters_at_rest.Goals as goal

@@ -6,7 +6,7 @@ use Rattle.plane_core.specs.plane.Generations.{lies_within}
 use Rattle.survey_core.specs.rest.Alone.{alone_at}
 use Rattle.survey_core.specs.rest.Groups.{GroupKeeps, ShareNoCell, members, union_of}
 use Rattle.survey_core.specs.rest.Rest.{KeepApart}
-use Rattle.survey_core.specs.evolution.UnderWay.{survey_reach}
+use Rattle.survey_core.specs.UnderWay.{survey_reach}
 use Rattle.survey_core.proofs.lemmas.rest.GroupLemmas.{alone_keeps, below_more, members_all, members_few, members_off}
 use Rattle.survey_core.proofs.lemmas.rest.RunLemmas.{clusters_are}
 use Rattle.survey_core.proofs.rest.groups_keep_apart.Goals as goal

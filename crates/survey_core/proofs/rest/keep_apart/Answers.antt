@@ -12,7 +12,7 @@ use Rattle.survey_core.specs.declared.rest.alone.Alone.{Alone}
 use Rattle.survey_core.specs.rest.Alone.{alone_at, clusters_of, latest_of}
 use Rattle.survey_core.specs.rest.Groups.{union_of}
 use Rattle.survey_core.specs.rest.Rest.{KeepApart}
-use Rattle.survey_core.specs.evolution.UnderWay.{survey_reach}
+use Rattle.survey_core.specs.UnderWay.{survey_reach}
 use Rattle.survey_core.proofs.lemmas.rest.ForGoodLemmas.{apart_once_back}
 use Rattle.survey_core.proofs.lemmas.rest.GroupLemmas.{union_partition}
 use Rattle.survey_core.proofs.lemmas.PartitionLemmas.{set_of-joined}

@@ -3,7 +3,7 @@ use Rattle.plane_core.specs.declared.plane.cell.Cell.{Cell}
 use Rattle.plane_core.specs.plane.Generations.{lies_within}
 use Rattle.plane_core.proofs.lemmas.plane.GenerationLemmas.{after-none}
 use Rattle.survey_core.specs.rest.Alone.{alone_at}
-use Rattle.survey_core.specs.evolution.UnderWay.{survey_reach}
+use Rattle.survey_core.specs.UnderWay.{survey_reach}
 use Rattle.survey_core.proofs.lemmas.rest.GroupLemmas.{members-none, members_other}
 use Rattle.survey_core.proofs.lemmas.PlaneLemmas.{within_more}
 use Rattle.survey_core.proofs.lemmas.rest.RunLemmas.{start_more}

@@ -4,8 +4,9 @@ use Rattle.plane_core.specs.plane.Generations.{lies_within}
 use Rattle.survey_core.specs.evolution.Evolutions.{kept}
 use Rattle.survey_core.specs.rest.KnownRestless.{AreKnownRestless}
 use Rattle.survey_core.specs.shapes.Objects.{AreObjectsOf, StayForGood}
-use Rattle.survey_core.specs.rest.Rest.{RecursWithin, IsAtRest, RestsAs}
-use Rattle.survey_core.specs.evolution.UnderWay.{survey_reach}
+use Rattle.survey_core.specs.rest.Rest.{IsAtRest, RestsAs}
+use Rattle.survey_core.specs.shapes.RecurringShapes.{RecursWithin}
+use Rattle.survey_core.specs.UnderWay.{survey_reach}
 use Rattle.survey_core.proofs.lemmas.rest.KnownRestlessLemmas.{known_more, known_now}
 use Rattle.survey_core.proofs.lemmas.rest.RestLemmas.{cluster_some, cluster_within}
 use Rattle.survey_core.proofs.surveyor.examine.Goals as goal

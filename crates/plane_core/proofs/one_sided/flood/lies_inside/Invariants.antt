@@ -1,6 +1,7 @@
 use Rattle.std.proofs.Common.{◌≡◌, ◌<◌, ℕ}
 use Rattle.std.specs.Int.{bit_at}
-use Rattle.plane_core.specs.one_sided.Floods.{IsWellInside, bit_in}
+use Rattle.plane_core.specs.one_sided.Floods.{IsWellInside}
+use Rattle.plane_core.specs.windows.Rows.{bit_in}
 use Rattle.plane_core.proofs.one_sided.flood.lies_inside.Given as goal
 
 abbrev pub invariant-loop-r : goal.invariant-loop-r

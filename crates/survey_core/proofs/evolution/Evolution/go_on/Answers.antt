@@ -4,7 +4,7 @@ use Rattle.plane_core.specs.plane.Generations.{after, lies_within}
 use Rattle.plane_core.specs.plane.Rules.{Numbers}
 use Rattle.survey_core.specs.evolution.Evolutions.{kept}
 use Rattle.survey_core.specs.evolution.SplitPatterns.{whole_of}
-use Rattle.survey_core.specs.evolution.UnderWay.{StaysNear, survey_reach}
+use Rattle.survey_core.specs.UnderWay.{StaysNear, survey_reach}
 use Rattle.survey_core.proofs.lemmas.evolution.EvolutionLemmas.{in_parts, near_ahead}
 use Rattle.survey_core.proofs.evolution.Evolution.go_on.Goals as goal
 

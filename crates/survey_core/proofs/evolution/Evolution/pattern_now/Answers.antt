@@ -6,7 +6,7 @@ use Rattle.plane_core.proofs.lemmas.plane.SpeedLemmas.{after-suc}
 use Rattle.survey_core.specs.declared.evolution.Evolution.TheVariants.{Shown}
 use Rattle.survey_core.specs.evolution.Evolutions.{IsKept, kept}
 use Rattle.survey_core.specs.evolution.SplitPatterns.{whole_at, whole_of}
-use Rattle.survey_core.specs.evolution.UnderWay.{survey_reach}
+use Rattle.survey_core.specs.UnderWay.{survey_reach}
 use Rattle.survey_core.proofs.lemmas.PlaneLemmas.{within_more}
 use Rattle.survey_core.proofs.evolution.Evolution.pattern_now.Goals as goal
 

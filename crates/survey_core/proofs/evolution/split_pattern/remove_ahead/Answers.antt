@@ -3,7 +3,7 @@ use Rattle.plane_core.specs.plane.Generations.{lies_within}
 use Rattle.survey_core.specs.declared.evolution.escaped_spaceships.Spaceship.{Spaceship}
 use Rattle.survey_core.specs.evolution.SplitPatterns.{HasSmallNumbers, IsNoneOf, whole_at}
 use Rattle.survey_core.specs.evolution.EscapedSpaceships.{IsForemost}
-use Rattle.survey_core.specs.evolution.UnderWay.{survey_reach}
+use Rattle.survey_core.specs.UnderWay.{survey_reach}
 use Rattle.survey_core.proofs.lemmas.rest.RestLemmas.{cluster_some}
 use Rattle.survey_core.proofs.lemmas.evolution.SplitPatternLemmas.{board_near, candidate, candidates_more, split_more, part_near}
 use Rattle.survey_core.proofs.lemmas.evolution.RemovedLemmas.{same_whole_now}

@@ -5,7 +5,7 @@ use Rattle.plane_core.specs.plane.Cells.{set_of}
 use Rattle.plane_core.specs.plane.Generations.{lies_within}
 use Rattle.survey_core.specs.declared.evolution.escaped_spaceships.Spaceship.{Spaceship}
 use Rattle.survey_core.specs.evolution.SplitPatterns.{IsTraced, spaceship_at}
-use Rattle.survey_core.specs.evolution.UnderWay.{survey_reach}
+use Rattle.survey_core.specs.UnderWay.{survey_reach}
 use Rattle.survey_core.proofs.lemmas.evolution.SplitPatternLemmas.{parts_near, whole-empty}
 use Rattle.survey_core.proofs.lemmas.PlaneLemmas.{within_all}
 use Rattle.survey_core.proofs.evolution.split_pattern.whole.Goals as goal

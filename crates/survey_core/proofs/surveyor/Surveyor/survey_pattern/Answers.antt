@@ -7,7 +7,7 @@ use Rattle.survey_core.specs.evolution.Evolutions.{kept}
 use Rattle.survey_core.specs.Findings.{NoRestBefore}
 use Rattle.survey_core.specs.rest.KnownRestless.{AreKnownRestless}
 use Rattle.survey_core.specs.Profiles.{IsCheckpoint}
-use Rattle.survey_core.specs.evolution.UnderWay.{survey_reach}
+use Rattle.survey_core.specs.UnderWay.{survey_reach}
 use Rattle.survey_core.proofs.lemmas.evolution.EvolutionLemmas.{stays_near}
 use Rattle.survey_core.proofs.lemmas.FindingLemmas.{after-then, finding_from, first_checkpoint, next_checkpoint, no_rest_more, no_room, none_at_last, room_for_more}
 use Rattle.survey_core.proofs.lemmas.rest.KnownRestlessLemmas.{known_later, none_known}

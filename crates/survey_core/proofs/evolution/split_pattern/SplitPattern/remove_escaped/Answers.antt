@@ -2,7 +2,7 @@ use Rattle.std.proofs.Common.{◌∙◌, All, List, ap, refl, subst, sym}
 use Rattle.plane_core.specs.declared.plane.cell.Cell.{Cell}
 use Rattle.plane_core.specs.clusters.Clusters.{IsCluster}
 use Rattle.plane_core.specs.plane.Generations.{lies_within}
-use Rattle.survey_core.specs.evolution.UnderWay.{survey_reach}
+use Rattle.survey_core.specs.UnderWay.{survey_reach}
 use Rattle.survey_core.proofs.lemmas.evolution.SplitPatternLemmas.{candidates_start}
 use Rattle.survey_core.proofs.evolution.split_pattern.SplitPattern.remove_escaped.Goals as goal
 

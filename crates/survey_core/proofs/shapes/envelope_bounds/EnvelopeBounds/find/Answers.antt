@@ -3,7 +3,7 @@ use Rattle.plane_core.specs.plane.Bounds.{IsWithin}
 use Rattle.plane_core.specs.plane.Generations.{NeverRecurs, after, lies_within, next}
 use Rattle.plane_core.proofs.lemmas.plane.GenerationLemmas.{after-none, after-more}
 use Rattle.code_core.specs.Recurrences.{Recurs}
-use Rattle.survey_core.specs.evolution.UnderWay.{survey_reach}
+use Rattle.survey_core.specs.UnderWay.{survey_reach}
 use Rattle.survey_core.proofs.lemmas.PlaneLemmas.{within_later}
 use Rattle.survey_core.proofs.lemmas.shapes.EnvelopeLemmas.{phases_more}
 use Rattle.survey_core.proofs.shapes.envelope_bounds.EnvelopeBounds.find.Goals as goal

@@ -1,5 +1,5 @@
 use Rattle.std.proofs.Common.{refl, sym, subst}
-use Rattle.survey_core.specs.rest.Rest.{RecursWithin}
+use Rattle.survey_core.specs.shapes.RecurringShapes.{RecursWithin}
 use Rattle.survey_core.proofs.lemmas.shapes.MemoLemmas.{never_recurs}
 use Rattle.survey_core.proofs.shapes.memo.Memo.any_surely_changes.Goals as goal
 

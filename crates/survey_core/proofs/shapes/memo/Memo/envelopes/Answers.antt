@@ -4,9 +4,9 @@ use Rattle.std.proofs.lemmas.Result.{IfOk-from_err}
 use Rattle.plane_core.specs.declared.plane.cell.Cell.{Cell}
 use Rattle.plane_core.specs.plane.Cells.{InOrder}
 use Rattle.plane_core.specs.plane.Generations.{lies_within}
-use Rattle.survey_core.specs.rest.Rest.{RecursWithin}
+use Rattle.survey_core.specs.shapes.RecurringShapes.{RecursWithin}
 use Rattle.survey_core.specs.shapes.Envelopes.{AreEnvelopes, IsEnvelope}
-use Rattle.survey_core.specs.evolution.UnderWay.{survey_reach}
+use Rattle.survey_core.specs.UnderWay.{survey_reach}
 use Rattle.survey_core.proofs.lemmas.shapes.EnvelopeLemmas.{envelopes_more}
 use Rattle.survey_core.proofs.shapes.memo.Memo.envelopes.Goals as goal
 

@@ -8,8 +8,8 @@ use Rattle.code_core.specs.Names.{IsCode}
 use Rattle.plane_core.specs.declared.plane.cell.Cell.{Cell}
 use Rattle.plane_core.specs.plane.Generations.{lies_within}
 use Rattle.survey_core.specs.shapes.Objects.{AreObjects, count_of, is_code}
-use Rattle.survey_core.specs.rest.Rest.{RecursWithin}
-use Rattle.survey_core.specs.evolution.UnderWay.{survey_reach}
+use Rattle.survey_core.specs.shapes.RecurringShapes.{RecursWithin}
+use Rattle.survey_core.specs.UnderWay.{survey_reach}
 use Rattle.survey_core.proofs.lemmas.shapes.ObjectLemmas.{codes_more, count_by_more, counted_more, entries_are_objects, length_more, number_more, some_more}
 use Rattle.survey_core.proofs.shapes.objects.Objects.of_clusters.Goals as goal
 
