@@ -39,7 +39,7 @@ use haul_core::book::refused::OfferError;
 use haul_core::report::Report;
 use haul_core::report::claim::Claim;
 use haul_core::report::claim::check::CheckError;
-use haul_core::report::claim::read::LineError;
+use haul_core::report::claim::read_line::LineError;
 use memory::OutOfMemory;
 use pattern_commands::complaint::Complaint;
 use pattern_commands::ending::tell_end;

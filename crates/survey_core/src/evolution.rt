@@ -137,8 +137,7 @@ fn from_list(
     ensures kept { IfOk result (IsKept rule.now) }
     ensures cells { IfOk result (λ evolution. kept rule.now evolution ≡ after rule.now pattern.now generations) }
 {
-    // That a pattern's cells stand in order is known of them where they are asked for.
-    let _in_order = pattern.cells();
+    pattern.recall_order();
     let Some(board) = spare.board_with(alloc, rule, pattern)? else {
         let later = run_on(alloc, rule, generations, pattern)?;
         return Ok(Evolution::Listed(later));

@@ -58,8 +58,7 @@ pub(crate) fn clusters_at_rest(
         (λ found. IfSome found (λ clusters. RestsAs rule.now profile.now pattern.now clusters.items)) }
     ensures moves { IfOk result (λ found. IfNone found (¬ IsAtRest rule.now profile.now pattern.now)) }
 {
-    // That a pattern's cells stand in order is known of them where they are asked for.
-    let _in_order = pattern.cells();
+    pattern.recall_order();
     let limit = profile.period();
     let horizon = profile.horizon();
     let clusters = pattern.clusters(alloc)?;

@@ -12,7 +12,7 @@ pub mod check;
 /// The codes of claims.
 pub mod claimed_code;
 /// How claims are read from their lines.
-pub mod read;
+pub mod read_line;
 mod read_field;
 mod read_start;
 
@@ -98,20 +98,6 @@ impl Model for SettledClaim {
 }
 
 impl SettledClaim {
-    /// The generation at which the soup is said to be at rest, at most 100,000.
-    pub fn checkpoint(&self) -> u32
-        ensures { result ≡ self.now.checkpoint }
-    {
-        self.checkpoint
-    }
-
-    /// Whether the objects are said to stay for good. Version 1 doesn't say it.
-    pub fn for_good(&self) -> Option<bool>
-        ensures { result ≡ self.now.for_good }
-    {
-        self.for_good
-    }
-
     /// The codes in ASCII order, each once, with how many objects are said to have it, at least 1.
     pub fn counts(&self) -> &[(ClaimedCode, u64)]
         ensures { result.now ≡ self.now.counts }

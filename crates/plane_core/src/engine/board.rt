@@ -12,25 +12,19 @@
 //!              | +-------+ |     the boxes for the next leap.
 //!              +-----------+
 //! ```
-//!
-//! What holds after an odd number of generations isn't known by that: a blinker outside of all boxes is the same after
-//! two generations and not after one. So an odd leap is made first, while the boxes hold all live cells.
-ghost use Rattle.std.specs.Prelude.{◌≡◌, ◌%◌, ◌≤◌, ℕ, []};
-ghost use Rattle.std.specs.Prelude.{IfOk, IsTrue, true, false};
+ghost use Rattle.std.specs.Prelude.{◌≡◌, [], IfOk, true, false};
 ghost use Rattle.plane_core.specs.engine.Frames.{HasFewWords, IsFrame, LieOn, bounds_of};
 ghost use Rattle.plane_core.specs.windows.RuleLogic.{rule_of};
 ghost use Rattle.plane_core.specs.plane.Cells.{plane_bound};
-ghost use Rattle.plane_core.specs.plane.Generations.{after};
 ghost use Rattle.plane_core.specs.plane.Bounds.{AreSidesWithin};
 
+mod advance;
 mod reach;
 mod removal;
 pub(crate) mod view;
 
-use crate::engine::cover::cover;
 use crate::engine::first_boxes::boxes_round;
 use crate::engine::frame::Frame;
-use crate::engine::leap::{put_all, run_all};
 use crate::engine::listing::list;
 use crate::engine::loading::fill;
 use crate::engine::row_spans::{RowSpan, empty};
@@ -42,7 +36,6 @@ use crate::windows::rule_logic::RuleLogic;
 use memory::OutOfMemory;
 use std::alloc::Global;
 use std::marker::Model;
-use std::mem::swap;
 
 /// How many lanes a large board has: 64, and one more, since a window wants a lane to its right.
 const LARGE_WORD_COLUMNS: usize = 65;
@@ -231,38 +224,6 @@ impl Board {
         Ok(true)
     }
 
-    /// Goes on by at most so many generations, and returns how many were made: fewer, where the next leap would have
-    /// come too near to the border of the board.
-    ///
-    /// # Errors
-    ///
-    /// `OutOfMemory` if memory runs out. Then the board shows nothing that is known.
-    pub fn advance(&mut self, most: u32) -> Result<u32, OutOfMemory>
-        ensures rule { self.new.rule ≡ self.old.rule }
-        ensures most { IfOk result (λ made. made ≤ most) }
-        ensures after { IfOk result (λ made. self.new.cells ≡ after self.old.rule self.old.cells made) }
-    {
-        let mut made = 0;
-        if most % 2 == 1 {
-            // One or three, so that an even number is left for leaps of four generations, and two at the end.
-            made = self.leap(most % 4)?;
-        }
-        while most - made >= 2 {
-            let still = self.is_still();
-            if still {
-                return Ok(made + (most - made) / 2 * 2);
-            }
-            // Four, or else two.
-            let count = (most - made).min(4) / 2 * 2;
-            let leapt = self.leap(count)?;
-            if leapt == 0 {
-                return Ok(made);
-            }
-            made += leapt;
-        }
-        Ok(made)
-    }
-
     /// Returns the active boxes. They serve to choose where a test looks, so nothing is said of them.
     pub(crate) fn active_boxes(&self) -> &[Bounds] {
         self.boxes.as_slice()
@@ -273,56 +234,6 @@ impl Board {
         ensures { rule_of result.now ≡ self.now.rule }
     {
         &self.logic
-    }
-
-    /// Whether it is seen that no even number of generations changes anything. `false` says nothing.
-    pub fn is_still(&self) -> bool
-        ensures { IsTrue result → (n : ℕ) → n % 2 ≡ 0 → after self.now.rule self.now.cells n ≡ self.now.cells }
-    {
-        self.boxes.is_empty()
-    }
-
-    /// Makes one leap of so many generations, unless it would come too near to the border of the board, or it is an odd
-    /// number, and the boxes may not hold all live cells. Returns how many were made: all, or none.
-    fn leap(&mut self, count: u32) -> Result<u32, OutOfMemory>
-        requires some { 1 ≤ count }
-        requires few { count ≤ 4 }
-        ensures rule { self.new.rule ≡ self.old.rule }
-        ensures most { IfOk result (λ made. made ≤ count) }
-        ensures after { IfOk result (λ made. self.new.cells ≡ after self.old.rule self.old.cells made) }
-    {
-        if !are_enough(self.holds_all, count) {
-            return Ok(0);
-        }
-        cover(
-            self.boxes.as_slice(),
-            &mut self.next_boxes,
-            &mut self.origins,
-        )?;
-        let origins = self.origins.as_slice();
-        let inside = run_all(
-            self.words.as_slice(),
-            self.at,
-            origins,
-            &self.logic,
-            count as usize,
-            &mut self.held,
-            &mut self.next_boxes,
-        )?;
-        if !inside {
-            return Ok(0);
-        }
-        // Nothing fails from here on.
-        put_all(
-            self.words.as_mut_slice(),
-            self.spans.as_mut_slice(),
-            self.at,
-            origins,
-            self.held.as_slice(),
-        );
-        swap(&mut self.boxes, &mut self.next_boxes);
-        self.holds_all = count % 2 == 1;
-        Ok(count)
     }
 
     /// The pattern that the board shows.
@@ -341,11 +252,4 @@ impl Board {
             ROOM,
         )
     }
-}
-
-/// Whether boxes are enough for a leap of so many generations: for an odd number they have to hold all live cells.
-fn are_enough(hold_all: bool, count: u32) -> bool
-    ensures { IsTrue result → count % 2 ≡ 1 → hold_all ≡ true }
-{
-    hold_all || count % 2 == 0
 }

@@ -15,12 +15,10 @@ ghost use Rattle.plane_core.specs.engine.WindowOrigins.{MarksDifferences};
 ghost use Rattle.plane_core.specs.declared.plane.cell.Cell.{Cell};
 
 use crate::engine::window_origin::WindowOrigin;
+use crate::windows::window::INNER_COLUMNS;
 use crate::plane::bounds::Bounds;
 
-/// The columns 4 to 59 of a window, which its inner part has.
-const INNER_COLUMNS: u64 = 0x0fff_ffff_ffff_fff0;
-
-/// And the rows 4 to 35.
+/// The mask of a window's inner rows, 4 to 35.
 const INNER_ROWS: u64 = 0x0000_000f_ffff_fff0;
 
 /// In which columns of a window, and in which rows, something differs: a bit for each, counted from the left and from

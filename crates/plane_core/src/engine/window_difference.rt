@@ -15,7 +15,7 @@ ghost use Rattle.plane_core.specs.engine.WindowIo.{inner_mask};
 ghost use Rattle.plane_core.specs.engine.WindowDifferences.{DiffersOnlyIn};
 
 use crate::engine::difference_box::DifferenceMask;
-use crate::engine::window_io::INNER;
+use crate::windows::window::INNER_COLUMNS;
 use crate::windows::window_queries::{either, in_any_lane};
 use std::simd::cmp::SimdPartialEq;
 use std::simd::u64x4;
@@ -25,7 +25,7 @@ use std::simd::u64x4;
 fn inner_if(inside: bool) -> u64
     ensures { IsTrue inside → result ≡ inner_mask }
 {
-    if inside { INNER } else { 0 }
+    if inside { INNER_COLUMNS } else { 0 }
 }
 
 /// The places of vector k that lie in the inner part of its window, of those in which two of them differ.
@@ -35,7 +35,7 @@ fn differing(one: u64x4, other: u64x4, k: usize) -> u64x4
     ensures { (j i : ℕ) → j < 4 → 4 ≤ i → i < 60 → 4 ≤ j * 10 + k → j * 10 + k < 36 → bit_of result j i ≡ 0
         → bit_of one j i ≡ bit_of other j i }
 {
-    (one ^ other) & u64x4::from_array([inner_if(k >= 4), INNER, INNER, inner_if(k < 6)])
+    (one ^ other) & u64x4::from_array([inner_if(k >= 4), INNER_COLUMNS, INNER_COLUMNS, inner_if(k < 6)])
 }
 
 /// The rows of vector k of which a place is set, as bits of a word in each lane.

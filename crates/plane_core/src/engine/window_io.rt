@@ -16,9 +16,7 @@ ghost use Rattle.plane_core.specs.engine.WindowOrigins.{IsOnBoard};
 
 use crate::engine::frame::Frame;
 use crate::engine::window_origin::WindowOrigin;
-
-/// The inner columns of a window, 4 to 59.
-pub(crate) const INNER: u64 = 0x0fff_ffff_ffff_fff0;
+use crate::windows::window::INNER_COLUMNS;
 
 /// The column of the board in which a window begins.
 #[inline(always)]
@@ -103,11 +101,11 @@ fn write_row(words: &mut [u64], at: Frame, x: usize, y: usize, word: u64)
 {
     let i = x / 64 * at.rows + y;
     let shift = x % 64;
-    put_word(words, i, in_first(INNER, shift), in_first(word, shift));
+    put_word(words, i, in_first(INNER_COLUMNS, shift), in_first(word, shift));
     put_word(
         words,
         i + at.rows,
-        in_second(INNER, shift),
+        in_second(INNER_COLUMNS, shift),
         in_second(word, shift),
     );
 }

@@ -6,10 +6,9 @@
 //! . O O . . . . O      . . . . . . . .      are alive.
 //! . . . . . O O O      . . . . . . 1 .
 //! ```
-use crate::one_sided::flood::INSIDE;
 use crate::windows::row_packing::unpacked;
 use crate::windows::rule_logic::RuleLogic;
-use crate::windows::window::generations;
+use crate::windows::window::{INNER_COLUMNS, generations};
 use std::simd::u64x4;
 
 /// The columns in the middle of a window, where a cell that changes is looked for first.
@@ -28,7 +27,7 @@ pub(crate) fn changing_cells(window: &[u64x4; 16], rule: &RuleLogic) -> [u64; 64
     generations(&mut cells, rule, 2);
     for k in 0..16 {
         // What is alive, and differs two generations on.
-        cells[k] = window[k] & (window[k] ^ cells[k]) & u64x4::splat(INSIDE);
+        cells[k] = window[k] & (window[k] ^ cells[k]) & u64x4::splat(INNER_COLUMNS);
     }
     unpacked(&cells)
 }

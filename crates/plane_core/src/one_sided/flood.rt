@@ -13,11 +13,10 @@ ghost use Rattle.std.specs.Int.{bit_at};
 ghost use Rattle.plane_core.specs.one_sided.Floods.{AreNear, HasGrown, IsClosed, IsFlooded, IsWellInside, LiesInside};
 ghost use Rattle.plane_core.specs.windows.Rows.{bit_in};
 
+use crate::windows::window::INNER_COLUMNS;
+
 /// The columns in which a window is right two generations after it was read, 2 to 61.
 const COLUMNS: u64 = 0x3fff_ffff_ffff_fffc;
-
-/// The columns that are four or more from the border, 4 to 59.
-pub(crate) const INSIDE: u64 = 0x0fff_ffff_ffff_fff0;
 
 /// How many times the rows are gone through at most. A cluster that winds more is not told.
 const ROUNDS: usize = 64;
@@ -148,7 +147,7 @@ fn outside(word: u64, r: usize) -> u64
     if r < 4 || r >= 60 {
         return word;
     }
-    word & !INSIDE
+    word & !INNER_COLUMNS
 }
 
 /// Whether no cell near the flood is missing.

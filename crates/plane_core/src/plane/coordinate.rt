@@ -1,9 +1,7 @@
 //! The arithmetic of coordinates: each call says how large its numbers may be, so that none overflows.
-ghost use Rattle.std.specs.Prelude.{◌≡◌, ◌+◌, ◌≤◌, ◌+ℤ◌, ◌-ℤ◌, Some, None, if◌then◌else◌, nat_le, neg_ℤ, pos};
+ghost use Rattle.std.specs.Prelude.{◌≡◌, ◌+◌, ◌≤◌, ◌+ℤ◌, ◌-ℤ◌, neg_ℤ, pos};
 ghost use Rattle.std.specs.Prelude.{unsigned_abs};
 ghost use Rattle.plane_core.specs.plane.Cells.{distance, plane_bound};
-
-use crate::plane::cell::BOUND;
 
 /// The coordinate a step on. The step is at most two cells long, either way, and begins at most one cell past the
 /// bound; it may end past it.
@@ -50,16 +48,6 @@ pub fn negated(at: i32) -> i32
     ensures { result ≡ neg_ℤ at }
 {
     -at
-}
-
-/// The sum of two coordinates. It is `None` if it lies past the bound.
-pub fn sum_on_plane(at: i32, by: i32) -> Option<i32>
-    ensures { result ≡ (if nat_le (unsigned_abs (at +ℤ by)) plane_bound then Some (at +ℤ by) else None) }
-{
-    match at.checked_add(by) {
-        Some(sum) if sum.unsigned_abs() <= BOUND => Some(sum),
-        _ => None,
-    }
 }
 
 /// How far it is from one coordinate to another, where both lie within the bound: below 0 if the other is to the left,

@@ -142,6 +142,14 @@ impl Pattern {
         self.cells.as_slice()
     }
 
+    /// Recalls that the cells are in order, each once. Only the prover needs it: the call does nothing.
+    #[inline(always)]
+    pub fn recall_order(&self)
+        ensures { IsPattern self.now }
+    {
+        let _ = &self.cells;
+    }
+
     /// The number of cells.
     pub fn population(&self) -> usize
         ensures { result ≡ length self.now }

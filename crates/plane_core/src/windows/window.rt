@@ -24,6 +24,9 @@ use crate::windows::rule_logic::RuleLogic;
 use crate::windows::rule_tables::{CellLogic, Life};
 use std::simd::u64x4;
 
+/// The mask of a window's inner columns, 4 to 59: after four generations the other columns may be wrong.
+pub(crate) const INNER_COLUMNS: u64 = 0x0fff_ffff_ffff_fff0;
+
 /// Makes the next generation. Life has a loop of its own.
 #[inline(always)]
 pub(crate) fn generation<const N: usize>(window: &mut [u64x4; N], rule: &RuleLogic)

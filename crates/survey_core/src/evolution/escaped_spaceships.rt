@@ -82,8 +82,7 @@ pub(crate) fn spaceship_of(
     ensures since { IfOk result (λ found. IfSome found (λ spaceship. spaceship.since ≡ time)) }
     ensures small { IfOk result (λ found. IfSome found HasSmallNumbers) }
 {
-    // That a pattern's cells stand in order is known of them where they are asked for.
-    let _in_order = part.cells();
+    part.recall_order();
     // Few clusters that change are ships, so this is asked first, and for a short time.
     if part.surely_changes(rule, limit.min(SHORT)) {
         return Ok(None);

@@ -38,7 +38,7 @@ whole_is rule split pattern shows none order =
 pub on_board-requires-clause-is_split : goal.on_board-requires-clause-is_split
 on_board-requires-clause-is_split c =
     is_split c.args.rule.now (record { board = c.in-Some.board; spaceships = c.new.result; time = 0 }) c.args.pattern.now (rw c.in-Some.is at c.in_ok-board.ensures.rule) (rw c.in-Some.is at c.in_ok-board.ensures.cells)
-    c.new.ensures.items refl c.cells-in_order.ensures.pattern.in_order
+    c.new.ensures.items refl c.recall_order.ensures.in_order
 
 pub on_board-requires-clause-few : goal.on_board-requires-clause-few
 on_board-requires-clause-few c = c.requires.few
@@ -47,13 +47,13 @@ pub on_board-requires-clause-near : goal.on_board-requires-clause-near
 on_board-requires-clause-near c =
     subst (λ (S : List Cell). StaysNear c.args.rule.now S c.args.generations)
     (sym (whole_is c.args.rule.now (record { board = c.in-Some.board; spaceships = c.new.result; time = 0 }) c.args.pattern.now
-    (rw c.in-Some.is at c.in_ok-board.ensures.cells) c.new.ensures.items c.cells-in_order.ensures.pattern.in_order)) c.requires.near
+    (rw c.in-Some.is at c.in_ok-board.ensures.cells) c.new.ensures.items c.recall_order.ensures.in_order)) c.requires.near
 
 pub returns-clause-cells : goal.returns-clause-cells
 returns-clause-cells c =
     subst (λ (S : List Cell). IfOk c.on_board.result (λ evolution. kept c.args.rule.now evolution ≡ after c.args.rule.now S c.args.generations))
     (whole_is c.args.rule.now (record { board = c.in-Some.board; spaceships = c.new.result; time = 0 }) c.args.pattern.now
-    (rw c.in-Some.is at c.in_ok-board.ensures.cells) c.new.ensures.items c.cells-in_order.ensures.pattern.in_order) c.on_board.ensures.cells
+    (rw c.in-Some.is at c.in_ok-board.ensures.cells) c.new.ensures.items c.recall_order.ensures.in_order) c.on_board.ensures.cells
 
 pub returns-clause-kept : goal.returns-clause-kept
 returns-clause-kept c = c.on_board.ensures.kept

@@ -61,7 +61,7 @@ grouped c =
 pub returns-clause-moves : goal.returns-clause-moves
 returns-clause-moves c =
     rw c.then_some.ensures (none_if c.in_ok-apart.apart c.in_ok-clusters.clusters (¬ IsAtRest c.args.rule.now c.args.profile.now c.args.pattern.now) (λ not_apart rest.
-    let order : InOrder c.args.pattern.now = c.cells-in_order.ensures.pattern.in_order in
+    let order : InOrder c.args.pattern.now = c.recall_order.ensures.in_order in
     let same : RestsAs c.args.rule.now c.args.profile.now c.args.pattern.now c.in_ok-clusters.clusters.items =
     same_clusters c.args.rule.now c.args.profile.now c.args.pattern.now c.in_ok-clusters.clusters.items c.in_ok-clusters.ensures.clusters rest in
     false≢true (sym not_apart ∙ c.in_ok-apart.ensures.1 (λ k low.
@@ -76,7 +76,7 @@ pub returns-clause-rest : goal.returns-clause-rest
 returns-clause-rest c =
     rw c.then_some.ensures (some_if c.in_ok-apart.apart c.in_ok-clusters.clusters
     (λ clusters. RestsAs c.args.rule.now c.args.profile.now c.args.pattern.now clusters.items) (λ apart.
-    let order : InOrder c.args.pattern.now = c.cells-in_order.ensures.pattern.in_order in
+    let order : InOrder c.args.pattern.now = c.recall_order.ensures.in_order in
     let each = c.in_ok-apart.ensures.0 apart in
     rest_by_groups c.args.rule.now c.args.profile.now c.args.pattern.now c.in_ok-clusters.clusters.items c.in-Some.envelopes.items
     c.in_ok-groups.groups.items order c.in_ok-clusters.ensures.clusters (enveloped c) (grouped c) (λ k low.

@@ -14,7 +14,7 @@ pub envelope-requires-clause-most : goal.envelope-requires-clause-most
 envelope-requires-clause-most c = c.requires.most
 
 pub envelope-requires-clause-order : goal.envelope-requires-clause-order
-envelope-requires-clause-order c = c.cells-in_order.ensures.pattern.in_order
+envelope-requires-clause-order c = c.recall_order.ensures.in_order
 
 pub envelope-requires-clause-some : goal.envelope-requires-clause-some
 envelope-requires-clause-some c = c.requires.some

@@ -3,7 +3,7 @@ use Rattle.std.specs.Prelude.{option_map}
 use Rattle.haul_core.specs.ClaimSteps.{HasCounts}
 use Rattle.haul_core.specs.declared.report.claim.read_start.LineStart.{LineStart}
 use Rattle.ranges.proofs.ListLemmas.{left_of}
-use Rattle.haul_core.proofs.report.claim.read.fault_in_counts.Given as goal
+use Rattle.haul_core.proofs.report.claim.read_line.fault_in_counts.Given as goal
 
 abbrev pub invariant-loop-remainder : goal.invariant-loop-remainder
 invariant-loop-remainder l =

@@ -1,7 +1,7 @@
 use Rattle.std.proofs.Common.{◌≡◌, ◌∙◌, ap, option_map, subst, sym, true}
 use Rattle.haul_core.specs.ClaimSteps.{IsAfter}
 use Rattle.haul_core.proofs.CountedLemmas.{one_count}
-use Rattle.haul_core.proofs.report.claim.read.count_after.Goals as goal
+use Rattle.haul_core.proofs.report.claim.read_line.count_after.Goals as goal
 
 pub returns-else-is_after : goal.returns-else-is_after
 returns-else-is_after c =

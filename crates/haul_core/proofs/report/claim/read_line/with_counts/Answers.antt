@@ -5,7 +5,7 @@ use Rattle.haul_core.specs.ReportLines.{claim_line}
 use Rattle.haul_core.proofs.CountedLemmas.{counted_bad, counted_end, counted_first, counted_more}
 use Rattle.haul_core.proofs.SpaceLemmas.{no_claim}
 use Rattle.ranges.proofs.ListLemmas.{left_of}
-use Rattle.haul_core.proofs.report.claim.read.with_counts.Goals as goal
+use Rattle.haul_core.proofs.report.claim.read_line.with_counts.Goals as goal
 
 -- less is left after a cut
 less_left : (byte : ℕ) (here field : List ℕ) (more : Option (List ℕ)) → Cuts byte here field more → left_of more < left_of (Some here)

@@ -11,7 +11,7 @@ ghost use Rattle.haul_core.specs.FieldSteps.{Tells};
 ghost use Rattle.haul_core.specs.ReportLines.{claim_line, count_field};
 ghost use Rattle.haul_core.specs.LawfulClaims.{Claimed, IsClaim};
 ghost use Rattle.haul_core.specs.declared.report.claim.read_start.LineStart.{LineStart as Before};
-ghost use Rattle.haul_core.specs.declared.report.claim.read.LineError.TheVariants.{BadLine, Memory};
+ghost use Rattle.haul_core.specs.declared.report.claim.read_line.LineError.TheVariants.{BadLine, Memory};
 
 use crate::report::claim::claimed_code::ClaimedCode;
 use crate::report::claim::read_field::{count_in, cut_at};

@@ -1,6 +1,6 @@
 use Rattle.haul_core.proofs.OnePlace.{one_place}
 use Rattle.haul_core.proofs.SpaceLemmas.{no_claim}
-use Rattle.haul_core.proofs.report.claim.read.lines_tell_claims.Goals as goal
+use Rattle.haul_core.proofs.report.claim.read_line.lines_tell_claims.Goals as goal
 
 pub returns-clause-faulty : goal.returns-clause-faulty
 returns-clause-faulty c = no_claim

@@ -3,7 +3,7 @@ use Rattle.haul_core.specs.Claims.{IsFirstFaultOf}
 use Rattle.haul_core.specs.ClaimSteps.{HasCounts}
 use Rattle.haul_core.proofs.CountedLemmas.{counted_bad, counted_claim, counted_first, counted_more}
 use Rattle.haul_core.proofs.SpaceLemmas.{no_claim}
-use Rattle.haul_core.proofs.report.claim.read.fault_in_counts.Goals as goal
+use Rattle.haul_core.proofs.report.claim.read_line.fault_in_counts.Goals as goal
 
 pub loop-remainder-init : goal.loop-remainder-init
 loop-remainder-init c = (c.requires.0, [], counted_first c.args.line.now c.requires.0 (option_map (λ r. r.now) c.args.counts) c.requires.1)

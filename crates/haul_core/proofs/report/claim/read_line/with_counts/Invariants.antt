@@ -1,7 +1,7 @@
 use Rattle.std.specs.Prelude.{option_map}
 use Rattle.haul_core.specs.ClaimSteps.{HasCounts}
 use Rattle.ranges.proofs.ListLemmas.{left_of}
-use Rattle.haul_core.proofs.report.claim.read.with_counts.Given as goal
+use Rattle.haul_core.proofs.report.claim.read_line.with_counts.Given as goal
 
 abbrev pub invariant-loop-remainder : goal.invariant-loop-remainder
 invariant-loop-remainder l = HasCounts l.line l.start l.read.items (option_map (λ last. last.now) l.last) (option_map (λ remainder. remainder.now) l.remainder)
