@@ -1,6 +1,6 @@
 -- From what a command leaves in a buffer to what is with the writer below it.
 use Rattle.std.proofs.Common.{◌≡◌, ◌∙◌, ℕ, zero, suc, List, [], true, false, Option, None, Some, Ok, Err, IsSomeAnd, IfSome}
-use Rattle.std.proofs.Common.{◌≢◌, Bool, cond, inl, inr, refl, rules, sym, ap, subst, append-nil}
+use Rattle.std.proofs.Common.{◌≢◌, ◌⊎◌, Bool, arith, cond, inl, inr, refl, rules, sym, ap, subst, append-nil}
 use Rattle.std.specs.Io.KnownBytes.{Appends, Keeps, append_known}
 use Rattle.std.specs.Prelude.{MatchBool}
 use Rattle.arguments.specs.Requests.{Text, asked_by, asks_version, called_by}
@@ -16,8 +16,26 @@ use Rattle.pattern_commands.specs.Streams.{Stream, Has, HasPrefix, HasLine}
 use Rattle.pattern_commands.specs.Behaviours.{Made}
 use Rattle.pattern_commands.specs.Version.{version_behaviour}
 use Rattle.census.specs.Program.{Complains, IsDone, IsPrefixOf, since}
-use Rattle.census.specs.Requests.{DoesRequest, DoesArguments, right_for, behaviour_of, tells_lines}
+use Rattle.census.specs.ProgramEnds.{LeavesAlone}
+use Rattle.census.specs.Requests.{DoesRequest, DoesArguments, right_for, behaviour_of, reads_input, tells_lines}
 use Rattle.census.proofs.RequestLemmas.{does}
+
+-- ---- a code tells the status
+
+pub is_done : (status : Status) → exit_code status ≡ 0 → status ≡ statuses.Done
+is_done status code = search rules
+
+pub is_usage : (status : Status) → exit_code status ≡ 2 → status ≡ statuses.Usage
+is_usage status code = search rules
+
+pub is_refused : (status : Status) → exit_code status ≡ 3 → status ≡ statuses.Refused
+is_refused status code = search rules
+
+pub is_out_of_memory : (status : Status) → exit_code status ≡ 4 → status ≡ statuses.Memory
+is_out_of_memory status code = search rules
+
+pub is_incomplete : (status : Status) → exit_code status ≡ 6 → status ≡ statuses.Incomplete
+is_incomplete status code = search rules
 
 -- ---- bytes
 
@@ -111,7 +129,8 @@ module _ (arguments : List Text) (reader below : Option (List ℕ)) (status : St
             };
             silent = λ none. subst (λ o. IfSome o (λ request. tells_lines request ≡ false → Has errors [])) (sym asked)
                 (λ mute. nothing_more errors.before so_far.after errors.after
-                (subst (Appends errors.before so_far.after) (quiet request does.bytes reached.made mute reached.is) diagnostics) (told_none missing (since so_far errors) none last));
+                (subst (Appends errors.before so_far.after) (quiet request does.bytes reached.made mute reached.is) diagnostics)
+                (told_none missing (since so_far errors) none last));
           }
 
   pub prints : DoesArguments arguments reader status written errors → PrintsBelow
@@ -190,3 +209,29 @@ ends_version arguments reader before after status written errors asks failed sta
         ends = inl (ap has_printed (failed undone), refl, refl);
       };
     }
+
+-- what only prints ends with code 0 or 5
+pub prints_or_fails : (status : Status) → (status ≢ statuses.Done → status ≡ statuses.Failed) → (exit_code status ≡ 0) ⊎ (exit_code status ≡ 5)
+prints_or_fails statuses.Done failed = inl refl
+prints_or_fails statuses.Failed failed = inr refl
+prints_or_fails statuses.Usage failed = inr (ap exit_code (failed (λ is. cc)))
+prints_or_fails statuses.Refused failed = inr (ap exit_code (failed (λ is. cc)))
+prints_or_fails statuses.Memory failed = inr (ap exit_code (failed (λ is. cc)))
+prints_or_fails statuses.Incomplete failed = inr (ap exit_code (failed (λ is. cc)))
+
+-- and these codes leave nothing to be said but that the input wasn't read
+pub printing_leaves : (arguments : List Text) (code : ℕ) (errors : Stream) (input output unprinted : Type 0) → (code ≡ 0) ⊎ (code ≡ 5) → input
+    → LeavesAlone arguments code errors input output unprinted
+printing_leaves arguments code errors input output unprinted either same = record {
+  usage = λ is. absurd (omega (arith, is, either));
+  tells_usage = λ is. absurd (omega (arith, is, either));
+  untouched = λ is. absurd (omega (arith, is, either));
+  refused = λ is. absurd (omega (arith, is, either));
+  unread_refused = λ is. absurd (omega (arith, is, either));
+  nothing_left = λ is. absurd (omega (arith, is, either));
+  unread = for_any (asked_by arguments);
+}
+  where
+    for_any : (asked : Option Request) → IfSome asked (λ request. reads_input request ≡ false → input)
+    for_any None = tt
+    for_any (Some request) = λ _. same

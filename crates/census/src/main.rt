@@ -1,7 +1,8 @@
 //! A census of random soups of Conway's Game of Life and its kin: the program.
 //!
-//! `main` calls [`run_program`](program::run_program) with the process's arguments and streams. That reads the arguments into a
-//! request by [`request_of`](arguments::calls::request_of), and hands its values to the function of the command.
+//! `main` calls [`run_program`](program::run_program) with the process's arguments and streams. That reads the
+//! arguments into a request by [`request_of`](arguments::calls::request_of), and hands its values to the function of the
+//! command.
 #![tactic(auto)]
 
 mod program;

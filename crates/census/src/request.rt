@@ -6,16 +6,19 @@
 //!                       └─ a usage text, or want of memory
 //! ```
 
-ghost use Rattle.std.specs.Prelude.{◌≡◌, ◌≢◌, IfSome, false, true, is_some, map};
+ghost use Rattle.std.specs.Prelude.{◌≡◌, ◌≢◌, false, map};
 ghost use Rattle.clap.specs.Words.{kind_of};
 ghost use Rattle.clap.specs.declared.error.kind.ErrorKind.TheVariants.{OutOfMemory};
 ghost use Rattle.memory.specs.Witness.{out_of_memory};
 ghost use Rattle.pattern_commands.specs.Complaints.{complaint_line};
-ghost use Rattle.arguments.specs.Requests.{AreInTheirRanges, asked_by};
+ghost use Rattle.pattern_commands.specs.Status.{exit_code};
+ghost use Rattle.arguments.specs.Requests.{AreInTheirRanges};
 ghost use Rattle.pattern_commands.specs.Streams.{HasLine, stream};
-ghost use Rattle.census.specs.Requests.{DoesRequest, DoesArguments, Spares, TellsUsage, is_over_sets, is_whole};
-ghost use Rattle.census.specs.Requests.{reads_input, refuses_input};
+ghost use Rattle.census.specs.ProgramEnds.{LeavesAlone};
+ghost use Rattle.census.specs.Requests.{DoesArguments, DoesRequest, Spares, is_over_sets};
 
+use arguments::calls::{Unasked, request_of};
+use arguments::request::Request;
 use commands::gather::do_gather;
 use commands::machine::Machine;
 use commands::progress_line::ProgressLine;
@@ -35,13 +38,11 @@ use std::io::{Read, Write};
 use std::sync::Wait;
 use std::thread::Threads;
 use std::time::Clock;
-use arguments::calls::{Unasked, request_of};
-use arguments::request::Request;
 
-/// Does what the arguments ask for, and returns how that ended. The first word is the program's name.
+/// Does what `arguments` ask for, and returns how that ended. The first argument is the program's name.
 ///
-/// Neither writer may have failed. Words that ask for nothing end with `Usage` and their text on standard error;
-/// nothing is read then, and nothing is printed. How far a haul has come is said by the machine's watch.
+/// Neither writer may have failed. Arguments that ask for nothing end with `Usage` and a text on standard error; then
+/// nothing is read or printed. The machine's observer reports how far a haul is.
 ///
 /// # Errors
 ///
@@ -62,18 +63,11 @@ pub fn do_arguments<
 ) -> Status
     requires output { output.old.failed ≡ false }
     requires errors { machine.old.errors.failed ≡ false }
-    ensures usage { result ≡ Status.Usage → (output.new ≡ output.old) × (input.new ≡ input.old) }
-    ensures tells_usage { result ≡ Status.Usage → TellsUsage (stream E.contents machine.old.errors machine.new.errors) }
-    ensures understood { is_some (asked_by (map S.text arguments.now)) ≡ true → result ≢ Status.Usage }
     ensures command { result ≢ Status.Usage → DoesArguments (map S.text arguments.now) (R.remaining input.old) result
         (stream W.contents output.old output.new) (stream E.contents machine.old.errors machine.new.errors) }
-    ensures unread { IfSome (asked_by (map S.text arguments.now)) (λ request.
-        reads_input request ≡ false → input.new ≡ input.old) }
-    ensures unread_refused { result ≡ Status.Refused → IfSome (asked_by (map S.text arguments.now)) (λ request.
-        refuses_input request ≡ false → input.new ≡ input.old) }
-    ensures untouched { result ≡ Status.Refused → output.new ≡ output.old }
-    ensures no_memory { result ≡ Status.Memory → IfSome (asked_by (map S.text arguments.now)) (λ request.
-        is_whole request ≡ true → output.new ≡ output.old) }
+    ensures leaves { LeavesAlone (map S.text arguments.now) (exit_code result)
+        (stream E.contents machine.old.errors machine.new.errors)
+        (input.new ≡ input.old) (output.new ≡ output.old) (output.new ≡ output.old) }
 {
     match request_of(machine.alloc, arguments) {
         Ok(request) => do_request(machine, &request, input, output),

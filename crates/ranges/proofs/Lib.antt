@@ -1,3 +1,4 @@
+mod BisectionLemmas
 pub mod CutLemmas
 pub mod DecimalLemmas
 pub mod FaultLemmas

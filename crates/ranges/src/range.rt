@@ -84,16 +84,17 @@ impl Ranges {
         self.ranges.as_slice()
     }
 
-    /// Whether the number is in the set.
+    /// Checks whether `number` is in the set. Only the last range that begins at `number` or before it can have the
+    /// number, and a binary search finds that range.
     pub fn has(&self, number: u64) -> bool
         ensures { result ≡ is_in self.now number }
     {
-        for range in self.as_slice() {
-            if range.has(number) {
-                return true;
-            }
+        let ranges = self.as_slice();
+        let begun = ranges.partition_point(|range| range.first <= number);
+        match ranges[..begun].last() {
+            Some(range) => range.has(number),
+            None => false,
         }
-        false
     }
 
     /// The normal form of ranges of which no two share a number.
