@@ -11,7 +11,7 @@ from checks.plain import objects_at_rest, rule_named
 
 
 def objects_of_still_soup(number: int) -> dict[str, int]:
-    """How many objects a soup has of each code, by the plain program of the definitions."""
+    """Returns the number of objects of each code in a soup, by the plain program of the definitions."""
     objects = objects_at_rest(rule_named(STILL), ONE_LOOK.period, ONE_LOOK.horizon, soup(number))
     assert objects is not None
     return dict(objects)
