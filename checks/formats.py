@@ -14,9 +14,9 @@ Range = tuple[int, int]
 
 STANDARD = Profile(64, 512, 101, 30300)
 # One checkpoint, at generation 0. Under Life no soup is at rest there.
-ONE_LOOK = Profile(1, 1, 1, 0)
+ONE_CHECKPOINT = Profile(1, 1, 1, 0)
 # Two checkpoints.
-TWO_LOOKS = Profile(1, 1, 1, 1)
+TWO_CHECKPOINTS = Profile(1, 1, 1, 1)
 LIFE = "b3s23"
 # Everything dies, or nothing does.
 DEADLY, STILL = "bs", "bs012345678"
@@ -36,14 +36,14 @@ def profile_pairs(profile: Profile) -> list[str]:
 
 
 # Under it no soup settles.
-NEVER = profile_words(ONE_LOOK)
+NEVER = profile_words(ONE_CHECKPOINT)
 # Under it every soup is dead at the second checkpoint.
-DEAD = [*profile_words(TWO_LOOKS), f"--rule={DEADLY}"]
+DEAD = [*profile_words(TWO_CHECKPOINTS), f"--rule={DEADLY}"]
 # Under it every soup is at rest at generation 0, since no cell dies.
-ALL_LIVE = [*profile_words(ONE_LOOK), f"--rule={STILL}"]
+ALL_LIVE = [*profile_words(ONE_CHECKPOINT), f"--rule={STILL}"]
 
 
-def haul_text(ranges: Sequence[Range], soups: int, *, seed: str = "", rule: str = LIFE, profile: Profile = ONE_LOOK, unsettled: int = 0, for_good: int = 0,
+def haul_text(ranges: Sequence[Range], soups: int, *, seed: str = "", rule: str = LIFE, profile: Profile = ONE_CHECKPOINT, unsettled: int = 0, for_good: int = 0,
               counts: Mapping[str, int] | None = None, samples: Mapping[str, Sequence[int]] | None = None) -> bytes:
     """Returns the text of a haul. Of the samples of a code only the first three are written."""
     counts, samples = counts or {}, samples or {}
@@ -67,7 +67,7 @@ def haul_text(ranges: Sequence[Range], soups: int, *, seed: str = "", rule: str 
     ]).encode()
 
 
-def report_line(number: int, worker: int = 1, *, seed: str = "", rule: str = LIFE, profile: Profile = ONE_LOOK, version: int = 2,
+def report_line(number: int, worker: int = 1, *, seed: str = "", rule: str = LIFE, profile: Profile = ONE_CHECKPOINT, version: int = 2,
                 found: Sequence[bytes] = (b"unsettled",)) -> bytes:
     """Returns the report line of a soup, with its line feed. `found` are the fields after the soup's number."""
     return b"report %d rule=%s profile=%d,%d,%d,%d seed=%s worker=%d soup=%d %s\n" % (

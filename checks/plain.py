@@ -41,9 +41,6 @@ def rule_named(text: str) -> Rule:
     return Rule(frozenset(map(int, births)), frozenset(map(int, survivals)))
 
 
-LIFE = rule_named("b3s23")
-
-
 # ---- Generations
 
 # The displacements of the eight neighbours of a cell.
