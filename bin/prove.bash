@@ -3,8 +3,8 @@
 
 no_python="the program isn't built from the sources that are here, and can't be: there is no command python3 on the PATH"
 
-# A build that is cut off leaves nothing that counts as built, since the stamp is written last. The package says itself that it was
-# interrupted, and ends with status 70, unless the signal comes before it can.
+# An interrupted build leaves nothing that counts as built, since the stamp is written last. The package prints a line and ends with
+# status 70, unless the signal comes before it can.
 interrupted() {
     trap '' INT TERM HUP
     {
@@ -15,8 +15,8 @@ interrupted() {
     exit 70
 }
 
-# Calls the package with words, and returns its status, which is 70 if nothing was built. The package gets a process group of its own
-# (set -m): so Ctrl-C reaches this script alone, and what is proved goes on, and is kept, if this script is killed.
+# Calls the package with arguments, and returns its status, which is 70 if nothing was built. The package gets its own process group
+# (set -m), so that Ctrl-C reaches only this script, and the proofs go on and are kept if this script is killed.
 build() {
     local status
     if ! type -P python3 >/dev/null; then

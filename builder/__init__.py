@@ -1,7 +1,7 @@
-"""Proves the crates and builds the program, for `bin/census` and `bin/programs`, which load bin/prove.bash to call this package.
+"""Proves the crates and builds the program. `bin/census` and `bin/programs` call this package by bin/prove.bash.
 
-What was proved is kept in a folder beside the program, so that an interrupted build goes on where it ended. `checks/build` and
-`checks/launcher` try this package with stubs in place of the prover.
+Proved crates are kept in a folder beside the program, so that an interrupted build continues where it stopped. `checks/build` and
+`checks/launcher` test this package with stubs in place of the prover.
 """
 
 from __future__ import annotations
@@ -9,12 +9,12 @@ from __future__ import annotations
 import os
 import sys
 
-# The status of a call that ran nothing, since the program could not be built.
+# The exit status if nothing was run because the program could not be built.
 NOT_BUILT = 70
 
 
 class Failed(Exception):
-    """The program isn't built, for the reason in this line."""
+    """The program could not be built. The message is the reason, in one line."""
 
 
 def cannot_build(why: str) -> Failed:
@@ -22,7 +22,7 @@ def cannot_build(why: str) -> Failed:
 
 
 def tell(text: str) -> None:
-    """Writes to standard error in one write, which other processes share. Nobody may read it any more."""
+    """Writes to standard error in a single write, since other processes share it. Ignores that nobody reads it any more."""
     try:
         os.write(2, text.encode())
     except OSError:

@@ -1,4 +1,4 @@
-"""Starts the package from its folder, in whatever folder the caller is."""
+"""Starts the package from any working directory."""
 
 import sys
 

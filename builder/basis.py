@@ -1,5 +1,7 @@
-"""What a build starts from: the toolchain's version and the digests of the sources. bin/built.bash says it, which `bin/census` also
-asks whether the program is fresh."""
+"""The basis of a build: the toolchain's version and the digests of the sources.
+
+bin/built.bash computes it, because `bin/census` uses the same functions in every call to test whether the program is fresh.
+"""
 
 from __future__ import annotations
 
@@ -12,7 +14,7 @@ from builder import cannot_build
 from builder.crates import Crates
 from builder.places import Places
 
-# The name of a crate in a line on one of its files.
+# Finds the crate in the line of a file.
 OF_CRATE = re.compile(r"  crates/([^/]*)")
 
 
@@ -23,7 +25,7 @@ class Built:
         self.places = places
 
     def _called(self, command: str, *words: str, given: str = "") -> str | None:
-        """What a command prints after the functions are loaded, or None if it fails."""
+        """Returns what a command prints after the functions are loaded, or None if it fails."""
         script = f'. "$0" && {command}'
         ended = subprocess.run(["bash", "-c", script, str(self.places.top / "bin" / "built.bash"), *words], input=given, text=True,
                                stdout=subprocess.PIPE, stderr=subprocess.DEVNULL, check=False)
@@ -33,26 +35,26 @@ class Built:
         return self._called("basis")
 
     def cpu(self) -> str:
-        """For which processors this machine's programs are built."""
+        """Returns the level of this machine's processor, as `LEVELS` names it."""
         return self._called('get_cpu && printf %s "$cpu"') or ""
 
     def is_fresh(self) -> bool:
         return self._called("is_fresh") is not None
 
     def write_stamp(self, basis: str, cpu: str) -> bool:
-        """Writes the stamp of the program, unless something else is there now than this basis."""
+        """Writes the stamp of the program, unless the basis has changed since."""
         return self._called('write_stamp "$(cat)" "$1"', cpu, given=basis) is not None
 
 
 def part_of(basis: str, crates: Crates, name: str) -> str:
-    """The lines of a basis that a crate is proved from: the toolchain's version, the list of crates, and the files of the crate and of
-    all that it stands on."""
+    """Returns the lines of a basis that a proof of this crate depends on: the toolchain's version, the list of crates, and the files of
+    the crate and of all crates below it."""
     below = crates.below[name]
     return "\n".join(line for line in basis.split("\n") if not (of_crate := OF_CRATE.search(line)) or of_crate[1] in below)
 
 
 def toolchain() -> Path:
-    """The folder of the toolchain."""
+    """Returns the folder of the toolchain."""
     rt = shutil.which("rt")
     if rt is None:
         raise cannot_build("there is no command rt on the PATH")

@@ -1,4 +1,4 @@
-"""A build of the program, from what is kept on."""
+"""A build of the program. It starts from the crates that are kept."""
 
 from __future__ import annotations
 
@@ -19,7 +19,7 @@ from builder.schedule import Schedule, Share, copies_for_longest
 
 @dataclass(frozen=True)
 class Build:
-    """The sources and the toolchain as they are when a build begins, and what is kept."""
+    """The sources and the toolchain at the beginning of a build, and the folder of kept crates."""
 
     places: Places
     built: Built
@@ -35,15 +35,15 @@ class Build:
         return part_of(self.basis, self.crates, crate)
 
     def has(self, crate: str, cpu: str) -> bool:
-        """Whether a crate was proved by an earlier call from what is there now."""
+        """Checks whether an earlier call has proved a crate from the same sources."""
         return self.kept.has(crate, cpu, self.part_of(crate))
 
     def with_made(self, made: Path) -> Build:
-        """The same over another folder of what is kept."""
+        """Returns the same build with another folder of kept crates."""
         return replace(self, kept=replace(self.kept, made=made))
 
     def build_program(self, cpu: str) -> None:
-        """Proves what isn't kept, and builds the program for these processors. It is kept then."""
+        """Proves the crates that aren't kept, builds the program for a level of processors, and keeps them."""
         with self.places.log.open("wb") as log:
             try:
                 Work(self, cpu, Log(log)).run()
@@ -52,7 +52,7 @@ class Build:
 
 
 class Work:
-    """The proofs of one build."""
+    """Proves the crates of one build."""
 
     def __init__(self, build: Build, cpu: str, log: Log) -> None:
         self.build, self.cpu, self.log = build, cpu, log
@@ -63,7 +63,7 @@ class Work:
     def run(self) -> None:
         order = self.build.crates.order
         weights = weights_of({crate: self.build.places.crate(crate) for crate in order}, order)
-        # What a prover that was stopped has left goes.
+        # Remove what an interrupted prover has left.
         shutil.rmtree(self.prover.room, ignore_errors=True)
         try:
             Schedule(self.build.crates, weights, self.build.copies).run(self)
@@ -86,7 +86,7 @@ class Work:
         self.commands.end()
 
     def prove(self, crate: str, share: Share) -> None:
-        """Proves a crate, and keeps it if nothing that it was proved from has changed meanwhile."""
+        """Proves a crate, and keeps it if its sources have not changed meanwhile."""
         try:
             verdict = self.prover.prove(crate, share.copies, share.yielding)
         except OSError as error:
@@ -108,7 +108,7 @@ class Work:
 
 
 def get_ready(places: Places, lock: int) -> Build:
-    """Finds the toolchain and the sources, and looks whether what the prover says can be written down."""
+    """Finds the toolchain and the sources, and checks that the log can be written."""
     kit, built = toolchain(), Built(places)
     basis = built.basis()
     try:

@@ -1,4 +1,4 @@
-"""The crates that the program is made of, and in which order they are proved."""
+"""The graph of the crates that the program consists of."""
 
 from __future__ import annotations
 
@@ -15,26 +15,26 @@ KILOBYTE = 1024
 
 
 def uses_in(text: str) -> dict[str, list[str]]:
-    """The libraries that each crate uses, by the text of crates.txt."""
+    """Reads which libraries each crate uses from the text of crates.txt."""
     lines = [line.partition(":") for line in text.splitlines() if ":" in line and not line.startswith("#")]
     return {name: used.split() for name, _, used in lines}
 
 
 class Crates:
-    """The crates that one crate is made of, itself among them."""
+    """A crate and all crates below it."""
 
     def __init__(self, uses: Mapping[str, list[str]], root: str = PROGRAM) -> None:
-        # What each crate names, the toolchain's libraries too.
+        # The libraries that each crate uses, including the toolchain's.
         self.uses = uses
-        # Each crate with the crates of the repository that it names.
+        # The crates of the repository that each crate uses.
         self.graph: dict[str, list[str]] = {}
         self._add(root)
         try:
-            # Each after those that it uses.
+            # Every crate comes after those that it uses.
             self.order = list(TopologicalSorter(self.graph).static_order())
         except CycleError as error:
             raise cannot_build(f"crates.txt has a circle: {', '.join(error.args[1])}") from None
-        # Each crate's own name with those of all that it stands on.
+        # Each crate with all crates below it, including itself.
         self.below: dict[str, frozenset[str]] = {}
         for name in self.order:
             self.below[name] = frozenset({name}).union(*(self.below[used] for used in self.graph[name]))
@@ -46,11 +46,11 @@ class Crates:
                 self._add(used)
 
     def above(self, name: str) -> list[str]:
-        """The crates that stand on this one, itself among them."""
+        """Returns the crates above this one, including itself."""
         return [other for other in self.order if name in self.below[other]]
 
     def ways(self, weights: Mapping[str, int]) -> dict[str, int]:
-        """How long the longest way is from the beginning of each crate to the end: the sum of the weights of the crates on it."""
+        """Returns the length of the longest path from each crate to the root: the sum of the weights on it."""
         longest: dict[str, int] = {}
         for name in reversed(self.order):
             users = [other for other in self.order if name in self.graph[other]]
@@ -59,15 +59,16 @@ class Crates:
 
 
 def weights_of(folders: Mapping[str, Path], names: Iterable[str]) -> dict[str, int]:
-    """About how long it takes to prove each crate: how many kilobytes its sources have, and one more, since each takes some time."""
+    """Estimates how long it takes to prove each crate: the size of its sources in kilobytes, plus one, since even an empty crate takes
+    some time."""
     return {name: 1 + bytes_in(folders[name]) // KILOBYTE for name in names}
 
 
 def bytes_in(folder: Path) -> int:
-    """How many bytes the sources of a crate have."""
+    """Returns the size of a crate's sources."""
     size = 0
     for above, folders, files in os.walk(folder):
-        # What was built may be large.
+        # This folder has what was built, and may be large.
         folders[:] = [name for name in folders if name != "out"]
         size += sum(os.path.getsize(os.path.join(above, name)) for name in files if name.endswith((".rt", ".antt")))
     return size

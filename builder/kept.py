@@ -1,7 +1,7 @@
-"""What was proved and is kept: of each library its statements, NAME.rlib, and the program for each level of processors.
+"""The crates that are kept: of each library its statements, NAME.rlib, and the program for each level of processors.
 
-Beside each stand NAME.verdict, the line that the prover ended with, and NAME.from, what it was proved from. That is written last, so
-what was cut off doesn't count as proved.
+Beside each of them are NAME.verdict, the prover's last line, and NAME.from, the part of the basis that it was proved from. NAME.from is
+written last, so a crate that was interrupted doesn't count as proved.
 """
 
 from __future__ import annotations
@@ -15,7 +15,7 @@ from builder.places import LEAST, LEVELS, PROGRAM
 
 
 def text_of(path: Path) -> str | None:
-    """What a file says, without the line feeds at its end."""
+    """Returns the text of a file without trailing line feeds, or None if it can't be read."""
     try:
         return path.read_text().rstrip("\n")
     except (OSError, UnicodeDecodeError):
@@ -23,7 +23,7 @@ def text_of(path: Path) -> str | None:
 
 
 def write_whole(path: Path, text: str) -> None:
-    """Writes a file, which gets its name only when it is whole."""
+    """Writes a file that gets its name only when it is complete."""
     following = path.with_name(f"{path.name}.next")
     following.write_text(text)
     os.replace(following, path)
@@ -31,13 +31,13 @@ def write_whole(path: Path, text: str) -> None:
 
 @dataclass(frozen=True)
 class Kept:
-    """The folder of what is kept."""
+    """The folder of the crates that are kept."""
 
     made: Path
     crates: Crates
 
     def name(self, crate: str, cpu: str) -> str:
-        """The name of what is kept of a crate, without its ending: the program has one for each level of processors."""
+        """Returns the name under which a crate is kept, without a suffix. The program has one for each level of processors."""
         return f"{crate}-{LEVELS[cpu]}" if crate == PROGRAM else crate
 
     def result(self, crate: str, cpu: str) -> Path:
@@ -48,23 +48,23 @@ class Kept:
         return self.made / f"{self.name(crate, cpu)}.verdict"
 
     def origin(self, crate: str, cpu: str) -> Path:
-        """The file that says what it was proved from."""
+        """The file with the part of the basis that a crate was proved from."""
         return self.made / f"{self.name(crate, cpu)}.from"
 
     def has(self, crate: str, cpu: str, part: str) -> bool:
-        """Whether a crate was proved by an earlier call from this part of a basis."""
+        """Checks whether a crate is kept that was proved from this part of a basis."""
         result = self.result(crate, cpu)
         is_there = os.access(result, os.X_OK) if crate == PROGRAM else result.is_dir()
         return is_there and bool(text_of(self.verdict(crate, cpu))) and text_of(self.origin(crate, cpu)) == part
 
     def keep(self, crate: str, cpu: str, verdict: str, part: str) -> None:
-        """Notes that a crate was proved, with this verdict and from this part of a basis."""
+        """Records that a crate was proved, with its verdict and the part of the basis that it was proved from."""
         write_whole(self.verdict(crate, cpu), f"{verdict}\n")
         write_whole(self.origin(crate, cpu), f"{part}\n")
 
     def forget(self, crate: str, cpu: str) -> None:
-        """What was made over an earlier state of a crate counts no more. The program for one level of processors says nothing of
-        another's."""
+        """Forgets a crate and all crates above it, which were proved with its earlier state. If it is the program, the programs for other
+        levels are still kept."""
         if crate == PROGRAM:
             self.origin(crate, cpu).unlink(missing_ok=True)
             return

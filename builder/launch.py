@@ -1,4 +1,4 @@
-"""The program for this machine's processors: what `bin/census` needs if the program isn't fresh."""
+"""Builds the program for this machine, which `bin/census` needs if the program isn't fresh."""
 
 from __future__ import annotations
 
@@ -13,14 +13,14 @@ from builder.places import PROGRAM, Places
 
 
 def tell_what_is_done() -> None:
-    """Says that the program is built, and that this takes long. On a terminal it also says how to look at once."""
+    """Says that the program is being built, and that this takes long. On a terminal it also names a faster way to try the program."""
     meanwhile = " (bin/unproved runs it in a minute, without proof)" if is_terminal() else ""
     say("building the program, which is proved first: that takes some 10 minutes the first time with four processors"
         f"{meanwhile}. Ctrl-C keeps the crates that are proved, and the next call goes on from there")
 
 
 def build_for_this_machine(places: Places) -> None:
-    """Builds the program and writes its stamp, unless another call has done so."""
+    """Builds the program and writes its stamp, unless another call has done this meanwhile."""
     lock = take_lock(places)
     built = Built(places)
     if built.is_fresh():
@@ -36,7 +36,7 @@ def build_for_this_machine(places: Places) -> None:
         build.build_program(cpu)
     following = places.program.with_name(f"{PROGRAM}.next")
     try:
-        # A program that runs is replaced, and not written over.
+        # Replace the file, since a running program can't be overwritten.
         shutil.copy(build.kept.result(PROGRAM, cpu), following)
         os.replace(following, places.program)
     except OSError:

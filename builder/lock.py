@@ -1,4 +1,4 @@
-"""The lock of a checkout's builds: of several first calls one builds, and the others wait for it."""
+"""The lock for builds in a checkout. If several calls need a build, one of them builds and the others wait."""
 
 from __future__ import annotations
 
@@ -10,7 +10,7 @@ from builder.places import Places
 
 
 def take_lock(places: Places) -> int:
-    """Returns the lock, once no other call has it. It is free again when this process and all commands that it has begun have ended."""
+    """Waits for the lock and returns it. It is released when this process and all its commands have ended."""
     try:
         places.out.mkdir(parents=True, exist_ok=True)
     except OSError:
@@ -29,7 +29,7 @@ def take_lock(places: Places) -> int:
 
 
 def is_free(lock: int) -> bool:
-    """Whether no other call has the lock. It is this one's then."""
+    """Takes the lock if no other call has it, and returns whether it did."""
     try:
         fcntl.flock(lock, fcntl.LOCK_EX | fcntl.LOCK_NB)
     except BlockingIOError:

@@ -1,4 +1,4 @@
-"""The calls of this package, of which bin/prove.bash makes one in a process group of its own."""
+"""The command line of this package, for bin/prove.bash."""
 
 from __future__ import annotations
 
@@ -15,12 +15,12 @@ from builder.places import Places
 from builder.programs import Asked, look_at, make_programs
 
 SIGNALS = (signal.SIGINT, signal.SIGTERM, signal.SIGHUP)
-# The status of a call of `bin/programs` with words that it doesn't know. The script says then which it knows.
+# The exit status for wrong arguments of `bin/programs`, which then prints its usage.
 BAD_WORDS = 2
 
 
 class Interrupted(BaseException):
-    """A signal ends the build."""
+    """A signal stops the build."""
 
 
 def interrupt(_number: int, _frame: FrameType | None) -> None:
@@ -30,7 +30,7 @@ def interrupt(_number: int, _frame: FrameType | None) -> None:
 
 
 def run(words: list[str]) -> int:
-    """Does what the words ask for, and returns the status."""
+    """Runs the command that the arguments name, and returns the exit status."""
     places = Places(Path(__file__).resolve().parents[1])
     if words == ["program"]:
         build_for_this_machine(places)
@@ -39,7 +39,7 @@ def run(words: list[str]) -> int:
 
 
 def run_programs(places: Places, words: list[str]) -> int:
-    """What `bin/programs` does."""
+    """Runs `bin/programs`."""
     again = words[:1] == ["--again"]
     words = words[1:] if again else words
     ci_log = None
@@ -57,7 +57,7 @@ def main() -> int:
     try:
         for each in SIGNALS:
             signal.signal(each, interrupt)
-        # A terminal may stop those in the background that write to it.
+        # Some terminals stop background processes that write to them.
         signal.signal(signal.SIGTTOU, signal.SIG_IGN)
         return run(sys.argv[1:])
     except Failed as why:

@@ -1,4 +1,4 @@
-"""Where the sources are, and where what is built is put."""
+"""The paths of sources and of what is built."""
 
 from __future__ import annotations
 
@@ -7,8 +7,8 @@ from pathlib import Path
 
 # The crate of the program. All others are libraries.
 PROGRAM = "census"
-# The processors for which the program is built, as `rattle --cpu` names them: the least ones for which the toolchain builds, and those
-# for which the program is some fifth faster. Each with the ending that the program's name has for them.
+# The levels of processors for which the program is built, as `rattle --cpu` names them, each with the suffix of the program's name: the
+# lowest level for which the toolchain builds, and the one for which the program is about a fifth faster.
 LEAST = "default"
 LEVELS = {LEAST: "v2", "x86-64-v3": "v3"}
 
@@ -45,7 +45,7 @@ class Places:
 
     @property
     def made(self) -> Path:
-        """The folder of what is kept between calls."""
+        """The folder of the crates that are kept between calls."""
         return self.out / "made"
 
     def crate(self, name: str) -> Path:

@@ -1,4 +1,4 @@
-"""The program for each level of processors, with what the prover said of each crate: what `bin/programs` puts into a folder."""
+"""Puts the program for each level of processors into a folder, with the prover's verdict on each crate, for `bin/programs`."""
 
 from __future__ import annotations
 
@@ -19,9 +19,9 @@ from builder.kept import text_of, write_whole
 from builder.lock import take_lock
 from builder.places import LEAST, LEVELS, PROGRAM, Places
 
-# What a folder has beside the file `from`.
+# The files in the folder besides `from`.
 FILES = [*(f"{PROGRAM}-{level}" for level in LEVELS.values()), "verdicts"]
-# The digest that `b2sum -l 256` prints.
+# The length of the digests that `b2sum -l 256` prints.
 DIGEST_BYTES = 32
 
 
@@ -29,19 +29,19 @@ class Asked(NamedTuple):
     """A call of `bin/programs`."""
 
     folder: Path
-    # The file of what `rt ci` has said, which has proved the crates here.
+    # The output of `rt ci`, if that has just proved the crates of this checkout.
     ci_log: Path | None
-    # Whether both programs are built anew.
+    # Whether to build both programs even if they are kept.
     again: bool
 
 
 def make_programs(places: Places, asked: Asked) -> None:
-    """Puts the programs into a folder, and says from what they were built."""
+    """Puts the programs into the folder."""
     build = get_ready(places, take_lock(places))
     if asked.ci_log is not None:
         with own_folder(build) as own:
             take_from_ci(own, asked.ci_log, asked.again)
-            # Two copies of the prover would take twice the time of the processors, which the rest of `rt ci` needs.
+            # A second copy of the prover would load the libraries once more, and the rest of `rt ci` needs the processors.
             build_both(replace(own, copies=lambda: 1))
             fill_folder(own, asked.folder)
     elif asked.again:
@@ -56,13 +56,13 @@ def make_programs(places: Places, asked: Asked) -> None:
 
 @contextmanager
 def own_folder(build: Build) -> Iterator[Build]:
-    """The build over a folder of this call alone, which goes when it ends."""
+    """Returns the build with a temporary folder of kept crates."""
     with tempfile.TemporaryDirectory(dir=build.places.out, prefix="made.") as made:
         yield build.with_made(Path(made))
 
 
 def link_copy(origin: Path, copy: Path) -> None:
-    """Copies a file or a folder by links to its files."""
+    """Copies a file or a folder with hard links."""
     if origin.is_dir():
         shutil.copytree(origin, copy, copy_function=os.link)
     else:
@@ -70,7 +70,7 @@ def link_copy(origin: Path, copy: Path) -> None:
 
 
 def take_libraries(build: Build, own: Build) -> None:
-    """Fills the folder with the libraries that are kept."""
+    """Fills the temporary folder with the libraries that are kept."""
     for crate in build.crates.order:
         if crate != PROGRAM and build.has(crate, LEAST):
             for path in (build.kept.result, build.kept.verdict, build.kept.origin):
@@ -79,8 +79,8 @@ def take_libraries(build: Build, own: Build) -> None:
 
 
 def take_from_ci(own: Build, log: Path, again: bool) -> None:
-    """Fills the folder as if what `rt ci` has proved had been proved here: its libraries, its program, unless that is built anew, and its
-    verdicts. A library with a stamp is another check's, which rt has put back when `rt ci` had ended."""
+    """Fills the temporary folder with what `rt ci` has proved: its libraries, its verdicts and, unless it is to be built again, its program.
+    A library with a stamp is from another run: `rt` has put it back after `rt ci` had ended."""
     verdicts = verdicts_in(text_of(log) or "")
     for crate in own.crates.order:
         if crate == PROGRAM and again:
@@ -102,7 +102,7 @@ def take_from_ci(own: Build, log: Path, again: bool) -> None:
 
 
 def verdicts_in(log: str) -> dict[str, str]:
-    """The verdict that `rt ci` printed of each crate, or what it said if an earlier run had proved the same."""
+    """Finds the verdict that `rt ci` printed for each crate, or its reason for not proving the crate again."""
     verdicts: dict[str, str] = {}
     crate = ""
     for line in log.splitlines():
@@ -117,7 +117,7 @@ def verdicts_in(log: str) -> dict[str, str]:
 
 
 def build_both(build: Build) -> None:
-    """Builds the program for both levels, with one line that says so if it isn't kept."""
+    """Builds the program for each level for which it isn't kept."""
     missing = [cpu for cpu in LEVELS if not build.has(PROGRAM, cpu)]
     if missing:
         say("building the program for the processors of two levels, which is proved first")
@@ -128,7 +128,7 @@ def build_both(build: Build) -> None:
 # ---- The folder
 
 def fill_folder(build: Build, folder: Path) -> None:
-    """Copies what is kept into a folder. The file `from` comes last, so what is cut off counts for nothing."""
+    """Copies programs and verdicts into a folder. The file `from` is written last, so an interrupted copy doesn't count."""
     try:
         folder.mkdir(parents=True, exist_ok=True)
         (folder / "from").unlink(missing_ok=True)
@@ -146,13 +146,13 @@ def fill_folder(build: Build, folder: Path) -> None:
 
 
 def digests_of(folder: Path) -> str:
-    """The lines that `b2sum -l 256` prints of what a folder has beside the file `from`."""
+    """Returns what `b2sum -l 256` prints for the files in a folder besides `from`."""
     there = [name for name in FILES if (folder / name).is_file()]
     return "".join(f"{hashlib.blake2b((folder / name).read_bytes(), digest_size=DIGEST_BYTES).hexdigest()}  {name}\n" for name in there)
 
 
 def look_at(places: Places, folder: str) -> int:
-    """Says what a folder's programs were built from that isn't here, by the first line that differs. Returns 0 if there is none."""
+    """Compares a folder's programs with this checkout. Returns 0 if they belong together, and otherwise names the first difference."""
     wrong = fault_of(places, folder)
     if wrong:
         tell(f"programs: {wrong}\n")
@@ -172,7 +172,7 @@ def fault_of(places: Places, folder: str) -> str:
 
 
 def first_difference(was: list[str], now: list[str]) -> str:
-    """The name in the first line that only one of two lists has."""
+    """Returns the name in the first line that only one of two lists has."""
     there, here = set(was), set(now)
     differing = [line for line in was if line not in here] + [line for line in now if line not in there]
     return differing[0].rpartition("  ")[2] if differing else ""

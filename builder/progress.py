@@ -1,4 +1,4 @@
-"""What is told of how far a build is: on a terminal one line that is written anew, and elsewhere a line for each crate."""
+"""The progress of a build: on a terminal one line that is rewritten, and elsewhere one line per crate."""
 
 from __future__ import annotations
 
@@ -8,15 +8,15 @@ from pathlib import Path
 
 from builder import is_terminal, say, tell
 
-# Goes to the line's beginning and wipes it.
+# Moves to the beginning of the line and clears it.
 WIPE = "\r\x1b[K"
-# A line that is wider than the terminal is cut off, since one that goes on below can't be written anew.
+# A line that is wider than the terminal is cut off, because a line that wraps can't be rewritten.
 NO_WRAP, WRAP = "\x1b[?7l", "\x1b[?7h"
 
 
 @dataclass
 class Progress:
-    """Of how many crates which are being proved."""
+    """Which crates are being proved, and how many there are in all."""
 
     room: Path
     crates: int
@@ -33,7 +33,7 @@ class Progress:
         self.proved.add(crate)
 
     def running(self) -> list[str]:
-        """The crates that are being proved, and how far each is."""
+        """Returns a text for each crate that is being proved."""
         return [self._place(crate) + self._functions(crate) for crate in self.places if crate not in self.proved]
 
     def show(self) -> None:
@@ -50,7 +50,7 @@ class Progress:
         return f"crate {self.places[crate]} of {self.crates}, {crate}"
 
     def _functions(self, crate: str) -> str:
-        """Of how many functions the proof is begun, and of how many. For each function the prover leaves a file with its code first,
-        and later one with what the logic sees of it."""
+        """Returns how many functions of a crate have been started. For each function the prover first writes a file with its code, and
+        later one with what the logic sees of it."""
         seen, coded = (len(list(self.room.glob(f"{crate}/*/Rattle-{crate}-proofs.*.{kind}.oantt"))) for kind in ("Lts", "Code"))
         return f": {seen} of {coded} functions" if seen else ""

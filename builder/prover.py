@@ -17,12 +17,12 @@ from builder.kept import Kept
 from builder.places import LEAST, PROGRAM, Places
 
 TARGET = "x86_64-unknown-linux-gnu"
-# The line that the prover ends with if all is proved.
+# Begins the prover's last line if everything is proved.
 VERDICT = b"logic=proved "
 
 
 class Ended(Exception):
-    """A crate isn't proved, since a command ended with this status, or since the build is being ended."""
+    """A crate isn't proved: a command ended with this status, or the build is being stopped."""
 
     def __init__(self, status: int) -> None:
         super().__init__(status)
@@ -30,7 +30,7 @@ class Ended(Exception):
 
 
 class Log:
-    """What the provers say, each line after its crate's name."""
+    """The output of the provers. Each line begins with its crate's name."""
 
     def __init__(self, file: BinaryIO) -> None:
         self.file = file
@@ -44,9 +44,9 @@ class Log:
 
 @dataclass
 class Commands:
-    """Commands that run for a build, each in a process group of its own, and that can all be ended."""
+    """The commands of a build. Each runs in its own process group, so that all of them can be stopped."""
 
-    # It holds the lock, as each command does: a prover that outlives this process is waited for.
+    # Each command inherits the lock, so that the next call waits for a prover that outlives this process.
     lock: int
     running: set[int] = field(default_factory=set)
     turn: threading.Lock = field(default_factory=threading.Lock)
@@ -73,7 +73,7 @@ class Commands:
         return lines
 
     def end(self) -> None:
-        """Ends all that run, and lets no other begin."""
+        """Stops all commands, and prevents others from starting."""
         with self.turn:
             self.are_ended = True
             for group in self.running:
@@ -85,25 +85,25 @@ class Commands:
 
 @dataclass(frozen=True)
 class Prover:
-    """What the prover needs besides a crate."""
+    """Proves a single crate."""
 
     places: Places
     kit: Path
     crates: Crates
     kept: Kept
-    # For which processors the program is built.
+    # The level of processors for which the program is built.
     cpu: str
     commands: Commands
     log: Log
 
     @property
     def room(self) -> Path:
-        """The folder of what the prover leaves while it works."""
+        """The folder for the prover's temporary files."""
         return self.kept.made / "room"
 
     def prove(self, crate: str, copies: int, yielding: int) -> str:
-        """Proves a crate with so many copies of the prover, which yield so much to others, and returns the verdict. What is made of a
-        library are its statements: crates above need no more, and read these sooner than its proofs."""
+        """Proves a crate with `copies` copies of the prover, whose niceness is `yielding`, and returns the verdict. Of a library only the
+        statements are written: crates above need no more, and load them faster than the proofs."""
         folder, room = self.places.crate(crate), self.room / crate
         room.mkdir(parents=True, exist_ok=True)
         result = self.kept.result(crate, self.cpu)
@@ -116,7 +116,7 @@ class Prover:
         return b"".join(line for line in lines if line.startswith(VERDICT)).decode().rstrip("\n")
 
     def _words(self, crate: str, copies: int) -> list[str]:
-        """What the prover is told of a crate: its root, the libraries that it names, and where those are that these use."""
+        """Returns the prover's arguments for a crate: its root, the libraries that it names, and where to find what these use."""
         kit, made = self.kit, self.kept.made
         words = ["build", "--crate-name", crate, "src/main.rt" if crate == PROGRAM else "src/lib.rt", "--extern", f"std={kit}/rlibs/std.rlib"]
         for name in self.crates.uses[crate]:
@@ -130,7 +130,7 @@ class Prover:
         return [*words, "--toolchain", f"{kit}/toolchain"] if crate == PROGRAM else [*words, "--statements"]
 
     def _link(self, crate: str, made: Path, result: Path, room: Path) -> list[bytes]:
-        """Links the program. What doesn't link takes no other program's place."""
+        """Links the program, and replaces the kept program only if that succeeds."""
         kit, linked = self.kit, room / crate
         words = [f"{kit}/bin/rattle-link", "--target", TARGET, "--toolchain", f"{kit}/toolchain", "-o", str(linked), str(made),
                  f"{kit}/c/libos_c.a", f"{kit}/c/liblibc_c.a"]

@@ -1,7 +1,8 @@
-"""The order in which crates are proved: each after those that it uses, and side by side if neither stands on the other.
+"""The order in which crates are proved: each after those that it uses, and side by side if neither is above the other.
 
-The crate with the longest way to the end begins first and gets a copy of the prover for each processor. The crates that are proved
-beside it yield to it, and get one copy each, since each copy loads the same libraries. So they take the time that it leaves.
+The crate with the longest path to the program starts first and gets a copy of the prover for each processor. Crates that are proved
+beside it have a higher niceness, so they use the processor time that it leaves, and one copy each, since each copy loads the same
+libraries.
 """
 
 from __future__ import annotations
@@ -16,19 +17,19 @@ from typing import Protocol
 
 from builder.crates import Crates
 
-# More copies than these take memory and no less time.
+# More copies need more memory and are no faster.
 MOST_COPIES = 8
-# Each copy takes so many kilobytes.
+# The memory that each copy needs.
 COPY_KILOBYTES = 1_500_000
-# The system knows no more.
+# The highest niceness.
 MOST_YIELDING = 19
-# How often it is shown how far the crates are.
+# The time between two updates of the progress.
 SECONDS = 1.0
 MEMORY = Path("/proc/meminfo")
 
 
 def copies_for_longest() -> int:
-    """How many copies of the prover the crate with the longest way gets here."""
+    """Returns how many copies of the prover the crate with the longest path gets on this machine."""
     try:
         available = next((int(line.split()[1]) for line in MEMORY.read_text().splitlines() if line.startswith("MemAvailable:")), None)
     except (OSError, ValueError, IndexError):
@@ -37,40 +38,40 @@ def copies_for_longest() -> int:
 
 
 def copies_with(processors: int, kilobytes: int | None) -> int:
-    """One copy for each processor, as far as there is memory, if it is known how much there is."""
+    """Returns one copy for each processor, or fewer if there isn't enough memory for them. `None` means unknown."""
     copies = min(processors, MOST_COPIES)
     return copies if kilobytes is None else max(1, min(copies, kilobytes // COPY_KILOBYTES))
 
 
 @dataclass(frozen=True)
 class Share:
-    """How many copies of the prover a crate gets, and how much they yield to others."""
+    """The number of copies of the prover that a crate gets, and their niceness."""
 
     copies: int
     yielding: int
 
 
 class Work(Protocol):
-    """What is done with the crates."""
+    """What a schedule calls for each crate."""
 
     def is_kept(self, crate: str) -> bool:
-        """Whether the crate was proved by an earlier call."""
+        """Checks whether an earlier call has proved the crate."""
 
     def begin(self, crate: str) -> None:
-        """Is called before the crate is proved, in the order in which crates begin."""
+        """Is called when the crate starts, in the main thread."""
 
     def prove(self, crate: str, share: Share) -> None:
-        """Proves the crate, in a thread of its own, or raises what is wrong."""
+        """Proves the crate in another thread. Raises an exception if that fails."""
 
     def show(self) -> None:
         """Is called about once a second, and after each proof."""
 
     def end_all(self) -> None:
-        """Ends what is being proved."""
+        """Stops all proofs."""
 
 
 class Schedule:
-    """Which crates are proved when."""
+    """Decides when each crate is proved."""
 
     def __init__(self, crates: Crates, weights: Mapping[str, int], copies: Callable[[], int]) -> None:
         self.crates = crates
@@ -79,7 +80,7 @@ class Schedule:
         self.running: set[str] = set()
 
     def share_of(self, crate: str) -> Share:
-        """What a crate gets that begins beside those that run."""
+        """Returns the share of a crate that starts now, beside those that are running."""
         longer = [other for other in self.running if self._rank(other) < self._rank(crate)]
         if not longer:
             return Share(self.copies(), 0)
@@ -87,11 +88,11 @@ class Schedule:
         return Share(1, min(MOST_YIELDING, 1 + rank))
 
     def _rank(self, crate: str) -> tuple[int, int]:
-        """The crate with the longest way has the least rank."""
+        """The crate with the longest path comes first."""
         return -self.ways[crate], self.crates.order.index(crate)
 
     def run(self, work: Work) -> None:
-        """Proves all crates that aren't kept. If one can't be proved, all others are ended, and that is raised."""
+        """Proves all crates that aren't kept. If one fails, stops the others and raises its exception."""
         with ThreadPoolExecutor(max_workers=len(self.crates.order)) as pool:
             try:
                 self._run(work, pool)
@@ -99,7 +100,7 @@ class Schedule:
                 try:
                     work.end_all()
                 finally:
-                    # A signal may have interrupted it.
+                    # A signal may have interrupted the first call.
                     work.end_all()
                 raise
 
@@ -124,7 +125,8 @@ class Schedule:
             work.show()
 
     def _after_kept(self, sorter: TopologicalSorter[str], work: Work, proved: set[str]) -> list[str]:
-        """The crates that are to be proved next, after those that are kept. A crate isn't kept if one that it uses was proved anew."""
+        """Skips the crates that are kept, and returns those that can be proved next. A crate doesn't count as kept if a crate that it uses
+        has been proved in this run."""
         ready: list[str] = []
         while found := sorter.get_ready():
             for crate in found:

@@ -31,7 +31,7 @@ MOST_PICTURES, SECONDS_BETWEEN = 40, 0.05
 
 
 def browser(width: int, dark: bool = False, still: bool = True) -> Driver:
-    """A browser of so many points, for whoever wants no motion unless said otherwise."""
+    """Starts a browser of this width in points. Unless `still` is false, it prefers reduced motion."""
     options = webdriver.ChromeOptions()
     for word in ["--headless=new", "--no-sandbox", "--disable-gpu", "--hide-scrollbars", "--force-device-scale-factor=1"]:
         options.add_argument(word)
@@ -47,14 +47,14 @@ def browser(width: int, dark: bool = False, still: bool = True) -> Driver:
 
 
 def opened(path: Path, width: int = 1200, dark: bool = False, still: bool = True) -> Driver:
-    """A browser that shows a page."""
+    """Starts a browser that shows a page."""
     driver = browser(width, dark, still)
     driver.get(path.as_uri())
     return driver
 
 
 def column(driver: Driver, place: int) -> list[str]:
-    """The texts of a column, in the rows that are shown."""
+    """Returns the texts of a column in the visible rows."""
     shown: list[str] = driver.execute_script(f"return {ROWS}.filter(row => !row.hidden).map(row => row.cells[arguments[0]].textContent)", place)
     return shown
 
@@ -64,7 +64,7 @@ def row_of(driver: Driver, code: str) -> Element:
 
 
 def settled(element: Element) -> bytes:
-    """A picture of an element once two in a row are the same: the first after a click may be taken before all is painted."""
+    """Takes pictures of an element until two in a row are the same, since the first after a click may be taken before all is painted."""
     before = b""
     for _ in range(MOST_PICTURES):
         now: bytes = element.screenshot_as_png
@@ -76,8 +76,8 @@ def settled(element: Element) -> bytes:
 
 
 def cells_in_picture(driver: Driver, code: str) -> tuple[Cells, float]:
-    """The live cells of an object's picture, from its corner on, by the colour of the points in the middle of each cell; and how many
-    points a cell has."""
+    """Returns the live cells in an object's picture, by the colour of the point in the middle of each cell, and the size of a cell in
+    points."""
     element = row_of(driver, code).find_element(By.CSS_SELECTOR, "svg")
     driver.execute_script("arguments[0].scrollIntoView({block: 'center'})", element)
     image = Image.open(io.BytesIO(settled(element))).convert("L")
@@ -91,7 +91,7 @@ def cells_in_picture(driver: Driver, code: str) -> tuple[Cells, float]:
 
 
 def paths_seen(driver: Driver, code: str, seconds: float) -> list[str]:
-    """The paths that an object's picture has had within some seconds, in their order."""
+    """Returns the paths that an object's picture has within some seconds, in order."""
     driver.execute_script("arguments[0].scrollIntoView({block: 'center'})", row_of(driver, code))
     seen: list[str] = []
     began = time.monotonic()
@@ -103,7 +103,7 @@ def paths_seen(driver: Driver, code: str, seconds: float) -> list[str]:
 
 
 def cells_of_path(path: str) -> Cells:
-    """The cells that the path of a picture draws, from the corner on."""
+    """Returns the cells that a picture's path draws, moved to the corner."""
     cells: set[tuple[int, int]] = set()
     x, y = 0, 0
     for name, first, second in re.findall(r"([Mmh])(-?[0-9.]+)(?: (-?[0-9.]+))?", path):
@@ -116,7 +116,7 @@ def cells_of_path(path: str) -> Cells:
 
 
 def is_narrow(driver: Driver) -> bool:
-    """Whether nothing is wider than the page."""
+    """Checks that nothing is wider than the page."""
     return bool(driver.execute_script("return document.documentElement.scrollWidth <= innerWidth"))
 
 
@@ -128,7 +128,7 @@ def wait_for(holds: Callable[[], bool], seconds: float = 10) -> bool:
 
 
 def seconds_to_open(driver: Driver, path: Path) -> float:
-    """How long it takes until a page is laid out."""
+    """Returns how long it takes to load a page and lay it out."""
     driver.get("about:blank")
     began = time.monotonic()
     driver.get(path.as_uri())
@@ -137,7 +137,7 @@ def seconds_to_open(driver: Driver, path: Path) -> float:
 
 
 def least_to_open(driver: Driver, path: Path, tries: int, enough: float) -> float:
-    """The least time of so many tries, or of those up to the first that took less than is enough."""
+    """Returns the shortest time of up to `tries` tries. Stops when a try takes less than `enough`."""
     least = seconds_to_open(driver, path)
     for _ in range(tries - 1):
         if least >= enough:

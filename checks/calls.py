@@ -8,12 +8,12 @@ from typing import NamedTuple
 from checks import program
 
 MOST_SECONDS = 120
-# What is longer is shown by its beginning and its length.
+# A longer text is shown by its beginning and its length.
 SHOWN_WHOLE, SHOWN = 100, 60
 
 
 class Call(NamedTuple):
-    """What the program is asked, and what it must say then."""
+    """A call of the program, and how it must end."""
 
     name: str
     words: list[str]
@@ -24,7 +24,7 @@ class Call(NamedTuple):
 
 
 def fault_of(call: Call) -> str:
-    """What is wrong with the program's answer."""
+    """Makes the call, and returns what is wrong with its answer: nothing if it is right."""
     try:
         ended = subprocess.run([program.CENSUS, *call.words], input=call.given, capture_output=True, check=False, timeout=MOST_SECONDS)
     except subprocess.TimeoutExpired:

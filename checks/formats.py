@@ -13,10 +13,10 @@ from checks.plain import Profile
 Range = tuple[int, int]
 
 STANDARD = Profile(64, 512, 101, 30300)
-# Each soup is looked at once, at generation 0. Under Life none is at rest there.
-ONE_LOOK = Profile(1, 1, 1, 0)
-# Each soup is looked at twice.
-TWO_LOOKS = Profile(1, 1, 1, 1)
+# One checkpoint, at generation 0. Under Life no soup is at rest there.
+ONE_CHECKPOINT = Profile(1, 1, 1, 0)
+# Two checkpoints.
+TWO_CHECKPOINTS = Profile(1, 1, 1, 1)
 LIFE = "b3s23"
 # Everything dies, or nothing does.
 DEADLY, STILL = "bs", "bs012345678"
@@ -26,26 +26,26 @@ MOST_SAMPLES = 3
 
 
 def profile_words(profile: Profile) -> list[str]:
-    """The options of a profile, each with its value in the same word."""
+    """Returns the options of a profile, each with its value in the same argument."""
     return [f"--{name}={number}" for name, number in profile._asdict().items()]
 
 
 def profile_pairs(profile: Profile) -> list[str]:
-    """The options of a profile, each with its value in a word of its own."""
+    """Returns the options of a profile, each followed by its value as a separate argument."""
     return [word for name, number in profile._asdict().items() for word in (f"--{name}", str(number))]
 
 
 # Under it no soup settles.
-NEVER = profile_words(ONE_LOOK)
-# Under it all is dead at the second look.
-DEAD = [*profile_words(TWO_LOOKS), f"--rule={DEADLY}"]
-# Under it each soup is at rest at once, since no cell dies.
-ALL_LIVE = [*profile_words(ONE_LOOK), f"--rule={STILL}"]
+NEVER = profile_words(ONE_CHECKPOINT)
+# Under it every soup is dead at the second checkpoint.
+DEAD = [*profile_words(TWO_CHECKPOINTS), f"--rule={DEADLY}"]
+# Under it every soup is at rest at generation 0, since no cell dies.
+ALL_LIVE = [*profile_words(ONE_CHECKPOINT), f"--rule={STILL}"]
 
 
-def haul_text(ranges: Sequence[Range], soups: int, *, seed: str = "", rule: str = LIFE, profile: Profile = ONE_LOOK, unsettled: int = 0, for_good: int = 0,
+def haul_text(ranges: Sequence[Range], soups: int, *, seed: str = "", rule: str = LIFE, profile: Profile = ONE_CHECKPOINT, unsettled: int = 0, for_good: int = 0,
               counts: Mapping[str, int] | None = None, samples: Mapping[str, Sequence[int]] | None = None) -> bytes:
-    """The text of a haul. `samples` may name more soups for a code than the text does."""
+    """Returns the text of a haul. Of the samples of a code only the first three are written."""
     counts, samples = counts or {}, samples or {}
     return "".join(f"{line}\n" for line in [
         "@VERSION 2",
@@ -67,8 +67,8 @@ def haul_text(ranges: Sequence[Range], soups: int, *, seed: str = "", rule: str 
     ]).encode()
 
 
-def report_line(number: int, worker: int = 1, *, seed: str = "", rule: str = LIFE, profile: Profile = ONE_LOOK, version: int = 2,
+def report_line(number: int, worker: int = 1, *, seed: str = "", rule: str = LIFE, profile: Profile = ONE_CHECKPOINT, version: int = 2,
                 found: Sequence[bytes] = (b"unsettled",)) -> bytes:
-    """The line of a soup, with its line feed. `found` are the fields on what the soup leaves; without them it doesn't settle."""
+    """Returns the report line of a soup, with its line feed. `found` are the fields after the soup's number."""
     return b"report %d rule=%s profile=%d,%d,%d,%d seed=%s worker=%d soup=%d %s\n" % (
         version, rule.encode(), *profile, seed.encode(), worker, number, b" ".join(found))

@@ -1,4 +1,4 @@
-"""Patterns that checks ask about: known ones, drawings of them, and the soups that digests give."""
+"""Known patterns, their texts, and soups."""
 
 from __future__ import annotations
 
@@ -7,7 +7,7 @@ from collections.abc import Iterator
 
 from checks.plain import Cells, to_corner
 
-# A soup is a square of this side.
+# The side of a soup.
 SOUP_SIDE = 16
 
 
@@ -16,7 +16,7 @@ def drawing(*rows: str) -> Cells:
 
 
 def plaintext(cells: Cells) -> str:
-    """The text of a pattern, whose rows begin at x = 0 and are all as long as the longest."""
+    """Returns the text of a pattern, with columns from x = 0 and rows from y = 0. All rows have the same length."""
     if not cells:
         return ""
     width, height = max(x for x, _ in cells) + 1, max(y for _, y in cells) + 1
@@ -37,7 +37,7 @@ def quarter_turns(cells: Cells) -> Iterator[Cells]:
 
 
 def soup(number: int, seed: str = "") -> Cells:
-    """The cells that the digest of a seed and a number gives, from the corner of the square on."""
+    """Returns the cells of a soup: the bits of the digest of its seed and number."""
     digest = hashlib.sha256(f"{seed}{number}".encode()).digest()
 
     def lives(x: int, y: int) -> bool:

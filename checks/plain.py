@@ -14,21 +14,21 @@ Cell = tuple[int, int]
 Cells = frozenset[Cell]
 
 DIGITS = "0123456789abcdefghijklmnopqrstuvwxyz"
-# A pattern with a longer side has no text.
+# The longest side of a pattern that has a text.
 MOST_SIDE = 40
-# How many rows a strip has.
+# The number of rows of a strip.
 STRIP = 5
 
 
 class Rule(NamedTuple):
-    """With how many live neighbours a cell is born, and with how many it survives."""
+    """The numbers of live neighbours with which a cell is born, and with which it survives."""
 
     births: frozenset[int]
     survivals: frozenset[int]
 
 
 class Profile(NamedTuple):
-    """When a pattern counts as at rest, and when it is looked at."""
+    """The numbers that say when a pattern counts as at rest, and at which generations that is tested."""
 
     period: int
     horizon: int
@@ -41,12 +41,9 @@ def rule_named(text: str) -> Rule:
     return Rule(frozenset(map(int, births)), frozenset(map(int, survivals)))
 
 
-LIFE = rule_named("b3s23")
-
-
 # ---- Generations
 
-# How far the eight neighbours of a cell are.
+# The displacements of the eight neighbours of a cell.
 NEIGHBOURS = [(dx, dy) for dx in (-1, 0, 1) for dy in (-1, 0, 1) if dx or dy]
 
 
@@ -63,14 +60,14 @@ def later(rule: Rule, cells: Cells, generations: int) -> Cells:
 
 
 def to_corner(cells: Iterable[Cell]) -> Cells:
-    """The pattern, moved so that its bounding box begins at (0, 0)."""
+    """Moves a pattern so that its bounding box begins at (0, 0)."""
     there = frozenset(cells)
     west, north = min((x for x, _ in there), default=0), min((y for _, y in there), default=0)
     return frozenset((x - west, y - north) for x, y in there)
 
 
 def clusters_of(cells: Cells) -> list[Cells]:
-    """Cells that steps of at most two in any direction join."""
+    """Returns the sets of cells that are joined by steps of at most two cells in any direction."""
     left, clusters = set(cells), []
     while left:
         cluster, edge = set(), [left.pop()]
@@ -85,7 +82,7 @@ def clusters_of(cells: Cells) -> list[Cells]:
 
 
 def phases_of(rule: Rule, cells: Cells, period: int) -> tuple[list[Cells], Cells] | None:
-    """All phases, and the pattern once it recurs, in its place or elsewhere, after at most `period` generations; or None."""
+    """Returns all phases, and the pattern when it recurs, possibly displaced. `None` if that takes more than `period` generations."""
     phases, shape = [cells], to_corner(cells)
     for _ in range(period):
         following = next_of(rule, phases[-1])
@@ -100,7 +97,7 @@ def phases_of(rule: Rule, cells: Cells, period: int) -> tuple[list[Cells], Cells
 # ---- Codes
 
 def run_text(length: int) -> str:
-    """A run of empty columns."""
+    """Returns the text of a run of empty columns."""
     return ["", "0", "w", "x"][length] if length < 4 else "y" + DIGITS[length - 4]
 
 
@@ -118,7 +115,7 @@ def strip_text(columns: list[int]) -> str:
 
 
 def wechsler(cells: Cells) -> str | None:
-    """The text of a pattern at the corner, or None if its box is larger than 40 by 40."""
+    """Returns the text of a pattern at the corner, or `None` if its bounding box is larger than 40 by 40."""
     width, height = max(x for x, _ in cells) + 1, max(y for _, y in cells) + 1
     if width > MOST_SIDE or height > MOST_SIDE:
         return None
@@ -151,7 +148,7 @@ def code_of(phases: list[Cells], again: Cells) -> str:
 # ---- Findings
 
 def objects_at_rest(rule: Rule, period: int, horizon: int, cells: Cells) -> Counter[str] | None:
-    """How many objects there are of each code, or None if the pattern is not at rest."""
+    """Returns the number of objects of each code, or `None` if the pattern is not at rest."""
     clusters = clusters_of(cells)
     codes: Counter[str] = Counter()
     for cluster in clusters:
@@ -169,7 +166,7 @@ def objects_at_rest(rule: Rule, period: int, horizon: int, cells: Cells) -> Coun
 
 
 def finding(rule: Rule, profile: Profile, cells: Cells) -> str:
-    """What `census name` prints."""
+    """Returns what `census name` prints."""
     for generation in range(profile.limit + 1):
         if generation % profile.stride == 0:
             objects = objects_at_rest(rule, profile.period, profile.horizon, cells)

@@ -1,4 +1,4 @@
-"""The tokens of Rattle, which is written as Rust is: its comments and texts are found by pygments."""
+"""The tokens of Rattle's code. pygments finds its comments and string literals as those of Rust."""
 
 from __future__ import annotations
 
@@ -7,9 +7,9 @@ import re
 from pygments.lexers import RustLexer
 from pygments.token import Comment, String
 
-# What is left of a source when each text is `""` and comments are blanks.
+# A token of a source in which string literals are `""` and comments are blanks.
 TOKEN = re.compile(r'""|\'\w+|\w+|::|=>|==|!=|[^\w\s]')
-# What pygments takes for a comment or a text within code of the prover. The attributes of Rust, which it counts among comments, are code.
+# pygments counts attributes among the comments, and they are code.
 ATTRIBUTE = Comment.Preproc
 
 
@@ -20,7 +20,7 @@ class Token(str):
 
 
 def without_comments(source: str) -> str:
-    """The source with comments as blanks and each text as `""`. Every line stays where it is."""
+    """Replaces comments by blanks and each string or character literal by `""`. Line numbers stay the same."""
     parts: list[str] = []
     in_text = False
     depth = 0
@@ -40,7 +40,7 @@ def without_comments(source: str) -> str:
 
 
 def tokens_of(source: str) -> list[Token]:
-    """The tokens of a source, without comments. A text is one token, `""`, whatever it holds."""
+    """Returns the tokens of a source, without comments. Every string or character literal is the token `""`."""
     tokens = []
     for number, line in enumerate(without_comments(source).split("\n")):
         for found in TOKEN.findall(line):

@@ -5,14 +5,14 @@ from __future__ import annotations
 from collections import Counter
 from collections.abc import Mapping
 
-from checks.formats import ONE_LOOK, STILL, haul_text
+from checks.formats import ONE_CHECKPOINT, STILL, haul_text
 from checks.patterns import soup
 from checks.plain import objects_at_rest, rule_named
 
 
 def objects_of_still_soup(number: int) -> dict[str, int]:
-    """How many objects a soup has of each code, by the plain program of the definitions."""
-    objects = objects_at_rest(rule_named(STILL), ONE_LOOK.period, ONE_LOOK.horizon, soup(number))
+    """Returns the number of objects of each code in a soup, by the plain program of the definitions."""
+    objects = objects_at_rest(rule_named(STILL), ONE_CHECKPOINT.period, ONE_CHECKPOINT.horizon, soup(number))
     assert objects is not None
     return dict(objects)
 

@@ -1,4 +1,4 @@
-"""The words of `bin/release`, and what it does."""
+"""The command line of `bin/release`."""
 
 from __future__ import annotations
 
