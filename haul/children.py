@@ -15,6 +15,17 @@ ENDING = (signal.SIGINT, signal.SIGTERM, signal.SIGHUP)
 IS_DONE = 0
 
 
+class NoThread(Exception):
+    """A thread can't be started: there is no memory for one, or the system starts no more."""
+
+
+def start_thread(thread: threading.Thread) -> None:
+    try:
+        thread.start()
+    except RuntimeError as error:
+        raise NoThread(str(error)) from None
+
+
 class Children:
     """The programs that run."""
 
@@ -76,7 +87,7 @@ def status_of(work: Callable[[], int]) -> int:
         finally:
             os.write(tell, bytes([IS_DONE]))
 
-    threading.Thread(target=do, daemon=True).start()
+    start_thread(threading.Thread(target=do, daemon=True))
     came = os.read(told, 1)[0]
     if came != IS_DONE:
         children.end()

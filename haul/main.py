@@ -11,12 +11,11 @@ from contextlib import contextmanager, suppress
 from typing import BinaryIO
 
 from haul.check import differences, taken_again, wrong_samples
-from haul.children import status_of
+from haul.children import NoThread, status_of
 from haul.columns import width_of_terminal
-from haul.compare import compared, ranked, rules_of
+from haul.compare import Comparison, ranked, rules_of
 from haul.join import CantJoin, Joining
 from haul.labels import labels_of
-from haul.many import Comparison
 from haul.options import parser
 from haul.page import page_of
 from haul.plaintext import BadPlaintext, is_plaintext, read_plaintext
@@ -113,10 +112,8 @@ def do_compare(asked: argparse.Namespace) -> int:
     hauls = [the_haul(name) for name in (asked.a, asked.b, *asked.more)]
     codes = ranked(hauls, asked.least, asked.rare)
     labels = the_labels(asked, rules_of(codes, hauls))
-    if len(hauls) == 2 and not (asked.intervals or asked.per or asked.rare or asked.csv or asked.json):
-        write(compared(hauls, codes, labels, width_of_terminal()))
-        return DONE
-    comparison = Comparison(hauls, codes, labels, asked.per or "million")
+    has_intervals = len(hauls) > 2 or asked.intervals or asked.per is not None or asked.rare
+    comparison = Comparison(hauls, codes, labels, asked.per or "million", has_intervals)
     write(comparison.csv() if asked.csv else comparison.json() if asked.json else comparison.text(width_of_terminal()))
     return DONE
 
@@ -194,15 +191,18 @@ def run() -> int:
         return complain(str(why), why.status)
     except MemoryError:
         return complain("out of memory", NO_MEMORY)
-    except RuntimeError as error:
-        # No thread can be started: there is no memory for one, or the system starts no more.
+    except NoThread as error:
         return complain(str(error), NO_MEMORY)
     except BrokenPipeError:
         # Whoever reads has enough.
         return FAILED
     except OSError as error:
-        reason = error.strerror or "read or write failed"
-        return complain(f"{error.filename}: {reason}" if error.filename else reason, FAILED)
+        return complain(reason_of(error), FAILED)
+
+
+def reason_of(error: OSError) -> str:
+    reason = error.strerror or "read or write failed"
+    return f"{error.filename}: {reason}" if error.filename else reason
 
 
 def do_command() -> int:
@@ -229,10 +229,12 @@ def open_streams() -> None:
 
 
 def main() -> None:
-    open_streams()
     try:
+        open_streams()
         status = status_of(run)
-    except RuntimeError as error:
+    except NoThread as error:
         status = complain(str(error), NO_MEMORY)
+    except OSError as error:
+        status = complain(reason_of(error), FAILED)
     # Python's own end would write once more what couldn't be written.
     os._exit(status)

@@ -5,7 +5,7 @@ from __future__ import annotations
 import argparse
 
 from haul import VERSION
-from haul.many import MOST_HAULS
+from haul.compare import MOST_HAULS
 from haul.text import RULE
 
 DESCRIPTION = "Checks, joins, compares and shows hauls, the texts that `census take` and `census gather` print, and reads and writes RLE."
@@ -86,7 +86,7 @@ def add_compare(commands: Commands) -> None:
     add_labels(compare)
     compare.add_argument("a", metavar="A", help="a haul (`-`: standard input)")
     compare.add_argument("b", metavar="B", help="another haul (`-`: standard input)")
-    compare.add_argument("more", metavar="C", nargs="*", action=Few, help=f"more hauls, up to {MOST_HAULS} in all")
+    compare.add_argument("more", metavar="C", nargs="*", default=[], action=Few, help=f"more hauls, up to {MOST_HAULS} in all")
 
 
 def add_table(commands: Commands) -> None:
@@ -157,7 +157,13 @@ def add_labels(command: argparse.ArgumentParser) -> None:
 
 
 def add_census(command: argparse.ArgumentParser) -> None:
-    command.add_argument("--census", metavar="PATH", help="the census program (default: the one beside this, or on the PATH)")
+    command.add_argument("--census", type=path, metavar="PATH", help="the census program (default: the one beside this, or on the PATH)")
+
+
+def path(text: str) -> str:
+    if not text:
+        raise argparse.ArgumentTypeError("an empty path")
+    return text
 
 
 def workers(text: str) -> int:

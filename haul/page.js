@@ -1,14 +1,15 @@
 // Sorts and filters the table, adds it up by islands, shows phases, and offers RLE and players.
 const table = document.getElementById('objects'), body = table.tBodies[0], heads = [...table.tHead.rows[0].cells];
-const [CODE, NAME, CELLS, TOTAL, ONE_IN, SOUPS, SAMPLES, LABEL] = [1, 2, 4, 5, 6, 7, 8, 9];
+const [CODE, NAME, KIND, CELLS, TOTAL, ONE_IN, SOUPS, SAMPLES, LABEL] = [1, 2, 3, 4, 5, 6, 7, 8, 9];
 const text = (row, column) => row.cells[column].textContent;
 
-// ---- Order and filter. Rare objects have the largest numbers after 'one in'.
+// ---- Order and filter. Rare objects have the largest numbers after 'one in', and a period of 2 comes before one of 14.
 const isNumber = column => column >= CELLS && column <= SOUPS;
 const number = said => Number(said.replace(/^1 in /, '').replace(/[^0-9]/g, ''));
+const byPeriod = new Intl.Collator('en', { numeric: true }).compare;
 const sort = (column, down) => {
   const keyed = [...body.rows].map(row => [isNumber(column) ? number(text(row, column)) : text(row, column), row]);
-  const order = isNumber(column) ? (a, b) => a[0] - b[0] : (a, b) => (a[0] === '') - (b[0] === '') || (a[0] < b[0] ? -1 : a[0] > b[0] ? 1 : 0);
+  const order = isNumber(column) ? (a, b) => a[0] - b[0] : column === KIND ? (a, b) => byPeriod(a[0], b[0]) : (a, b) => (a[0] === '') - (b[0] === '') || (a[0] < b[0] ? -1 : a[0] > b[0] ? 1 : 0);
   keyed.sort(down ? (a, b) => order(b, a) : order);
   body.append(...keyed.map(pair => pair[1]));
   heads.forEach((head, place) => place === column ? head.setAttribute('aria-sort', down ? 'descending' : 'ascending') : head.removeAttribute('aria-sort'));

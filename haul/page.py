@@ -13,13 +13,13 @@ from string import Template
 
 from haul.codes import is_large, kind_of
 from haul.columns import cut
-from haul.compare import one_in
 from haul.drawing import picture, soup_path
 from haul.islands import Parts, parts_of
 from haul.labels import LABELLED_ROWS
 from haul.names import NAMES
 from haul.phases import Cells, cells_of, phases_of
 from haul.program import Census
+from haul.rates import one_in
 from haul.rle import LIFE, header_rule
 from haul.text import Haul, Job
 from haul.words import counted

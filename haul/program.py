@@ -2,6 +2,7 @@
 
 from __future__ import annotations
 
+import errno
 import os
 import re
 import shutil
@@ -14,7 +15,7 @@ from contextlib import contextmanager, suppress
 from pathlib import Path
 from typing import IO, TypeVar
 
-from haul.children import children
+from haul.children import NoThread, children, start_thread
 from haul.text import Job, Range
 
 # The program takes no more numbers in one call.
@@ -24,6 +25,8 @@ RANGES_IN_A_CALL = 2000
 # The statuses of the program that are passed on; each other one counts as a read that failed.
 PASSED_ON = (2, 3, 4, 5)
 FAILED = 5
+# Why a program can't be started where there is none, or none of this machine. With any other reason there may be one.
+NOT_THERE = (errno.ENOENT, errno.ENOTDIR, errno.EACCES, errno.EPERM, errno.ENOEXEC, errno.ELOOP, errno.ENAMETOOLONG, errno.EINVAL)
 
 # What is printed of a pattern, of one that has a cell, and of one that is looked at in generation 0.
 DRAWN = r"(?:[.O]+\n)*"
@@ -95,7 +98,7 @@ class Census:
         parts = [asked[start : start + size] for start in range(0, len(asked), size)]
         done = 0
         with ThreadPoolExecutor(len(os.sched_getaffinity(0))) as pool:
-            for part, said in zip(parts, pool.map(ask, parts), strict=True):
+            for part, said in zip(parts, mapped(pool, ask, parts), strict=True):
                 done += len(part)
                 tell(f"{done} of {len(asked)} {told}")
                 yield said
@@ -180,7 +183,7 @@ class Census:
             errors = bytearray()
             watcher = threading.Thread(target=pass_on, args=(program.stderr, errors))
             try:
-                watcher.start()
+                start_thread(watcher)
                 shutil.copyfileobj(program.stdout, out)
             except BaseException:
                 # Else it would be waited for, perhaps for hours.
@@ -222,6 +225,14 @@ def for_this_processor(starter: Path, libexec: Path) -> str:
     return os.fsdecode(chosen)
 
 
+def mapped(pool: ThreadPoolExecutor, ask: Callable[[list[Asked]], Said], parts: list[list[Asked]]) -> Iterator[Said]:
+    """Asks all parts, in threads that are started at once."""
+    try:
+        return pool.map(ask, parts)
+    except RuntimeError as error:
+        raise NoThread(str(error)) from None
+
+
 def missing(path: str) -> NoCensus:
     """What is said if there is no program at a path, or one that doesn't answer as the census program does."""
     return NoCensus(f"no census at {path}")
@@ -232,8 +243,10 @@ def started(words: list[str], stdout: int, stderr: int | None, leads: bool = Fal
     """A program that runs, and has ended after this. With no number for the errors, it complains by itself."""
     try:
         program = children.start(words, stdin, stdout, stderr, leads)
-    except OSError:
-        raise missing(words[0]) from None
+    except OSError as error:
+        if error.errno in NOT_THERE:
+            raise missing(words[0]) from None
+        raise
     with children.known(program):
         yield program
 

@@ -7,8 +7,8 @@ from dataclasses import dataclass
 
 from haul.codes import kind_of
 from haul.columns import aligned, as_json, comma_separated, exact, figure
-from haul.compare import one_in, rate
-from haul.many import facts_of
+from haul.facts import facts_of
+from haul.rates import one_in, rate
 from haul.text import Haul
 
 HEADS = ["rank", "code", "total", "per_million", "one_in_at_most", "samples", "label"]

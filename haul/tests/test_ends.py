@@ -16,6 +16,7 @@ from pathlib import Path
 from unittest.mock import patch
 
 from haul import main
+from haul.children import NoThread
 from haul.tests.called import CENSUS, HAUL, TOP, census, run
 from haul.tests.drawn import text_of
 from haul.tests.test_text import SMALL
@@ -212,8 +213,13 @@ class Unforeseen(unittest.TestCase):
         self.assertEqual(ended.returncode, 1)
 
 
+    def test_another_error_is_not_one_of_memory(self) -> None:
+        """A `RuntimeError` that no thread has to do with is a fault of this program."""
+        with patch("haul.main.do_command", side_effect=RuntimeError("other")), self.assertRaisesRegex(RuntimeError, "^other$"):
+            main.run()
+
     def test_no_memory(self) -> None:
-        for error, line in ((MemoryError(), "out of memory"), (RuntimeError("can't start new thread"), "can't start new thread")):
+        for error, line in ((MemoryError(), "out of memory"), (NoThread("can't start new thread"), "can't start new thread")):
             with patch("haul.main.do_command", side_effect=error), redirect_stderr(io.StringIO()) as said:
                 self.assertEqual((main.run(), said.getvalue()), (4, f"haul: {line}\n"))
 
@@ -234,6 +240,20 @@ class OtherPrograms(unittest.TestCase):
     def test_none(self) -> None:
         for command in self.COMMANDS:
             self.assertEqual(in_shell(f"haul {command} --census /nowhere/census small"), (2, "", "haul: no census at /nowhere/census\n"))
+
+    def test_an_empty_path(self) -> None:
+        """It names no program, so no other is asked in its place."""
+        for command in self.COMMANDS:
+            status, output, errors = in_shell(f"haul {command} --census '' small")
+            self.assertEqual((status, output), (2, ""))
+            self.assertIn("argument --census: an empty path\n", errors)
+
+    def test_too_few_descriptors(self) -> None:
+        """There is a program, and it can't be started: that isn't said to be no program."""
+        for most in (6, 7, 8, 9, 10, 11, 12):
+            status, output, errors = in_shell(f"ulimit -n {most}; exec '{sys.executable}' '{HAUL}' check --census ./other small")
+            self.assertEqual((status, output), (5, ""))
+            self.assertTrue(errors.endswith("Too many open files\n"), errors)
 
     def test_other_answers(self) -> None:
         for script in self.ANSWERS:

@@ -15,7 +15,7 @@ from pathlib import Path
 from typing import IO
 
 from haul.check import differences, taken_again
-from haul.compare import compared
+from haul.compare import Comparison
 from haul.page import page_of
 from haul.program import Census, NoCensus, beside, pieces, printed_by, set_words
 from haul.tests.called import CENSUS, census, run
@@ -144,7 +144,8 @@ class Checking(unittest.TestCase):
 
     def test_a_second_haul(self) -> None:
         text = census("take", "--count", "0")
-        self.assertEqual(run("check", text=text + text), (3, "", "haul: bad haul at line 15 column 1\n"))
+        self.assertEqual(run("check", text=text + text), (3, "", "haul: bad haul at line 15 column 1: more than one haul\n"))
+        self.assertEqual(run("check", text=text + b"x"), (3, "", "haul: bad haul at line 15 column 1\n"))
 
     def test_a_haul_that_is_taken_again_in_pieces(self) -> None:
         """More ranges than one call has words for."""
@@ -212,7 +213,7 @@ class Comparing(unittest.TestCase):
         status, output, errors = run("compare", "-", "/dev/null", text=census("take", "--count", "1"))
         self.assertEqual((status, output, errors), (3, "", "haul: /dev/null: bad haul at line 1 column 1\n"))
         haul = Haul(Job("", "b3s23", (1, 1, 1, 0)), [(0, 1)], 1, 0, 0, {"xs4_33": 1}, {"xs4_33": [0]})
-        self.assertEqual(list(compared([haul, haul], ["xs4_33"], {}))[1], "A: 1 soup, 0 unsettled, 0 for good, 1 object")
+        self.assertEqual(list(Comparison([haul, haul], ["xs4_33"], {}).text(None))[1], "A: 1 soup, 0 unsettled, 0 for good, 1 object")
 
 
 class Finding(unittest.TestCase):

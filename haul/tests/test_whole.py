@@ -13,7 +13,7 @@ import unittest
 from html.parser import HTMLParser
 from pathlib import Path
 
-from haul.compare import compared, ranked
+from haul.compare import Comparison, ranked
 from haul.names import NAMES
 from haul.page import page_of
 from haul.program import Census, pieces
@@ -241,7 +241,7 @@ class Compares(unittest.TestCase):
             one, other = any_haul(draw), any_haul(draw)
             # Some codes are in both.
             other.totals |= {code: total + 1 for code, total in one.totals.items() if draw.random() < 0.5}
-            there, back = (list(compared(pair, ranked(pair, 1), NAMES)) for pair in ([one, other], [other, one]))
+            there, back = (list(Comparison(pair, ranked(pair, 1), NAMES, has_intervals=False).text(None)) for pair in ([one, other], [other, one]))
             self.assertEqual([line[1:] for line in there[:4]], [line[1:] for line in (*back[2:4], *back[:2])])
             turned = [[code, name, b, a, rate_b, rate_a] for code, name, a, b, rate_a, rate_b, _ in map(str.split, back[5:-1])]
             self.assertEqual([line.split()[:6] for line in there[5:-1]], turned)

@@ -1,0 +1,25 @@
+"""What a haul says before its table."""
+
+from __future__ import annotations
+
+from haul.columns import exact
+from haul.text import Haul
+from haul.words import noun
+
+
+def job_line(letter: str, haul: Haul) -> str:
+    period, horizon, stride, limit = haul.job.profile
+    return f"{letter}: seed={haul.job.seed} rule={haul.job.rule} profile={period},{horizon},{stride},{limit}"
+
+
+def soups_line(letter: str, haul: Haul) -> str:
+    soups, objects = noun(haul.soups, "soup"), noun(haul.objects(), "object")
+    return f"{letter}: {haul.soups} {soups}, {haul.unsettled} unsettled, {haul.for_good} for good, {haul.objects()} {objects}"
+
+
+def facts_of(haul: Haul) -> dict[str, object]:
+    """Returns the facts for JSON."""
+    return {
+        "seed": haul.job.seed, "rule": haul.job.rule, "profile": list(haul.job.profile), "ranges": [list(range_) for range_ in haul.ranges],
+        "soups": haul.soups, "unsettled": haul.unsettled, "for_good": haul.for_good, "total": exact(haul.objects()),
+    }
