@@ -6,8 +6,10 @@ from collections.abc import Iterable, Iterator
 from dataclasses import dataclass
 from itertools import chain
 
-from haul.columns import aligned, as_json, comma_separated, exact, figure
-from haul.facts import facts_of, job_line, soups_line
+from haul.by_parts import Objects
+from haul.columns import aligned, as_json, comma_separated, exact, figure, yes_or_no
+from haul.facts import facts_of, job_line, parts_facts, soups_line
+from haul.labels import label_of, marked
 from haul.poisson import interval
 from haul.rates import MILLION, rate
 from haul.text import Haul
@@ -37,11 +39,6 @@ def ranked(hauls: list[Haul], least: int, rare: bool = False) -> list[str]:
     return [code for code in reversed(codes) if not all(code in haul.totals for haul in hauls)] if rare else codes
 
 
-def rules_of(codes: list[str], hauls: list[Haul]) -> dict[str, str]:
-    """Returns for each code the rule of the first haul that has it."""
-    return {code: next(haul.job.rule for haul in hauls if code in haul.totals) for code in codes}
-
-
 @dataclass
 class Cell:
     """What one haul has of a code."""
@@ -59,11 +56,13 @@ class Cell:
 
 @dataclass
 class Comparison:
-    """Hauls side by side, by these codes with these labels."""
+    """Hauls side by side, by these codes."""
 
+    # With totals by parts these aren't the hauls whose objects are separated.
     hauls: list[Haul]
+    objects: list[Objects]
     codes: list[str]
-    labels: dict[str, str]
+    by_parts: bool = False
     # Rates are those in a `million` soups or in a `soup`.
     per: str = "million"
     # Whether intervals stand in the text. They always do in comma-separated values and JSON.
@@ -93,7 +92,7 @@ class Comparison:
         """Yields the lines for a reader. On a terminal of this width long codes are cut."""
         for letter, haul in lettered(self.hauls):
             yield job_line(letter, haul)
-            yield soups_line(letter, haul)
+            yield soups_line(letter, haul, self.by_parts)
         yield from aligned([self.heads(), *map(self.row, self.codes)], TEXTS, 0, width)
         yield self.alone_line()
         if self.has_intervals:
@@ -108,7 +107,14 @@ class Comparison:
         cells = self.cells(code)
         shown = [[str(cell.total), figure(cell.rate), interval_text(cell)] for cell in cells]
         ratios = [f"{cell.ratio:.2f}" if cell.ratio is not None else "-" for cell in cells[1:]]
-        return [code, self.labels.get(code, "-").replace(" ", "_"), *self.arranged(shown), *ratios]
+        return [code, self.label(code, is_marked=True).replace(" ", "_") or "-", *self.arranged(shown), *ratios]
+
+    def label(self, code: str, is_marked: bool = False) -> str:
+        """Returns what an object is called under the rule of the first haul that has it."""
+        objects = next(objects for objects, haul in zip(self.objects, self.hauls, strict=True) if code in haul.totals)
+        separation = objects.separation_of(code)
+        label = label_of(code, separation)
+        return marked(label, separation) if is_marked else label
 
     def arranged(self, shown: list[list[str]]) -> Iterable[str]:
         """Arranges what each haul has in columns: haul by haul, or without intervals the totals and then the rates."""
@@ -126,29 +132,33 @@ class Comparison:
         """Yields the lines of a table for a spreadsheet, with all that the text has. A missing value is empty."""
         heads = ["code", "name", "alone"]
         for letter in self.letters():
-            heads += [f"{name}_{letter}" for name in (*FACTS, "total", f"per_{self.per}", "low", "high", "ratio", "differs")]
-        return comma_separated([heads, *map(self.csv_row, self.codes)])
+            heads += [f"{name}_{letter}" for name in (*FACTS, "total", f"per_{self.per}", "low", "high", "ratio", "differs", "parts")]
+        return comma_separated([[*heads, "by_parts"], *map(self.csv_row, self.codes)])
 
     def csv_row(self, code: str) -> list[str]:
         having = [letter for letter, haul in lettered(self.hauls) if code in haul.totals]
-        row = [code, self.labels.get(code, ""), having[0] if len(having) == 1 else ""]
-        for haul, cell in zip(self.hauls, self.cells(code), strict=True):
+        row = [code, self.label(code), having[0] if len(having) == 1 else ""]
+        for haul, objects, cell in zip(self.hauls, self.objects, self.cells(code), strict=True):
             low, high = map(str, cell.ends) if cell.ends else ("", "")
             ratio = "" if cell.ratio is None else str(cell.ratio)
             facts = [haul.job.seed, haul.job.rule, ",".join(map(str, haul.job.profile))]
             facts += map(str, [haul.soups, haul.unsettled, haul.for_good, haul.objects()])
             row += [*facts, str(cell.total), str(cell.rate), low, high, ratio, "*" if cell.differs else ""]
-        return row
+            row.append(" ".join(objects.separation_of(code).parts) if code in haul.totals else "")
+        return [*row, yes_or_no(self.by_parts)]
 
     def json(self) -> Iterator[str]:
         """Yields the lines of a JSON object, in which each code has one."""
-        hauls = [{"haul": letter, **facts_of(haul), "alone": self.alone(haul)} for letter, haul in lettered(self.hauls)]
-        return as_json({"per": self.per, "hauls": hauls}, map(self.json_object, self.codes))
+        hauls = [
+            {"haul": letter, **facts_of(haul), "alone": self.alone(haul), **parts_facts(objects)}
+            for (letter, haul), objects in zip(lettered(self.hauls), self.objects, strict=True)
+        ]
+        return as_json({"per": self.per, "by_parts": self.by_parts, "hauls": hauls}, map(self.json_object, self.codes))
 
     def json_object(self, code: str) -> dict[str, object]:
         cells = self.cells(code)
         return {
-            "code": code, "name": self.labels.get(code), "totals": [exact(cell.total) for cell in cells], "rates": [cell.rate for cell in cells],
+            "code": code, "name": self.label(code) or None, "totals": [exact(cell.total) for cell in cells], "rates": [cell.rate for cell in cells],
             "intervals": [list(cell.ends) if cell.ends else None for cell in cells], "ratios": [cell.ratio for cell in cells],
             "differs": [cell.differs for cell in cells],
         }

@@ -2,6 +2,7 @@
 
 from __future__ import annotations
 
+from haul.by_parts import Objects
 from haul.columns import exact
 from haul.text import Haul
 from haul.words import noun
@@ -12,9 +13,10 @@ def job_line(letter: str, haul: Haul) -> str:
     return f"{letter}: seed={haul.job.seed} rule={haul.job.rule} profile={period},{horizon},{stride},{limit}"
 
 
-def soups_line(letter: str, haul: Haul) -> str:
+def soups_line(letter: str, haul: Haul, by_parts: bool = False) -> str:
     soups, objects = noun(haul.soups, "soup"), noun(haul.objects(), "object")
-    return f"{letter}: {haul.soups} {soups}, {haul.unsettled} unsettled, {haul.for_good} for good, {haul.objects()} {objects}"
+    line = f"{letter}: {haul.soups} {soups}, {haul.unsettled} unsettled, {haul.for_good} for good, {haul.objects()} {objects}"
+    return f"{line} by parts" if by_parts else line
 
 
 def facts_of(haul: Haul) -> dict[str, object]:
@@ -22,4 +24,13 @@ def facts_of(haul: Haul) -> dict[str, object]:
     return {
         "seed": haul.job.seed, "rule": haul.job.rule, "profile": list(haul.job.profile), "ranges": [list(range_) for range_ in haul.ranges],
         "soups": haul.soups, "unsettled": haul.unsettled, "for_good": haul.for_good, "total": exact(haul.objects()),
+    }
+
+
+def parts_facts(objects: Objects) -> dict[str, object]:
+    """Returns the parts of each object of a haul, and which objects aren't separated, for JSON."""
+    separations = objects.separations(objects.haul.totals)
+    return {
+        "parts": {code: list(separation.parts) for code, separation in separations.items()},
+        "not_separated": [code for code, separation in separations.items() if not separation.is_separated],
     }

@@ -18,6 +18,7 @@ examples:
   haul compare life.haul highlife.haul            two hauls side by side
   haul table --kind p --rare all.haul             the rarest oscillators of a haul
   haul page < all.haul > all.html                 a page with pictures
+  haul soup C1/k_abcdef12345 | census name        what a sample of Catagolue leaves
   haul cells gun.rle | census run 30              a pattern in RLE, as census reads it
   census show xq4_153 | haul rle                  a pattern of census, as Golly reads it
 
@@ -41,7 +42,7 @@ def parser() -> argparse.ArgumentParser:
     top = argparse.ArgumentParser(prog="haul", description=DESCRIPTION, epilog=EXAMPLES, formatter_class=raw)
     top.add_argument("--version", action="version", version=f"haul {VERSION}")
     commands = Commands(top)
-    for add in (add_check, add_join, add_compare, add_table, add_page, add_cells, add_rle):
+    for add in (add_check, add_join, add_compare, add_table, add_page, add_soup, add_cells, add_rle):
         add(commands)
     return top
 
@@ -82,8 +83,8 @@ def add_compare(commands: Commands) -> None:
     compare.add_argument("--per", choices=("million", "soup"), metavar="UNIT",
                          help="rates in a `million` soups or in a `soup` (default: million)")
     compare.add_argument("--rare", action="store_true", help="begin with the rarest, and leave out what all hauls have")
+    compare.add_argument("--parts", action="store_true", help="count each object by its parts, under the rule of its haul")
     add_forms(compare)
-    add_labels(compare)
     compare.add_argument("a", metavar="A", help="a haul (`-`: standard input)")
     compare.add_argument("b", metavar="B", help="another haul (`-`: standard input)")
     compare.add_argument("more", metavar="C", nargs="*", default=[], action=Few, help=f"more hauls, up to {MOST_HAULS} in all")
@@ -100,8 +101,10 @@ def add_table(commands: Commands) -> None:
     table.add_argument("--rare", action="store_true", help="begin with the rarest")
     table.add_argument("--kind", choices=("s", "p", "q"), metavar="KIND", help="still lifes `s`, oscillators `p` or spaceships `q` alone")
     table.add_argument("--period", type=count, metavar="N", help="objects of this period alone; still lifes have 1")
+    parts = table.add_mutually_exclusive_group()
+    parts.add_argument("--strict", action="store_true", help="leave out objects that consist of independent ones; those that aren't separated are marked")
+    parts.add_argument("--parts", action="store_true", help="count each object by its parts")
     add_forms(table)
-    add_labels(table)
     table.add_argument("file", nargs="?", help="the haul (default: standard input)")
 
 
@@ -128,8 +131,17 @@ def add_page(commands: Commands) -> None:
     )
     page.add_argument("--least", type=count, default=1, metavar="N", help="leave out codes with less than N objects (default: 1)")
     page.add_argument("--play", type=count, default=500, metavar="N", help="show phases in the first N rows, and run their soups (default: 500)")
-    add_labels(page)
+    add_census(page)
     page.add_argument("file", nargs="?", help="the haul (default: standard input)")
+
+
+def add_soup(commands: Commands) -> None:
+    soup = commands.add(
+        "soup", "print the soup that a sample of Catagolue names",
+        "The sample is C1/k_abcdef12345, or the\npart after the slash. Each of several soups comes after a comment that names it.\n\n"
+        "example:\n  haul soup C1/k_abcdef12345 | census name",
+    )
+    soup.add_argument("samples", nargs="+", metavar="ID", help="the sample")
 
 
 def add_cells(commands: Commands) -> None:
@@ -148,12 +160,6 @@ def add_rle(commands: Commands) -> None:
     )
     rle.add_argument("--rule", type=rule, default="b3s23", metavar="RULE", help="the rule of its header, as b36s23 (default: b3s23, Life)")
     rle.add_argument("file", nargs="?", help="the pattern (default: standard input)")
-
-
-def add_labels(command: argparse.ArgumentParser) -> None:
-    command.add_argument("--labels", choices=("first", "all"), default="first", metavar="WHICH", help="what has no name is called by its islands: in the "
-                         "`first` 2,000 rows, or in `all` (default: first)")
-    add_census(command)
 
 
 def add_census(command: argparse.ArgumentParser) -> None:
