@@ -10,6 +10,7 @@ from haul.by_parts import Objects
 from haul.columns import aligned, as_json, comma_separated, exact, figure, yes_or_no
 from haul.facts import facts_of, job_line, parts_facts, soups_line
 from haul.labels import label_of, marked
+from haul.parts import Separation
 from haul.poisson import interval
 from haul.rates import MILLION, rate
 from haul.text import Haul
@@ -107,14 +108,16 @@ class Comparison:
         cells = self.cells(code)
         shown = [[str(cell.total), figure(cell.rate), interval_text(cell)] for cell in cells]
         ratios = [f"{cell.ratio:.2f}" if cell.ratio is not None else "-" for cell in cells[1:]]
-        return [code, self.label(code, is_marked=True).replace(" ", "_") or "-", *self.arranged(shown), *ratios]
+        label = self.label(code) or marked("", self.separation_of(code)) or "-"
+        return [code, label.replace(" ", "_"), *self.arranged(shown), *ratios]
 
-    def label(self, code: str, is_marked: bool = False) -> str:
-        """Returns what an object is called under the rule of the first haul that has it."""
+    def label(self, code: str) -> str:
+        return label_of(code, self.separation_of(code))
+
+    def separation_of(self, code: str) -> Separation:
+        """Returns what an object is made of under the rule of the first haul that has it."""
         objects = next(objects for objects, haul in zip(self.objects, self.hauls, strict=True) if code in haul.totals)
-        separation = objects.separation_of(code)
-        label = label_of(code, separation)
-        return marked(label, separation) if is_marked else label
+        return objects.separation_of(code)
 
     def arranged(self, shown: list[list[str]]) -> Iterable[str]:
         """Arranges what each haul has in columns: haul by haul, or without intervals the totals and then the rates."""

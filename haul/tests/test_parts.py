@@ -248,13 +248,14 @@ class SideBySide(unittest.TestCase):
         self.assertEqual([one["not_separated"] for one in told["hauls"]], [["ov_p12"], []])
 
     def test_other_parts_under_another_rule(self) -> None:
-        """Each table of a table on table dies in Life, and stays where nothing is born and one neighbour is enough."""
+        """Each table of a table on table dies in Life, and stays where nothing is born and one neighbour is enough. On its side it is
+        two columns of four cells, of which one lacks the middle."""
         for name, rule in zip(self.names, ("b3s23", "bs123"), strict=True):
             Path(name).write_text(haul(rule, 100, {"xs12_raar": 4}))
         told = json.loads(run("compare", "--json", *self.names)[1])
-        self.assertEqual([one["parts"] for one in told["hauls"]], [{"xs12_raar": ["xs12_raar"]}, {"xs12_raar": ["xs6_3113"] * 2}])
+        self.assertEqual([one["parts"] for one in told["hauls"]], [{"xs12_raar": ["xs12_raar"]}, {"xs12_raar": ["xs6_9f"] * 2}])
         told = json.loads(run("compare", "--json", "--parts", *self.names)[1])
-        self.assertEqual({one["code"]: one["totals"] for one in told["objects"]}, {"xs6_3113": [0, 8], "xs12_raar": [4, 0]})
+        self.assertEqual({one["code"]: one["totals"] for one in told["objects"]}, {"xs6_9f": [0, 8], "xs12_raar": [4, 0]})
 
     def test_by_parts(self) -> None:
         lines = run("compare", "--parts", *self.names)[1].splitlines()

@@ -208,7 +208,7 @@ rank  code     total  per_million  one_in_at_most  samples  label
     def test_csv(self) -> None:
         rows = list(csv.DictReader(self.printed("table", "--csv", "a").splitlines()))
         self.assertEqual(rows[2], {"rank": "3", "code": "xq4_153", "total": "3", "per_million": "3000.0", "one_in_at_most": "333", "samples": "1",
-                                   "label": "glider"})
+                                   "label": "glider", "parts": "xq4_153", "strict": "yes", "separated": "yes", "by_parts": "no"})
         self.assertEqual(len(rows), 4)
         self.assertEqual(list(csv.DictReader(self.printed("table", "--csv", "--kind", "p", "c").splitlines()))[1]["label"], "")
 
@@ -216,7 +216,7 @@ rank  code     total  per_million  one_in_at_most  samples  label
         told = json.loads(self.printed("table", "--json", "a"))
         self.assertEqual((told["rule"], told["soups"], told["unsettled"], told["for_good"], told["total"]), ("b3s23", 1000, 1, 2, 524))
         self.assertEqual(told["objects"][2], {"rank": 3, "code": "xq4_153", "total": 3, "per_million": 3000.0, "one_in_at_most": 333, "samples": [1],
-                                              "label": "glider"})
+                                              "label": "glider", "parts": ["xq4_153"], "strict": True, "separated": True})
         self.assertEqual(json.loads(self.printed("table", "--json", "--top", "0", "a"))["objects"], [])
 
     def test_large_totals(self) -> None:
@@ -267,7 +267,8 @@ in A alone: xq4_153 xs8_rr; in B alone: xp15_4r4z4r4
 
     def test_all_that_is_printed(self) -> None:
         """Three hauls in each order, with each option: facts, rates, intervals, ratios and stars, and who has what alone."""
-        names = {"xs4_33": "block", "xp2_7": "blinker", "xq4_153": "glider", "xs8_rr": "bi-block", "xp15_4r4z4r4": "pentadecathlon"}
+        names = {"xs4_33": "block", "xp2_7": "blinker", "xq4_153": "glider", "xs8_rr": "bi-block", "xp15_4r4z4r4": "pentadecathlon",
+                 "ov_p123": "not_separated"}
         facts = {"a": (1000, {"xs4_33": 500, "xp2_7": 20, "xq4_153": 3, "xs8_rr": 1}), "b": (500, {"xs4_33": 1000, "xp2_7": 2, "xp15_4r4z4r4": 4}),
                  "c": (1000, {"xs4_33": 510, "xp2_7": 20, "ov_p123": 5})}
         rules = {"a": "b3s23", "b": "b36s23", "c": "b3s12"}
