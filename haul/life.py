@@ -80,10 +80,10 @@ def next_generation(rule: Rule, cells: Cells) -> Cells:
     return frozenset(later)
 
 
-def recurrence_of(rule: Rule, cells: Cells) -> Recurrence | None:
-    """Returns how a pattern recurs within `MOST_PERIOD` generations; none if it doesn't, or if it outgrows `SIDE` on the way."""
+def recurrence_of(rule: Rule, cells: Cells, most: int = MOST_PERIOD) -> Recurrence | None:
+    """Returns how a pattern recurs within so many generations; none if it doesn't, or if it outgrows `SIDE` on the way."""
     phases = [cells]
-    while len(phases) <= MOST_PERIOD and cells and fits(phases[-1], SIDE):
+    while len(phases) <= most and phases[-1] and fits(phases[-1], SIDE):
         later = next_generation(rule, phases[-1])
         shift = shift_between(cells, later)
         if shift is not None:

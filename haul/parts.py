@@ -13,7 +13,7 @@ from dataclasses import dataclass
 from itertools import combinations
 
 from haul.codes import kind_of, text_of_code
-from haul.life import Cells, Recurrence, Rule, code_of, corner_of, cornered, is_cluster, islands_of, moved, next_generation, read_wechsler, recurrence_of
+from haul.life import MOST_PERIOD, Cells, Recurrence, Rule, code_of, corner_of, cornered, is_cluster, islands_of, moved, next_generation, read_wechsler, recurrence_of
 
 # Of an object with more islands only the separation into single islands is tried: there are too many others.
 MOST_ISLANDS = 10
@@ -80,10 +80,12 @@ def object_of(rule: Rule, code: str) -> Recurrence | None:
     drawn, or if what is drawn doesn't recur with the kind and the number of the prefix."""
     text, known = text_of_code(code), kind_of(code)
     cells = read_wechsler(text) if text is not None else None
-    recurrence = recurrence_of(rule, cells) if cells is not None else None
-    if recurrence is None or known is None or cells is None:
+    if known is None or cells is None or known.period() > MOST_PERIOD:
         return None
-    return recurrence if recurrence.kind() == known.letter and known.number == (len(cells) if known.letter == "s" else recurrence.period) else None
+    recurrence = recurrence_of(rule, cells, known.period())
+    if recurrence is None or recurrence.kind() != known.letter:
+        return None
+    return recurrence if known.number == (len(cells) if known.letter == "s" else recurrence.period) else None
 
 
 class Run:

@@ -18,7 +18,7 @@ from haul.text import Haul, read_one_haul
 
 # Where all cells stay and none is born, each cluster is a still life.
 STILL = "bs012345678"
-RULES = ["b3s23", "b36s23", "b3678s34678", "b2s0", STILL]
+RULES = ["b3s23", "b36s23", "b3678s34678", "b37s0123", STILL]
 
 
 def asked(calls: list[tuple[list[str], str]]) -> list[str]:
@@ -121,12 +121,12 @@ class Generations(unittest.TestCase):
         calls = [(["name", "--limit=0", f"--rule={RULES[place % len(RULES)]}"], plaintext(cells)) for place, cells in enumerate(patterns())]
         recurring = 0
         for place, (cells, text) in enumerate(zip(patterns(), asked(calls), strict=True)):
-            recurrence = recurrence_of(rule_of(RULES[place % len(RULES)]), cells)
-            known = {code_of(recurrence): 1} if recurrence is not None and is_cluster(cells) else None
+            recurrence = recurrence_of(rule_of(RULES[place % len(RULES)]), cells) if is_cluster(cells) else None
+            known = {code_of(recurrence): 1} if recurrence is not None else None
             objects = found(text)
             self.assertEqual(known, dict(objects) if objects.total() == 1 else None)
             recurring += known is not None
-        self.assertGreater(recurring, 150)
+        self.assertGreater(recurring, 100)
 
     def test_kinds(self) -> None:
         """A block, a blinker and a glider, where they are after a period."""
@@ -143,14 +143,17 @@ class Generations(unittest.TestCase):
             self.assertEqual((later, sorted(map(abs, recurrence.shift))), (moved(cells, recurrence.shift), sorted(map(abs, shift))))
 
     def test_the_longest_period(self) -> None:
-        """Under B1/S a cell never recurs; under this rule a row of n cells that only moves would. A census looks for 64 generations."""
+        """A census looks for 64 generations, and a pulsar takes three; what dies or becomes another pattern never recurs."""
         self.assertEqual(MOST_PERIOD, 64)
+        pulsar = read_wechsler("co9nas0san9oczgoldlo0oldlogz1047210127401")
+        assert pulsar is not None
+        self.assertEqual([recurrence_of(rule_of("b3s23"), pulsar, most) is not None for most in (1, 2, 3, 4, 64)], [False, False, True, True, True])
         self.assertIsNone(recurrence_of(rule_of("b3s23"), drawn_cells("OO\nO.")))
         self.assertIsNone(recurrence_of(rule_of("b3s23"), frozenset([(0, 0)])))
         self.assertIsNone(recurrence_of(rule_of("b3s23"), frozenset()))
 
     def test_what_outgrows_the_plane(self) -> None:
-        """A row of 999 cells that is born on each side becomes 1,001 wide, and no pattern is that large."""
+        """No pattern is larger than 1,000 by 1,000, in any phase."""
         row = frozenset((x, 0) for x in range(0, SIDE))
         self.assertTrue(fits(row, SIDE) and not fits(row, SIDE - 1) and not fits(row | {(SIDE, 0)}, SIDE))
         self.assertIsNone(recurrence_of(rule_of(STILL), row | {(SIDE, 0)}))

@@ -105,15 +105,15 @@ class Parts(unittest.TestCase):
         self.assertEqual(found.phases, [{(0, 0), (0, 1), (0, 2)}, {(-1, 1), (0, 1), (1, 1)}])
 
     def test_by_brute_force(self) -> None:
-        """Drawn objects of the example, and those of two other rules."""
+        """Drawn objects of the example, without long ones, which take too long; and those of two other rules."""
         draw = random.Random("objects")
-        tried = [("b3s23", draw.sample(sorted(example().totals), 250))]
-        for rule, count in (("b36s23", 400), ("b3678s34678", 4000)):
-            text = census("take", "--count", str(count), "--rule", rule, "--limit", "2020").decode()
+        tried = [("b3s23", draw.sample([code for code in example().totals if len(code) < 22], 250))]
+        for rule, count in (("b36s23", 800), ("b3678s34678", 3000)):
+            text = census("take", "--count", str(count), "--rule", rule, "--limit", "505").decode()
             tried.append((rule, [row.split()[0] for row in text.partition("TABLE\n")[2].partition("\n\n")[0].splitlines()]))
         for rule, codes in tried:
             separator, plain = Separator(rule_of(rule)), plain_parts.rule_of(rule)
-            self.assertGreater(len(codes), 25)
+            self.assertGreater(len(codes), 10)
             for code in codes:
                 found = separator.separation_of(code)
                 self.assertEqual((list(found.parts), found.is_strict(), found.is_separated), plain_parts.parts_of(plain, code), code)
