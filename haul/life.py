@@ -27,11 +27,10 @@ SIDE_OF_TEXT = 40
 # A soup has so many columns and rows.
 SOUP_SIDE = 16
 
-# The characters of extended Wechsler format. The first 32 are columns of a strip, which is five rows high.
+# The characters of extended Wechsler format. The first 32 are columns of a strip, which is five rows high; these are their live rows.
 CHARACTERS = "0123456789abcdefghijklmnopqrstuvwxyz"
 STRIP = 5
-COLUMN_VALUES = 2**STRIP
-ROWS_OF_COLUMN = [[row for row in range(STRIP) if value >> row & 1] for value in range(COLUMN_VALUES)]
+ROWS_OF_COLUMN = [[row for row in range(STRIP) if value >> row & 1] for value, _ in enumerate(CHARACTERS)]
 # Runs of one, two and three dead columns. A longer one is `y` and the character of its length less four.
 RUNS = {"0": 1, "w": 2, "x": 3}
 LEAST_LONG_RUN = 4
@@ -177,7 +176,7 @@ def read_wechsler(text: str) -> Cells | None:
             x += LEAST_LONG_RUN + run
         else:
             value = CHARACTERS.find(character)
-            if not 0 <= value < COLUMN_VALUES:
+            if value < 0:
                 return None
             cells += [(x, top + row) for row in ROWS_OF_COLUMN[value]]
             x += 1

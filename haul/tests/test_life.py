@@ -192,10 +192,10 @@ class Shapes(unittest.TestCase):
         self.assertEqual((set(images), len(images)), (set(map(drawn_cells, wanted)), 8))
 
     def test_shifts(self) -> None:
-        one = frozenset([(0, 0), (1, 2), (4, 1)])
+        one = frozenset([(2, 5), (3, 7), (6, 6)])
         self.assertEqual([shift_between(one, moved(one, shift)) for shift in ((0, 0), (3, -2), (-7, 0))], [(0, 0), (3, -2), (-7, 0)])
         self.assertIsNone(shift_between(one, moved(one, (1, 1)) | {(9, 9)}))
-        self.assertIsNone(shift_between(one, frozenset([(0, 0), (1, 2), (4, 2)])))
+        self.assertIsNone(shift_between(one, frozenset([(2, 5), (3, 7), (6, 7)])))
 
     def test_no_text(self) -> None:
         """What has no phase of at most 40 by 40 is named by its number alone."""
