@@ -3,7 +3,7 @@
 from __future__ import annotations
 
 import re
-from functools import lru_cache
+from functools import cache
 from html import escape
 
 from haul.life import Cells, Rows, rows_of
@@ -21,19 +21,21 @@ def path_of(rows: Rows) -> str:
     moves: list[str] = []
     end, before = 0, 0
     for y, row in enumerate(rows):
-        first, runs, last = runs_of(row)
-        if runs:
+        found = runs_of(row)
+        if found is not None:
+            first, runs, last = found
             moves.append(f"m{first - end} {y - before}{runs}" if moves else f"M{first} {y + 0.5}{runs}")
             end, before = last, y
     return "".join(moves)
 
 
-@lru_cache(maxsize=2**16)
-def runs_of(row: str) -> tuple[int, str, int]:
-    """Returns where the first run of live cells in a row begins, the runs with the moves between them, and where the last one ends."""
+@cache
+def runs_of(row: str) -> tuple[int, str, int] | None:
+    """Returns where the first run of live cells in a row begins, the runs with the moves between them, and where the last one ends;
+    none if there is no run."""
     runs = [run.span() for run in RUNS.finditer(row)]
     if not runs:
-        return 0, "", 0
+        return None
     (first, end), *more = runs
     text = f"h{end - first}"
     for start, stop in more:

@@ -3,7 +3,7 @@
 from __future__ import annotations
 
 from dataclasses import dataclass
-from functools import lru_cache
+from functools import cache
 
 from haul.codes import is_large, kind_of
 from haul.life import Rule, rule_of
@@ -45,15 +45,15 @@ def end_of(rule: Rule, fields: list[str]) -> End | None:
     if not settled.startswith("at="):
         return None
     least = most = 0
-    for code, star, count in (field.partition("*") for field in found):
-        sizes = populations_of(rule, code) if star else {0}
+    for code, count in (field.split("*") for field in found if "*" in field):
+        sizes = populations_of(rule, code)
         if not sizes:
             return None
-        least, most = least + min(sizes) * int(count or 0), most + max(sizes) * int(count or 0)
+        least, most = least + min(sizes) * int(count), most + max(sizes) * int(count)
     return End(int(settled.removeprefix("at=")), least, most)
 
 
-@lru_cache(maxsize=2**16)
+@cache
 def populations_of(rule: Rule, code: str) -> frozenset[int]:
     """Returns how many live cells an object has in its phases; nothing if they aren't known."""
     known = kind_of(code)

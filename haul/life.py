@@ -30,7 +30,7 @@ SOUP_SIDE = 16
 # The characters of extended Wechsler format. The first 32 are columns of a strip, which is five rows high; these are their live rows.
 CHARACTERS = "0123456789abcdefghijklmnopqrstuvwxyz"
 STRIP = 5
-ROWS_OF_COLUMN = [[row for row in range(STRIP) if value >> row & 1] for value, _ in enumerate(CHARACTERS)]
+ROWS_OF_COLUMN = {character: [row for row in range(STRIP) if value >> row & 1] for value, character in enumerate(CHARACTERS)}
 # Runs of one, two and three dead columns. A longer one is `y` and the character of its length less four.
 RUNS = {"0": 1, "w": 2, "x": 3}
 LEAST_LONG_RUN = 4
@@ -175,10 +175,10 @@ def read_wechsler(text: str) -> Cells | None:
                 return None
             x += LEAST_LONG_RUN + run
         else:
-            value = CHARACTERS.find(character)
-            if value < 0:
+            rows = ROWS_OF_COLUMN.get(character)
+            if rows is None:
                 return None
-            cells += [(x, top + row) for row in ROWS_OF_COLUMN[value]]
+            cells += [(x, top + row) for row in rows]
             x += 1
     drawn = frozenset(cells)
     return drawn if drawn and fits(drawn, SIDE) else None

@@ -6,7 +6,7 @@ import re
 import shlex
 from collections.abc import Callable, Iterator
 from dataclasses import dataclass
-from functools import lru_cache
+from functools import cache
 from html import escape
 from math import log10
 from pathlib import Path
@@ -236,7 +236,7 @@ def sample(job: Job, number: int, path: str, end: End | None) -> str:
     )
 
 
-@lru_cache
+@cache
 def commands(job: Job) -> tuple[str, str]:
     """Returns what to type into a shell, before and after a soup's number, whatever stands in the seed."""
     seed = f" --seed={shlex.quote(job.seed)}" if job.seed else ""

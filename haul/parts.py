@@ -178,9 +178,6 @@ class Blocks:
         """Returns a run in its true place; none if it makes another cell than the object, doesn't recur with it, or is a cluster in
         no phase."""
         generations: list[Cells] = []
-        if len(self.generations) == 2 and not run.is_cluster_within(1):
-            # A still life has one phase, so this is known before the block is run.
-            return None
         for together, alone in zip(self.generations, placed, strict=True):
             if not alone <= together:
                 return None

@@ -14,9 +14,9 @@ from unittest.mock import patch
 
 from haul.by_parts import Objects
 from haul.labels import in_words, label_of, marked, plural
-from haul.life import rule_of
+from haul.life import is_cluster, rule_of
 from haul.names import NAMES
-from haul.parts import MOST_ISLANDS, Separation, Separator, object_of
+from haul.parts import MOST_ISLANDS, Blocks, Run, Separation, Separator, object_of
 from haul.tests import plain_parts
 from haul.tests.called import CENSUS, TOP, census, run
 from haul.tests.test_life import STILL, example
@@ -93,6 +93,37 @@ class Parts(unittest.TestCase):
         for blocks, wanted in ((8, Separation(("xs12_raar", *["xs4_33"] * 8))), (9, None)):
             code = f"xs{12 + 4 * blocks}_raar" + "066" * (blocks % 2) + "0rr" * (blocks // 2)
             self.assertEqual(parts(code), wanted or unknown(code))
+
+    def test_a_part_that_falls_apart(self) -> None:
+        """A blocker is one cluster in two of its eight phases, and not in the one that is drawn. A block is beside it."""
+        self.assertFalse(is_cluster(object_of(rule_of("b3s23"), "xp8_g3jgz1ut").phases[0]))  # type: ignore[union-attr]
+        self.assertEqual(parts("xp8_g3jgy066z1ut"), Separation(("xp8_g3jgz1ut", "xs4_33")))
+
+    def test_the_longest_period(self) -> None:
+        for most, is_separated in ((2, False), (3, True)):
+            with patch("haul.parts.MOST_PERIOD", most):
+                self.assertEqual(parts("xp3_co9nas0san9oczgoldlo0oldlogz1047210127401").is_separated, is_separated)
+
+    def test_each_condition_of_a_separation(self) -> None:
+        """By the cells of a bi-block, of which no run has to be that of a block."""
+        found = object_of(rule_of("b3s23"), "xs8_rr")
+        assert found is not None
+        blocks = Blocks(rule_of("b3s23"), {}, found)
+        left, right = blocks.islands
+        self.assertEqual((len(left), len(right), left | right), (4, 4, found.phases[0]))
+        one, other = [left, left], [right, right]
+        self.assertTrue(blocks.is_separation([one, other]))
+        # They share a cell, though together they are the object; they have as many cells, and aren't the object; one is missing.
+        shared = left | {min(right)}
+        self.assertFalse(blocks.is_separation([[shared, shared], other]))
+        self.assertFalse(blocks.is_separation([one, one]))
+        self.assertFalse(blocks.is_separation([one]))
+        # It is in order; another block a period later; no cluster; and a cell that the object doesn't have.
+        run = Run(rule_of("b3s23"), left)
+        self.assertEqual(blocks.checked(run, iter(one)), one)
+        self.assertIsNone(blocks.checked(run, iter([left, right])))
+        self.assertIsNone(blocks.checked(Run(rule_of("b3s23"), frozenset([(0, 0), (9, 9)])), iter(one)))
+        self.assertIsNone(blocks.checked(run, iter([left | {(9, 9)}] * 2)))
 
     def test_codes_that_are_not_canonical(self) -> None:
         """A part is called by its own code, whatever drawing of it stands in a haul."""
