@@ -197,7 +197,7 @@ def wechsler_of(cells: Cells) -> str | None:
 
 def strip_text(columns: dict[int, int]) -> str:
     """Writes a strip, given by the values of its columns that have a live cell."""
-    values = [columns.get(x, 0) for x in range(max(columns, default=-1) + 1)]
+    values = [columns.get(x, 0) for x in range(max(columns) + 1)] if columns else []
     texts: list[str] = []
     for value, run in groupby(values):
         length = len(list(run))

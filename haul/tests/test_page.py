@@ -298,6 +298,9 @@ class Ends(unittest.TestCase):
             return [text.partition("census")[0] for one, text in elements(page(haul, *more), "details") if "data-settled" in one]
 
         self.assertEqual((known(), known(1), known(0)), (["0", "1", "1", "2"], ["0", "1", "1"], []))
+        # The first row is that of an object, though there are more blocks.
+        haul = made({"xp2_7": 9, "xs8_rr": 8}, [(0, 9)], samples={"xp2_7": [3], "xs8_rr": [4]})
+        self.assertEqual(known(1), ["3"])
         self.assertEqual([one for one, _ in elements(page(made({"xs4_33": 8}, [(0, 9)], (1, 1, 1, 0))), "details")], [{}])
 
     def test_which_options_are_passed_on(self) -> None:

@@ -359,6 +359,7 @@ in A alone: xq4_153 xs8_rr; in B alone: xp15_4r4z4r4
         none = haul("b3s23", 1, {}).replace("@RANGE 0 1", "@RANGE 0 0").replace("SOUPS 1", "SOUPS 0").replace("SETTLED 1", "SETTLED 0").replace("GOOD 2", "GOOD 0")
         Path(self.folder.name, "c").write_text(none)
         self.assertEqual(self.printed("compare", "--intervals", "c", "a").splitlines()[5].split()[2:5], ["0", "0.00", "-"])
+        self.assertEqual(self.printed("compare", "a", "c").splitlines()[5].split()[2:], ["500", "0", "500000.00", "0.00", "0.00"])
 
 
 class Terminals(Tables):
