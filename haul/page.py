@@ -62,7 +62,7 @@ class Known:
 
 
 def page_of(census: Census, haul: Haul, least: int, play: int = 500) -> Iterator[str]:
-    """Yields the page, piece by piece. Codes with less than so many objects have no row. The first rows, so many, show phases and run
+    """Yields the page, piece by piece. Codes with fewer than `least` objects have no row. The first `play` rows show phases and run
     their soups."""
     objects = Objects(haul)
     views = [view("objects", haul, least), view("parts", objects.by_parts(), least)]
@@ -86,7 +86,7 @@ def view(counts: str, haul: Haul, least: int) -> View:
 
 
 def beside(name: str) -> str:
-    """A file in the folder of this one."""
+    """Returns a file in the folder of this one."""
     return Path(__file__).with_name(name).read_text("utf-8")
 
 

@@ -13,7 +13,9 @@ from dataclasses import dataclass
 from itertools import combinations
 
 from haul.codes import kind_of, text_of_code
-from haul.life import MOST_PERIOD, Cells, Recurrence, Rule, code_of, corner_of, cornered, is_cluster, islands_of, moved, next_generation, read_wechsler, recurrence_of
+from haul.life import (
+    MOST_PERIOD, Cells, Recurrence, Rule, code_of, corner_of, cornered, is_cluster, islands_of, moved, next_generation, read_wechsler, recurrence_of,
+)
 
 # Of an object with more islands only the separation into single islands is tried: there are too many others.
 MOST_ISLANDS = 10

@@ -18,7 +18,7 @@ from haul.life import is_cluster, rule_of
 from haul.names import NAMES
 from haul.parts import MOST_ISLANDS, Blocks, Run, Separation, Separator, object_of
 from haul.tests import plain_parts
-from haul.tests.called import CENSUS, TOP, census, run
+from haul.tests.called import CENSUS, census, run
 from haul.tests.test_life import STILL, example
 from haul.tests.test_tables import haul
 
