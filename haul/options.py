@@ -16,7 +16,7 @@ examples:
   haul check --samples rare.haul                  do the samples leave what they stand for?
   haul join parts/*.haul > all.haul               the haul of a census that was taken in parts
   haul compare life.haul highlife.haul            two hauls side by side
-  haul table --kind p --rare all.haul             the rarest oscillators of a haul
+  haul table --strict --rare all.haul             the rarest objects of a haul
   haul page < all.haul > all.html                 a page with pictures
   haul soup C1/k_abcdef12345 | census name        what a sample of Catagolue leaves
   haul cells gun.rle | census run 30              a pattern in RLE, as census reads it
@@ -72,10 +72,10 @@ def add_join(commands: Commands) -> None:
 def add_compare(commands: Commands) -> None:
     compare = commands.add(
         "compare", "set hauls side by side",
-        "Each code has a line, by descending rate: its name, its totals, how many\nobjects there are of it in a million soups, "
-        "and how many times as many as in A. With an\noption but --least, or with more than two hauls, intervals of 95 % stand beside the "
-        "rates,\nas if objects came singly, and a * where one doesn't meet that of A. That is no test at\n5 %, since a soup often "
-        "leaves several of a kind.\n\n"
+        "Each code has a line, by descending rate: its name or parts, its\ntotals, how many objects there are of it in a million soups, "
+        "and how many times as many\nas in A. With --intervals, --per or --rare, or with more than two hauls, intervals of\n95 % stand beside "
+        "the rates, as if objects came singly, and a * where one doesn't meet that\nof A. That is no test at 5 %, since a soup often leaves "
+        "several of a kind.\n\n"
         "examples:\n  haul compare --least 10 life.haul highlife.haul\n  haul compare --csv life.haul highlife.haul seeds.haul > all.csv",
     )
     compare.add_argument("--least", type=count, default=1, metavar="N", help="leave out codes with less than N objects in each (default: 1)")
@@ -93,9 +93,9 @@ def add_compare(commands: Commands) -> None:
 def add_table(commands: Commands) -> None:
     table = commands.add(
         "table", "print the table of a haul, with how often each object comes",
-        "Each code has a\nline, by descending total: its rank, its total, how many objects there are of it in a\nmillion soups, in how many "
-        "soups one has it at most, its samples, and its name, or what it consists of.\n\n"
-        "examples:\n  haul table --top 20 all.haul\n  haul table --kind p --rare all.haul",
+        "Each code has a\nline, by descending total: its rank, its total, how many objects there are of it in a\nmillion soups, N if at most "
+        "one soup in N has it, its samples, and its name or parts.\n\n"
+        "examples:\n  haul table --top 20 all.haul\n  haul table --strict --rare all.haul",
     )
     table.add_argument("--top", type=count, metavar="N", help="print the first N lines alone")
     table.add_argument("--rare", action="store_true", help="begin with the rarest")
