@@ -25,7 +25,8 @@ HEIGHT = 1400
 # A point that is darker than this is one of a live cell.
 DARK = 128
 # The rows of the page's table, in their order.
-ROWS = "[...document.querySelectorAll('#objects tbody tr')]"
+SHOWN = "#objects tbody:not([hidden]) tr"
+ROWS = f"[...document.querySelectorAll('{SHOWN}')]"
 # How often a picture is taken until it no longer changes, and how long it may take between two.
 MOST_PICTURES, SECONDS_BETWEEN = 40, 0.05
 

@@ -4,17 +4,13 @@ _haul() {
     local word=${COMP_WORDS[COMP_CWORD]} before=${COMP_WORDS[COMP_CWORD - 1]} options=''
     COMPREPLY=()
     if [[ $COMP_CWORD == 1 ]]; then
-        mapfile -t COMPREPLY < <(compgen -W 'check join compare table page cells rle --help --version' -- "$word")
+        mapfile -t COMPREPLY < <(compgen -W 'check join compare table page soup cells rle --help --version' -- "$word")
         return
     fi
     case $before in
         --workers | --least | --rule | --top | --period | --play) return ;;
         --per)
             mapfile -t COMPREPLY < <(compgen -W 'million soup' -- "$word")
-            return
-            ;;
-        --labels)
-            mapfile -t COMPREPLY < <(compgen -W 'first all' -- "$word")
             return
             ;;
         --kind)
@@ -29,9 +25,10 @@ _haul() {
     case ${COMP_WORDS[1]} in
         check) options='--workers --samples --census --help' ;;
         join) options='--help' ;;
-        compare) options='--least --intervals --per --rare --csv --json --labels --census --help' ;;
-        table) options='--top --rare --kind --period --csv --json --labels --census --help' ;;
-        page) options='--least --play --labels --census --help' ;;
+        compare) options='--least --intervals --per --rare --parts --csv --json --help' ;;
+        table) options='--top --rare --kind --period --strict --parts --csv --json --help' ;;
+        page) options='--least --play --census --help' ;;
+        soup) options='--help' ;;
         cells) options='--help' ;;
         rle) options='--rule --help' ;;
     esac

@@ -1,7 +1,7 @@
 """Checks, joins, compares and shows the hauls of `census`. `bin/haul --help` says how.
 
-What has to be right about Life is asked of `census`, which is proved: soups, what they leave, and how objects look. What is
-done here is text and sums, and is tested, not proved.
+`census`, which is proved, decides whether a haul is right and when a soup has settled. Everything else about Life comes from the
+small model in life.py. It is tested, not proved, like the rest.
 """
 
 VERSION = "0.2.0"

@@ -15,20 +15,30 @@ ENDING = (signal.SIGINT, signal.SIGTERM, signal.SIGHUP)
 IS_DONE = 0
 
 
+class NoThread(Exception):
+    """A thread can't be started: there is no memory for one, or the system starts no more."""
+
+
+def start_thread(thread: threading.Thread) -> None:
+    try:
+        thread.start()
+    except RuntimeError as error:
+        raise NoThread(str(error)) from None
+
+
 class Children:
     """The programs that run."""
 
     def __init__(self) -> None:
-        # With each stands whether it leads a group, in which are the programs that it starts itself.
-        self.running: dict[subprocess.Popen[bytes], bool] = {}
+        self.running: list[subprocess.Popen[bytes]] = []
         # Held while one is started, so that each that runs is known.
         self.starts = threading.Lock()
 
-    def start(self, words: list[str], stdin: int, stdout: int, stderr: int | None, leads: bool) -> subprocess.Popen[bytes]:
-        """Starts a program. Raises `OSError` if that fails."""
+    def start(self, words: list[str], stdout: int, stderr: int | None) -> subprocess.Popen[bytes]:
+        """Starts a program that reads nothing. Raises `OSError` if that fails."""
         with self.starts:
-            program = subprocess.Popen(words, stdin=stdin, stdout=stdout, stderr=stderr, start_new_session=leads)
-            self.running[program] = leads
+            program = subprocess.Popen(words, stdin=subprocess.DEVNULL, stdout=stdout, stderr=stderr)
+            self.running.append(program)
         return program
 
     @contextmanager
@@ -38,15 +48,15 @@ class Children:
             with program:
                 yield
         finally:
-            del self.running[program]
+            self.running.remove(program)
 
     def end(self) -> None:
         """Ends all of them. None is started from here on, since the lock is kept."""
         self.starts.acquire()
-        for program, leads in list(self.running.items()):
+        for program in list(self.running):
             if program.poll() is None:
                 with suppress(ProcessLookupError):
-                    os.kill(-program.pid if leads else program.pid, signal.SIGTERM)
+                    os.kill(program.pid, signal.SIGTERM)
 
 
 # All of them are here, since a signal is for the whole program.
@@ -76,7 +86,7 @@ def status_of(work: Callable[[], int]) -> int:
         finally:
             os.write(tell, bytes([IS_DONE]))
 
-    threading.Thread(target=do, daemon=True).start()
+    start_thread(threading.Thread(target=do, daemon=True))
     came = os.read(told, 1)[0]
     if came != IS_DONE:
         children.end()

@@ -45,6 +45,10 @@ def figure(number: float) -> str:
     return f"{number:.2f}" if number >= 1 or number == 0 else f"{number:.3g}"
 
 
+def yes_or_no(holds: bool) -> str:
+    return "yes" if holds else "no"
+
+
 def exact(number: int) -> int | str:
     """A whole number for JSON: as text where a double would lose digits."""
     return number if number <= EXACT else str(number)

@@ -1,25 +1,44 @@
-"""What objects are called: by their names, and what has none by its islands."""
+"""What objects are called: by their names, and otherwise by their parts."""
 
 from __future__ import annotations
 
-from haul.codes import is_large
-from haul.islands import parts_of
+import re
+from collections import Counter
+
+from haul.codes import kind_of
 from haul.names import NAMES
-from haul.phases import phases_of
-from haul.program import Census
+from haul.parts import Separation
 
-# So many rows of a table have such labels, unless all are asked for, since each takes some calls of `census`.
-LABELLED_ROWS = 2000
+NOT_SEPARATED = "not separated"
 
 
-def labels_of(census: Census | None, rules: dict[str, str], of_all: bool) -> dict[str, str]:
-    """The labels of codes, in the order of their rows, each with the rule under which there is such an object. Without a program
-    there are names alone."""
-    labels = {code: NAMES[code] for code in rules if code in NAMES}
-    asked = [code for code in list(rules)[: None if of_all else LABELLED_ROWS] if code not in NAMES and not is_large(code)]
-    for rule in dict.fromkeys(rules[code] for code in asked if census):
-        assert census is not None
-        codes = [code for code in asked if rules[code] == rule]
-        drawings = {code: drawing for code, drawing in zip(codes, census.objects(codes), strict=True) if drawing}
-        labels |= {code: parts.label for code, parts in parts_of(census, rule, phases_of(census, rule, drawings)).items()}
-    return labels
+def label_of(code: str, separation: Separation) -> str:
+    """Returns the name of an object, or its parts in words if it has several; otherwise nothing."""
+    if code in NAMES:
+        return NAMES[code]
+    return in_words(separation.parts) if len(separation.parts) > 1 else ""
+
+
+def marked(label: str, separation: Separation) -> str:
+    """Returns a label for a reader, which says so if the object isn't separated."""
+    return label if separation.is_separated else f"{label}, {NOT_SEPARATED}" if label else NOT_SEPARATED
+
+
+def in_words(parts: tuple[str, ...]) -> str:
+    """Writes parts as `2 blocks`, or `block and beehive`: oscillators first and still lifes last, small ones before large ones."""
+    counts = Counter(sorted(parts, key=lambda code: (kind_of(code), code)))
+    *before, last = (several(code, count) for code, count in counts.items())
+    return f"{', '.join(before)} and {last}" if before else last
+
+
+def several(code: str, count: int) -> str:
+    name = NAMES.get(code, code)
+    return name if count == 1 else f"{count} {plural(name) if code in NAMES else name}"
+
+
+def plural(name: str) -> str:
+    """Returns `half-bakeries`, `loaves`, `blocks on table`. Names that end in an `s`, an `x` or a digit stay as they are."""
+    thing, rest = re.fullmatch("(.*?)((?: on | with ).*)?", name).groups(default="")  # type: ignore[union-attr]
+    if thing[-1] not in "sx0123456789":
+        thing = re.sub("y$", "ie", re.sub("f$", "ve", thing)) + "s"
+    return thing + rest

@@ -10,19 +10,19 @@ from collections.abc import Iterable, Iterator
 from contextlib import contextmanager, suppress
 from typing import BinaryIO
 
+from haul.by_parts import Objects
 from haul.check import differences, taken_again, wrong_samples
-from haul.children import status_of
+from haul.children import NoThread, status_of
 from haul.columns import width_of_terminal
-from haul.compare import compared, ranked, rules_of
+from haul.compare import Comparison, ranked
 from haul.join import CantJoin, Joining
-from haul.labels import labels_of
-from haul.many import Comparison
 from haul.options import parser
 from haul.page import page_of
 from haul.plaintext import BadPlaintext, is_plaintext, read_plaintext
 from haul.program import Census, Ended, NoCensus, tell
 from haul.rle import LIFE, BadRle, option_of, read_rle, rle_of
-from haul.table import csv, json, shown, table_of, text
+from haul.soups import BadSample, soups_of
+from haul.table import Choice, csv, json, table_of, text
 from haul.text import BadHaul, Haul, lines_of, read_hauls, read_one_haul
 
 # The statuses of `census`, and one more.
@@ -99,39 +99,28 @@ def do_join(asked: argparse.Namespace) -> int:
     return DONE
 
 
-def the_labels(asked: argparse.Namespace, rules: dict[str, str]) -> dict[str, str]:
-    """The labels of codes with their rules. They are names alone where there is no program, and none is built for them."""
-    try:
-        return labels_of(Census(asked.census, builds=False), rules, asked.labels == "all")
-    except NoCensus:
-        if asked.census is not None:
-            raise
-        return labels_of(None, rules, False)
-
-
 def do_compare(asked: argparse.Namespace) -> int:
-    hauls = [the_haul(name) for name in (asked.a, asked.b, *asked.more)]
+    objects = [Objects(the_haul(name)) for name in (asked.a, asked.b, *asked.more)]
+    hauls = [one.by_parts() if asked.parts else one.haul for one in objects]
     codes = ranked(hauls, asked.least, asked.rare)
-    labels = the_labels(asked, rules_of(codes, hauls))
-    if len(hauls) == 2 and not (asked.intervals or asked.per or asked.rare or asked.csv or asked.json):
-        write(compared(hauls, codes, labels, width_of_terminal()))
-        return DONE
-    comparison = Comparison(hauls, codes, labels, asked.per or "million")
+    has_intervals = len(hauls) > 2 or asked.intervals or asked.per is not None or asked.rare
+    comparison = Comparison(hauls, objects, codes, asked.parts, asked.per or "million", has_intervals)
     write(comparison.csv() if asked.csv else comparison.json() if asked.json else comparison.text(width_of_terminal()))
     return DONE
 
 
 def do_table(asked: argparse.Namespace) -> int:
-    haul = the_haul(asked.file)
-    ranks = shown(haul, asked.kind, asked.period, asked.rare, asked.top)
-    lines = table_of(haul, ranks, the_labels(asked, dict.fromkeys(ranks, haul.job.rule)))
-    write(csv(lines) if asked.csv else json(haul, lines) if asked.json else text(lines, width_of_terminal()))
+    objects = Objects(the_haul(asked.file))
+    haul = objects.by_parts() if asked.parts else objects.haul
+    lines = table_of(haul, objects, Choice(asked.kind, asked.period, asked.strict, asked.rare, asked.top))
+    by_parts = objects if asked.parts else None
+    write(csv(lines, asked.parts) if asked.csv else json(haul, lines, by_parts) if asked.json else text(lines, width_of_terminal()))
     return DONE
 
 
 def do_page(asked: argparse.Namespace) -> int:
     haul = the_haul(asked.file)
-    sys.stdout.writelines(page_of(Census(asked.census), haul, asked.least, asked.play, asked.labels == "all"))
+    sys.stdout.writelines(page_of(Census(asked.census), haul, asked.least, asked.play))
     return DONE
 
 
@@ -170,7 +159,17 @@ def do_rle(asked: argparse.Namespace) -> int:
     return DONE
 
 
-COMMANDS = {"check": do_check, "join": do_join, "compare": do_compare, "table": do_table, "page": do_page, "cells": do_cells, "rle": do_rle}
+def do_soup(asked: argparse.Namespace) -> int:
+    try:
+        write(list(soups_of(asked.samples)))
+    except BadSample as bad:
+        raise Refused(str(bad)) from None
+    return DONE
+
+
+COMMANDS = {
+    "check": do_check, "join": do_join, "compare": do_compare, "table": do_table, "page": do_page, "soup": do_soup, "cells": do_cells, "rle": do_rle,
+}
 
 
 def complain(line: str, status: int) -> int:
@@ -194,15 +193,18 @@ def run() -> int:
         return complain(str(why), why.status)
     except MemoryError:
         return complain("out of memory", NO_MEMORY)
-    except RuntimeError as error:
-        # No thread can be started: there is no memory for one, or the system starts no more.
+    except NoThread as error:
         return complain(str(error), NO_MEMORY)
     except BrokenPipeError:
         # Whoever reads has enough.
         return FAILED
     except OSError as error:
-        reason = error.strerror or "read or write failed"
-        return complain(f"{error.filename}: {reason}" if error.filename else reason, FAILED)
+        return complain(reason_of(error), FAILED)
+
+
+def reason_of(error: OSError) -> str:
+    reason = error.strerror or "read or write failed"
+    return f"{error.filename}: {reason}" if error.filename else reason
 
 
 def do_command() -> int:
@@ -229,10 +231,12 @@ def open_streams() -> None:
 
 
 def main() -> None:
-    open_streams()
     try:
+        open_streams()
         status = status_of(run)
-    except RuntimeError as error:
+    except NoThread as error:
         status = complain(str(error), NO_MEMORY)
+    except OSError as error:
+        status = complain(reason_of(error), FAILED)
     # Python's own end would write once more what couldn't be written.
     os._exit(status)

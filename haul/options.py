@@ -5,7 +5,7 @@ from __future__ import annotations
 import argparse
 
 from haul import VERSION
-from haul.many import MOST_HAULS
+from haul.compare import MOST_HAULS
 from haul.text import RULE
 
 DESCRIPTION = "Checks, joins, compares and shows hauls, the texts that `census take` and `census gather` print, and reads and writes RLE."
@@ -16,8 +16,9 @@ examples:
   haul check --samples rare.haul                  do the samples leave what they stand for?
   haul join parts/*.haul > all.haul               the haul of a census that was taken in parts
   haul compare life.haul highlife.haul            two hauls side by side
-  haul table --kind p --rare all.haul             the rarest oscillators of a haul
+  haul table --strict --rare all.haul             the rarest objects of a haul
   haul page < all.haul > all.html                 a page with pictures
+  haul soup C1/k_abcdef12345 | census name        what a sample of Catagolue leaves
   haul cells gun.rle | census run 30              a pattern in RLE, as census reads it
   census show xq4_153 | haul rle                  a pattern of census, as Golly reads it
 
@@ -41,7 +42,7 @@ def parser() -> argparse.ArgumentParser:
     top = argparse.ArgumentParser(prog="haul", description=DESCRIPTION, epilog=EXAMPLES, formatter_class=raw)
     top.add_argument("--version", action="version", version=f"haul {VERSION}")
     commands = Commands(top)
-    for add in (add_check, add_join, add_compare, add_table, add_page, add_cells, add_rle):
+    for add in (add_check, add_join, add_compare, add_table, add_page, add_soup, add_cells, add_rle):
         add(commands)
     return top
 
@@ -71,10 +72,10 @@ def add_join(commands: Commands) -> None:
 def add_compare(commands: Commands) -> None:
     compare = commands.add(
         "compare", "set hauls side by side",
-        "Each code has a line, by descending rate: its name, its totals, how many\nobjects there are of it in a million soups, "
-        "and how many times as many as in A. With an\noption but --least, or with more than two hauls, intervals of 95 % stand beside the "
-        "rates,\nas if objects came singly, and a * where one doesn't meet that of A. That is no test at\n5 %, since a soup often "
-        "leaves several of a kind.\n\n"
+        "Each code has a line, by descending rate: its name or parts, its\ntotals, how many objects there are of it in a million soups, "
+        "and how many times as many\nas in A. With --intervals, --per or --rare, or with more than two hauls, intervals of\n95 % stand beside "
+        "the rates, as if objects came singly, and a * where one doesn't meet that\nof A. That is no test at 5 %, since a soup often leaves "
+        "several of a kind.\n\n"
         "examples:\n  haul compare --least 10 life.haul highlife.haul\n  haul compare --csv life.haul highlife.haul seeds.haul > all.csv",
     )
     compare.add_argument("--least", type=count, default=1, metavar="N", help="leave out codes with less than N objects in each (default: 1)")
@@ -82,26 +83,28 @@ def add_compare(commands: Commands) -> None:
     compare.add_argument("--per", choices=("million", "soup"), metavar="UNIT",
                          help="rates in a `million` soups or in a `soup` (default: million)")
     compare.add_argument("--rare", action="store_true", help="begin with the rarest, and leave out what all hauls have")
+    compare.add_argument("--parts", action="store_true", help="count each object by its parts, under the rule of its haul")
     add_forms(compare)
-    add_labels(compare)
     compare.add_argument("a", metavar="A", help="a haul (`-`: standard input)")
     compare.add_argument("b", metavar="B", help="another haul (`-`: standard input)")
-    compare.add_argument("more", metavar="C", nargs="*", action=Few, help=f"more hauls, up to {MOST_HAULS} in all")
+    compare.add_argument("more", metavar="C", nargs="*", default=[], action=Few, help=f"more hauls, up to {MOST_HAULS} in all")
 
 
 def add_table(commands: Commands) -> None:
     table = commands.add(
         "table", "print the table of a haul, with how often each object comes",
-        "Each code has a\nline, by descending total: its rank, its total, how many objects there are of it in a\nmillion soups, in how many "
-        "soups one has it at most, its samples, and its name, or what it consists of.\n\n"
-        "examples:\n  haul table --top 20 all.haul\n  haul table --kind p --rare all.haul",
+        "Each code has a\nline, by descending total: its rank, its total, how many objects there are of it in a\nmillion soups, N if at most "
+        "one soup in N has it, its samples, and its name or parts.\n\n"
+        "examples:\n  haul table --top 20 all.haul\n  haul table --strict --rare all.haul",
     )
     table.add_argument("--top", type=count, metavar="N", help="print the first N lines alone")
     table.add_argument("--rare", action="store_true", help="begin with the rarest")
     table.add_argument("--kind", choices=("s", "p", "q"), metavar="KIND", help="still lifes `s`, oscillators `p` or spaceships `q` alone")
     table.add_argument("--period", type=count, metavar="N", help="objects of this period alone; still lifes have 1")
+    parts = table.add_mutually_exclusive_group()
+    parts.add_argument("--strict", action="store_true", help="leave out objects that consist of independent ones; those that aren't separated are marked")
+    parts.add_argument("--parts", action="store_true", help="count each object by its parts")
     add_forms(table)
-    add_labels(table)
     table.add_argument("file", nargs="?", help="the haul (default: standard input)")
 
 
@@ -128,8 +131,17 @@ def add_page(commands: Commands) -> None:
     )
     page.add_argument("--least", type=count, default=1, metavar="N", help="leave out codes with less than N objects (default: 1)")
     page.add_argument("--play", type=count, default=500, metavar="N", help="show phases in the first N rows, and run their soups (default: 500)")
-    add_labels(page)
+    add_census(page)
     page.add_argument("file", nargs="?", help="the haul (default: standard input)")
+
+
+def add_soup(commands: Commands) -> None:
+    soup = commands.add(
+        "soup", "print the soup that a sample of Catagolue names",
+        "The sample is C1/k_abcdef12345, or the\npart after the slash. Each of several soups comes after a comment that names it.\n\n"
+        "example:\n  haul soup C1/k_abcdef12345 | census name",
+    )
+    soup.add_argument("samples", nargs="+", metavar="ID", help="the sample")
 
 
 def add_cells(commands: Commands) -> None:
@@ -150,14 +162,14 @@ def add_rle(commands: Commands) -> None:
     rle.add_argument("file", nargs="?", help="the pattern (default: standard input)")
 
 
-def add_labels(command: argparse.ArgumentParser) -> None:
-    command.add_argument("--labels", choices=("first", "all"), default="first", metavar="WHICH", help="what has no name is called by its islands: in the "
-                         "`first` 2,000 rows, or in `all` (default: first)")
-    add_census(command)
-
-
 def add_census(command: argparse.ArgumentParser) -> None:
-    command.add_argument("--census", metavar="PATH", help="the census program (default: the one beside this, or on the PATH)")
+    command.add_argument("--census", type=path, metavar="PATH", help="the census program (default: the one beside this, or on the PATH)")
+
+
+def path(text: str) -> str:
+    if not text:
+        raise argparse.ArgumentTypeError("an empty path")
+    return text
 
 
 def workers(text: str) -> int:

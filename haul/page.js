@@ -1,14 +1,17 @@
-// Sorts and filters the table, adds it up by islands, shows phases, and offers RLE and players.
-const table = document.getElementById('objects'), body = table.tBodies[0], heads = [...table.tHead.rows[0].cells];
-const [CODE, NAME, CELLS, TOTAL, ONE_IN, SOUPS, SAMPLES, LABEL] = [1, 2, 4, 5, 6, 7, 8, 9];
+// Sorts and filters the table, counts objects or parts, shows phases, and offers RLE and players.
+const table = document.getElementById('objects'), heads = [...table.tHead.rows[0].cells], bodies = [...table.tBodies];
+// The rows that are shown.
+let body = bodies[0];
+const [CODE, NAME, KIND, CELLS, TOTAL, ONE_IN, SOUPS, SAMPLES, PARTS] = [1, 2, 3, 4, 5, 6, 7, 8, 9];
 const text = (row, column) => row.cells[column].textContent;
 
-// ---- Order and filter. Rare objects have the largest numbers after 'one in'.
+// ---- Order and filter. Rare objects have the largest numbers after 'one in', and a period of 2 comes before one of 14.
 const isNumber = column => column >= CELLS && column <= SOUPS;
 const number = said => Number(said.replace(/^1 in /, '').replace(/[^0-9]/g, ''));
+const byPeriod = new Intl.Collator('en', { numeric: true }).compare;
 const sort = (column, down) => {
   const keyed = [...body.rows].map(row => [isNumber(column) ? number(text(row, column)) : text(row, column), row]);
-  const order = isNumber(column) ? (a, b) => a[0] - b[0] : (a, b) => (a[0] === '') - (b[0] === '') || (a[0] < b[0] ? -1 : a[0] > b[0] ? 1 : 0);
+  const order = isNumber(column) ? (a, b) => a[0] - b[0] : column === KIND ? (a, b) => byPeriod(a[0], b[0]) : (a, b) => (a[0] === '') - (b[0] === '') || (a[0] < b[0] ? -1 : a[0] > b[0] ? 1 : 0);
   keyed.sort(down ? (a, b) => order(b, a) : order);
   body.append(...keyed.map(pair => pair[1]));
   heads.forEach((head, place) => place === column ? head.setAttribute('aria-sort', down ? 'descending' : 'ascending') : head.removeAttribute('aria-sort'));
@@ -22,45 +25,17 @@ const filter = document.getElementById('filter');
 const show = () => {
   const wanted = filter.value.trim().toLowerCase();
   for (const row of body.rows)
-    row.hidden = 'apart' in row.dataset || ![CODE, NAME, LABEL].map(column => text(row, column)).join(' ').toLowerCase().includes(wanted);
+    row.hidden = ![CODE, NAME, PARTS].map(column => text(row, column)).join(' ').toLowerCase().includes(wanted);
 };
 filter.addEventListener('input', show);
 
-// ---- Islands: an object whose islands are objects by themselves counts as these. A total may be larger than a double has digits for.
-const counts = [TOTAL, ONE_IN, SOUPS], asTaken = new Map([...body.rows].map(row => [row, counts.map(column => text(row, column))]));
-const made = code => {
-  const row = body.insertRow();
-  heads.forEach(() => row.insertCell());
-  row.cells[CODE].textContent = code;
-  row.dataset.made = '';
-  return row;
-};
-const addUp = () => {
-  const totals = new Map(), rows = new Map();
-  for (const [row, [total]] of asTaken) {
-    rows.set(text(row, CODE), row);
-    if (row.dataset.parts) row.dataset.apart = '';
-    for (const code of (row.dataset.parts ?? text(row, CODE)).split(' '))
-      totals.set(code, (totals.get(code) ?? 0n) + BigInt(total.replace(/,/g, '')));
-  }
-  const all = [...totals.values()].reduce((sum, total) => sum + total, 0n), soups = BigInt(table.dataset.soups);
-  for (const [code, total] of totals) {
-    const row = rows.get(code) ?? made(code), oneIn = Math.round(Number(all) / Number(total)), inSoups = soups > total ? soups / total : 1n;
-    const said = [total.toLocaleString('en'), oneIn.toLocaleString('en'), `1 in ${inSoups.toLocaleString('en')} soup${inSoups === 1n ? '' : 's'} at most`];
-    counts.forEach((column, place) => { row.cells[column].textContent = said[place]; });
-  }
-};
-const islands = document.getElementById('islands');
-islands.checked = false;
-islands.addEventListener('change', () => {
-  for (const row of [...body.rows]) if ('made' in row.dataset) row.remove();
-  for (const [row, said] of asTaken) {
-    delete row.dataset.apart;
-    counts.forEach((column, place) => { row.cells[column].textContent = said[place]; });
-  }
-  body.append(...asTaken.keys());
-  if (islands.checked) addUp();
-  document.getElementById('separated').hidden = !islands.checked;
+// ---- Parts: what is counted stands in the page twice, by objects and with each object replaced by its parts.
+const byParts = document.getElementById('parts');
+byParts.checked = false;
+byParts.addEventListener('change', () => {
+  const counts = byParts.checked ? 'parts' : 'objects';
+  document.querySelectorAll('[data-counts]').forEach(one => { one.hidden = one.dataset.counts !== counts; });
+  body = bodies.find(one => !one.hidden);
   sort(TOTAL, true);
   show();
 });
@@ -103,7 +78,7 @@ const offerPlayer = details => {
   const svg = details.querySelector('svg');
   offer(svg, 'run', 'run it here', button => {
     const soup = runsOf(firstPath(svg)).flatMap(([x, y, length]) => Array.from({ length }, (_, k) => [x + k, y]));
-    button.replaceWith(player(soup, table.dataset.rule, Number(details.dataset.settled), Number(details.dataset.population)));
+    button.replaceWith(player(soup, table.dataset.rule, Number(details.dataset.settled), Number(details.dataset.least), Number(details.dataset.most)));
   });
 };
 
@@ -128,16 +103,16 @@ const unfold = row => {
   row.querySelectorAll('svg').forEach(svg => offer(svg, 'rle', 'copy RLE', button => copy(rle(svg), button)));
   row.querySelectorAll('details[data-settled]').forEach(offerPlayer);
 };
+const rows = bodies.flatMap(one => [...one.rows]), pictures = table.querySelectorAll('svg[data-phases]');
 addEventListener('beforeprint', () => [...body.rows].forEach(unfold));
-const pictures = body.querySelectorAll('svg[data-phases]');
 if (typeof IntersectionObserver === 'undefined') {
-  [...body.rows].forEach(unfold);
+  rows.forEach(unfold);
   pictures.forEach(svg => inSight.add(svg));
 } else {
-  const rows = new IntersectionObserver(entries => {
-    for (const entry of entries) if (entry.isIntersecting) { unfold(entry.target); rows.unobserve(entry.target); }
+  const sighted = new IntersectionObserver(entries => {
+    for (const entry of entries) if (entry.isIntersecting) { unfold(entry.target); sighted.unobserve(entry.target); }
   }, { rootMargin: '800px' });
-  for (const row of body.rows) rows.observe(row);
+  for (const row of rows) sighted.observe(row);
   const sight = new IntersectionObserver(entries => {
     for (const entry of entries) entry.isIntersecting ? inSight.add(entry.target) : inSight.delete(entry.target);
   });

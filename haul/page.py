@@ -2,24 +2,27 @@
 
 from __future__ import annotations
 
+import re
 import shlex
-from collections import ChainMap
-from collections.abc import Iterator
+from collections.abc import Callable, Iterator
 from dataclasses import dataclass
+from functools import cache
 from html import escape
 from math import log10
 from pathlib import Path
 from string import Template
 
-from haul.codes import is_large, kind_of
+from haul.by_parts import Objects
+from haul.codes import is_large, kind_of, text_of_code
 from haul.columns import cut
-from haul.compare import one_in
-from haul.drawing import picture, soup_path
-from haul.islands import Parts, parts_of
-from haul.labels import LABELLED_ROWS
+from haul.drawing import path_of, picture
+from haul.ends import End, ends_of
+from haul.labels import label_of, marked
+from haul.life import read_wechsler, rule_of, soup_of
 from haul.names import NAMES
-from haul.phases import Cells, cells_of, phases_of
+from haul.parts import Separation, object_of
 from haul.program import Census
+from haul.rates import one_in
 from haul.rle import LIFE, header_rule
 from haul.text import Haul, Job
 from haul.words import counted
@@ -29,88 +32,101 @@ PROFILE_OPTIONS = ("--period", "--horizon", "--stride", "--limit")
 # So many of the most frequent objects have a bar.
 BARS = 20
 NAME_LENGTH = 26
-# So many soups are run by one call, several of which are made at a time.
-SOUPS_IN_A_CALL = 100
 
-HEADS = ["Picture", "Code", "Name", "What it is", "Cells", "Total", "One object in", "Soups with one", "Sample soups", "Islands"]
+HEADS = ["Picture", "Code", "Name", "What it is", "Cells", "Total", "One object in", "Soups with one", "Sample soups", "Parts"]
 NOT_SORTED = ("Picture", "Sample soups")
 KINDS = {"s": "still life", "p": "oscillator of period", "q": "spaceship of period"}
 
 
 @dataclass
-class Asked:
-    """What `census` says of the objects and soups of a haul, by codes and by numbers."""
+class View:
+    """One of the two ways in which a page counts: whole objects, or their parts."""
 
-    drawings: dict[str, str | None]
-    # Of the first rows: all phases.
-    phases: dict[str, list[Cells]]
-    parts: dict[str, Parts]
-    soups: dict[int, str]
-    # Of the soups of the first rows: the generation in which each has settled, and how many cells it has then.
-    ends: dict[int, tuple[int, int]]
-
-
-def page_of(census: Census, haul: Haul, least: int, play: int = 500, of_all: bool = False) -> Iterator[str]:
-    """The page, piece by piece. Codes with less than so many objects are left out. The first rows, so many, show phases and run
-    their soups; and all have labels, or those of the first rows of a table."""
-    codes = sorted((code for code in haul.totals if haul.totals[code] >= least), key=lambda code: (-haul.totals[code], code))
-    # All is asked before the first byte is written, so a page is whole or not there.
-    asked = asked_of(census, haul, codes, play, None if of_all else LABELLED_ROWS)
-    before, after = map(Template, beside("page.html").split("$rows"))
-    yield before.substitute(words_of(haul, codes, asked.parts, least))
-    for code in codes:
-        yield row(haul, code, asked)
-    yield after.substitute(script=beside("player.js") + beside("page.js"))
+    # What the page calls it.
+    counts: str
+    haul: Haul
+    # The codes that have a row, the most frequent first.
+    codes: list[str]
+    # The sum of all totals, with or without a row.
+    objects: int
 
 
-def asked_of(census: Census, haul: Haul, codes: list[str], play: int, labelled: int | None) -> Asked:
-    rule = haul.job.rule
-    named = [code for code in codes if not is_large(code)]
-    drawings = dict(zip(named, census.objects(named), strict=True))
-    first = codes if labelled is None else codes[: max(labelled, play)]
-    phases = phases_of(census, rule, {code: drawing for code in first if (drawing := drawings.get(code))})
-    parts = parts_of(census, rule, {code: phases[code] for code in codes[:labelled] if code in phases})
-    numbers = sorted({number for code in codes for number in haul.samples[code]})
-    soups = dict(zip(numbers, census.soups(haul.job.seed, numbers), strict=True))
-    played = sorted({number for code in codes[:play] for number in haul.samples[code]})
-    ends = list(census.each(lambda part: ends_of(census, haul.job, soups, part), played, SOUPS_IN_A_CALL, "soups run"))
-    return Asked(drawings, {code: phases[code] for code in codes[:play] if code in phases}, parts, soups, dict(ChainMap(*ends)))
+@dataclass
+class Known:
+    """What is known of the objects and soups of a page."""
+
+    separations: dict[str, Separation]
+    # Objects whose phases are shown.
+    moving: set[str]
+    ends: dict[int, End]
 
 
-def ends_of(census: Census, job: Job, soups: dict[int, str], numbers: list[int]) -> dict[int, tuple[int, int]]:
-    """When soups have settled, and how many cells they have then; nothing of those that don't."""
-    ends: dict[int, tuple[int, int]] = {}
-    for number, (settled, *_) in census.reports(job, numbers).items():
-        if settled.startswith("at="):
-            generation = int(settled.removeprefix("at="))
-            ends[number] = generation, census.population(job.rule, generation, soups[number])
-    return ends
+def page_of(census: Census, haul: Haul, least: int, play: int = 500) -> Iterator[str]:
+    """Yields the page, piece by piece. Codes with fewer than `least` objects have no row. The first `play` rows show phases and run
+    their soups."""
+    objects = Objects(haul)
+    views = [view("objects", haul, least), view("parts", objects.by_parts(), least)]
+    # All is known before the first byte is written, so a page is whole or not there.
+    played = sorted({number for code in views[0].codes[:play] for number in haul.samples[code]})
+    separations = objects.separations(code for view in views for code in view.codes)
+    known = Known(separations, {code for view in views for code in view.codes[:play]}, ends_of(census, haul.job, played))
+    first, second, last = map(Template, re.split(r"\$(?:object|part)_rows", beside("page.html")))
+    yield first.substitute(words_of(haul, views, known, least))
+    for code in views[0].codes:
+        yield row(views[0], code, known)
+    yield second.substitute()
+    for code in views[1].codes:
+        yield row(views[1], code, known)
+    yield last.substitute(script=beside("player.js") + beside("page.js"))
+
+
+def view(counts: str, haul: Haul, least: int) -> View:
+    codes = (code for code in haul.totals if haul.totals[code] >= least)
+    return View(counts, haul, sorted(codes, key=lambda code: (-haul.totals[code], code)), haul.objects())
 
 
 def beside(name: str) -> str:
-    """A file in the folder of this one."""
+    """Returns a file in the folder of this one."""
     return Path(__file__).with_name(name).read_text("utf-8")
 
 
-def words_of(haul: Haul, codes: list[str], parts: dict[str, Parts], least: int) -> dict[str, str]:
-    """What stands before the table, by its places in page.html: what census it is, in words, and how it can be checked."""
+def words_of(haul: Haul, views: list[View], known: Known, least: int) -> dict[str, str]:
+    """Returns what stands before the table, by its places in page.html: what census it is, in words, and how it can be checked."""
     job = haul.job
     where = "in Conway's Game of Life" if job.rule == LIFE else f"under {header_rule(job.rule)}"
-    soups = f"{haul.soups:,} of {haul.size():,}" if haul.soups < haul.size() else f"{haul.soups:,}"
-    rate = f"{haul.objects() / haul.soups:.2f}" if haul.soups else "none"
-    facts = [
-        ("Soups", soups), ("Unsettled", f"{haul.unsettled:,}"), ("Settled for good", f"{haul.for_good:,}"),
-        ("Objects", f"{haul.objects():,}"), ("Objects a soup", rate), ("Kinds of object", f"{len(haul.totals):,}"),
-    ]
-    less, more = f"less than {least:,} and", len(haul.totals) - len(codes)
     heads = "".join(f"<th scope='col'>{name if name in NOT_SORTED else f'<button type=button>{name}</button>'}</th>" for name in HEADS)
     return {
         "title": escape(f"A census of {counted(haul.soups, 'soup')} {where}"), "style": beside("page.css"), "ranges": ranges_words(haul),
         "seed": f"seed <code>{escape(job.seed)}</code>" if job.seed else "the empty seed", "rule": job.rule, "rule_of_others": header_rule(job.rule), "profile": escape(profile_words(job)),
-        "facts": "".join(f"<div><dt>{name}</dt><dd>{value}</dd></div>" for name, value in facts), "check": check_words(haul),
-        "bars": "".join(bars(haul, codes[:BARS], parts)), "shown": counted(len(codes), "kind"), "heads": heads, "soups": str(haul.soups),
-        "left_out": f" {counted(more, f'more has {less} is', f'more have {less} are')} left out." if more else "",
+        "facts": in_both(views, "dl", " class='facts'", facts), "check": check_words(haul), "heads": heads,
+        "bars": in_both(views, "div", "", lambda view: "".join(bars(view, known))),
+        "shown": in_both(views, "span", "", lambda view: shown_words(view, least)),
     }
+
+
+def in_both(views: list[View], tag: str, attributes: str, written: Callable[[View], str]) -> str:
+    """Writes an element for each view. The script shows that of the view that is chosen; the first is seen without it."""
+    return "".join(
+        f"<{tag}{attributes} data-counts='{view.counts}'{' hidden' if view is not views[0] else ''}>{written(view)}</{tag}>" for view in views
+    )
+
+
+def facts(view: View) -> str:
+    haul = view.haul
+    soups = f"{haul.soups:,} of {haul.size():,}" if haul.soups < haul.size() else f"{haul.soups:,}"
+    rate = f"{view.objects / haul.soups:.2f}" if haul.soups else "none"
+    said = [
+        ("Soups", soups), ("Unsettled", f"{haul.unsettled:,}"), ("Settled for good", f"{haul.for_good:,}"),
+        ("Objects", f"{view.objects:,}"), ("Objects per soup", rate), ("Kinds of object", f"{len(haul.totals):,}"),
+    ]
+    return "".join(f"<div><dt>{name}</dt><dd>{value}</dd></div>" for name, value in said)
+
+
+def shown_words(view: View, least: int) -> str:
+    """Writes how many kinds have a row, and how many don't."""
+    less, more = f"fewer than {least:,} objects and", len(view.haul.totals) - len(view.codes)
+    left_out = f" {counted(more, f'more has {less} is', f'more have {less} are')} left out." if more else ""
+    return f"{counted(len(view.codes), 'kind')}, the most frequent first.{left_out}"
 
 
 def ranges_words(haul: Haul) -> str:
@@ -140,8 +156,9 @@ def check_words(haul: Haul) -> str:
     )
 
 
-def bars(haul: Haul, codes: list[str], parts: dict[str, Parts]) -> Iterator[str]:
-    """A bar for each of the most frequent objects, on a logarithmic scale."""
+def bars(view: View, known: Known) -> Iterator[str]:
+    """Yields a bar for each of the most frequent objects, on a logarithmic scale."""
+    haul, codes = view.haul, view.codes[:BARS]
     if not codes:
         return
     frequent = "The most frequent one" if len(codes) == 1 else f"The {len(codes)} most frequent"
@@ -156,7 +173,7 @@ def bars(haul: Haul, codes: list[str], parts: dict[str, Parts]) -> Iterator[str]
     for place, code in enumerate(codes):
         total = haul.totals[code]
         y, length = 18 * place, 2 + log10(total) * scale
-        name = cut(NAMES.get(code) or label_of(code, parts) or code, NAME_LENGTH)
+        name = cut(label_of(code, known.separations[code]) or code, NAME_LENGTH)
         yield (
             f"<text x='194' y='{y + 15}' text-anchor='end'>{escape(name)}</text>"
             f"<path class='bar' d='M200 {y + 4}h{length:.1f}v13h-{length:.1f}z'/>"
@@ -165,31 +182,32 @@ def bars(haul: Haul, codes: list[str], parts: dict[str, Parts]) -> Iterator[str]
     yield "</svg>\n"
 
 
-def row(haul: Haul, code: str, asked: Asked) -> str:
-    """An object's row. Its samples are there for whoever runs no script; else the script makes them when the row comes into sight,
+def row(view: View, code: str, known: Known) -> str:
+    """Writes an object's row. Its samples are there for readers without scripts; the script makes them when the row comes into sight,
     since a browser takes long to make thirty thousand of them at once."""
-    total, drawing, parts = haul.totals[code], asked.drawings.get(code), asked.parts.get(code)
-    if drawing is not None:
-        phases = asked.phases.get(code, [cells_of(drawing.splitlines())])
-        image, cells = picture(drawing, phases, NAMES.get(code, code)), str(drawing.count("O"))
-    elif is_large(code):
-        # A still life's number is that of its cells.
-        image, cells = "too large to be drawn", code.removeprefix("ov_s") if code.startswith("ov_s") else ""
-    else:
-        # What stands in a haul need not be right: this code names no object that can be shown.
-        image, cells = "can't be drawn", ""
-    samples = "".join(sample(haul.job, number, soup_path(asked.soups[number]), asked.ends.get(number)) for number in haul.samples[code])
-    apart = f" data-parts='{' '.join(parts.codes)}'" if parts and parts.codes else ""
+    haul, total, separation = view.haul, view.haul.totals[code], known.separations[code]
+    image, cells = drawn(haul.job.rule, code, code in known.moving)
+    samples = "".join(sample(haul.job, number, path_of(soup_of(f"{haul.job.seed}{number}")), known.ends.get(number)) for number in haul.samples[code])
+    parts = marked("" if code in NAMES else label_of(code, separation), separation)
     return (
-        f"<tr{apart}><td>{image}</td><td>{linked(code, haul.job.rule)}</td><td>{escape(NAMES.get(code, ''))}</td><td>{kind_words(code)}</td>"
-        f"<td>{cells}</td><td>{total:,}</td><td>{round(haul.objects() / total):,}</td><td>1 in {counted(one_in(haul.soups, total), 'soup')} at most</td>"
-        f"<td><noscript>{samples}</noscript></td><td>{escape(label_of(code, asked.parts))}</td></tr>\n"
+        f"<tr><td>{image}</td><td>{linked(code, haul.job.rule)}</td><td>{escape(NAMES.get(code, ''))}</td><td>{kind_words(code)}</td>"
+        f"<td>{cells}</td><td>{total:,}</td><td>{round(view.objects / total):,}</td><td>1 in {counted(one_in(haul.soups, total), 'soup')} at most</td>"
+        f"<td><noscript>{samples}</noscript></td><td>{escape(parts)}</td></tr>\n"
     )
 
 
-def label_of(code: str, parts: dict[str, Parts]) -> str:
-    """What an object without a name is called, if it has several islands."""
-    return parts[code].label if code in parts and code not in NAMES else ""
+def drawn(rule: str, code: str, moves: bool) -> tuple[str, str]:
+    """Returns the picture of an object, with its phases if it moves, and the number of its cells."""
+    text = text_of_code(code)
+    cells = read_wechsler(text) if text is not None else None
+    if cells is not None:
+        recurrence = object_of(rule_of(rule), code) if moves else None
+        return picture(recurrence.phases if recurrence else [cells], NAMES.get(code, code)), str(len(cells))
+    known = kind_of(code)
+    if is_large(code):
+        return "too large to be drawn", str(known.number) if known and known.letter == "s" else ""
+    # What stands in a haul need not be right: this code names no object that can be shown.
+    return "can't be drawn", ""
 
 
 def kind_words(code: str) -> str:
@@ -197,8 +215,7 @@ def kind_words(code: str) -> str:
     known = kind_of(code)
     if known is None:
         return "an object"
-    kind, period = known
-    return KINDS[kind] if kind == "s" else f"{KINDS[kind]} {period}"
+    return KINDS[known.letter] + ("" if known.letter == "s" else f" {known.period()}")
 
 
 def linked(code: str, rule: str) -> str:
@@ -208,18 +225,20 @@ def linked(code: str, rule: str) -> str:
     return f"<a href='https://catagolue.hatsya.com/object/{text}/{escape(rule)}'>{text}</a>"
 
 
-def sample(job: Job, number: int, path: str, end: tuple[int, int] | None) -> str:
+def sample(job: Job, number: int, path: str, end: End | None) -> str:
     """A sample soup, which opens to its picture and to the words that show what becomes of it. One that the page can run has its end
     with it."""
-    known = f" data-settled='{end[0]}' data-population='{end[1]}'" if end else ""
+    known = f" data-settled='{end.generation}' data-least='{end.least}' data-most='{end.most}'" if end else ""
+    before, after = commands(job)
     return (
         f"<details{known}><summary>{number}</summary><svg class='soup' viewBox='0 0 16 16'><path d='{path}'/></svg>"
-        f"<code>{escape(commands(job, number))}</code></details>"
+        f"<code>{before}{number}{after}</code></details>"
     )
 
 
-def commands(job: Job, number: int) -> str:
-    """What to type into a shell, whatever stands in the seed."""
+@cache
+def commands(job: Job) -> tuple[str, str]:
+    """Returns what to type into a shell, before and after a soup's number, whatever stands in the seed."""
     seed = f" --seed={shlex.quote(job.seed)}" if job.seed else ""
     name = ["census name"]
     if job.rule != LIFE:
@@ -227,4 +246,4 @@ def commands(job: Job, number: int) -> str:
     for option, value, standard in zip(PROFILE_OPTIONS, job.profile, STANDARD_PROFILE, strict=True):
         if value != standard:
             name.append(f"{option}={value}")
-    return f"census soup{seed} {number} | {' '.join(name)}"
+    return escape(f"census soup{seed} "), escape(f" | {' '.join(name)}")

@@ -2,7 +2,7 @@
 
 from __future__ import annotations
 
-from haul.rle import SIDE, Rows
+from haul.life import SIDE, Rows
 
 
 class BadPlaintext(Exception):
@@ -29,3 +29,13 @@ def read_plaintext(text: bytes) -> Rows:
             raise BadPlaintext(f"bad byte at line {number} column {good + 1}")
         rows.append(row.decode("ascii").replace("*", "O"))
     return rows
+
+
+def trimmed(rows: Rows) -> Rows:
+    """Returns the rows of a pattern's bounding box, as `census` prints them."""
+    live = [row for row in rows if "O" in row]
+    if not live:
+        return []
+    left, right = min(row.index("O") for row in live), max(row.rindex("O") for row in live)
+    first, last = (next(place for place in order if "O" in rows[place]) for order in (range(len(rows)), reversed(range(len(rows)))))
+    return [row[left : right + 1] for row in rows[first : last + 1]]

@@ -17,9 +17,10 @@ const next = (cells, births, survivals) => {
   return later;
 };
 
-const player = (soup, rule, settled, population) => {
+const player = (soup, rule, settled, least, most) => {
   const start = new Set(soup.map(([x, y]) => (y + FAR / 2) * FAR + x + FAR / 2)), births = numbers(rule, 'B'), survivals = numbers(rule, 'S');
   const place = document.createElement('div'), canvas = document.createElement('canvas'), said = document.createElement('output');
+  const saidByCensus = least === most ? least : `${least} to ${most}`;
   let cells = start, generation = 0, aim = 0;
   place.className = 'player';
   canvas.width = canvas.height = SIGHT * POINTS;
@@ -33,7 +34,7 @@ const player = (soup, rule, settled, population) => {
     for (const cell of cells) pen.fillRect((cell % FAR - first) * POINTS, (Math.floor(cell / FAR) - first) * POINTS, POINTS, POINTS);
     const now = `generation ${generation} of ${settled}, ${cells.size} cells`;
     said.textContent = generation < settled ? now
-      : cells.size === population ? `${now}: settled, as census says` : `${now}, but census says ${population}: this player is wrong`;
+      : least <= cells.size && cells.size <= most ? `${now}: settled, as census says` : `${now}, but census says ${saidByCensus}: this player is wrong`;
   };
   const step = () => { cells = next(cells, births, survivals); generation += 1; };
   // Goes on to the generation that is aimed at: by one in each frame, or by as many as take no longer than a frame.

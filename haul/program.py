@@ -1,7 +1,8 @@
-"""The census program, of which everything is asked that has to be right about Life."""
+"""The census program, which decides whether a haul is right, and when a soup has settled."""
 
 from __future__ import annotations
 
+import errno
 import os
 import re
 import shutil
@@ -14,7 +15,7 @@ from contextlib import contextmanager, suppress
 from pathlib import Path
 from typing import IO, TypeVar
 
-from haul.children import children
+from haul.children import NoThread, children, start_thread
 from haul.text import Job, Range
 
 # The program takes no more numbers in one call.
@@ -24,41 +25,16 @@ RANGES_IN_A_CALL = 2000
 # The statuses of the program that are passed on; each other one counts as a read that failed.
 PASSED_ON = (2, 3, 4, 5)
 FAILED = 5
+# Why a program can't be started where there is none, or none of this machine. With any other reason there may be one.
+NOT_THERE = (errno.ENOENT, errno.ENOTDIR, errno.EACCES, errno.EPERM, errno.ENOEXEC, errno.ELOOP, errno.ENAMETOOLONG, errno.EINVAL)
 
-# What is printed of a pattern, of one that has a cell, and of one that is looked at in generation 0.
-DRAWN = r"(?:[.O]+\n)*"
-DRAWING = r"(?:[.O]+\n)+"
-FOUND = r"unsettled\n|settled 0\n(?:[a-z0-9_]+ [0-9]+\n)*"
 # A line of `work` after the job: a number, and what was found.
 REPORT = re.compile(rb"([0-9]{1,13}) ([a-z0-9_=* ]+)")
 
-# Thousands of calls are made by shells, since a shell starts a program with less work than Python does, and Python starts one at
-# a time whatever the number of its threads. A shell makes some calls, one after another: the program, its command and an option
-# come first, and then for each call a word and what it reads. After each answer the shell prints the status in a line, after an `=`. It ends at
-# the first one that is neither 0 nor 3.
-CALLS_OF_A_SHELL = 100
-SHELL = ["/bin/sh", "-c"]
-CALLS = """
-program=$1 command=$2 option=$3
-shift 3
-call() {
-    "$program" "$command" "$option" "$1" << END
-$2
-END
-}
-while [ $# != 0 ]; do
-    call "$1" "$2"
-    status=$?
-    echo "=$status"
-    case $status in 0 | 3) ;; *) exit ;; esac
-    shift 2
-done
-"""
 # A release has a program for each level of processors, and this shell script says which one is for the processor that is there.
+SHELL = ["/bin/sh", "-c"]
 CHOOSES = 'libexec=$1; . "$libexec/processor.sh"; printf %s "$program"'
 
-# The word of a call, and what it reads.
-Call = tuple[str, str]
 Asked = TypeVar("Asked")
 Said = TypeVar("Said")
 
@@ -78,16 +54,16 @@ class Ended(Exception):
 class Census:
     """The census program at a path."""
 
-    def __init__(self, path: str | None, builds: bool = True) -> None:
-        found = path or beside(builds) or shutil.which("census")
+    def __init__(self, path: str | None) -> None:
+        found = path or beside() or shutil.which("census")
         if found is None:
             raise NoCensus("no census beside this program or on the PATH")
         self.path = found
 
-    def ask(self, words: list[str], read: str = "") -> bytes:
+    def ask(self, words: list[str]) -> bytes:
         """What the program prints."""
-        with started([self.path, *words], subprocess.PIPE, subprocess.PIPE, stdin=subprocess.PIPE) as program:
-            printed, errors = program.communicate(read.encode("ascii"))
+        with started([self.path, *words], subprocess.PIPE, subprocess.PIPE) as program:
+            printed, errors = program.communicate()
         return checked(program.returncode, printed, errors)
 
     def each(self, ask: Callable[[list[Asked]], Said], asked: list[Asked], size: int, told: str) -> Iterator[Said]:
@@ -95,68 +71,11 @@ class Census:
         parts = [asked[start : start + size] for start in range(0, len(asked), size)]
         done = 0
         with ThreadPoolExecutor(len(os.sched_getaffinity(0))) as pool:
-            for part, said in zip(parts, pool.map(ask, parts), strict=True):
+            for part, said in zip(parts, mapped(pool, ask, parts), strict=True):
                 done += len(part)
                 tell(f"{done} of {len(asked)} {told}")
                 yield said
         tell("")
-
-    def objects(self, codes: list[str]) -> Iterator[str | None]:
-        """The objects that codes name; none for a code that the program refuses."""
-        # No code is taken for an option.
-        return self.answers("show", "--", [(code, "") for code in codes], DRAWING, "objects drawn", refuses=True)
-
-    def soups(self, seed: str, numbers: list[int]) -> Iterator[str]:
-        """The soups of a seed with these numbers."""
-        calls = [(str(number), "") for number in numbers]
-        return map(str, self.answers("soup", f"--seed={seed}", calls, DRAWING, "soups drawn"))
-
-    def runs(self, rule: str, asked: list[tuple[int, str]]) -> Iterator[str]:
-        """Patterns after so many generations."""
-        calls = [(str(generations), pattern) for generations, pattern in asked]
-        return map(str, self.answers("run", f"--rule={rule}", calls, DRAWN, "phases drawn"))
-
-    def population(self, rule: str, generations: int, pattern: str) -> int:
-        """How many live cells a pattern has after so many generations."""
-        drawn = self.ask(["run", f"--rule={rule}", str(generations)], pattern)
-        if drawn.translate(None, b".O\n"):
-            raise missing(self.path)
-        return drawn.count(b"O")
-
-    def alone(self, rule: str, patterns: list[str]) -> Iterator[str | None]:
-        """The code of each pattern that is one object by itself, and none for another."""
-        calls = [("--limit=0", pattern) for pattern in patterns]
-        for found in self.answers("name", f"--rule={rule}", calls, FOUND, "islands named"):
-            one = re.fullmatch(r"settled 0\n([a-z0-9_]+) 1\n", str(found))
-            yield one[1] if one else None
-
-    def answers(self, command: str, option: str, calls: list[Call], form: str, told: str, refuses: bool = False) -> Iterator[str | None]:
-        """What these calls of a command print, in a form; none for what it refuses, if it may refuse something."""
-        def by_a_shell(part: list[Call]) -> list[str | None]:
-            words = [word for call in part for word in call]
-            printed = printed_by([*SHELL, CALLS, "sh", self.path, command, option, *words])
-            return list(self.answered([command, option], part, printed, form, refuses))
-
-        for answered in self.each(by_a_shell, calls, CALLS_OF_A_SHELL, told):
-            yield from answered
-
-    def answered(self, words: list[str], calls: list[Call], printed: bytes, form: str, refuses: bool) -> Iterator[str | None]:
-        """The answers in what a shell printed. What isn't answered there as it should be is asked by a call of its own, which tells
-        what is wrong."""
-        answer = re.compile(rf"({form}|)=([0-9]+)\n".encode("ascii"))
-        place = 0
-        for word, read in calls:
-            found = answer.match(printed, place)
-            place = found.end() if found else len(printed)
-            if found and found[2] == b"3" and refuses:
-                yield None
-            elif found and found[1] and found[2] == b"0":
-                yield found[1].decode("ascii")
-            else:
-                again = self.ask([*words, word], read)
-                if not re.fullmatch(form.encode("ascii"), again):
-                    raise missing(self.path)
-                yield again.decode("ascii")
 
     def reports(self, job: Job, numbers: list[int]) -> dict[int, list[str]]:
         """What these soups leave, by one call: the fields of a report line after the number of the soup."""
@@ -180,7 +99,7 @@ class Census:
             errors = bytearray()
             watcher = threading.Thread(target=pass_on, args=(program.stderr, errors))
             try:
-                watcher.start()
+                start_thread(watcher)
                 shutil.copyfileobj(program.stdout, out)
             except BaseException:
                 # Else it would be waited for, perhaps for hours.
@@ -192,8 +111,8 @@ class Census:
         checked(program.returncode, b"", bytes(errors))
 
 
-def beside(builds: bool) -> str | None:
-    """The program that is installed with this one, or that of this checkout, which its launcher builds if it should and need be."""
+def beside() -> str | None:
+    """The program that is installed with this one, or that of this checkout, which its launcher builds if need be."""
     starter = Path(sys.argv[0]).resolve().parent / "census"
     if not os.access(starter, os.X_OK):
         return None
@@ -203,14 +122,11 @@ def beside(builds: bool) -> str | None:
         return for_this_processor(starter, top / "libexec" / "gokzerd")
     if not (starter.parent / "built.bash").is_file():
         return str(starter)
-    built = top / "crates" / "census" / "out" / "census"
-    if not builds:
-        return str(built) if os.access(built, os.X_OK) else None
     with started([str(starter), "--version"], subprocess.DEVNULL, None) as launcher:
         launcher.wait()
     if launcher.returncode != 0:
         raise missing(str(starter))
-    return str(built)
+    return str(top / "crates" / "census" / "out" / "census")
 
 
 def for_this_processor(starter: Path, libexec: Path) -> str:
@@ -222,27 +138,30 @@ def for_this_processor(starter: Path, libexec: Path) -> str:
     return os.fsdecode(chosen)
 
 
+def mapped(pool: ThreadPoolExecutor, ask: Callable[[list[Asked]], Said], parts: list[list[Asked]]) -> Iterator[Said]:
+    """Asks all parts, in threads that are started at once."""
+    try:
+        return pool.map(ask, parts)
+    except RuntimeError as error:
+        raise NoThread(str(error)) from None
+
+
 def missing(path: str) -> NoCensus:
     """What is said if there is no program at a path, or one that doesn't answer as the census program does."""
     return NoCensus(f"no census at {path}")
 
 
 @contextmanager
-def started(words: list[str], stdout: int, stderr: int | None, leads: bool = False, stdin: int = subprocess.DEVNULL) -> Iterator[subprocess.Popen[bytes]]:
+def started(words: list[str], stdout: int, stderr: int | None) -> Iterator[subprocess.Popen[bytes]]:
     """A program that runs, and has ended after this. With no number for the errors, it complains by itself."""
     try:
-        program = children.start(words, stdin, stdout, stderr, leads)
-    except OSError:
-        raise missing(words[0]) from None
+        program = children.start(words, stdout, stderr)
+    except OSError as error:
+        if error.errno in NOT_THERE:
+            raise missing(words[0]) from None
+        raise
     with children.known(program):
         yield program
-
-
-def printed_by(words: list[str]) -> bytes:
-    """What a shell prints; nothing if there is no shell."""
-    with suppress(NoCensus), started(words, subprocess.PIPE, subprocess.DEVNULL, leads=True) as shell:
-        return shell.communicate()[0]
-    return b""
 
 
 def checked(status: int, printed: bytes, errors: bytes) -> bytes:

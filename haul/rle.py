@@ -7,15 +7,14 @@ from __future__ import annotations
 
 import re
 
-# Plaintext has no more columns, or rows: `census` reads no larger one.
-SIDE = 1000
+from haul.life import SIDE, Rows
+from haul.rule_names import rule_named
+
 # The longest line that is written.
 LINE_LENGTH = 70
 # A longer count is cut to as many digits. It is too large for live cells all the same, and dead ones are only passed over.
 COUNT_DIGITS = 20
 LIFE = "b3s23"
-
-Rows = list[str]
 
 HEADER = re.compile(rb"[ \t]*x[ \t]*=[ \t]*[0-9]+[ \t]*,[ \t]*y[ \t]*=[ \t]*[0-9]+[ \t]*(?:,[ \t]*rule[ \t]*=[ \t]*([^\r\n]*?)[ \t]*)?")
 # `B36/S23`, `b36s23`, and survival first as in `23/36`.
@@ -77,14 +76,14 @@ class Reading:
         if rule is not None:
             self.look_at_rule(rule.decode("latin-1"), self.place + found.start(1))
         self.place = end
-        return None if rule is None else rule.decode("ascii")
+        return None if rule is None else rule.decode("latin-1")
 
     def look_at_rule(self, rule: str, place: int) -> None:
         if ":" in rule:
             raise self.bad(place + rule.index(":"), "a bounded grid")
         option = option_of(rule)
         if option is None:
-            raise self.bad(place, "a rule that is neither B/S nor S/B")
+            raise self.bad(place, "a rule that is neither B/S, S/B nor a known name")
         if option.startswith("b0"):
             raise self.bad(place, "birth on zero neighbours")
 
@@ -134,10 +133,10 @@ def read_rle(text: bytes) -> tuple[Rows, str | None]:
 
 
 def option_of(rule: str) -> str | None:
-    """A rule as it stands in a header, as the value of `--rule`."""
+    """A rule or its name as it stands in a header, as the value of `--rule`."""
     found = BIRTHS_FIRST.fullmatch(rule) or SURVIVALS_FIRST.fullmatch(rule)
     if found is None:
-        return None
+        return rule_named(rule)
     births, survivals = ("".join(sorted(set(found[name]))) for name in ("births", "survivals"))
     return f"b{births}s{survivals}"
 

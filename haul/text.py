@@ -25,9 +25,24 @@ DECIMAL = re.compile(rb"0|[1-9][0-9]*")
 RULE = re.compile(rb"b1?2?3?4?5?6?7?8?s0?1?2?3?4?5?6?7?8?")
 SEED = re.compile(rb"seed=[!-~]{0,64}")
 CODE = re.compile(rb"[a-z0-9_]{1,400}")
-# What nearly every row of the two tables is.
-TOTAL_ROW = re.compile(rb"([a-z0-9_]{1,400}) ([1-9][0-9]{0,17})\n")
-SAMPLE_ROW = re.compile(rb"([a-z0-9_]{1,400})((?: [1-9][0-9]{0,12}){1,3})\n")
+# The rows of the two tables.
+TOTAL_ROW = re.compile(rb"([a-z0-9_]{1,400}) ([1-9][0-9]{0,19})\n")
+SAMPLE_ROW = re.compile(rb"([a-z0-9_]{1,400})((?: (?:0|[1-9][0-9]{0,12})){1,3})\n")
+
+# What is wrong with a text whose words are well formed.
+NOT_THE_SUM = "the objects are not the sum of the table"
+MORE_SAMPLES = "more samples than objects"
+CODES_DESCEND = "the codes are not in ascending order"
+SAMPLES_DESCEND = "the samples are not in ascending order"
+OTHER_CODE = "not the code of the same row of the census table"
+OUT_OF_RANGE = "the number is in no range"
+TOO_LARGE = "the number is too large"
+RANGES_DESCEND = "the ranges are not in ascending order, or touch"
+MORE_SOUPS = "more soups than numbers in the ranges"
+MORE_UNSETTLED = "more unsettled soups than soups"
+MORE_FOR_GOOD = "more soups for good than settled soups"
+BELOW_PERIOD = "the horizon is below the period"
+MORE_HAULS = "more than one haul"
 
 # Least and most of period, stride and limit. A horizon isn't below its period.
 PERIOD, STRIDE, LIMIT = (1, 64), (1, 10000), (0, 100000)
@@ -37,10 +52,11 @@ Range = tuple[int, int]
 
 
 class BadHaul(Exception):
-    """A text is not that of a haul, from a place on: line and column count from 1, and a column is a byte."""
+    """A text is not that of a haul, from a place on: line and column count from 1, and a column is a byte. If the words there are
+    well formed, it says why they are wrong."""
 
-    def __init__(self, line: int, column: int) -> None:
-        super().__init__(f"bad haul at line {line} column {column}")
+    def __init__(self, line: int, column: int, why: str = "") -> None:
+        super().__init__(f"bad haul at line {line} column {column}" + (f": {why}" if why else ""))
 
 
 @dataclass(frozen=True)
@@ -155,10 +171,10 @@ class Lines:
         self.fields = body.split(b" ") if body else []
         self.read = 0
 
-    def bad_field(self, back: int = 0) -> BadHaul:
+    def bad_field(self, back: int = 0, why: str = "") -> BadHaul:
         """The fault that the field to be read next, or one read before it, isn't as it should be."""
         before = self.fields[: self.read - back]
-        return BadHaul(self.number, sum(map(len, before)) + len(before) + 1 - (self.is_missing(back)))
+        return BadHaul(self.number, sum(map(len, before)) + len(before) + 1 - (self.is_missing(back)), why)
 
     def is_missing(self, back: int) -> int:
         """1 if there is no such field: what is missing would begin after a space that isn't there."""
@@ -181,21 +197,27 @@ class Lines:
             raise self.bad_field(1)
         return found.decode("ascii")
 
-    def number_in(self, least: int, most: int) -> int:
+    def number_in(self, least: int, most: int, too_small: str = "", too_large: str = "") -> int:
+        """The next field, a number. Both texts say what is wrong with one that isn't from `least` to `most`."""
         found = self.field()
-        if not DECIMAL.fullmatch(found) or not least <= int(found) <= most:
+        if not DECIMAL.fullmatch(found):
             raise self.bad_field(1)
-        return int(found)
+        number = int(found)
+        if number < least:
+            raise self.bad_field(1, too_small)
+        if number > most:
+            raise self.bad_field(1, too_large)
+        return number
 
     def end_line(self) -> None:
         if self.read < len(self.fields) or not self.is_ended:
             raise self.bad_field()
 
-    def only_number(self, name: bytes, most: int) -> int:
+    def only_number(self, name: bytes, most: int, too_large: str) -> int:
         """A line of its own: a name and a number."""
         self.next_line()
         self.word(name)
-        number = self.number_in(0, most)
+        number = self.number_in(0, most, too_large=too_large)
         self.end_line()
         return number
 
@@ -220,7 +242,7 @@ def read_one_haul(stream: IO[bytes]) -> Haul:
     lines = Lines(stream)
     haul = read_haul(lines)
     if lines.peek():
-        raise BadHaul(lines.number + 1, 1)
+        raise BadHaul(lines.number + 1, 1, MORE_HAULS if lines.peek() == b"@VERSION 2\n" else "")
     return haul
 
 
@@ -228,11 +250,11 @@ def read_haul(lines: Lines) -> Haul:
     begins = lines.number + 1
     job = read_job(lines)
     ranges = read_ranges(lines)
-    soups = lines.only_number(b"@NUM_SOUPS", size_of(ranges))
-    unsettled = lines.only_number(b"@NUM_UNSETTLED", soups)
-    for_good = lines.only_number(b"@NUM_FOR_GOOD", soups - unsettled)
-    objects = lines.only_number(b"@NUM_OBJECTS", TOTAL_LIMIT - 1)
-    not_the_sum = lines.bad_field(1)
+    soups = lines.only_number(b"@NUM_SOUPS", size_of(ranges), MORE_SOUPS)
+    unsettled = lines.only_number(b"@NUM_UNSETTLED", soups, MORE_UNSETTLED)
+    for_good = lines.only_number(b"@NUM_FOR_GOOD", soups - unsettled, MORE_FOR_GOOD)
+    objects = lines.only_number(b"@NUM_OBJECTS", TOTAL_LIMIT - 1, TOO_LARGE)
+    not_the_sum = lines.bad_field(1, NOT_THE_SUM)
     lines.only_words()
     lines.only_words(b"@CENSUS", b"TABLE")
     totals = read_totals(lines)
@@ -257,7 +279,7 @@ def read_job(lines: Lines) -> Job:
     lines.next_line()
     lines.word(b"@PROFILE")
     period = lines.number_in(*PERIOD)
-    horizon = lines.number_in(period, MOST_HORIZON)
+    horizon = lines.number_in(period, MOST_HORIZON, too_small=BELOW_PERIOD)
     stride = lines.number_in(*STRIDE)
     limit = lines.number_in(*LIMIT)
     lines.end_line()
@@ -271,8 +293,8 @@ def read_ranges(lines: Lines) -> list[Range]:
     while not ranges or lines.peek().removesuffix(b"\n").split(b" ")[0] == b"@RANGE":
         lines.next_line()
         lines.word(b"@RANGE")
-        first = lines.number_in(least, NUMBER_LIMIT - 1)
-        count = lines.number_in(0 if first == 0 else 1, NUMBER_LIMIT - first)
+        first = lines.number_in(least, NUMBER_LIMIT - 1, RANGES_DESCEND, TOO_LARGE)
+        count = lines.number_in(0 if first == 0 else 1, NUMBER_LIMIT - first, too_large=TOO_LARGE)
         lines.end_line()
         if count == 0:
             return []
@@ -286,64 +308,63 @@ def read_totals(lines: Lines) -> dict[str, int]:
     """The rows of the census table, and the empty line after them."""
     totals: dict[str, int] = {}
     latest = b""
-    while True:
-        row = lines.peek()
-        found = TOTAL_ROW.fullmatch(row)
-        if found is not None and found[1] > latest:
-            lines.skip()
-            latest = found[1]
-            totals[latest.decode("ascii")] = int(found[2])
-        elif row == b"\n":
-            lines.next_line()
-            return totals
-        else:
-            # The row is another one, or none: it is looked at field by field.
-            lines.next_line()
-            code = lines.matched(CODE).encode("ascii")
-            if code <= latest:
-                raise lines.bad_field(1)
-            latest = code
-            totals[code.decode("ascii")] = lines.number_in(1, TOTAL_LIMIT - 1)
-            lines.end_line()
+    while lines.peek() != b"\n":
+        found = TOTAL_ROW.fullmatch(lines.peek())
+        if found is None or found[1] <= latest or int(found[2]) >= TOTAL_LIMIT:
+            raise fault_of_total(lines, latest)
+        lines.skip()
+        latest = found[1]
+        totals[latest.decode("ascii")] = int(found[2])
+    lines.skip()
+    return totals
+
+
+def fault_of_total(lines: Lines, latest: bytes) -> BadHaul:
+    """What is wrong with the next line, which is no row after the one of the latest code."""
+    try:
+        lines.next_line()
+        if lines.matched(CODE).encode("ascii") <= latest:
+            return lines.bad_field(1, CODES_DESCEND)
+        lines.number_in(1, TOTAL_LIMIT - 1, too_large=TOO_LARGE)
+        lines.end_line()
+    except BadHaul as bad:
+        return bad
+    raise AssertionError("a row without a fault")
 
 
 def read_samples(lines: Lines, ranges: list[Range], totals: dict[str, int]) -> dict[str, list[int]]:
-    """A row for each code of the census table."""
+    """A row for each code of the census table: its samples ascend, and are in the ranges."""
     firsts = [first for first, _ in ranges]
     samples: dict[str, list[int]] = {}
     for code, total in totals.items():
         most = min(MOST_SAMPLES, total)
-        samples[code] = plain_numbers(lines, code, most, ranges) or read_numbers(lines, code, most, ranges, firsts)
+        found = SAMPLE_ROW.fullmatch(lines.peek())
+        numbers = list(map(int, found[2].split())) if found else []
+        is_right = found is not None and found[1].decode("ascii") == code and len(numbers) <= most and numbers == sorted(set(numbers))
+        if not is_right or not all(is_in(number, ranges, firsts) for number in numbers):
+            raise fault_of_samples(lines, code, total, ranges, firsts)
+        lines.skip()
+        samples[code] = numbers
     return samples
 
 
-def plain_numbers(lines: Lines, code: str, most: int, ranges: list[Range]) -> list[int] | None:
-    """What nearly every row is: `read_numbers` without a look at each field. `None` for any other row, which is not taken."""
-    found = SAMPLE_ROW.fullmatch(lines.peek())
-    if found is None or found[1].decode("ascii") != code or len(ranges) != 1:
-        return None
-    numbers = list(map(int, found[2].split()))
-    first, count = ranges[0]
-    if len(numbers) > most or numbers[0] < first or numbers[-1] >= first + count:
-        return None
-    if numbers != sorted(set(numbers)):
-        return None
-    lines.skip()
-    return numbers
-
-
-def read_numbers(lines: Lines, code: str, most: int, ranges: list[Range], firsts: list[int]) -> list[int]:
-    """The row of a code: one number at least, and so many at most, ascending."""
-    lines.next_line()
-    lines.word(code.encode("ascii"))
-    numbers: list[int] = []
-    while not numbers or (lines.read < len(lines.fields) and len(numbers) < most):
-        number = lines.number_in(numbers[-1] + 1 if numbers else 0, NUMBER_LIMIT - 1)
-        if not is_in(number, ranges, firsts):
-            raise lines.bad_field(1)
-        numbers.append(number)
-    lines.end_line()
-    return numbers
+def fault_of_samples(lines: Lines, code: str, total: int, ranges: list[Range], firsts: list[int]) -> BadHaul:
+    """What is wrong with the next line, which is no row of samples for this code."""
+    try:
+        lines.next_line()
+        if lines.matched(CODE) != code:
+            return lines.bad_field(1, OTHER_CODE)
+        latest, most = -1, min(MOST_SAMPLES, total)
+        for _ in range(min(max(len(lines.fields) - 1, 1), most)):
+            latest = lines.number_in(latest + 1, NUMBER_LIMIT - 1, SAMPLES_DESCEND, OUT_OF_RANGE)
+            if not is_in(latest, ranges, firsts):
+                return lines.bad_field(1, OUT_OF_RANGE)
+        if lines.read < len(lines.fields) and most == total and DECIMAL.fullmatch(lines.fields[lines.read]):
+            return lines.bad_field(0, MORE_SAMPLES)
+        lines.end_line()
+    except BadHaul as bad:
+        return bad
+    raise AssertionError("a row without a fault")
 
 
 def is_in(number: int, ranges: list[Range], firsts: list[int]) -> bool:

@@ -5,6 +5,7 @@ from __future__ import annotations
 import io
 import os
 import pty
+import shutil
 import signal
 import subprocess
 import sys
@@ -16,6 +17,7 @@ from pathlib import Path
 from unittest.mock import patch
 
 from haul import main
+from haul.children import NoThread
 from haul.tests.called import CENSUS, HAUL, TOP, census, run
 from haul.tests.drawn import text_of
 from haul.tests.test_text import SMALL
@@ -24,9 +26,9 @@ from haul.text import Haul, Job, read_one_haul
 # A haul over so many soups that its census takes hours. It isn't right.
 LONG = SMALL.replace("@RANGE 0 4", f"@RANGE 0 {2**24}").replace("SOUPS 2", f"SOUPS {2**24}").replace("@PROFILE 1 1 1 0", "@PROFILE 64 512 101 30300")
 
-# A haul of so many codes that they are asked by several shells. It isn't right.
-CODES = [f"xs4_{number}" for number in range(1000, 1300)]
-MANY = text_of(Haul(Job("", "b3s23", (1, 1, 1, 0)), [(0, 1)], 1, 0, 0, {code: 1 for code in CODES}, {code: [0] for code in CODES}))
+# A haul of so many sample soups that several calls run them. It isn't right.
+CODES = [f"xs4_{number}" for number in range(1000, 1600)]
+MANY = text_of(Haul(Job("", "b3s23", (1, 1, 1, 0)), [(0, 600)], 600, 0, 0, {code: 1 for code in CODES}, {code: [k] for k, code in enumerate(CODES)}))
 
 
 def in_shell(command: str, script: str = "", few: str = "") -> tuple[int, str, str]:
@@ -120,14 +122,12 @@ class Progress(unittest.TestCase):
         os.close(ours)
         return said
 
-    def test_a_page(self) -> None:
-        """A shell makes a hundred calls, and there are fifty drawings more than twice as many."""
-        codes = [f"xs4_{number}" for number in range(1000, 1250)]
-        text = text_of(Haul(Job("", "b3s23", (1, 1, 1, 0)), [(0, 150)], 150, 0, 0, {code: 1 for code in codes}, {code: [k % 150] for k, code in enumerate(codes)}))
-        told = self.told("page", "--play", "0", text=text.encode())
-        self.assertEqual(told[:3] + told[-2:], ["100 of 250 objects drawn", "200 of 250 objects drawn", "250 of 250 objects drawn",
-                                                "100 of 150 soups drawn", "150 of 150 soups drawn"])
-        self.assertEqual(sum(line.endswith("soups drawn") for line in told), 2)
+    def test_objects_that_are_separated(self) -> None:
+        """After each five hundred."""
+        codes = [f"xs4_{number}" for number in range(1000, 1600)]
+        text = text_of(Haul(Job("", "b3s23", (1, 1, 1, 0)), [(0, 1)], 1, 0, 0, {code: 1 for code in codes}, {code: [0] for code in codes}))
+        for words in (["table"], ["table", "--parts"], ["page", "--play", "0"]):
+            self.assertEqual(self.told(*words, text=text.encode())[:2], ["0 of 600 objects separated", "500 of 600 objects separated"])
 
     def test_soups_that_are_run(self) -> None:
         """A hundred by one call."""
@@ -167,7 +167,7 @@ class Usage(unittest.TestCase):
         for words, told in ((["check", "--workers=0"], "0 is not in 1 to 16"), (["check", "--workers=17"], "17 is not in 1 to 16"),
                             (["check", "--workers=x"], "x is not in 1 to 16"), (["check", "--workers=\u0663"], "\u0663 is not in 1 to 16"),
                             (["page", "--least=x"], "x is no number"), (["table", "--top=-1"], "-1 is no number"), (["table", "--top=\u0663"], "\u0663 is no number"),
-                            (["rle", "--rule=b3/s23"], "b3/s23 is no rule, as b3s23 is one")):
+                            (["check", "--census="], "an empty path"), (["rle", "--rule=b3/s23"], "b3/s23 is no rule, as b3s23 is one")):
             status, output, errors = run(*words)
             self.assertEqual((status, output), (2, ""))
             self.assertIn(told, errors)
@@ -178,6 +178,7 @@ class Usage(unittest.TestCase):
         for command, does in (("check", "take the census of a haul again, and compare"), ("join", "add up hauls of one job over sets that share no number"),
                               ("compare", "set hauls side by side"), ("table", "print the table of a haul, with how often each object comes"),
                               ("page", "make a page of a haul, with pictures of its objects and soups"),
+                              ("soup", "print the soup that a sample of Catagolue names"),
                               ("cells", "print a pattern in RLE as plaintext, which `census run` and `census name` read"),
                               ("rle", "print a plaintext pattern as RLE, which Golly and LifeWiki read")):
             self.assertIn(f" {command} {does} ", listed)
@@ -212,8 +213,13 @@ class Unforeseen(unittest.TestCase):
         self.assertEqual(ended.returncode, 1)
 
 
+    def test_another_error_is_not_one_of_memory(self) -> None:
+        """A `RuntimeError` that no thread has to do with is a fault of this program."""
+        with patch("haul.main.do_command", side_effect=RuntimeError("other")), self.assertRaisesRegex(RuntimeError, "^other$"):
+            main.run()
+
     def test_no_memory(self) -> None:
-        for error, line in ((MemoryError(), "out of memory"), (RuntimeError("can't start new thread"), "can't start new thread")):
+        for error, line in ((MemoryError(), "out of memory"), (NoThread("can't start new thread"), "can't start new thread")):
             with patch("haul.main.do_command", side_effect=error), redirect_stderr(io.StringIO()) as said:
                 self.assertEqual((main.run(), said.getvalue()), (4, f"haul: {line}\n"))
 
@@ -234,6 +240,20 @@ class OtherPrograms(unittest.TestCase):
     def test_none(self) -> None:
         for command in self.COMMANDS:
             self.assertEqual(in_shell(f"haul {command} --census /nowhere/census small"), (2, "", "haul: no census at /nowhere/census\n"))
+
+    def test_an_empty_path(self) -> None:
+        """It names no program, so no other is asked in its place."""
+        for command in self.COMMANDS:
+            status, output, errors = in_shell(f"haul {command} --census '' small")
+            self.assertEqual((status, output), (2, ""))
+            self.assertIn("argument --census: an empty path\n", errors)
+
+    def test_too_few_descriptors(self) -> None:
+        """There is a program, and it can't be started: that isn't said to be no program."""
+        for most in (6, 7, 8, 9, 10, 11, 12):
+            status, output, errors = in_shell(f"ulimit -n {most}; exec '{sys.executable}' '{HAUL}' check --census ./other small")
+            self.assertEqual((status, output), (5, ""))
+            self.assertTrue(errors.endswith("Too many open files\n"), errors)
 
     def test_other_answers(self) -> None:
         for script in self.ANSWERS:
@@ -259,52 +279,48 @@ class OtherPrograms(unittest.TestCase):
         self.assertEqual(self.answer(r"printf '1 of 2 soups\r  \rcensus: because\n' >&2; exit 4", "check"), (4, "", "haul: because\n"))
 
 
-class ManyCalls(unittest.TestCase):
-    """A page asks for each object and each sample soup by calls of many shells. In these scripts `real` is the census program."""
+class Calls(unittest.TestCase):
+    """What a page, a check and the other commands ask of the census program. In these scripts `real` is the program."""
 
     # Notes the words of the call, and answers as the program does.
     NOTES = f'echo "$*" >> calls; real() {{ "{CENSUS}" "$@"; }}; '
 
-    def page(self, script: str, count: int = 400) -> tuple[int, str, str, list[str]]:
-        """What `haul page` of so many soups ends with and prints, if this script is the program, and the calls that it made."""
-        command = f'"{CENSUS}" take --count {count} > many; haul page --census ./other many; status=$?; cat calls >&3; exit $status'
+    def ended(self, command: str, script: str) -> tuple[int, str, str, list[str]]:
+        """What a command ends with and prints over a haul of forty soups, if this script is the program, and the calls that it made."""
         with tempfile.NamedTemporaryFile() as calls:
-            status, page, errors = in_shell(f"exec 3> {calls.name}; {command}", self.NOTES + script)
-            return status, page, errors, calls.read().decode().splitlines()
+            status, output, errors = in_shell(
+                f'exec 3> {calls.name}; "{CENSUS}" take --count 40 > forty; {command} forty; status=$?; cat calls >&3 2> /dev/null; exit $status', self.NOTES + script)
+            return status, output, errors, calls.read().decode().splitlines()
 
-    def right(self) -> str:
-        return run("page", text=census("take", "--count", "400"))[1]
-
-    def test_each_is_asked_once(self) -> None:
-        haul = read_one_haul(io.BytesIO(census("take", "--count", "400")))
-        soups = {number for numbers in haul.samples.values() for number in numbers}
-        wanted = [f"show -- {code}" for code in haul.totals] + [f"soup --seed= {number}" for number in soups]
-        status, page, errors, calls = self.page('real "$@"')
-        drawn = [call for call in calls if call.startswith(("show", "soup"))]
-        self.assertEqual((status, errors, sorted(drawn)), (0, "", sorted(wanted)))
-        self.assertEqual(page, self.right())
-
-    def test_a_call_that_fails_once(self) -> None:
-        """As if memory had been short for a moment: it is asked again, and nothing is said of it."""
-        for failing in ("exit 4", "kill -9 $$", "exit 0"):
-            with self.subTest(failing=failing):
-                status, page, errors, calls = self.page(
-                    f"case $1$3 in soup1 | showxs4_252 | run1 | name*) [ -e $1 ] || {{ : > $1; {failing}; }} ;; esac; real \"$@\"")
-                self.assertEqual((status, errors), (0, ""))
-                self.assertEqual(page, self.right())
-                drawn = [call for call in calls if call.startswith(("show", "soup"))]
-                self.assertEqual([call for call in sorted(set(drawn)) if drawn.count(call) != 1], ["show -- xs4_252", "soup --seed= 1"])
-                self.assertEqual(len(drawn), len(set(drawn)) + 2)
+    def test_a_page_asks_when_soups_settle(self) -> None:
+        haul = read_one_haul(io.BytesIO(census("take", "--count", "40")))
+        first, *others = sorted({number for numbers in haul.samples.values() for number in numbers})
+        status, page, errors, calls = self.ended("haul page --census ./other", 'real "$@"')
+        self.assertEqual((status, errors, page), (0, "", run("page", text=census("take", "--count", "40"))[1]))
+        self.assertEqual(calls, [
+            f"work --worker=1 --seed= --rule=b3s23 --period=64 --horizon=512 --stride=101 --limit=30300 --first={first} --count=1 --also="
+            + ",".join(f"{number}+1" for number in others)])
+        self.assertEqual(self.ended("haul page --play 0 --census ./other", 'real "$@"')[3], [])
 
     def test_a_call_that_fails(self) -> None:
         """What it said is told, and nothing of the page is printed."""
-        for call in ("showxs4_252", "soup1", "run1", "name--limit=0", "work--seed="):
-            for failing, status, line in (("echo census: because >&2; exit 4", 4, "because"), ("exit 70", 5, "census ended with status 70"),
-                                          ("kill -15 $$", 5, "census was ended by signal 15"), ("echo O.x", 2, "no census at ./other"),
-                                          ("echo 0", 2, "no census at ./other")):
-                with self.subTest(call=call, failing=failing):
-                    ended = self.page(f'case $1$3 in {call}) {failing}; exit ;; esac; real "$@"', count=40)
-                    self.assertEqual(ended[:3], (status, "", f"haul: {line}\n"))
+        for failing, status, line in (("echo census: because >&2; exit 4", 4, "because"), ("exit 70", 5, "census ended with status 70"),
+                                      ("kill -15 $$", 5, "census was ended by signal 15"), ("echo O.x", 2, "no census at ./other"),
+                                      ("echo 0", 2, "no census at ./other")):
+            with self.subTest(failing=failing):
+                self.assertEqual(self.ended("haul page --census ./other", failing)[:3], (status, "", f"haul: {line}\n"))
+
+    def test_the_others_ask_nothing(self) -> None:
+        """Not even if there is no program."""
+        with tempfile.TemporaryDirectory() as folder:
+            shutil.copytree(TOP / "haul", Path(folder, "share", "census", "haul"))
+            Path(folder, "bin").mkdir()
+            shutil.copy(HAUL, Path(folder, "bin", "haul"))
+            Path(folder, "a").write_bytes(census("take", "--count", "40"))
+            for words in (["table"], ["table", "--parts", "--json"], ["compare", "--parts", "a"], ["join"], ["soup", "C1/a0"]):
+                ended = subprocess.run([sys.executable, "bin/haul", *words, *(["a"] if words[0] != "soup" else [])], cwd=folder, capture_output=True, check=False,
+                                       env={**os.environ, "PATH": "/nowhere"})
+                self.assertEqual((ended.returncode, ended.stderr), (0, b""))
 
 
 class Signals(unittest.TestCase):
@@ -365,8 +381,8 @@ class Signals(unittest.TestCase):
                 self.ended_by(number, ["check", "long"], 1)
 
     def test_several_calls_end(self) -> None:
-        shells = min(3, len(os.sched_getaffinity(0)))
-        for words, least in ((["page"], shells), (["check", "--samples"], 1)):
+        threads = min(3, len(os.sched_getaffinity(0)))
+        for words, least in ((["page"], threads), (["check", "--samples"], min(2, threads))):
             for number in (signal.SIGINT, signal.SIGTERM, signal.SIGHUP):
                 with self.subTest(number=number, words=words):
                     self.ended_by(number, [*words, "--census", "./sleeps", "many"], least)

@@ -128,7 +128,7 @@ def place_of(text: str) -> Place | None:
     try:
         read_one_haul(io.BytesIO(text.encode("latin-1")))
     except BadHaul as bad:
-        line, column = (int(word) for word in str(bad).split() if word.isdigit())
+        line, column = (int(word) for word in str(bad).partition(": ")[0].split() if word.isdigit())
         return line, column
     return None
 

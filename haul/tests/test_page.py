@@ -11,9 +11,12 @@ from unittest.mock import patch
 
 from haul.main import do_page
 from haul.options import parser
+from haul.life import rule_of
+from haul.ends import End, end_of, populations_of
 from haul.page import page_of
 from haul.program import Census
 from haul.tests.called import CENSUS, TOP, census, run
+from haul.tests.pages import page, page_by_parts, seen
 from haul.tests.test_whole import cells_of, drawn, made
 from haul.text import Haul, Job, read_one_haul
 
@@ -46,14 +49,10 @@ def elements(text: str, tag: str) -> list[tuple[dict[str, str | None], str]]:
     return Elements(text, tag).found
 
 
-def page(haul: Haul, *more: int) -> str:
-    return "".join(page_of(Census(CENSUS), haul, 1, *more))
-
-
 class Words(unittest.TestCase):
     def test_heads(self) -> None:
         heads = [text for _, text in elements(page(made({"xs4_33": 7}, [(0, 9)])), "th")]
-        self.assertEqual(heads, ["Picture", "Code", "Name", "What it is", "Cells", "Total", "One object in", "Soups with one", "Sample soups", "Islands"])
+        self.assertEqual(heads, ["Picture", "Code", "Name", "What it is", "Cells", "Total", "One object in", "Soups with one", "Sample soups", "Parts"])
 
     def test_axis(self) -> None:
         """A mark for each power of ten up to the largest total, and what is counted."""
@@ -98,7 +97,7 @@ class Words(unittest.TestCase):
         """Without a soup there is no rate, and where soups are missing the whole can't be taken again."""
         none = Haul(Job("", "b3s23", (1, 1, 1, 0)), [], 0, 0, 0, {}, {})
         self.assertIn("<dt>Soups</dt><dd>0</dd>", page(none))
-        self.assertIn("<dt>Objects a soup</dt><dd>none</dd>", page(none))
+        self.assertIn("<dt>Objects per soup</dt><dd>none</dd>", page(none))
         self.assertIn("(the empty seed, numbers none)", page(none))
         some = Haul(Job("", "b3s23", (1, 1, 1, 0)), [(0, 2000)], 1999, 0, 0, {}, {})
         self.assertIn("<dt>Soups</dt><dd>1,999 of 2,000</dd>", page(some))
@@ -112,10 +111,47 @@ class Words(unittest.TestCase):
             self.assertIn(f"numbers 0, 3, 6, 9, 12, 15, 18, 21, 24, 27, 30{said} were", page(made({"xs4_33": 1}, [(3 * k, 1) for k in range(count)])))
 
     def test_labels(self) -> None:
-        rows = elements(page(made({"xp2_1110s": 7, "xs10_25520oo": 3, "xs8_rr": 2, "xp3_695qc8zx33": 1}, [(0, 9)])), "tr")[1:]
-        self.assertEqual([one.get("data-parts") for one, _ in rows], ["xp2_7 xp2_7", "xs4_33 xs6_696", "xs4_33 xs4_33", None])
-        cells = [text for _, text in elements(page(made({"xp2_1110s": 7, "xs10_25520oo": 3, "xs12_256o8a6": 2, "xs8_rr": 1}, [(0, 9)])), "td")]
-        self.assertEqual((cells[2::10], cells[9::10]), (["", "", "", "bi-block"], ["2 blinkers", "block and beehive", "", ""]))
+        cells = [text for _, text in elements(page(made({"xp2_1110s": 7, "xs10_25520oo": 3, "xs12_256o8a6": 2, "xs8_rr": 1, "ov_p3": 1}, [(0, 9)])), "td")]
+        self.assertEqual((cells[2::10], cells[9::10]), (["", "", "", "", "bi-block"], ["2 blinkers", "block and beehive", "", "not separated", ""]))
+        texts = [text for _, text in elements(page(made({"xp2_1110s": 7, "xs12_256o8a6": 2}, [(0, 9)])).partition("</svg>")[0], "text")]
+        self.assertEqual(texts[2::2], ["2 blinkers", "xs12_256o8a6"])
+
+
+class ByParts(unittest.TestCase):
+    """The page counted by parts: all of it, whether or not an object has a row."""
+
+    HAUL = made({"xp2_1110s": 7, "xs10_25520oo": 3, "xs4_33": 2, "xs8_rr": 1}, [(0, 9)], samples={
+        "xp2_1110s": [4, 5], "xs10_25520oo": [1, 8], "xs4_33": [2], "xs8_rr": [7]})
+
+    def test_rows(self) -> None:
+        """14 blinkers, of which no object is one alone; 3 + 2 + 2 blocks; 3 beehives."""
+        text = page_by_parts(self.HAUL)
+        cells = [text for _, text in elements(text.partition("<tbody")[2], "td")]
+        self.assertEqual([cells[k : k + 8] for k in range(1, len(cells), 10)], [
+            ["xp2_7", "blinker", "oscillator of period 2", "3", "14", "2", "1 in 1 soup at most", cells[8]],
+            ["xs4_33", "block", "still life", "4", "7", "3", "1 in 1 soup at most", cells[18]],
+            ["xs6_696", "beehive", "still life", "6", "3", "8", "1 in 3 soups at most", cells[28]]])
+        self.assertEqual([re.findall("<summary>([0-9]+)</summary>", row) for row in text.partition("<tbody")[2].split("<tr")[1:]],
+                         [["4", "5"], ["1", "2", "7"], ["1", "8"]])
+        self.assertEqual(text.count("data-phases="), 1)
+
+    def test_facts(self) -> None:
+        text = page_by_parts(self.HAUL)
+        self.assertIn("<dt>Objects</dt><dd>24</dd></div><div><dt>Objects per soup</dt><dd>2.67</dd></div><div><dt>Kinds of object</dt><dd>3</dd>", text)
+        self.assertIn("3 kinds, the most frequent first.", text)
+        self.assertIn("<h2>The 3 most frequent</h2>", text)
+
+    def test_what_has_no_row_is_counted(self) -> None:
+        text = seen("".join(page_of(Census(CENSUS), self.HAUL, 3, 0)), "objects")
+        cells = [text for _, text in elements(text.partition("<tbody")[2], "td")]
+        self.assertEqual([cells[k : k + 5 : 4] for k in range(1, len(cells), 10)], [["xp2_7", "14"], ["xs4_33", "7"], ["xs6_696", "3"]])
+        self.assertIn("1 kind, the most frequent first. 3 more have fewer than 5 objects and are left out.",
+                      seen("".join(page_of(Census(CENSUS), self.HAUL, 5, 0))))
+
+    def test_at_first_it_is_hidden(self) -> None:
+        text = "".join(page_of(Census(CENSUS), self.HAUL, 1, 0))
+        self.assertEqual(re.findall(r"<(\w+)[^>]* data-counts=['\"](\w+)['\"]( hidden)?", text), [
+            (tag, counts, " hidden" if counts == "parts" else "") for tag in ("dl", "div", "span", "tbody") for counts in ("objects", "parts")])
 
 
 class Whole(unittest.TestCase):
@@ -130,14 +166,14 @@ class Whole(unittest.TestCase):
 A pattern has settled at the first look (one each 101 generations, up to generation 30,300) at which each of its objects comes back \
 within 64 generations, and for 512 generations none comes into another&#x27;s way. It is settled for good if it has no spaceship and all \
 its objects come back together within that time.</p>
-<dl class="facts"><div><dt>Soups</dt><dd>8</dd></div><div><dt>Unsettled</dt><dd>1</dd></div><div><dt>Settled for good</dt><dd>2</dd></div>\
-<div><dt>Objects</dt><dd>111</dd></div><div><dt>Objects a soup</dt><dd>13.88</dd></div><div><dt>Kinds of object</dt><dd>3</dd></div></dl>
+<dl class='facts' data-counts='objects'><div><dt>Soups</dt><dd>8</dd></div><div><dt>Unsettled</dt><dd>1</dd></div><div><dt>Settled for good</dt><dd>2</dd></div>\
+<div><dt>Objects</dt><dd>111</dd></div><div><dt>Objects per soup</dt><dd>13.88</dd></div><div><dt>Kinds of object</dt><dd>3</dd></div></dl>
 <p>To verify this census, run it again. With the text of this haul in the file <code>all.haul</code>, \
 <code>haul check all.haul</code> does that and compares; <code>haul check --samples all.haul</code> runs the sample soups alone.</p>
 """
     # From 1 at 200 to 100 at 530: each mark is 165 points after the one before, and a bar has two more.
     BARS = """\
-<h2>The 3 most frequent</h2>
+<div data-counts='objects'><h2>The 3 most frequent</h2>
 <svg class='bars' viewBox='0 0 640 92' role='img'><title>Totals of the most frequent objects</title>
 <path class='mark' d='M200.0 0V58'/><text x='200.0' y='72' text-anchor='middle'>1</text>\
 <path class='mark' d='M365.0 0V58'/><text x='365.0' y='72' text-anchor='middle'>10</text>\
@@ -147,7 +183,7 @@ its objects come back together within that time.</p>
 <text x='194' y='33' text-anchor='end'>blinker</text><path class='bar' d='M200 22h167.0v13h-167.0z'/><text x='373.0' y='33'>10</text>
 <text x='194' y='51' text-anchor='end'>xs4_y</text><path class='bar' d='M200 40h2.0v13h-2.0z'/><text x='208.0' y='51'>1</text>
 </svg>
-"""
+</div>"""
     # The blinker's column is drawn first, and then its row.
     ROWS = """\
 <tr><td><svg width='24' height='24' viewBox='0 0 2 2' role='img'><title>block: 2 by 2, 4 cells</title><path d='M0 0.5h2m-2 1h2'/></svg></td>\
@@ -159,7 +195,7 @@ its objects come back together within that time.</p>
 <td>1 in 1 soup at most</td><td><noscript>SAMPLE 6</noscript></td><td></td></tr>
 <tr><td>can't be drawn</td>\
 <td><a href='https://catagolue.hatsya.com/object/xs4_y/b36s23'>xs4_y</a></td><td></td><td>still life</td><td></td><td>1</td><td>111</td>\
-<td>1 in 8 soups at most</td><td><noscript>SAMPLE 11</noscript></td><td></td></tr>
+<td>1 in 8 soups at most</td><td><noscript>SAMPLE 11</noscript></td><td>not separated</td></tr>
 """
 
     def test_each_byte(self) -> None:
@@ -170,7 +206,7 @@ its objects come back together within that time.</p>
             if number != 11:
                 named = subprocess.run([CENSUS, "name", "--rule=b36s23"], input=soup, stdout=subprocess.PIPE, check=True).stdout.decode().split()[1]
                 live = subprocess.run([CENSUS, "run", "--rule=b36s23", named], input=soup, stdout=subprocess.PIPE, check=True).stdout.count(b"O")
-                known = f" data-settled='{named}' data-population='{live}'"
+                known = f" data-settled='{named}' data-least='{live}' data-most='{live}'"
             before, path, after = re.split(f"(?<=<summary>{number}</summary><svg class='soup' viewBox='0 0 16 16'><path d=')([^']*)", text)
             self.assertEqual(drawn(path), cells_of(soup.decode()))
             start = before.rindex("<details")
@@ -181,9 +217,9 @@ its objects come back together within that time.</p>
         title, style, script = "<title>A census of 8 soups under B36/S23</title>\n<style>\n", "</style>\n</head>\n<body>\n<main>\n", "<script>\n'use strict';\n{\n"
         self.assertTrue(text.startswith('<!DOCTYPE html>\n<html lang="en">\n<head>\n<meta charset="utf-8">\n'))
         self.assertEqual(text.partition(title)[2].partition(style)[0], (TOP / "haul" / "page.css").read_text())
-        self.assertTrue(text.partition(style)[2].startswith(self.HEAD + self.BARS + "<h2>All objects</h2>\n<p>3 kinds, the most frequent first;"))
-        self.assertIn('<table id="objects" data-rule="B36/S23" data-soups="8"><thead><tr><th scope=\'col\'>Picture</th>', text)
-        self.assertEqual(text.partition("<tbody>\n")[2].partition("</tbody>")[0], self.ROWS)
+        self.assertTrue(text.partition(style)[2].startswith(self.HEAD + self.BARS + "<h2>All objects</h2>\n<p><span data-counts='objects'>3 kinds, the most frequent first.</span> A click"))
+        self.assertIn('<table id="objects" data-rule="B36/S23"><thead><tr><th scope=\'col\'>Picture</th>', text)
+        self.assertEqual(text.partition('<tbody data-counts="objects">\n')[2].partition("</tbody>")[0], self.ROWS)
         both = "".join((TOP / "haul" / name).read_text() for name in ("player.js", "page.js"))
         self.assertEqual(text.partition(script)[2], both + "}\n</script>\n</body>\n</html>\n")
 
@@ -214,14 +250,6 @@ class Pictures(unittest.TestCase):
                     self.assertEqual({(x - left, y - top) for x, y in drawn(path)}, cells_of(printed.decode()))
         self.assertNotIn("data-phases", self.svg("xs4_33"))
 
-    def test_no_phase_is_asked_for_in_vain(self) -> None:
-        """Those of the rows that show them, and of those that have labels."""
-        haul = made({"xp2_7": 9, "xp2_7e": 8, "xp2_318c": 7}, [(0, 1)])
-        for labelled, play, count in ((0, 0, 0), (1, 0, 1), (0, 2, 2), (2, 1, 2), (1, 9, 3)):
-            with patch("haul.page.LABELLED_ROWS", labelled), patch.object(Census, "runs", autospec=True, side_effect=Census.runs) as runs:
-                page(haul, play)
-            self.assertEqual(sum(len(call.args[2]) for call in runs.call_args_list), count)
-
     def test_how_many_rows(self) -> None:
         haul = made({"xp2_7": 9, "xs4_33": 8, "xp2_7e": 7, "xp2_318c": 6}, [(0, 1)])
         for play, count in ((0, 0), (1, 1), (2, 1), (3, 2), (4, 3), (500, 3)):
@@ -231,7 +259,7 @@ class Pictures(unittest.TestCase):
 class Ends(unittest.TestCase):
     def test_when_soups_settle(self) -> None:
         """As `census name` says, and `census run` up to then."""
-        haul = read_one_haul(io.BytesIO(census("take", "--count", "12")))
+        haul, exact = read_one_haul(io.BytesIO(census("take", "--count", "12"))), 0
         soups = {text.partition("census")[0]: one for one, text in elements(page(haul), "details")}
         self.assertEqual({int(number) for number in soups}, {number for numbers in haul.samples.values() for number in numbers})
         for number, one in soups.items():
@@ -239,7 +267,21 @@ class Ends(unittest.TestCase):
             named = subprocess.run([CENSUS, "name"], input=soup, stdout=subprocess.PIPE, check=True).stdout.decode()
             settled = named.splitlines()[0].removeprefix("settled ")
             then = subprocess.run([CENSUS, "run", settled], input=soup, stdout=subprocess.PIPE, check=True).stdout.decode()
-            self.assertEqual((one["data-settled"], one["data-population"]), (settled, str(then.count("O"))))
+            self.assertEqual(one["data-settled"], settled)
+            self.assertTrue(int(one["data-least"] or 0) <= then.count("O") <= int(one["data-most"] or 0))
+            exact += one["data-least"] == one["data-most"]
+        self.assertGreater(exact, 5)
+
+    def test_how_many_cells_there_are_then(self) -> None:
+        """A pulsar has 48, 56 or 72 cells, a glider always five. What can't be drawn is known only if it is a still life."""
+        pulsar = "xp3_co9nas0san9oczgoldlo0oldlogz1047210127401"
+        life = rule_of("b3s23")
+        for code, sizes in ((pulsar, {48, 56, 72}), ("xq4_153", {5}), ("xp2_318c", {6, 8}), ("ov_s123", {123}), ("ov_p123", set()), ("xp3_33", set())):
+            self.assertEqual(populations_of(life, code), sizes)
+        for fields, end in ((["unsettled"], None), (["at=101", "good=yes"], End(101, 0, 0)),
+                            (["at=0", "good=no", f"{pulsar}*2", "xq4_153*3", "ov_s123*1"], End(0, 96 + 15 + 123, 144 + 15 + 123)),
+                            (["at=0", "good=no", "ov_p123*1", "xq4_153*3"], None)):
+            self.assertEqual(end_of(life, fields), end)
 
     def test_another_job(self) -> None:
         words = ["--seed=a", "--count=5", "--rule=b36s23", "--stride=7", "--limit=700"]
@@ -256,21 +298,16 @@ class Ends(unittest.TestCase):
             return [text.partition("census")[0] for one, text in elements(page(haul, *more), "details") if "data-settled" in one]
 
         self.assertEqual((known(), known(1), known(0)), (["0", "1", "1", "2"], ["0", "1", "1"], []))
+        # The first row is that of an object, though there are more blocks.
+        haul = made({"xp2_7": 9, "xs8_rr": 8}, [(0, 9)], samples={"xp2_7": [3], "xs8_rr": [4]})
+        self.assertEqual(known(1), ["3"])
         self.assertEqual([one for one, _ in elements(page(made({"xs4_33": 8}, [(0, 9)], (1, 1, 1, 0))), "details")], [{}])
 
     def test_which_options_are_passed_on(self) -> None:
-        for words, wanted in (([], (1, 500, False)), (["--least=7", "--play=3", "--labels=all"], (7, 3, True)), (["--labels=first"], (1, 500, False))):
+        for words, wanted in (([], (1, 500)), (["--least=7", "--play=3"], (7, 3))):
             with patch("haul.main.page_of", return_value=[]) as made_of, patch("haul.main.the_haul"):
                 self.assertEqual(do_page(parser().parse_args(["page", "--census", CENSUS, *words])), 0)
             self.assertEqual(made_of.call_args.args[2:], wanted)
-
-    def test_all_labels(self) -> None:
-        """Only the first rows have some, unless all are asked for."""
-        haul = made({"xp2_1110s": 9, "xs8_330oo": 8, "xs10_25520oo": 7}, [(0, 1)])
-        with patch("haul.page.LABELLED_ROWS", 2):
-            self.assertEqual([text for _, text in elements(page(haul, 0), "td")[9::10]], ["2 blinkers", "2 blocks", ""])
-            self.assertEqual([text for _, text in elements(page(haul, 5), "td")[9::10]], ["2 blinkers", "2 blocks", ""])
-            self.assertEqual([text for _, text in elements(page(haul, 0, True), "td")[9::10]], ["2 blinkers", "2 blocks", "block and beehive"])
 
     def test_options(self) -> None:
         text = census("take", "--count", "12")

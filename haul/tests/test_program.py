@@ -14,12 +14,14 @@ from html import unescape
 from pathlib import Path
 from typing import IO
 
+from haul.by_parts import Objects
 from haul.check import differences, taken_again
-from haul.compare import compared
+from haul.compare import Comparison
 from haul.page import page_of
-from haul.program import Census, NoCensus, beside, pieces, printed_by, set_words
+from haul.program import Census, NoCensus, beside, pieces, set_words
 from haul.tests.called import CENSUS, census, run
 from haul.tests.drawn import text_of
+from haul.tests.pages import page, seen
 from haul.text import BadHaul, Haul, Job, read_one_haul
 
 
@@ -144,7 +146,8 @@ class Checking(unittest.TestCase):
 
     def test_a_second_haul(self) -> None:
         text = census("take", "--count", "0")
-        self.assertEqual(run("check", text=text + text), (3, "", "haul: bad haul at line 15 column 1\n"))
+        self.assertEqual(run("check", text=text + text), (3, "", "haul: bad haul at line 15 column 1: more than one haul\n"))
+        self.assertEqual(run("check", text=text + b"x"), (3, "", "haul: bad haul at line 15 column 1\n"))
 
     def test_a_haul_that_is_taken_again_in_pieces(self) -> None:
         """More ranges than one call has words for."""
@@ -212,7 +215,7 @@ class Comparing(unittest.TestCase):
         status, output, errors = run("compare", "-", "/dev/null", text=census("take", "--count", "1"))
         self.assertEqual((status, output, errors), (3, "", "haul: /dev/null: bad haul at line 1 column 1\n"))
         haul = Haul(Job("", "b3s23", (1, 1, 1, 0)), [(0, 1)], 1, 0, 0, {"xs4_33": 1}, {"xs4_33": [0]})
-        self.assertEqual(list(compared([haul, haul], ["xs4_33"], {}))[1], "A: 1 soup, 0 unsettled, 0 for good, 1 object")
+        self.assertEqual(list(Comparison([haul, haul], [Objects(haul)] * 2, ["xs4_33"]).text(None))[1], "A: 1 soup, 0 unsettled, 0 for good, 1 object")
 
 
 class Finding(unittest.TestCase):
@@ -234,48 +237,36 @@ class Finding(unittest.TestCase):
         return str(place)
 
     def test_none(self) -> None:
-        self.assertIsNone(beside(True))
+        self.assertIsNone(beside())
         self.put("bin/census", "#!/bin/sh\n", 0o644)
-        self.assertIsNone(beside(True))
+        self.assertIsNone(beside())
 
     def test_one_that_is_installed(self) -> None:
         starter = self.put("bin/census", "#!/bin/sh\nexit 70\n")
-        self.assertEqual((beside(True), beside(False)), (starter, starter))
+        self.assertEqual(beside(), starter)
 
     def test_one_for_this_processor(self) -> None:
         starter = self.put("bin/census", "#!/bin/sh\nexit 70\n")
         self.put("libexec/gokzerd/processor.sh", "program=$libexec/census-v3\n")
-        for builds in (True, False):
-            self.assertEqual(beside(builds), str(self.top / "libexec" / "gokzerd" / "census-v3"))
+        self.assertEqual(beside(), str(self.top / "libexec" / "gokzerd" / "census-v3"))
         self.put("libexec/gokzerd/processor.sh", "exit 1\n")
         with self.assertRaisesRegex(NoCensus, f"^no census at {starter}$"):
-            beside(True)
+            beside()
 
     def test_one_of_a_checkout(self) -> None:
-        """The launcher builds it, but not for labels."""
+        """The launcher builds it."""
         starter = self.put("bin/census", f'#!/bin/sh\necho "$@" >> "{self.top}/asked"\n')
         self.put("bin/built.bash", "")
         built = str(self.top / "crates" / "census" / "out" / "census")
-        self.assertIsNone(beside(False))
-        self.assertEqual(beside(True), built)
-        self.assertEqual((self.top / "asked").read_text(), "--version\n")
-        self.put("crates/census/out/census", "#!/bin/sh\n")
-        self.assertEqual(beside(False), built)
+        self.assertEqual(beside(), built)
         self.assertEqual((self.top / "asked").read_text(), "--version\n")
         self.put("bin/census", "#!/bin/sh\nexit 70\n")
         with self.assertRaisesRegex(NoCensus, f"^no census at {starter}$"):
-            beside(True)
-
-    def test_no_shell(self) -> None:
-        self.assertEqual(printed_by([str(self.top / "sh"), "-c", "echo x"]), b"")
-        self.assertEqual(printed_by(["/bin/sh", "-c", "echo x"]), b"x\n")
+            beside()
 
 
 class Pages(unittest.TestCase):
     HOSTILE = ["$(touch${IFS}x)", "`touch${IFS}x`", "'", '"', "-x", "</script>", "<b>&amp;", "a'b\"c\\", "!!", "--rule=b1s"]
-
-    def page(self, haul: Haul) -> str:
-        return "".join(page_of(Census(CENSUS), haul, 1))
 
     def test_hostile_seeds(self) -> None:
         """What the page shows is run by a shell, and prints what the program prints of that soup."""
@@ -284,53 +275,53 @@ class Pages(unittest.TestCase):
             for seed in self.HOSTILE:
                 with self.subTest(seed=seed):
                     words = [f"--seed={seed}", "--count=10", "--rule=b36s23", "--limit=303"]
-                    page = self.page(read_one_haul(io.BytesIO(census("take", *words))))
-                    shown = re.search("<summary>([0-9]+)</summary><svg.*?</svg><code>(census soup .*?)</code></details>", page)
-                    assert shown is not None
-                    told = subprocess.run(["bash", "-c", unescape(shown[2])], cwd=folder, capture_output=True, check=False,
+                    shown = page(read_one_haul(io.BytesIO(census("take", *words))))
+                    found = re.search("<summary>([0-9]+)</summary><svg.*?</svg><code>(census soup .*?)</code></details>", shown)
+                    assert found is not None
+                    told = subprocess.run(["bash", "-c", unescape(found[2])], cwd=folder, capture_output=True, check=False,
                                           env={"PATH": folder + os.pathsep + os.environ["PATH"]})
-                    soup = census("soup", f"--seed={seed}", shown[1])
+                    soup = census("soup", f"--seed={seed}", found[1])
                     wanted = subprocess.run([CENSUS, "name", "--rule=b36s23", "--limit=303"], input=soup, stdout=subprocess.PIPE, check=True)
                     self.assertEqual((told.stdout, told.stderr), (wanted.stdout, b""))
                     self.assertEqual(os.listdir(folder), ["census"])
-                    self.assertEqual((page.count("</script>"), page.count("<b>")), (1, 0))
+                    self.assertEqual((shown.count("</script>"), shown.count("<b>")), (1, 0))
 
     def test_all_is_there(self) -> None:
         text = census("take", "--count", "40")
-        page = self.page(read_one_haul(io.BytesIO(text)))
-        self.assertEqual(page.count("</td></tr>"), 30)
-        self.assertEqual(page.count("role='img'"), 31)
-        self.assertIn("href='https://catagolue.hatsya.com/object/xs4_33/b3s23'", page)
-        self.assertIn("<td>traffic light</td>", page)
-        self.assertIn("<td>3</td><td>1 in 1 soup at most</td>", page)
-        self.assertNotIn("src=", page)
+        shown = page(read_one_haul(io.BytesIO(text)))
+        self.assertEqual(shown.count("</td></tr>"), 30)
+        self.assertEqual(shown.count("role='img'"), 31)
+        self.assertIn("href='https://catagolue.hatsya.com/object/xs4_33/b3s23'", shown)
+        self.assertIn("<td>traffic light</td>", shown)
+        self.assertIn("<td>3</td><td>1 in 1 soup at most</td>", shown)
+        self.assertNotIn("src=", shown)
 
     def test_an_object_that_is_too_large_to_draw(self) -> None:
         haul = Haul(Job("", "b3s23", (64, 512, 101, 30300)), [(0, 1)], 1, 0, 0, {"ov_s2000": 1}, {"ov_s2000": [0]})
-        page = self.page(read_one_haul(io.BytesIO(text_of(haul).encode())))
-        self.assertIn("too large to be drawn", page)
+        shown = page(read_one_haul(io.BytesIO(text_of(haul).encode())))
+        self.assertIn("too large to be drawn", shown)
 
     def test_codes_that_name_nothing(self) -> None:
         """A haul may be lawful with codes that the program can't draw. What else is in it is shown."""
         codes = ["xs4_33", "xs4_y", "yl3_1", "zz_"]
         haul = Haul(Job("", "b3s23", (64, 512, 101, 30300)), [(0, 1)], 1, 0, 0, {code: 1 for code in codes}, {code: [0] for code in codes})
-        page = self.page(read_one_haul(io.BytesIO(text_of(haul).encode())))
-        self.assertEqual(page.count("<tr><td>can't be drawn</td>"), 3)
-        self.assertEqual(page.count("<tr><td><svg"), 1)
+        shown = page(read_one_haul(io.BytesIO(text_of(haul).encode())))
+        self.assertEqual(shown.count("<tr><td>can't be drawn</td>"), 3)
+        self.assertEqual(shown.count("<tr><td><svg"), 1)
 
     def test_one_and_more(self) -> None:
         haul = Haul(Job("", "b3s23", (1, 1, 1, 0)), [(0, 1)], 1, 0, 0, {"xs4_33": 1}, {"xs4_33": [0]})
-        page = self.page(haul)
-        for said in ("A census of 1 soup in", "<h2>The most frequent one</h2>", "<p>1 kind, the", "within 1 generation, and for 1 generation none"):
-            self.assertIn(said, page)
+        shown = page(haul)
+        for said in ("A census of 1 soup in", "<h2>The most frequent one</h2>", "1 kind, the", "within 1 generation, and for 1 generation none"):
+            self.assertIn(said, shown)
         haul = Haul(Job("", "b3s23", (2, 3, 1, 1)), [(0, 2)], 1, 0, 0, {"xs4_33": 1, "xs5_253": 2}, {"xs4_33": [0], "xs5_253": [1]})
-        page = "".join(page_of(Census(CENSUS), haul, 2))
-        for said in ("1 soup in", "Soups are missing from this haul", "1 more has less than 2 and is left out.", "within 2 generations"):
-            self.assertIn(said, page)
-        self.assertIn("2 more have less than 3 and are left out.", "".join(page_of(Census(CENSUS), haul, 3)))
+        shown = seen("".join(page_of(Census(CENSUS), haul, 2)))
+        for said in ("1 soup in", "Soups are missing from this haul", "1 more has fewer than 2 objects and is left out.", "within 2 generations"):
+            self.assertIn(said, shown)
+        self.assertIn("2 more have fewer than 3 objects and are left out.", "".join(page_of(Census(CENSUS), haul, 3)))
 
     def test_no_object(self) -> None:
-        self.assertIn("0 kinds", self.page(read_one_haul(io.BytesIO(census("take", "--count", "0")))))
+        self.assertIn("0 kinds", page(read_one_haul(io.BytesIO(census("take", "--count", "0")))))
 
 
 if __name__ == "__main__":

@@ -6,13 +6,13 @@ import io
 import random
 import re
 import unittest
-from collections.abc import Iterator
 
 from haul.check import differences, wrong_samples
 from haul.page import page_of
 from haul.program import Census
 from haul.tests.called import CENSUS, census
 from haul.tests.drawn import any_haul
+from haul.tests.pages import page, seen
 from haul.tests.test_whole import rows_of
 from haul.text import Haul, Job, read_one_haul
 
@@ -117,19 +117,6 @@ class Once(Census):
         return {number: ["at=0", "good=no", *(f"{code}*1" for code in self.left[number])] for number in numbers}
 
 
-class Draws(Census):
-    """Draws no object, and the same soup for each number."""
-
-    def __init__(self) -> None:
-        super().__init__(CENSUS)
-
-    def objects(self, codes: list[str]) -> Iterator[str | None]:
-        return iter([None] * len(codes))
-
-    def soups(self, seed: str, numbers: list[int]) -> Iterator[str]:
-        return iter(["O\n"] * len(numbers))
-
-
 class Shown(unittest.TestCase):
     def test_number_for_number(self) -> None:
         """Each code with its numbers, the most frequent first, and all facts before the table."""
@@ -137,11 +124,11 @@ class Shown(unittest.TestCase):
         rows = 0
         for _ in range(200):
             haul = any_haul(draw)
-            text = "".join(page_of(Draws(), haul, 1, 0))
+            text = page(haul, 0)
             shown = rows_of(text).rows
             codes = sorted(haul.totals, key=lambda code: (-haul.totals[code], code))
             self.assertEqual([row[1] for row in shown], codes)
-            written = text.partition("<tbody>")[2].split("<tr")[1:]
+            written = text.partition("<tbody ")[2].split("<tr")[1:]
             for code, row, html in zip(codes, shown, written, strict=True):
                 total = haul.totals[code]
                 times = max(haul.soups // total, 1)
@@ -161,17 +148,17 @@ class Shown(unittest.TestCase):
         for _ in range(100):
             haul = any_haul(draw)
             for least in {0, 1, *list(haul.totals.values())[:3]}:
-                text = "".join(page_of(Draws(), haul, least, 0))
+                text = seen("".join(page_of(Census(CENSUS), haul, least, 0)))
                 shown = [row[1] for row in rows_of(text).rows]
                 self.assertEqual(sorted(shown), [code for code, total in haul.totals.items() if total >= least])
                 out = len(haul.totals) - len(shown)
-                said = f" {out} more {'has' if out == 1 else 'have'} less than {least:,} and {'is' if out == 1 else 'are'} left out." if out else ""
-                self.assertIn(f"turns the order.{said} Names", text)
+                said = f" {out} more {'has' if out == 1 else 'have'} fewer than {least:,} objects and {'is' if out == 1 else 'are'} left out." if out else ""
+                self.assertIn(f"the most frequent first.{said}</span>", text)
 
     def test_four_thousand(self) -> None:
         codes = [f"xs4_{number:04}" for number in range(4000)]
         haul = Haul(Job("", "b3s23", (1, 1, 1, 0)), [(0, 1)], 1, 0, 0, {code: 1 + k for k, code in enumerate(codes)}, {code: [0] for code in codes})
-        self.assertEqual([row[1] for row in rows_of("".join(page_of(Draws(), haul, 1, 0))).rows], codes[::-1])
+        self.assertEqual([row[1] for row in rows_of(page(haul, 0)).rows], codes[::-1])
 
 
 if __name__ == "__main__":

@@ -13,7 +13,9 @@ import unittest
 from pathlib import Path
 
 from haul.rle import BadRle, option_of, read_rle, rle_of
+from haul.rule_names import RULES, rule_named
 from haul.tests.called import CENSUS, HAUL, census, run
+from haul.text import RULE
 
 # The glider gun as LifeWiki has it in RLE, which is the one of examples/glider-gun.cells.
 GUN = """\
@@ -81,7 +83,12 @@ class Reading(unittest.TestCase):
             with self.subTest(said=said):
                 text = f"x = 3, y = 3, rule = {said}\nbo$2bo$3o!"
                 self.assertEqual(cells(text), (0, GLIDER, f"haul: rule {said} is --rule {option}\n"))
-        for said in ("B3/S23", "b3/s23", "B3S23", "23/3", "32/3", "B33/S23"):
+        for said, option in (("HighLife", "b36s23"), ("DayNight", "b3678s34678"), ("Day & Night", "b3678s34678"), ("Seeds", "b2s"), ("34 Life", "b34s34"),
+                             ("Life without Death", "b3s012345678"), ("2x2", "b36s125"), ("Live Free or Die", "b2s0"), ("Maze", "b3s12345")):
+            with self.subTest(said=said):
+                text = f"x = 3, y = 3, rule = {said}\nbo$2bo$3o!"
+                self.assertEqual(cells(text), (0, GLIDER, f"haul: rule {said} is --rule {option}\n"))
+        for said in ("B3/S23", "b3/s23", "B3S23", "23/3", "32/3", "B33/S23", "Life", "LIFE", "Conway's Life"):
             with self.subTest(said=said):
                 self.assertEqual(cells(f"x = 3, y = 3, rule = {said}\nbo$2bo$3o!"), (0, GLIDER, ""))
 
@@ -101,6 +108,15 @@ class Reading(unittest.TestCase):
         self.assertEqual(cells(".\n" * 1001), (3, "", "haul: pattern larger than 1000 by 1000\n"))
 
 
+class NamedRules(unittest.TestCase):
+    def test_each_can_be_run(self) -> None:
+        """Each is a value of `--rule`, and no birth is on zero neighbours; a name stands once."""
+        for name, option in RULES.items():
+            self.assertTrue(RULE.fullmatch(option.encode()), option)
+            self.assertEqual(rule_named(name.upper()), option)
+        self.assertIsNone(rule_named("LifeHistory"))
+
+
 class Refused(unittest.TestCase):
     FAULTS = [
         (HEAD + "bo$2bqA$3o!", 2, 6, "a third state"), (HEAD + "bo$2bA$3o!", 2, 6, "a third state"), (HEAD + "bo$\n2b?$3o!", 3, 3, "not b, o, $ or !"),
@@ -110,9 +126,9 @@ class Refused(unittest.TestCase):
         (HEAD + "1000$o!", 2, 6, "a cell past the 1000th column or row"), (HEAD + "100000000000o!", 2, 1, "a cell past the 1000th column or row"),
         (HEAD + "100000000000$100000000000o!", 2, 14, "a cell past the 1000th column or row"),
         ("x = 3, y = 3, rule = B3/S23:T100,100\no!", 1, 28, "a bounded grid"), ("x = 3, y = 3, rule = B03/S23\no!", 1, 22, "birth on zero neighbours"),
-        ("x = 3, y = 3, rule = 23/03\no!", 1, 22, "birth on zero neighbours"), ("x = 3, y = 3, rule = WireWorld\no!", 1, 22, "a rule that is neither B/S nor S/B"),
-        ("x = 3, y = 3, rule = B2-a/S12\no!", 1, 22, "a rule that is neither B/S nor S/B"), ("x = 3\no!", 1, 1, "not a header"),
-        ("x = 3, y = 3, rule = B3/S9\no!", 1, 22, "a rule that is neither B/S nor S/B"), ("x = 3, y = 3, z = 3\no!", 1, 1, "not a header"),
+        ("x = 3, y = 3, rule = 23/03\no!", 1, 22, "birth on zero neighbours"), ("x = 3, y = 3, rule = WireWorld\no!", 1, 22, "a rule that is neither B/S, S/B nor a known name"),
+        ("x = 3, y = 3, rule = B2-a/S12\no!", 1, 22, "a rule that is neither B/S, S/B nor a known name"), ("x = 3\no!", 1, 1, "not a header"),
+        ("x = 3, y = 3, rule = B3/S9\no!", 1, 22, "a rule that is neither B/S, S/B nor a known name"), ("x = 3, y = 3, z = 3\no!", 1, 1, "not a header"),
         ("hello", 1, 1, "not b, o, $ or !"), (HEAD + HEAD + "o!", 2, 1, "not b, o, $ or !"), (HEAD + "\xff!", 2, 1, "not b, o, $ or !"),
         ("\n?", 2, 1, "not b, o, $ or !"), ("\n\nx = 3\no!", 3, 1, "not a header"),
     ]

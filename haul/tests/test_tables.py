@@ -11,15 +11,18 @@ import sys
 import tempfile
 import unittest
 from collections.abc import Callable
+from fractions import Fraction
 from itertools import permutations
 from math import exp, fsum, lgamma, log, ulp
 from pathlib import Path
 from types import FrameType
 
 from haul.columns import figure
-from haul.many import meet
+from haul.compare import lettered, meet
 from haul.poisson import interval
+from haul.rates import rate
 from haul.tests.called import HAUL, run
+from haul.text import Haul, Job
 
 # Garwood (1936): the ends of the interval of 95 %.
 GARWOOD = {0: (0, 3.689), 1: (0.0253, 5.572), 2: (0.242, 7.225), 3: (0.619, 8.767), 4: (1.090, 10.242), 5: (1.623, 11.668), 6: (2.202, 13.059),
@@ -147,6 +150,27 @@ def lines_of(function: Callable[[int], object], number: int) -> int:
     return lines
 
 
+class Rates(unittest.TestCase):
+    """Each is the double nearest to the exact quotient, which `Fraction` rounds to, and is printed as short as it reads back."""
+
+    def test_each_is_the_nearest(self) -> None:
+        self.assertEqual([rate(20_740, 20_000), rate(647, 20_000), rate(0, 5), rate(5, 0)], [1_037_000, 32_350, 0, 0])
+        for soups in (3, 7, 20_000, 999_983, 2**40 - 1):
+            for total in (1, 2, 647, 20_740, 123_456_789, 2**53 + 1, 2**64 - 1):
+                self.assertEqual(rate(total, soups), float(Fraction(total * 1_000_000, soups)))
+                self.assertEqual(rate(total, soups, 1), float(Fraction(total, soups)))
+
+    def test_as_they_are_printed(self) -> None:
+        with tempfile.TemporaryDirectory() as folder:
+            Path(folder, "a").write_text(haul("b3s23", 20_000, {"xs4_33": 20_740, "xp2_7": 647}))
+            Path(folder, "b").write_text(haul("b3s23", 3, {"xs4_33": 1, "xp2_7": 3}))
+            self.assertEqual([row["per_million"] for row in csv.DictReader(run("table", "--csv", f"{folder}/a")[1].splitlines())], ["1037000.0", "32350.0"])
+            self.assertIn('"per_million": 32350.0,', run("table", "--json", f"{folder}/a")[1])
+            rows = {row["code"]: row for row in csv.DictReader(run("compare", "--csv", f"{folder}/a", f"{folder}/b")[1].splitlines())}
+        block = rows["xs4_33"]
+        self.assertEqual((block["per_million_a"], block["per_million_b"], block["ratio_b"]), ("1037000.0", repr(float(Fraction(10**6, 3))), repr(20_000 / 62_220)))
+
+
 class OfOne(Tables):
     def test_text(self) -> None:
         self.assertEqual(self.printed("table", "a"), """\
@@ -184,7 +208,7 @@ rank  code     total  per_million  one_in_at_most  samples  label
     def test_csv(self) -> None:
         rows = list(csv.DictReader(self.printed("table", "--csv", "a").splitlines()))
         self.assertEqual(rows[2], {"rank": "3", "code": "xq4_153", "total": "3", "per_million": "3000.0", "one_in_at_most": "333", "samples": "1",
-                                   "label": "glider"})
+                                   "label": "glider", "parts": "xq4_153", "strict": "yes", "separated": "yes", "by_parts": "no"})
         self.assertEqual(len(rows), 4)
         self.assertEqual(list(csv.DictReader(self.printed("table", "--csv", "--kind", "p", "c").splitlines()))[1]["label"], "")
 
@@ -192,7 +216,7 @@ rank  code     total  per_million  one_in_at_most  samples  label
         told = json.loads(self.printed("table", "--json", "a"))
         self.assertEqual((told["rule"], told["soups"], told["unsettled"], told["for_good"], told["total"]), ("b3s23", 1000, 1, 2, 524))
         self.assertEqual(told["objects"][2], {"rank": 3, "code": "xq4_153", "total": 3, "per_million": 3000.0, "one_in_at_most": 333, "samples": [1],
-                                              "label": "glider"})
+                                              "label": "glider", "parts": ["xq4_153"], "strict": True, "separated": True})
         self.assertEqual(json.loads(self.printed("table", "--json", "--top", "0", "a"))["objects"], [])
 
     def test_large_totals(self) -> None:
@@ -243,7 +267,8 @@ in A alone: xq4_153 xs8_rr; in B alone: xp15_4r4z4r4
 
     def test_all_that_is_printed(self) -> None:
         """Three hauls in each order, with each option: facts, rates, intervals, ratios and stars, and who has what alone."""
-        names = {"xs4_33": "block", "xp2_7": "blinker", "xq4_153": "glider", "xs8_rr": "bi-block", "xp15_4r4z4r4": "pentadecathlon"}
+        names = {"xs4_33": "block", "xp2_7": "blinker", "xq4_153": "glider", "xs8_rr": "bi-block", "xp15_4r4z4r4": "pentadecathlon",
+                 "ov_p123": "not_separated"}
         facts = {"a": (1000, {"xs4_33": 500, "xp2_7": 20, "xq4_153": 3, "xs8_rr": 1}), "b": (500, {"xs4_33": 1000, "xp2_7": 2, "xp15_4r4z4r4": 4}),
                  "c": (1000, {"xs4_33": 510, "xp2_7": 20, "ov_p123": 5})}
         rules = {"a": "b3s23", "b": "b36s23", "c": "b3s12"}
@@ -320,13 +345,21 @@ in A alone: xq4_153 xs8_rr; in B alone: xp15_4r4z4r4
         status, output, errors = run("compare", *["-"] * 17)
         self.assertEqual((status, output), (2, ""))
         self.assertIn("more than 16 hauls", errors)
-        self.assertEqual(run("compare", "-")[0], 2)
+        self.assertIn("the following arguments are required: B\n", run("compare", "-")[2])
         self.assertEqual(run("compare", "--csv", "--json", "-", "-")[0], 2)
+
+    def test_none_vanishes(self) -> None:
+        """There are sixteen letters."""
+        none = Haul(Job("", "b3s23", (1, 1, 1, 0)), [], 0, 0, 0, {}, {})
+        self.assertEqual("".join(letter for letter, _ in lettered([none] * 16)), "ABCDEFGHIJKLMNOP")
+        with self.assertRaises(ValueError):
+            list(lettered([none] * 17))
 
     def test_no_soup(self) -> None:
         none = haul("b3s23", 1, {}).replace("@RANGE 0 1", "@RANGE 0 0").replace("SOUPS 1", "SOUPS 0").replace("SETTLED 1", "SETTLED 0").replace("GOOD 2", "GOOD 0")
         Path(self.folder.name, "c").write_text(none)
         self.assertEqual(self.printed("compare", "--intervals", "c", "a").splitlines()[5].split()[2:5], ["0", "0.00", "-"])
+        self.assertEqual(self.printed("compare", "a", "c").splitlines()[5].split()[2:], ["500", "0", "500000.00", "0.00", "0.00"])
 
 
 class Terminals(Tables):

@@ -56,13 +56,18 @@ def read(text: str) -> Haul:
     return read_one_haul(io.BytesIO(text.encode("latin-1")))
 
 
-def fault(text: str) -> str:
-    """What is said of a text that is no haul's."""
+def said_of(text: str) -> str:
+    """What is said of a text that is no haul's: a place, and a reason if its words are well formed."""
     try:
         list(read_hauls(io.BytesIO(text.encode("latin-1"))))
     except BadHaul as bad:
         return str(bad).removeprefix("bad haul at ")
     return "none"
+
+
+def fault(text: str) -> str:
+    """The place at which a text is no haul's."""
+    return said_of(text).partition(":")[0]
 
 
 class Reading(unittest.TestCase):
@@ -150,6 +155,35 @@ class Reading(unittest.TestCase):
             with self.subTest(new=new):
                 self.assertEqual(LARGER.count(old), 1)
                 self.assertEqual(fault(LARGER.replace(old, new)), place)
+
+    def test_reasons(self) -> None:
+        """Where words are well formed, it says why they are wrong; where they aren't, the place says it."""
+        for old, new, said in [
+            ("64 512", "64 63", "line 5 column 13: the horizon is below the period"),
+            ("@RANGE 10 1", "@RANGE 5 1", "line 7 column 8: the ranges are not in ascending order, or touch"),
+            ("@RANGE 10 1", f"@RANGE {2**40} 1", "line 7 column 8: the number is too large"),
+            ("@RANGE 10 1", f"@RANGE {2**40 - 1} 2", "line 7 column 22: the number is too large"),
+            ("SOUPS 3", "SOUPS 4", "line 8 column 12: more soups than numbers in the ranges"),
+            ("UNSETTLED 0", "UNSETTLED 4", "line 9 column 16: more unsettled soups than soups"),
+            ("FOR_GOOD 1", "FOR_GOOD 4", "line 10 column 15: more soups for good than settled soups"),
+            ("OBJECTS 6", "OBJECTS 7", "line 11 column 14: the objects are not the sum of the table"),
+            ("OBJECTS 6", f"OBJECTS {2**64}", "line 11 column 14: the number is too large"),
+            ("xs4_33 4\n", "xp2_7 4\n", "line 15 column 1: the codes are not in ascending order"),
+            ("xs4_33 4\n", f"xs4_33 {2**64}\n", "line 15 column 8: the number is too large"),
+            ("xp2_7 3 10", "xp2_8 3 10", "line 18 column 1: not the code of the same row of the census table"),
+            ("xp2_7 3 10", "xp2_7 10 3", "line 18 column 10: the samples are not in ascending order"),
+            ("xp2_7 3 10", "xp2_7 3 11", "line 18 column 9: the number is in no range"),
+            ("xp2_7 3 10", f"xp2_7 3 {2**40}", "line 18 column 9: the number is in no range"),
+            ("xp2_7 3 10", "xp2_7 3 4 10", "line 18 column 11: more samples than objects"),
+            ("xs4_33 3 4 10\n", "xs4_33 3 4 10 11\n", "line 19 column 15"),
+            ("xp2_7 3 10", "xp2_7 3 4 x", "line 18 column 11"),
+            ("xp2_7 3 10", "* 3 10", "line 18 column 1"),
+            ("SOUPS 3", "SOUPS 03", "line 8 column 12"),
+            ("xp2_7 2", "xp2_7 0", "line 14 column 7"),
+        ]:
+            with self.subTest(new=new):
+                self.assertEqual(LARGER.count(old), 1)
+                self.assertEqual(said_of(LARGER.replace(old, new)), said)
 
     def test_the_sum_comes_after_the_table(self) -> None:
         wrong = LARGER.replace("OBJECTS 6", "OBJECTS 7")

@@ -13,12 +13,12 @@ import unittest
 from html.parser import HTMLParser
 from pathlib import Path
 
-from haul.compare import compared, ranked
-from haul.names import NAMES
-from haul.page import page_of
-from haul.program import Census, pieces
-from haul.tests.called import CENSUS, HAUL, census, run
+from haul.by_parts import Objects
+from haul.compare import Comparison, ranked
+from haul.program import pieces
+from haul.tests.called import HAUL, census, run
 from haul.tests.drawn import any_haul, text_of
+from haul.tests.pages import page
 from haul.text import Haul, Job, Range, read_one_haul
 
 STANDARD = (64, 512, 101, 30300)
@@ -28,10 +28,6 @@ NOTES = '#!/bin/sh\necho "$@" >> asked\nexit 4\n'
 def made(totals: dict[str, int], ranges: list[Range], profile: tuple[int, int, int, int] = STANDARD, samples: dict[str, list[int]] | None = None) -> Haul:
     soups = sum(count for _, count in ranges)
     return Haul(Job("a", "b3s23", profile), ranges, soups, 0, 0, dict(sorted(totals.items())), samples or {code: [ranges[0][0]] for code in sorted(totals)})
-
-
-def page(haul: Haul) -> str:
-    return "".join(page_of(Census(CENSUS), haul, 1))
 
 
 class Rows(HTMLParser):
@@ -115,13 +111,6 @@ class Codes(unittest.TestCase):
                                  [str(sum(bin(value.index(digit)).count("1") for digit in row[1][4:6]) + 1) for row in shown.rows])
                 # A picture of each object, and one of its sample soup.
                 self.assertEqual(len(shown.paths), 2 * count)
-
-    def test_no_soup_is_lost(self) -> None:
-        for count in (99, 100, 101, 201):
-            with self.subTest(count=count):
-                soups = list(Census(CENSUS).soups("a", list(range(count))))
-                self.assertEqual(len(soups), count)
-                self.assertEqual(soups[-1], census("soup", "--seed=a", str(count - 1)).decode())
 
 
 class Pages(unittest.TestCase):
@@ -241,7 +230,7 @@ class Compares(unittest.TestCase):
             one, other = any_haul(draw), any_haul(draw)
             # Some codes are in both.
             other.totals |= {code: total + 1 for code, total in one.totals.items() if draw.random() < 0.5}
-            there, back = (list(compared(pair, ranked(pair, 1), NAMES)) for pair in ([one, other], [other, one]))
+            there, back = (list(Comparison(pair, list(map(Objects, pair)), ranked(pair, 1), has_intervals=False).text(None)) for pair in ([one, other], [other, one]))
             self.assertEqual([line[1:] for line in there[:4]], [line[1:] for line in (*back[2:4], *back[:2])])
             turned = [[code, name, b, a, rate_b, rate_a] for code, name, a, b, rate_a, rate_b, _ in map(str.split, back[5:-1])]
             self.assertEqual([line.split()[:6] for line in there[5:-1]], turned)

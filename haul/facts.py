@@ -1,0 +1,36 @@
+"""What a haul says before its table."""
+
+from __future__ import annotations
+
+from haul.by_parts import Objects
+from haul.columns import exact
+from haul.text import Haul
+from haul.words import noun
+
+
+def job_line(letter: str, haul: Haul) -> str:
+    period, horizon, stride, limit = haul.job.profile
+    return f"{letter}: seed={haul.job.seed} rule={haul.job.rule} profile={period},{horizon},{stride},{limit}"
+
+
+def soups_line(letter: str, haul: Haul, by_parts: bool = False) -> str:
+    soups, objects = noun(haul.soups, "soup"), noun(haul.objects(), "object")
+    line = f"{letter}: {haul.soups} {soups}, {haul.unsettled} unsettled, {haul.for_good} for good, {haul.objects()} {objects}"
+    return f"{line} by parts" if by_parts else line
+
+
+def facts_of(haul: Haul) -> dict[str, object]:
+    """Returns the facts for JSON."""
+    return {
+        "seed": haul.job.seed, "rule": haul.job.rule, "profile": list(haul.job.profile), "ranges": [list(range_) for range_ in haul.ranges],
+        "soups": haul.soups, "unsettled": haul.unsettled, "for_good": haul.for_good, "total": exact(haul.objects()),
+    }
+
+
+def parts_facts(objects: Objects) -> dict[str, object]:
+    """Returns the parts of each object of a haul, and which objects aren't separated, for JSON."""
+    separations = objects.separations(objects.haul.totals)
+    return {
+        "parts": {code: list(separation.parts) for code, separation in separations.items()},
+        "not_separated": [code for code, separation in separations.items() if not separation.is_separated],
+    }
