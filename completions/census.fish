@@ -18,7 +18,7 @@ complete -c census -n '__fish_seen_subcommand_from take work gather' -l also -x 
 complete -c census -n '__fish_seen_subcommand_from name take work gather' -l period -x -d 'The longest period that counts'
 complete -c census -n '__fish_seen_subcommand_from name take work gather' -l horizon -x -d 'For how many generations objects must keep apart'
 complete -c census -n '__fish_seen_subcommand_from name take work gather' -l stride -x -d 'Look every so many generations'
-complete -c census -n '__fish_seen_subcommand_from name take work gather' -l limit -x -d 'The last generation at which there may be a look'
+complete -c census -n '__fish_seen_subcommand_from name take work gather' -l limit -x -d 'The last generation that may be a checkpoint'
 complete -c census -n '__fish_seen_subcommand_from run name take work gather' -l rule -x -d 'The rule'
 complete -c census -n '__fish_seen_subcommand_from take gather' -l workers -x -d 'How many workers'
 complete -c census -n '__fish_seen_subcommand_from work' -l worker -x -d 'The number of the worker'

@@ -141,7 +141,7 @@ def profile_words(job: Job) -> str:
     each = counted(stride, "generation") if stride > 1 else "generation"
     looks = f"one each {each}, up to generation {limit:,}" if limit >= stride else "the only one, at generation 0"
     return (
-        f"A pattern has settled at the first look ({looks}) at which each of its objects comes back within "
+        f"A pattern has settled at the first checkpoint ({looks}) at which each of its objects comes back within "
         f"{counted(period, 'generation')}, and for {counted(horizon, 'generation')} none comes into another's way. It is settled for "
         "good if it has no spaceship and all its objects come back together within that time."
     )

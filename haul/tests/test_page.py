@@ -91,7 +91,7 @@ class Words(unittest.TestCase):
         for profile, said in (((1, 2, 1, 0), "the only one, at generation 0"), ((1, 2, 1, 1), "one each generation, up to generation 1"),
                               ((1, 2, 2, 2), "one each 2 generations, up to generation 2"), ((1, 2, 3, 2), "the only one, at generation 0"),
                               ((1, 2, 3, 1234), "one each 3 generations, up to generation 1,234")):
-            self.assertIn(f"first look ({said}) at", page(made({"xs4_33": 1}, [(5, 1)], profile), 0))
+            self.assertIn(f"first checkpoint ({said}) at", page(made({"xs4_33": 1}, [(5, 1)], profile), 0))
 
     def test_no_soup_and_some_missing(self) -> None:
         """Without a soup there is no rate, and where soups are missing the whole can't be taken again."""
@@ -163,7 +163,7 @@ class Whole(unittest.TestCase):
 <h1>A census of 8 soups under B36/S23</h1>
 <p>Random patterns of 16 by 16 cells (seed <code>a</code>, numbers 5 to 11, 2048) were run under the rule
 <code>b36s23</code> (B36/S23) until they had settled, and the objects that they left were counted.
-A pattern has settled at the first look (one each 101 generations, up to generation 30,300) at which each of its objects comes back \
+A pattern has settled at the first checkpoint (one each 101 generations, up to generation 30,300) at which each of its objects comes back \
 within 64 generations, and for 512 generations none comes into another&#x27;s way. It is settled for good if it has no spaceship and all \
 its objects come back together within that time.</p>
 <dl class='facts' data-counts='objects'><div><dt>Soups</dt><dd>8</dd></div><div><dt>Unsettled</dt><dd>1</dd></div><div><dt>Settled for good</dt><dd>2</dd></div>\

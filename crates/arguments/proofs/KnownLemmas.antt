@@ -67,11 +67,11 @@ rows_with e v rows = with_values e.name (reading_of (parser_for e.kind)) Command
 abbrev pub faults_of : Entry → Text → List Row → Kinds
 faults_of e v rows = or_else (repeat_fault false e.name rows) (values_kinds false (parser_for e.kind) (v ∷ []))
 
--- a word with the whole use, once what was held before is settled
+-- a argument with the whole use, once what was held before is settled
 abbrev pub reacts : Kinds × Held → Entry → Text → Met
 reacts p e v = ((record { rows = rows_with e v p.1.rows; pending = None; skip = p.1.skip }, next idle), or_else p.0 (faults_of e v p.1.rows))
 
--- a word with the name alone, after which values of the argument wait
+-- a argument with the name alone, after which values of the argument wait
 abbrev pub asks : Kinds × Held → Entry → Met
 asks p e = ((record { rows = p.1.rows; pending = Some (e.name, []); skip = p.1.skip }, next (option e.name)), p.0)
 
@@ -147,7 +147,7 @@ pub record ParameterFacts : Type 0 where
   pub small : Bool
   pub default : Option Value
 
--- and of the command: that no value alone is a second one, its defaults and checks, other arguments, and the word that names it
+-- and of the command: that no value alone is a second one, its defaults and checks, other arguments, and the argument that names it
 pub record CommandFacts : Type 0 where
   pub parameters : List ParameterFacts
   pub second : Option Rule

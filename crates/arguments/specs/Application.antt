@@ -46,7 +46,7 @@ abbrev pub with_commands : App → List Shape → App
 with_commands app [] = app
 with_commands app (shape ∷ more) = with_commands (with_subcommand app shape) more
 
--- the program, which has a version, and of which a command must be named; help is shown where no word follows
+-- the program, which has a version, and of which a command must be named; help is shown where no argument follows
 abbrev pub program : App
 program = record {
   top = record ((new_app (codes "census")).top) { has_version = true; subcommand_required = true; arg_required_else_help = true };

@@ -33,7 +33,7 @@ pub record AskForTheirValues : Type 0 where
   pub gather : AsksFor table.gather_command (λ uses. Gather (plan_given uses) (number_given table.workers uses))
 
 -- Words of a command that ask for nothing: an argument that has to be there is missing; or after arguments that are lawful there is one
--- a second time, one with a value out of its range, an unknown option, a word as `-x` or `-h`, or `--help`, whatever comes after it.
+-- a second time, one with a value out of its range, an unknown option, a argument as `-x` or `-h`, or `--help`, whatever comes after it.
 pub record AskForNothing (command : Command) : Type 0 where
   pub missing : (program : Text) (uses : List Use) → AreUses command uses → lacks_some command uses ≡ true
       → asked_by (program ∷ command.name ∷ arguments_in uses) ≡ None
@@ -56,7 +56,7 @@ pub record AsksForVersion : Type 0 where
   pub long : (program : Text) → asked_by (program ∷ codes "--version" ∷ []) ≡ Some Version
   pub short : (program : Text) → asked_by (program ∷ codes "-V" ∷ []) ≡ Some Version
 
--- no command, another word in its place, whatever comes after it, and a call for help
+-- no command, another argument in its place, whatever comes after it, and a call for help
 pub record NoCommandAsksForNothing : Type 0 where
   pub no_command : (program : Text) → asked_by (program ∷ []) ≡ None
   pub unknown : (program argument : Text) (arguments : List Text) → starts_with_minus argument ≡ false

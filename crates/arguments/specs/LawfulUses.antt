@@ -63,7 +63,7 @@ pub record IsOutOfRange (command : Command) (u : Use) : Type 0 where
   pub stands : Stands u
   pub refused : IsNotOfKind (entry_in u).kind (value_in u)
 
--- `-x`, with whatever follows in the word: a hyphen, and then a character that isn't one
+-- `-x`, with whatever follows in the argument: a hyphen, and then a character that isn't one
 pub record IsShort (argument : Text) : Type 0 where
   pub letters : Text
   pub letter : ℕ

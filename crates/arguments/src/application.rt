@@ -63,7 +63,7 @@ fn program<'a>(alloc: Global) -> Command<'a>
     needing_a_command(command)
 }
 
-/// The program where a command must be named; help is shown where no word follows.
+/// The program where a command must be named; help is shown where no argument follows.
 fn needing_a_command<'a>(program: Command<'a>) -> Command<'a>
     ensures { fields_of result
         ≡ record (fields_of program.entry) { subcommand_required = true; arg_required_else_help = true } }

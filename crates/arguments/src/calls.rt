@@ -3,7 +3,7 @@
 //! ```text
 //! arguments ──┬─ --version or -V alone ───────────────> Request::Version
 //!         └─ clap ──┬─ a command with its values ──> its request
-//!                   └─ an error ──────────────────> a text that ends with a line feed, or want of memory
+//!                   └─ an error ──────────────────> a text that ends with a line feed, or out of memory
 //! ```
 
 ghost use Rattle.std.specs.Prelude.{◌≡◌, ◌≢◌, ◌<◌, false, None, Some, IfOk, IfErr, IfSome, IsTrue, length, map};

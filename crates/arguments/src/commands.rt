@@ -8,7 +8,7 @@ use crate::options::{
 /// A command of the program.
 #[derive(Clone, Copy)]
 pub struct CommandRow {
-    /// The word that calls it.
+    /// The argument that calls it.
     pub name: &'static str,
     /// What the list of the commands says of it.
     pub about: &'static str,
@@ -39,7 +39,7 @@ pub const NAME: CommandRow = CommandRow {
     name: "name",
     about: "Reads a pattern, runs it until it has settled, and names its objects",
     long_about: "Reads a pattern from standard input, in plaintext, and runs it until it has\n\
-         settled. Prints `settled` and the generation of the first look at which it has,\n\
+         settled. Prints `settled` and the generation of the first checkpoint at which it has,\n\
          and then a line for each apgcode with how many objects have it. Prints\n\
          `unsettled` if it hasn't by the last look.\n\n\
          The looks are at the generations 0, STRIDE, twice STRIDE and so on, up to\n\

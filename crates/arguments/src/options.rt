@@ -21,7 +21,7 @@ pub enum ValueKind {
 pub enum Place {
     /// By itself, as the first that does.
     Position,
-    /// After `--` and its name, in the next word or after `=`. Help calls its value so.
+    /// After `--` and its name, in the next argument or after `=`. Help calls its value so.
     Named(&'static str),
 }
 
@@ -155,7 +155,7 @@ pub const HORIZON: Parameter = Parameter {
     help: "For how many generations objects must keep apart, from PERIOD to 4096",
 };
 
-/// How far one look is from the next.
+/// How far one checkpoint is from the next.
 pub const STRIDE: Parameter = Parameter {
     name: "stride",
     place: Place::Named("STRIDE"),
@@ -165,14 +165,14 @@ pub const STRIDE: Parameter = Parameter {
     help: "Look every STRIDE generations, from 1 to 10000",
 };
 
-/// The last generation at which there may be a look.
+/// The last generation at which there may be a checkpoint.
 pub const LIMIT: Parameter = Parameter {
     name: "limit",
     place: Place::Named("LIMIT"),
     kind: ValueKind::Number(0, 100_000),
     default: Some("30300"),
     heading: SETTLING,
-    help: "The last generation at which there may be a look, from 0 to 100000.\n\
+    help: "The last generation that may be a checkpoint, from 0 to 100000.\n\
          A pattern that explodes under its rule uses more and more memory and\n\
          time until then",
 };

@@ -47,7 +47,7 @@ whole_sent (Some xs) None below text wrote kept = absurd wrote
 whole_sent (Some xs) (Some ys) None text wrote kept = absurd kept
 whole_sent (Some xs) (Some ys) (Some zs) text wrote kept = sym (append-nil zs) ∙ kept ∙ wrote
 
--- what is below a buffer is a front of what was written
+-- what is below a buffer is a prefix of what was written
 pub prefix_sent : (written below : Option (List ℕ)) (held : List ℕ) → Keeps written (append_known below held) → IsPrefixOf written below
 prefix_sent None below held kept = tt
 prefix_sent (Some ys) None held kept = absurd kept

@@ -26,7 +26,7 @@ left_by contents old (Some new) = contents new
 abbrev pub since : Stream → Stream → Stream
 since earlier later = record { before = earlier.after; after = later.after; failed = later.failed }
 
--- a text was added, and then a line, or a front of the line where a write failed
+-- a text was added, and then a line, or a prefix of the line where a write failed
 pub record HasTextAndLine (errors : Stream) (text line : List ℕ) : Type 0 where
   pub so_far : Option (List ℕ)
   pub whole : Appends errors.before so_far text
@@ -45,13 +45,13 @@ pub record IsDone (arguments : List Text) (reader before after : Option (List �
   pub written : Appends before after made.text
   pub diagnostics : HasTextAndLine errors made.diagnostics (last_line (Ok missing))
 
--- the bytes with a writer are a front of those that were written to its buffer
+-- the bytes with a writer are a prefix of those that were written to its buffer
 abbrev pub IsPrefixOf : (written sent : Option (List ℕ)) → Type 0
 IsPrefixOf None sent = ⊤
 IsPrefixOf (Some xs) None = ⊥
 IsPrefixOf (Some xs) (Some ys) = (remainder : List ℕ) × (ys ++ remainder ≡ xs)
 
--- After the remarks of a command, standard error has the line of a failed write, unless it had failed before.
+-- After the diagnostics of a command, standard error has the line of a failed write, unless it had failed before.
 pub record TellsOfWrite (diagnostics errors : Stream) : Type 0 where
   pub line : diagnostics.failed ≡ false → HasLine (since diagnostics errors) write_failed_line
   pub stays : diagnostics.failed ≡ true → errors.failed ≡ true
@@ -63,7 +63,7 @@ EndsBadly status number diagnostics errors =
     ⊎ ((has_printed status ≡ true) × (number ≡ exit_code Failed) × (errors.before ≡ diagnostics.before) × TellsOfWrite diagnostics errors)
 
 -- The program complains. What the arguments ask for was done, or there was no memory to read them, by the rule of all commands: so `written`
--- was left in a buffer and `diagnostics` on standard error. The writer below the buffer has got a front of it.
+-- was left in a buffer and `diagnostics` on standard error. The writer below the buffer has got a prefix of it.
 pub record Complains (arguments : List Text) (reader : Option (List ℕ)) (number : ℕ) (before after : Option (List ℕ)) (errors : Stream) : Type 0 where
   pub status : Status
   pub written : Stream

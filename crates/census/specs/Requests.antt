@@ -45,7 +45,7 @@ refuses_input request = (behaviour_of request).refuses
 abbrev pub is_whole : Request → Bool
 is_whole request = (behaviour_of request).whole
 
--- the request is for a haul of report lines, with a remark on each that is refused
+-- the request is for a haul of report lines, with a diagnostic on each that is refused
 abbrev pub tells_lines : Request → Bool
 tells_lines (Gather plan workers) = true
 tells_lines request = false
@@ -88,7 +88,7 @@ abbrev pub DoesArguments : List Text → Option (List ℕ) → Status → Stream
 DoesArguments arguments reader status output errors =
     IsSomeAnd (asked_by arguments) (DoesRequest reader status output errors) ⊎ LacksMemory arguments status output errors
 
--- standard error got a text that says why the arguments ask for nothing, or a front of it where a write failed
+-- standard error got a text that says why the arguments ask for nothing, or a prefix of it where a write failed
 pub record TellsUsage (errors : Stream) : Type 0 where
   pub text : List ℕ
   pub says : IsUsageText text

@@ -3,7 +3,7 @@
 //! ```text
 //! arguments ── request_of ──┬─ request ── do_request ──┬─ take, work, gather
 //!                       │                          └─ do_pattern_request ── run, name, show, soup, --version
-//!                       └─ a usage text, or want of memory
+//!                       └─ a usage text, or out of memory
 //! ```
 
 ghost use Rattle.std.specs.Prelude.{◌≡◌, ◌≢◌, false, map};

@@ -59,7 +59,7 @@ one_move (c ∷ cs) dx dy ex ey some is =
     let first : moved_by dx dy c ≡ moved_by ex ey c = cc in
     (same_step c.x dx ex (ap (λ (d : Cell). d.x) first), same_step c.y dy ey (ap (λ (d : Cell). d.y) first))
 
--- a pattern comes back in one way
+-- a pattern recurs in one way
 recurs_once : (rule : Numbers) (cells : List Cell) (limit : ℕ) (q r : Recurrence) → cells ≢ [] → Recurs rule cells limit q → Recurs rule cells limit r → q ≡ r
 recurs_once rule cells limit q r some one other =
     let low : q.period ≤ r.period = not_less r.period q.period (λ less. one.least r.period r.dx r.dy other.some less other.back) in

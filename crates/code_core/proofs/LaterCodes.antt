@@ -30,7 +30,7 @@ module _ (rule : Numbers) (cells : List Cell) (limit : ℕ) (r : Recurrence) (or
   a_period_later : (g : ℕ) → after rule cells (r.period + g) ≡ shifted r.dx r.dy (after rule cells g)
   a_period_later g = sym (after-after rule cells r.period g) ∙ ap (λ (S : List Cell). after rule S g) h.back ∙ after-shifted r.dx r.dy rule cells g order
 
-  -- the next generation comes back as the pattern does
+  -- the next generation recurs as the pattern does
   recurs-next : Recurs rule (after rule cells 1) limit r
   recurs-next = record {
     some = h.some;

@@ -60,7 +60,7 @@ pub length-shifted : (dx dy : ℤ) (cells : List Cell) → length (shifted dx dy
 length-shifted dx dy [] = refl
 length-shifted dx dy (c ∷ cs) = ap suc (length-shifted dx dy cs)
 
--- a pattern comes back as it does elsewhere
+-- a pattern recurs as it does elsewhere
 pub recurs-shifted : (dx dy : ℤ) (rule : Numbers) (cells : List Cell) (limit : ℕ) (r : Recurrence) → InOrder cells → Recurs rule cells limit r
     → Recurs rule (shifted dx dy cells) limit r
 recurs-shifted dx dy rule cells limit r order h = record {

@@ -1,4 +1,4 @@
--- Following a pattern until it comes back.
+-- Following a pattern until it recurs.
 use Rattle.std.proofs.Common.{◌≡◌, ◌≢◌, ◌∙◌, sym, ap, refl, subst, ℕ, suc, ℤ, ◌+◌, ◌<◌, ◌≤◌, List, [], ◌∷◌, ◌++◌, false, arith, below_more}
 use Rattle.std.proofs.Common.{eq-or-lt_of_le, inl, inr, ◌⊎◌, true, Bool, Option, Some, None, Result, Ok, Err, IsErrAnd, is_ok}
 use Rattle.std.proofs.lemmas.Bool.{false≢true}

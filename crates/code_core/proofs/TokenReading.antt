@@ -181,7 +181,7 @@ unfolding tokens_at
 tokens_at-spelled tokens each place =
     ap (λ (text : List ℕ). tokens_at place text) (sym (append-nil (flat_map spelling tokens))) ∙ tokens_at-tokens tokens each place [] ∙ with_tokens-none tokens
 
--- the token at the front of a text
+-- the token at the prefix of a text
 pub Begins_single : (text : List ℕ) (token : Token) (b : ℕ) (remainder : List ℕ) → text ≡ b ∷ remainder → token ≡ single b → is_character b ≡ true → b ≢ 121
     → Begins text token remainder
 Begins_single text token b remainder whole is h other =
@@ -238,7 +238,7 @@ abbrev pub IsShort : List ℕ → Type 0
 IsShort [] = ⊥
 IsShort (b ∷ remainder) = (b ≡ 121) × (has_character remainder ≡ false)
 
--- tokens spell the front of the text, and its rest begins so, at this place of a longer text in which the text stands at another
+-- tokens spell the prefix of the text, and its rest begins so, at this place of a longer text in which the text stands at another
 pub record Stops (BeginsSo : List ℕ → Type 0) (start : ℕ) (text : List ℕ) (place : ℕ) : Type 0 where
   pub tokens : List Token
   pub remainder : List ℕ

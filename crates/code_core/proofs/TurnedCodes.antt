@@ -53,7 +53,7 @@ after-image o rule cells (suc g) order =
     ∙ next-image o rule (after rule cells g) (in_order-after rule cells g order)
     ∙ ap (image o) (sym (after-suc rule cells g))
 
--- how an image comes back
+-- how an image recurs
 abbrev turned_recurrence : Orientation → Recurrence → Recurrence
 turned_recurrence o r = record { period = r.period; dx = (turned_cell o (cell_at r.dx r.dy)).x; dy = (turned_cell o (cell_at r.dx r.dy)).y }
 

@@ -32,7 +32,7 @@ IsImage cells t = (o : Orientation) × (text (turned o cells) ≡ Some t)
 abbrev pub IsImageOf : List (List Cell) → ℕ → List ℕ → Type 0
 IsImageOf phases k t = IsImage (get_or phases k []) t
 
--- the name of a pattern with these phases, which comes back so
+-- the name of a pattern with these phases, which recurs so
 pub record IsNameBy (cells : List Cell) (phases : List (List Cell)) (r : Recurrence) (code : List ℕ) : Type 0 where
   pub least : Option (List ℕ)
   pub is_least : IsLeastOf (Among (IsImageOf phases) (length phases)) least

@@ -38,7 +38,7 @@ abbrev pub IsLeastOf : (List ℕ → Type 0) → Option (List ℕ) → Type 0
 IsLeastOf IsOne None = (t : List ℕ) → ¬ IsOne t
 IsLeastOf IsOne (Some least) = IsOne least × ((t : List ℕ) → IsOne t → text_cmp least t ≢ Greater)
 
--- a still life stays as it is, an oscillator comes back to its place, a spaceship elsewhere
+-- a still life stays as it is, an oscillator recurs to its place, a spaceship elsewhere
 abbrev pub kind_of : Recurrence → Kind
 kind_of r =
     if int_eq r.dx (pos 0) && int_eq r.dy (pos 0)

@@ -1,4 +1,4 @@
--- When a pattern comes back, where it was or elsewhere (LifeWiki, "Oscillator" and "Spaceship").
+-- When a pattern recurs, where it was or elsewhere (LifeWiki, "Oscillator" and "Spaceship").
 use Rattle.std.specs.Prelude.{◌≡◌, ◌≢◌, ◌+◌, ◌<◌, ◌≤◌, ℕ, ℤ, true, false, List, Option, Result, Err, IfNone, IfOk, IfSome, IsErrOf, OnOk, map}
 use Rattle.std.specs.List.{range_with_len}
 use Rattle.plane_core.specs.declared.plane.cell.Cell.{Cell}

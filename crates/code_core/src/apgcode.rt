@@ -32,9 +32,9 @@ use std::marker::Model;
 pub enum Kind {
     /// A still life: the next generation is the pattern itself.
     Still,
-    /// An oscillator: it comes back in its place, after two generations or more.
+    /// An oscillator: it recurs in its place, after two generations or more.
     Oscillator,
-    /// A spaceship: it comes back elsewhere.
+    /// A spaceship: it recurs elsewhere.
     Ship,
 }
 

@@ -1,4 +1,4 @@
-//! A pattern that recurs is followed until it comes back, and its phases are kept:
+//! A pattern that recurs is followed until it recurs, and its phases are kept:
 //!
 //! ```text
 //! phase 0  ->  phase 1  ->  ..  ->  phase p - 1  ->  phase 0 again, moved by (dx, dy)
@@ -14,7 +14,7 @@ use plane_core::plane::rule::Rule;
 use std::alloc::Global;
 
 impl Recurrence {
-    /// How the pattern comes back under the rule, or `None` if none of the generations 1 to `limit` is the pattern
+    /// How the pattern recurs under the rule, or `None` if none of the generations 1 to `limit` is the pattern
     /// again, moved or not.
     ///
     /// The pattern must not be empty, and the limit must be 1 to 64.
@@ -45,14 +45,14 @@ impl Recurrence {
     }
 }
 
-/// A pattern that recurs: its phases, from the pattern itself on, and how it comes back.
+/// A pattern that recurs: its phases, from the pattern itself on, and how it recurs.
 #[derive(Drop)]
 pub(crate) struct Cycle {
     pub(crate) phases: Vec<Pattern>,
     pub(crate) recurrence: Recurrence,
 }
 
-/// Follows the pattern until it comes back, if it does so within the limit. Each phase is made once.
+/// Follows the pattern until it recurs, if it does so within the limit. Each phase is made once.
 pub(crate) fn follow(
     alloc: Global,
     pattern: &Pattern,
@@ -67,7 +67,7 @@ pub(crate) fn follow(
     if pattern.touches_edge() {
         return Err(StepError::Edge);
     }
-    // Most patterns that don't come back are small, and seen not to at a fraction of what their phases cost.
+    // Most patterns that don't recur are small, and seen not to at a fraction of what their phases cost.
     if pattern.surely_changes(rule, limit) {
         return Ok(None);
     }

@@ -10,7 +10,7 @@ pub mod decimal;
 pub mod name;
 /// The pattern of an extended Wechsler text.
 pub mod reader;
-/// When and where a pattern comes back.
+/// When and where a pattern recurs.
 pub mod recurrence;
 mod token;
 /// The extended Wechsler text of a pattern.

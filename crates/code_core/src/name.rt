@@ -1,17 +1,17 @@
-//! A name is found in two steps. First the pattern is followed until it comes back, which gives its kind, its number
+//! A name is found in two steps. First the pattern is followed until it recurs, which gives its kind, its number
 //! and its phases. Then the texts of all phases in the eight orientations are compared, and the least one ends the
 //! name: the shorter comes first, and of two that are equally long the first in ASCII order.
 //!
 //! ```text
 //! generation 0    generation 1    generation 2
 //!     ...             .O.             ...
-//!     OOO             .O.             OOO       it comes back in its place after 2 generations: xp2
+//!     OOO             .O.             OOO       it recurs in its place after 2 generations: xp2
 //!     ...             .O.             ...
 //!
 //! lying: 111      upright: 7                    two texts, of which 7 is the shorter one: xp2_7
 //! ```
 //!
-//! Each phase is made once and kept, and no text is made of a pattern that doesn't come back.
+//! Each phase is made once and kept, and no text is made of a pattern that doesn't recur.
 
 ghost use Rattle.std.specs.Prelude.{Option, ◌≡◌, ◌≢◌, ◌<◌, ◌≤◌, [], Some, Err, length, option_map};
 ghost use Rattle.std.specs.Prelude.{string_bytes, IfOk};

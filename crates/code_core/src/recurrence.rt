@@ -1,12 +1,12 @@
-//! How a pattern comes back: its period, and how far it has moved then.
-/// How a pattern comes back: after `period` generations, and not earlier, it is itself, moved by (dx, dy).
+//! How a pattern recurs: its period, and how far it has moved then.
+/// How a pattern recurs: after `period` generations, and not earlier, it is itself, moved by (dx, dy).
 /// [`Recurrence::find`] follows a pattern until it does.
 #[derive(Clone, Copy, Debug, PartialEq, Eq)]
 pub struct Recurrence {
     /// The least number of generations, at least 1.
     pub period: u32,
-    /// By how many cells it comes back further right, or further left where this is negative.
+    /// By how many cells it recurs further right, or further left where this is negative.
     pub dx: i32,
-    /// By how many cells it comes back further down, or further up where this is negative.
+    /// By how many cells it recurs further down, or further up where this is negative.
     pub dy: i32,
 }

@@ -131,7 +131,7 @@ const BLINKER: [Cell; 3] = [
     Cell { y: 1, x: 999_999 },
 ];
 
-// No clause says that an edge that is met later isn't told as want of memory.
+// No clause says that an edge that is met later isn't told as out of memory.
 #[test]
 fn stops_a_step_from_the_edge(rt: HostRuntime) -> Result<(), Fail> {
     let blinker = placed(rt.alloc(), &BLINKER)?;

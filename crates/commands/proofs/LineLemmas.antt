@@ -57,7 +57,7 @@ long_read None left read consumed long = tt
 long_read (Some xs) None read consumed long = absurd consumed
 long_read (Some xs) (Some ys) read consumed long = let all = ap length consumed ∙ length-append read ys in omega (arith, all, long)
 
--- an input that ends after a front of it was read
+-- an input that ends after a prefix of it was read
 pub spent_from : (start old new : Option (List ℕ)) (prefix : List ℕ) → Consumes start old prefix → IsSpent old new → IsSpent start new
 spent_from None old new prefix consumed spent = tt
 spent_from (Some all) None new prefix consumed spent = absurd consumed

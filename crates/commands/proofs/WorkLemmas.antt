@@ -256,7 +256,7 @@ only_text one_form job worker set held opened (Err (ReadFailed error)) is = absu
 only_text one_form job worker set held opened (Err TooLong) is = absurd is
 only_text one_form job worker set held opened (Err (WriteFailed error)) is = absurd is
 
--- the lines of the first reports are a front of each right text
+-- the lines of the first reports are a prefix of each right text
 prefix_of : FindingsAreDetermined → (job : Job) (worker : ℕ) (numbers : List ℕ) (answer : Answer) (output : Stream) → Tells job worker numbers answer
     → IsBegun (reports_on job worker numbers) (HasPrefix output) → HasPrefix output (output_text answer)
 prefix_of determined job worker numbers answer output tells begun =
@@ -268,7 +268,7 @@ prefix_of determined job worker numbers answer output tells begun =
     subst (HasPrefix output) (sym is)
     (AppendsPrefix-longer output.before output.after (flat_map report_text begun.reports) (flat_map report_text remainder.0) begun.is_written)
 
--- whole lines are a front of themselves
+-- whole lines are a prefix of themselves
 begun_whole : (job : Job) (worker : ℕ) (numbers : List ℕ) (output : Stream)
     → IsBegun (reports_on job worker numbers) (Has output)
     → IsBegun (reports_on job worker numbers) (HasPrefix output)

@@ -16,13 +16,13 @@ use Rattle.commands.specs.SoupSets.{job_named}
 abbrev pub gather_reads : Plan → Bool
 gather_reads plan = is_ok (job_named plan)
 
--- a haul was opened, and standard error has the remarks on the first lines
+-- a haul was opened, and standard error has the diagnostics on the first lines
 pub record BeginsHaul (opens : Hauls) (reader before after : Option (List ℕ)) : Type 0 where
   pub terms : Terms
   pub opened : opens terms
   pub begun : HasBegun terms reader before after
 
--- to gather report lines over a set: there are remarks on lines only if a haul was opened
+-- to gather report lines over a set: there are diagnostics on lines only if a haul was opened
 abbrev pub gather_behaviour : Plan → ℕ → Behaviour
 gather_behaviour plan workers = record {
   right = gather_right plan workers;
@@ -48,7 +48,7 @@ haul_behaviour terms = record {
 }
 
 -- Gathering gave up at a place of its input, with a haul open: all lines before that place, but perhaps the last, have come to the haul,
--- and standard error has the remarks on them. What the reader has given beyond it is ahead, at most so many bytes.
+-- and standard error has the diagnostics on them. What the reader has given beyond it is ahead, at most so many bytes.
 pub record GivesUpAt (opens : Hauls) (most : ℕ) (reader left : Option (List ℕ)) (errors : Stream) : Type 0 where
   pub terms : Terms
   pub opened : opens terms

@@ -21,7 +21,7 @@ pub record Passage : Type 0 where
   pub count : ℕ
   pub size : ℕ
 
--- The lines that were read have come to the haul, and standard error has the remarks on them.
+-- The lines that were read have come to the haul, and standard error has the diagnostics on them.
 pub record HasGatheredLines (passage : Passage) (held : Held) : Type 0 where
   pub read : List ℕ
   pub lines : List (List ℕ)
@@ -33,7 +33,7 @@ pub record HasGatheredLines (passage : Passage) (held : Held) : Type 0 where
   pub come : HasCome lines held diagnostics
   pub written : Has passage.errors diagnostics
 
--- All lines of an input of so many bytes have come to the haul, and standard error has the remarks on them.
+-- All lines of an input of so many bytes have come to the haul, and standard error has the diagnostics on them.
 pub record HasGatheredAll (reader left : Option (List ℕ)) (errors : Stream) (size : ℕ) (held : Held) : Type 0 where
   pub bytes : List ℕ
   pub input : IsInput reader bytes
@@ -60,7 +60,7 @@ pub record HasGatheredShort (reader left : Option (List ℕ)) (errors : Stream) 
 abbrev pub IsTooLong : Option (List ℕ) → Type 0
 IsTooLong reader = IfSome reader (λ bytes. 2 ^ 32 < length bytes)
 
--- What standard error has where a complaint ends the lines of an input of which this is left: the remarks on all lines before.
+-- What standard error has where a complaint ends the lines of an input of which this is left: the diagnostics on all lines before.
 abbrev pub EndsLines : Terms → (reader left : Option (List ℕ)) → Stream → Complaint → Type 0
 EndsLines terms reader left errors (Memory error) =
     HasBegunUpTo terms reader left errors.before errors.after × (errors.failed ≡ false)

@@ -66,7 +66,7 @@ fault_text (UnknownWorker worker) = codes "unknown worker " ++ decimal worker
 fault_text (OutOfRange number) = codes "out of range " ++ decimal number
 fault_text (Double number worker) = codes "double of " ++ decimal number ++ (codes " by " ++ decimal worker)
 
--- the remark on line `number`, counted from 1
+-- the diagnostic on line `number`, counted from 1
 abbrev pub fault_line : ℕ → LineFault → List ℕ
 fault_line number fault = codes "line " ++ decimal number ++ (codes ": " ++ (fault_text fault ++ codes "\n"))
 
@@ -74,7 +74,7 @@ abbrev pub told_fault : ℕ → Option LineFault → List ℕ
 told_fault number None = []
 told_fault number (Some fault) = fault_line number fault
 
--- Lines one after another, at a haul to which nothing has come: what arrives, and the remarks on them.
+-- Lines one after another, at a haul to which nothing has come: what arrives, and the diagnostics on them.
 pub data Gathered (terms : Terms) : List (List ℕ) → List Arrival → List ℕ → Type 0 where
   Start : Gathered terms [] [] []
   Next : (lines : List (List ℕ)) (before : List Arrival) (diagnostics : List ℕ) (line : List ℕ) (arrived : List Arrival) (fault : Option LineFault)

@@ -8,7 +8,7 @@ use Rattle.commands.specs.declared.lines.LineEnd.TheVariants.{Feed, Input}
 use Rattle.commands.specs.declared.lines.LineRead.{LineRead}
 use Rattle.commands.specs.declared.lines.Piece.{Piece}
 
--- a byte at the front of the first of some lines
+-- a byte at the prefix of the first of some lines
 abbrev pub begun_with : ℕ → List (List ℕ) → List (List ℕ)
 begun_with byte [] = (byte ∷ []) ∷ []
 begun_with byte (line ∷ more) = (byte ∷ line) ∷ more

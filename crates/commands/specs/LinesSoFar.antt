@@ -23,20 +23,20 @@ pub record AreAllEnded (bytes : List ℕ) (lines : List (List ℕ)) : Type 0 whe
   pub ended : AreEnded prefix lines
   pub one : IsOneLine part
 
--- the lines have come to the haul, with these remarks on them
+-- the lines have come to the haul, with these diagnostics on them
 pub record HasCome (lines : List (List ℕ)) (held : Held) (diagnostics : List ℕ) : Type 0 where
   pub arrivals : List Arrival
   pub gathered : Gathered held.terms lines arrivals diagnostics
   pub stands : StandsFor arrivals held
 
--- The lines have come to the haul. These were the remarks before, and the others were added to standard error.
+-- The lines have come to the haul. These were the diagnostics before, and the others were added to standard error.
 pub record HasComeBy (lines : List (List ℕ)) (held : Held) (diagnostics : List ℕ) (errors : Stream) : Type 0 where
   pub more : List ℕ
   pub come : HasCome lines held (diagnostics ++ more)
   pub written : Has errors more
 
 -- An input was read up to here, and its first lines have come to a haul: all of what was read, but perhaps the last, at which it
--- ended. Standard error has the remarks on those that have come.
+-- ended. Standard error has the diagnostics on those that have come.
 pub record HasBegunUpTo (terms : Terms) (reader left before after : Option (List ℕ)) : Type 0 where
   pub read : List ℕ
   pub consumed : Consumes reader left read

@@ -53,7 +53,7 @@ pub record IsPut (wanted : WantedReports) (output : Stream) : Type 0 where
   pub fine : output.failed ≡ false
 
 -- What became of the reports that are wanted: their lines were written; or memory ran out over one, and the lines of
--- those before it were; or a write failed, and a front of the lines so far was.
+-- those before it were; or a write failed, and a prefix of the lines so far was.
 abbrev pub Puts : WantedReports → TextOutcome → Stream → Type 0
 Puts wanted (Ok _) output = IsPut wanted output
 Puts wanted (Err (Memory error)) output = IsBegun wanted (Has output)

@@ -83,7 +83,7 @@ impl Ahead {
     }
 }
 
-/// Reads once, over the front of a buffer.
+/// Reads once, over the prefix of a buffer.
 fn read_over<R: Read>(input: &mut R, buffer: &mut Vec<u8>) -> io::Result<usize>
     ensures len { vec_len buffer.new ≡ vec_len buffer.old }
     ensures bound { IfOk result (λ n. n ≤ vec_len buffer.new) }

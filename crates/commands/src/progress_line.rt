@@ -1,4 +1,4 @@
-//! The line on a terminal that says how far a haul has come.
+//! The progress line: a line on a terminal that says how many soups have been taken.
 //!
 //! ```text
 //! begin     \r0 of 40 soups

@@ -57,7 +57,7 @@ ready_first shared crew workers passes many senders few away receiver room stopp
       stopped = stopped;
     }
 
--- if there was no want of memory, all that was received was answered
+-- if memory never ran out, all that was received was answered
 pub heard_if : {E : Type 0} (lacking : Option E) → lacking ≡ None → not (is_some lacking) ≡ true
 heard_if lacking none = ap (λ o. not (is_some o)) none
 

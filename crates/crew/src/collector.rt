@@ -19,9 +19,9 @@ use haul_core::report::Report;
 use memory::OutOfMemory;
 use std::sync::Wait;
 
-/// Receives notes until so many workers have said that they are done, and offers each report to the haul. A report that
-/// the haul refuses is dropped. The watch hears before each note, and at the end, how many soups of the haul are
-/// taken.
+/// Receives notes until `started` workers have said that they are done, and offers each report to the haul. A report that
+/// the haul refuses is dropped. The observer is told before each note, and at the end, how many soups of the haul have
+/// been taken.
 ///
 /// # Errors
 ///

@@ -1,4 +1,4 @@
-//! What a crew begins with: its site, and a post for each worker.
+//! What a crew starts with: what its workers share, and the endpoints of each.
 ghost use Rattle.std.specs.Prelude.{◌≡◌, ◌≤◌, All, IfOk, false, length, map};
 ghost use Rattle.std.specs.List.{range_with_len};
 ghost use Rattle.std.specs.List.Sorted.{IsStrictlyIncreasing};
@@ -20,18 +20,18 @@ use std::sync::atomic::AtomicU64;
 /// How many notes there is room for on the belt: some for each of sixteen workers, so that none waits for the collector.
 const ROOM: usize = 64;
 
-/// What a crew begins with.
+/// What a crew starts with.
 #[derive(Drop)]
 pub(crate) struct CrewSetup {
     pub(crate) shared: Shared,
     pub(crate) endpoints: Endpoints,
     pub(crate) receiver: ReceiverPass<Note>,
-    /// Room for the posts of the workers that come back.
+    /// Room for the endpoints of workers that have ended.
     pub(crate) back: Endpoints,
 }
 
 impl CrewSetup {
-    /// All that is needed to survey what is missing in a haul.
+    /// Returns all that `workers` workers need to survey what is missing in a haul.
     pub(crate) fn new(alloc: Global, haul: &Haul, workers: u8) -> Result<CrewSetup, OutOfMemory>
         requires some { 1 ≤ workers }
         requires few { workers ≤ haul.now.terms.workers }

@@ -1,4 +1,4 @@
-//! The posts of a crew's workers: what each of them works with.
+//! The endpoints of a crew's workers: for each worker a pass to draw numbers, and a sender for its notes.
 //!
 //! ```text
 //! to be started   1 2 3   1 2     1       -
@@ -21,7 +21,7 @@ pub(crate) struct Endpoints {
 }
 
 impl Endpoints {
-    /// No posts, and room for those of so many workers.
+    /// Returns no endpoints, and room for those of `workers` workers.
     pub(crate) fn with_room(alloc: Global, workers: u8) -> Result<Endpoints, OutOfMemory>
         ensures { IfOk result (HaveRoom workers) }
     {
@@ -30,7 +30,7 @@ impl Endpoints {
         Ok(Endpoints { passes, senders })
     }
 
-    /// Puts a post after the others. There is room for it.
+    /// Puts a worker's endpoints after the others. There is room for them.
     pub(crate) fn add(&mut self, pass: Pass, sender: SenderPass<Note>)
         requires passes { length self.old.passes.items < vec_capacity self.old.passes }
         requires senders { length self.old.senders.items < vec_capacity self.old.senders }
@@ -40,7 +40,7 @@ impl Endpoints {
         self.senders.push_reserved(sender);
     }
 
-    /// Removes the last post.
+    /// Removes the endpoints of the last worker.
     pub(crate) fn remove_last(&mut self) -> Option<(Pass, SenderPass<Note>)>
         requires { length self.old.passes.items ≡ length self.old.senders.items }
         ensures none { IfNone result (self.old.senders.items ≡ []) }

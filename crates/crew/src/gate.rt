@@ -2,7 +2,7 @@
 //!
 //! ```text
 //! worker ── draws a number ──> gate ── Ok ────> surveys its soup
-//!                               └───── Stop ──> its shift ends
+//!                               └───── Stop ──> the worker ends
 //! ```
 ghost use Rattle.std.specs.Prelude.{ℕ, OnErr, OnOk};
 

@@ -7,15 +7,15 @@ pub mod collector;
 pub mod gate;
 /// What a worker says to the collector.
 pub mod note;
-/// What each worker works with.
+/// The endpoints of workers: passes and senders.
 mod endpoints;
-/// A worker's shift.
+/// A worker's loop.
 mod worker;
 /// What all workers share.
 mod shared;
-/// What a crew begins with.
+/// What a crew starts with.
 mod crew_setup;
-/// Who hears how far a haul has come.
+/// Progress callbacks.
 pub mod progress_observer;
 /// The workers, and the call that runs them.
 pub mod take;

@@ -1,23 +1,23 @@
-//! Who hears how far a haul has come.
+//! Progress callbacks.
 
-/// Hears how far a haul has come.
+/// Is called as a haul makes progress.
 ///
-/// No contract speaks of it, so nothing that a call returns or writes to its output depends on what is heard here.
+/// No contract speaks of it, so nothing that a call returns or writes to its output depends on it.
 pub trait ProgressObserver {
-    /// A haul of so many soups is to be completed, by so many workers.
+    /// `whole` soups are to be taken, by `workers` workers.
     fn begin(&mut self, _whole: u64, _workers: u8) {}
 
-    /// So many of the workers have been started. The others work on nothing, since the system started no more threads.
+    /// `workers` of the workers have been started. The system started no more threads.
     fn started(&mut self, _workers: u8) {}
 
-    /// So many soups of the haul are taken by now.
+    /// `count` soups of the haul have been taken by now.
     fn taken(&mut self, count: u64);
 
     /// No further soup will be taken.
     fn end(&mut self) {}
 }
 
-/// Hears nothing.
+/// Ignores all progress.
 #[derive(Clone, Copy, Debug)]
 pub struct NoObserver;
 

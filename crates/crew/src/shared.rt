@@ -1,4 +1,4 @@
-//! The site of a crew: what all its workers share.
+//! What all workers of a crew share.
 ghost use Rattle.std.specs.Prelude.{◌≡◌, ◌<◌, All, vec_len};
 ghost use Rattle.ranges.specs.Ranges.{number_bound};
 
@@ -14,7 +14,7 @@ pub(crate) struct Shared {
     pub(crate) job: Job,
     pub(crate) tickets: Tickets,
     pub(crate) belt: Belt<Note>,
-    /// The numbers to be surveyed. A ticket is a place of this list.
+    /// The numbers to be surveyed. A ticket is an index into this list.
     pub(crate) missing: Vec<u64>,
     /// The worker that was not started, if there is one.
     pub(crate) called_off: AtomicU64,

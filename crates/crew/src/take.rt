@@ -1,4 +1,4 @@
-//! The workers of a crew, and the call that runs them.
+//! `take`: the call that runs a crew of workers.
 //!
 //! ```text
 //! take ── complete_haul ── run_in_scope ── run_crew ── starts worker 3
@@ -56,11 +56,11 @@ pub enum CrewError {
     Memory(OutOfMemory),
 }
 
-/// Lets so many workers survey what is missing in a haul, each in a thread of its own, and offers what they report.
+/// Has `workers` workers survey what is missing in a haul, each in a thread of its own, and offers what they report.
 ///
 /// There are at least one and at most as many workers as the haul has. A worker asks the gate before each survey, and
-/// surveys nothing more once the gate stops it. The haul stays open. The watch hears how many soups of the haul are
-/// taken, in the thread of the call.
+/// surveys nothing more once the gate stops it. The haul stays open. The observer is told how many soups of the haul have
+/// been taken, in the thread of the call.
 ///
 /// # Errors
 ///
@@ -207,7 +207,7 @@ fn end_crew(shared: Shared, crew: Crew) -> (Haul, Option<CrewError>)
     let Shared { tickets, belt, .. } = shared;
     // For the prover: all numbers were drawn, if all passes are back and one of them has heard that none is left.
     let _ = tickets.gather(passes);
-    // For the prover: what was received of a worker is a front of what it presented.
+    // For the prover: what was received of a worker is a prefix of what it presented.
     drop(belt.gather(senders, receiver));
     // For the prover: the haul has taken no number twice.
     let _ = haul.taken();
@@ -227,7 +227,7 @@ fn cause(stopped: Option<u8>, lacking: Option<OutOfMemory>) -> Option<CrewError>
     }
 }
 
-/// What a worker's thread promises: to return what the worker leaves.
+/// What a worker's thread promises: to return the worker's result.
 #[derive(Clone, Copy)]
 struct Duty<'s, G> {
     worker: u8,
@@ -242,12 +242,12 @@ impl<'s, G: Gate> Promise<WorkerResult> for Duty<'s, G> {
 /// A crew while it is run.
 #[derive(Drop)]
 struct Crew {
-    /// Of the workers that are still to be started.
+    /// The endpoints of the workers that are still to be started.
     endpoints: Endpoints,
     haul: Haul,
     /// What its collector receives with.
     receiver: ReceiverPass<Note>,
-    /// Of the workers that are back.
+    /// The endpoints of the workers that have ended.
     back: Endpoints,
     /// How many workers have been started and are not back.
     away: u8,
@@ -257,7 +257,7 @@ struct Crew {
     lacking: Option<OutOfMemory>,
 }
 
-/// Starts a worker for each post, from the last on, collects what they report, and waits for them. The first worker
+/// Starts a worker for each pair of endpoints, from the last on, collects what they report, and waits for them. The first worker
 /// comes back first.
 fn run_crew<'s, E, G: Gate + Sync, R: Threads + Wait + Sync, H: ProgressObserver>(
     alloc: Global,
@@ -306,8 +306,7 @@ fn receive_all<R: Wait, H: ProgressObserver>(rt: &R, shared: &Shared, crew: &mut
     crew.lacking = collected.err();
 }
 
-/// Begins a worker's shift in a thread of its own. Where none can be started the worker is called off, and its shift
-/// ends here.
+/// Starts a worker in a thread of its own. If no thread can be started, the worker is called off, and ends here.
 fn start_worker<'s, E, G: Gate + Sync, R: Threads + Wait + Sync>(
     alloc: Global,
     rt: &'s R,
@@ -345,7 +344,7 @@ fn start_worker<'s, E, G: Gate + Sync, R: Threads + Wait + Sync>(
     }
 }
 
-/// What a worker leaves, once its shift has ended.
+/// Waits until a worker has ended, and returns its result.
 fn join_worker<'s, G: Gate, R: Threads>(
     rt: &R,
     duty: Duty<'s, G>,
@@ -364,7 +363,7 @@ fn join_worker<'s, G: Gate, R: Threads>(
     }
 }
 
-/// Notes that one worker more is back.
+/// Notes the result of one worker more.
 fn note_result(crew: &mut Crew, worker_result: WorkerResult)
     requires passes { length crew.old.back.passes.items < vec_capacity crew.old.back.passes }
     requires senders { length crew.old.back.senders.items < vec_capacity crew.old.back.senders }
@@ -392,7 +391,7 @@ fn first_stopped(stopped: Option<u8>, worker: u8, end: End) -> Option<u8>
     }
 }
 
-/// The want of memory, if there was one, once this shift has ended too.
+/// Returns the memory that was refused so far, if any, once this worker has ended too.
 fn any_lack(lacking: Option<OutOfMemory>, end: End) -> Option<OutOfMemory>
     ensures before { result ≡ None → lacking ≡ None }
     ensures here { result ≡ None → lacks_memory end ≡ false }

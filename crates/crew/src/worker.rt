@@ -1,4 +1,4 @@
-//! A worker's shift: it draws, asks the gate, surveys and reports, until none is left or it has to stop.
+//! A worker's loop: draw a number, ask the gate, survey, report, until no number is left or the worker has to stop.
 //!
 //! ```text
 //! tickets ── place ──> number ── gate ──> survey ── report ──> belt
@@ -38,7 +38,7 @@ pub(crate) enum End {
     Unstarted(OutOfMemory),
 }
 
-/// What a worker leaves.
+/// The result of a worker's run: its pass, its sender, and how it ended.
 #[derive(Drop)]
 pub(crate) struct WorkerResult {
     pub(crate) pass: Pass,
@@ -46,7 +46,7 @@ pub(crate) struct WorkerResult {
     pub(crate) end: End,
 }
 
-/// A worker's whole shift. It ends with a note that says so, unless the worker was called off.
+/// Runs a worker from its first number to its last. It ends with the note `Done`, unless the worker was called off.
 pub(crate) fn run_worker<G: Gate, R: Wait>(
     alloc: Global,
     rt: &R,
@@ -72,8 +72,8 @@ pub(crate) fn run_worker<G: Gate, R: Wait>(
     WorkerResult { pass, sender, end }
 }
 
-/// Surveys what is left, with a surveyor of the worker's own. Each report is presented. A function of its own: a surveyor is
-/// dear to prove at the ends of the one that owns pass and sender.
+/// Surveys what is left with a surveyor of the worker's own, and presents each report. This is a function of its own because
+/// a surveyor is expensive to verify at each exit of a function that also owns pass and sender.
 fn survey_all<G: Gate, R: Wait>(
     alloc: Global,
     rt: &R,

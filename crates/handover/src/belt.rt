@@ -213,15 +213,15 @@ impl<N: Drop> Belt<N> {
     {
         let mut note = note;
         for _ in rt.forever() {
-            let rings = self.left.rings();
+            let seen = self.left.count();
             match self.try_present(pass, note) {
                 Ok(()) => {
-                    self.arrived.ring();
+                    self.arrived.notify();
                     return;
                 }
                 Err(back) => note = back,
             }
-            self.left.sleep(rt, rings);
+            self.left.wait(rt, seen);
         }
         unreachable!()
     }
@@ -232,12 +232,12 @@ impl<N: Drop> Belt<N> {
         ensures { GotOne pass.old pass.new result }
     {
         for _ in rt.forever() {
-            let rings = self.arrived.rings();
+            let seen = self.arrived.count();
             if let Some(note) = self.try_receive(pass) {
-                self.left.ring();
+                self.left.notify();
                 return note;
             }
-            self.arrived.sleep(rt, rings);
+            self.arrived.wait(rt, seen);
         }
         unreachable!()
     }

@@ -336,7 +336,7 @@ stopped_at r before arrivals prefix next more held new cut same taken s = on_err
     is_next terms before (Offer r) more taken = taken
     is_next terms before Closing more taken = taken
 
--- what the iterator of a vector has given is a front of its items
+-- what the iterator of a vector has given is a prefix of its items
 pub taken_prefix : {X A : Type 0} (s : IntoIter X A) (xs : List X) (t : IntoIter X A) → Yields into_iter_steps s xs t
     → into_iter_items s ≡ xs ++ into_iter_items t
 taken_prefix s [] t y = ap into_iter_items y

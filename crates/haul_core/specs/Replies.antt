@@ -1,4 +1,4 @@
--- What a haul answers to an offer, and where a list of arrivals stops for want of memory.
+-- What a haul answers to an offer, and where a list of arrivals stops because memory ran out.
 use Rattle.std.specs.Prelude.{◌≡◌, ◌≢◌, ◌++◌, ◌⊎◌, ℕ, List, [], ◌∷◌, Option, None, Some, Result, Ok, Err, map, not, nat_eq, nat_lt, if◌then◌else◌}
 use Rattle.std.specs.Map.{lookup}
 use Rattle.memory.specs.Witness.{out_of_memory}

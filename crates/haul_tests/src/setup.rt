@@ -56,7 +56,7 @@ pub(crate) fn text_of(alloc: Global, haul: &Haul) -> Result<Vec<u8>, Fail> {
     written(alloc, &census)
 }
 
-/// The haul text. There is room for it, so that no write fails for want of memory.
+/// The haul text. There is room for it, so that no write fails because memory ran out.
 fn written(alloc: Global, census: &Census) -> Result<Vec<u8>, Fail> {
     let mut out = Out::new(Vec::with_capacity(alloc, 65_536)?);
     write_haul(census, &mut out)?;

@@ -1,4 +1,4 @@
-//! Each of these tests passes, or fails for want of memory alone, whichever allocation is refused. `checks/memory`
+//! Each of these tests passes, or fails because memory ran out alone, whichever allocation is refused. `checks/memory`
 //! refuses each in turn.
 
 use crate::setup::{quick_job, range, still_job, text_of};
@@ -35,7 +35,7 @@ fn is_as_before(alloc: Global, haul: &Haul, before: &[u8]) -> Result<bool, Fail>
     Ok(haul.taken() == [(1, 1)].as_slice() && text.as_slice() == before)
 }
 
-/// Whether it is soup 0, for want of memory.
+/// Whether it is soup 0, because memory ran out.
 fn lacks_memory(refused: &Refused) -> bool {
     matches!(refused.reason, OfferError::Memory(_)) && refused.report.number() == 0
 }
@@ -84,7 +84,7 @@ fn is_claim(claim: &Claim) -> bool {
     claim.version() == 2 && claim.worker() == 2 && claim.number() == 3 && claim.settled().is_none()
 }
 
-/// Whether a claim becomes its report, or comes back as it was for want of memory.
+/// Whether a claim becomes its report, or comes back as it was because memory ran out.
 fn is_checked_or_kept(alloc: Global) -> Result<bool, Fail> {
     let claim = Claim::read_line(alloc, LINE)?;
     let job = quick_job("")?;

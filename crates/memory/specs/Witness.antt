@@ -2,6 +2,6 @@
 use Rattle.std.specs.Prelude.{alloc_error}
 use Rattle.memory.specs.declared.OutOfMemory.{OutOfMemory}
 
--- memory was refused: all evidence of it is equal
+-- memory was refused: all a witness of it is equal
 pub out_of_memory : OutOfMemory
 out_of_memory = record { refused = alloc_error }

@@ -1,4 +1,4 @@
-//! Want of memory, as evidence.
+//! Out of memory, as a witness.
 //!
 //! No contract refuses a body that gives up with 'out of memory' while there is some. So an [`OutOfMemory`] can't be made
 //! by hand: its one field is private, and each call here that makes one takes what the library gave when it refused.
@@ -41,7 +41,7 @@ impl<T: Drop> From<AllocFailed<T>> for OutOfMemory {
 }
 
 impl OutOfMemory {
-    /// The want of memory that an error of a stream tells of.
+    /// Returns the witness that a stream's error carries.
     pub fn of_stream(error: &io::Error) -> OutOfMemory
         requires { error_kind error.now ≡ ErrorKind.OutOfMemory }
         ensures { result ≡ out_of_memory }
@@ -52,7 +52,7 @@ impl OutOfMemory {
         }
     }
 
-    /// The closure for which no thread could be started, and the want of room for one.
+    /// Returns the closure for which no thread could be started, and the witness that there was no room for one.
     pub fn of_start<F>(failed: SpawnError<F>) -> (F, OutOfMemory)
         ensures closure { result.0 ≡ failed.value }
         ensures witness { result.1 ≡ out_of_memory }

@@ -4,7 +4,7 @@ use Rattle.std.specs.Io.KnownBytes.{Appends}
 use Rattle.pattern_commands.specs.declared.complaint.Complaint.{Complaint}
 use Rattle.pattern_commands.specs.Answers.{NeedsMemory, Right}
 
--- what a command makes: a text for standard output, remarks on its input for standard error, and how many soups are missing
+-- what a command makes: a text for standard output, diagnostics on its input for standard error, and how many soups are missing
 pub record Made : Type 0 where
   pub text : List ℕ
   pub diagnostics : List ℕ
@@ -35,7 +35,7 @@ pub record Behaviour : Type 1 where
   pub whole : Bool
   -- what the beginning of an input may add to standard error
   pub begins : (reader before after : Option (List ℕ)) → Type 0
-  -- it may add remarks on its input
+  -- it may add diagnostics on its input
   pub may_tell : Type 0
 
 -- a text alone is right, if it is a right answer
@@ -43,7 +43,7 @@ abbrev pub alone : Right → Makes
 alone right (Ok made) = right (Ok made.text) × (made.diagnostics ≡ []) × (made.missing ≡ 0)
 alone right (Err complaint) = right (Err complaint)
 
--- without remarks: nothing is written to standard error before the last line
+-- without diagnostics: nothing is written to standard error before the last line
 abbrev pub silent_behaviour : (reads whole : Bool) → (List ℕ → Makes) → Behaviour
 silent_behaviour reads whole right = record {
   right = right;

@@ -18,7 +18,7 @@ status_after (Ok zero) = statuses.Done
 status_after (Ok (suc n)) = statuses.Incomplete
 status_after (Err complaint) = status_of complaint
 
--- the last line was added to standard error, or a front of it where a write failed
+-- the last line was added to standard error, or a prefix of it where a write failed
 abbrev pub HasLast : Outcome → Stream → Type 0
 HasLast (Ok zero) errors = Has errors [] × (errors.failed ≡ false)
 HasLast (Ok (suc n)) errors = HasLine errors (missing_line (suc n))

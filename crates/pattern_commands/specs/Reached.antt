@@ -25,14 +25,14 @@ pub record IsSilent (output errors : Stream) : Type 0 where
   pub silent : Has errors []
   pub fine : errors.failed ≡ false
 
--- The input was cut off: nothing was written to standard output, and standard error has the remarks on its beginning.
+-- The input was cut off: nothing was written to standard output, and standard error has the diagnostics on its beginning.
 pub record IsCutOff (behaviour : Behaviour) (reader : Option (List ℕ)) (output errors : Stream) : Type 0 where
   pub reads : behaviour.reads ≡ true
   pub begun : behaviour.begins reader errors.before errors.after
   pub nothing : Has output []
   pub fine : errors.failed ≡ false
 
--- what stands on standard output if memory ran out: nothing of a text that is whole before it is written, and else a front of each
+-- what stands on standard output if memory ran out: nothing of a text that is whole before it is written, and else a prefix of each
 -- right one
 abbrev pub LeavesPart : Bool → Makes → Stream → Type 0
 LeavesPart true right output = Has output []
@@ -45,8 +45,8 @@ pub record HasRunOutOfMemory (behaviour : Behaviour) (reader : Option (List ℕ)
   pub diagnostics : Has errors [] ⊎ behaviour.begins reader errors.before errors.after
   pub fine : errors.failed ≡ false
 
--- What was written if a write of the text failed. Of a text that was whole before that: a front, and all remarks. One that is
--- written as it is made isn't known to its end: then a front of each right text, and no complaint is right.
+-- What was written if a write of the text failed. Of a text that was whole before that: a front, and all diagnostics. One that is
+-- written as it is made isn't known to its end: then a prefix of each right text, and no complaint is right.
 abbrev pub WritesBeginning : Bool → Makes → Stream → Stream → Type 0
 WritesBeginning true right output errors = (made : Made) × right (Ok made) × HasPrefix output made.text × Has errors made.diagnostics
 WritesBeginning false right output errors = ((complaint : Complaint) → right (Err complaint) → ⊥)
@@ -58,7 +58,7 @@ pub record IsCutShort (behaviour : Behaviour) (bytes : List ℕ) (output errors 
   pub cut : output.failed ≡ true
   pub fine : errors.failed ≡ false
 
--- the remarks on the input were not written whole
+-- the diagnostics on the input were not written whole
 pub record IsUntold (behaviour : Behaviour) (output errors : Stream) : Type 0 where
   pub tells : behaviour.may_tell
   pub nothing : Has output []

@@ -17,11 +17,11 @@ stream contents old new = record { before = contents old.writer; after = content
 abbrev pub Has : Stream → List ℕ → Type 0
 Has s text = Appends s.before s.after text
 
--- a front of the text was added, and nothing else
+-- a prefix of the text was added, and nothing else
 abbrev pub HasPrefix : Stream → List ℕ → Type 0
 HasPrefix s text = AppendsPrefix s.before s.after text
 
--- the line was added, or a front of it where a write failed
+-- the line was added, or a prefix of it where a write failed
 abbrev pub HasLine : Stream → List ℕ → Type 0
 HasLine s line = MatchBool s.failed (HasPrefix s line) (Has s line)
 

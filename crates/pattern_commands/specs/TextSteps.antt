@@ -19,7 +19,7 @@ none_missing (Err complaint) = Err complaint
 abbrev pub HasRight : Right → Stream → Type 0
 HasRight right output = (text : List ℕ) × right (Ok text) × Has output text
 
--- a front of the text of a right answer was added, and nothing else
+-- a prefix of the text of a right answer was added, and nothing else
 abbrev pub HasPrefixOfRight : Right → Stream → Type 0
 HasPrefixOfRight right output = (text : List ℕ) × right (Ok text) × HasPrefix output text
 

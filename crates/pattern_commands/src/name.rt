@@ -33,7 +33,7 @@ use std::alloc::Global;
 use std::io::{Read, Write};
 use survey_core::finding::{Finding, survey_pattern};
 
-/// Reads a plaintext pattern and writes its finding: the generation of the first look at which it is at rest, and then
+/// Reads a plaintext pattern and writes its finding: the generation of the first checkpoint at which it is at rest, and then
 /// a line for each code, in ASCII order, with how many objects have it; or that it doesn't settle.
 ///
 /// Each of the profile's numbers is in its range, and neither writer may have failed. The profile is looked at first,

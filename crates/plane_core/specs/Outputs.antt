@@ -7,11 +7,11 @@ pub record Output (V : Type 0) : Type 0 where
   pub writer : V
   pub failed : Bool
 
--- the known bytes grow by a front of the text
+-- the known bytes grow by a prefix of the text
 abbrev pub AppendsPrefix : Option (List ℕ) → Option (List ℕ) → List ℕ → Type 0
 AppendsPrefix known_old known_new text = (prefix remainder : List ℕ) × (text ≡ prefix ++ remainder) × Appends known_old known_new prefix
 
--- A call wrote the text; or it failed, wrote a front of the text, and the `Out` is failed from then on.
+-- A call wrote the text; or it failed, wrote a prefix of the text, and the `Out` is failed from then on.
 -- `contents` are the bytes that a writer holds, where they are known.
 pub record Writes {V E : Type 0} (contents : V → Option (List ℕ)) (old new : Output V) (result : Result (Unit {0}) E) (text : List ℕ) : Type 0 where
   pub remembers : new.failed ≡ is_err result

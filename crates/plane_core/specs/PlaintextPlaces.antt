@@ -13,7 +13,7 @@ letter_o = 79
 abbrev pub star : ℕ
 star = 42
 
--- `!` at the front of a comment, and the end of a line
+-- `!` at the prefix of a comment, and the end of a line
 abbrev pub exclamation_mark : ℕ
 exclamation_mark = 33
 

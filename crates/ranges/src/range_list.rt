@@ -121,7 +121,7 @@ fn unless_empty(text: &[u8]) -> Option<&[u8]>
     if text.is_empty() { None } else { Some(text) }
 }
 
-/// The range at the front of a text, and where the next one begins if a comma follows. If no range stands there, or
+/// The range at the prefix of a text, and where the next one begins if a comma follows. If no range stands there, or
 /// neither the end nor a comma after it, the answer is the text from the fault on.
 fn next_range(text: &[u8]) -> Result<(Range, Option<&[u8]>), &[u8]>
     ensures ok { IfOk result (λ next. Passes text.now next.0 (option_map (λ remainder. remainder.now) next.1)) }
@@ -135,7 +135,7 @@ fn next_range(text: &[u8]) -> Result<(Range, Option<&[u8]>), &[u8]>
     }
 }
 
-/// The range at the front of a text and the text after it, or the text from the fault on.
+/// The range at the prefix of a text and the text after it, or the text from the fault on.
 fn first_range(text: &[u8]) -> Result<(Range, &[u8]), &[u8]>
     ensures ok { IfOk result (λ first. BeginsRange text.now first.0 first.1.now) }
     ensures err { IfErr result (λ remainder. IsNoRange text.now remainder.now) }
@@ -152,7 +152,7 @@ fn first_range(text: &[u8]) -> Result<(Range, &[u8]), &[u8]>
     Ok((Range { first, count }, remainder))
 }
 
-/// The decimal at the front of a text and the text after it. There is none if no digit stands there, or if the number
+/// The decimal at the prefix of a text and the text after it. There is none if no digit stands there, or if the number
 /// is 2^64 or more. After a `0` the decimal ends.
 #[tactic(auto, using(crate::proofs::DecimalLemmas::begins_zero))]
 pub fn first_decimal(text: &[u8]) -> Option<(u64, &[u8])>
@@ -166,7 +166,7 @@ pub fn first_decimal(text: &[u8]) -> Option<(u64, &[u8])>
     more_digits(digit, remainder)
 }
 
-/// The decimal of a first digit that isn't 0 and of those at the front of a text, and the text after them. There is
+/// The decimal of a first digit that isn't 0 and of those at the prefix of a text, and the text after them. There is
 /// none if the number is 2^64 or more.
 #[tactic(auto, using(crate::proofs::DecimalLemmas::reading_first, crate::proofs::DecimalLemmas::reading_done))]
 fn more_digits(first: u8, text: &[u8]) -> Option<(u64, &[u8])>
@@ -193,7 +193,7 @@ fn with_digit(number: u64, digit: u8) -> Option<u64>
     number.checked_mul(10)?.checked_add(u64::from(digit))
 }
 
-/// The digit at the front of a text, and the text after it.
+/// The digit at the prefix of a text, and the text after it.
 fn first_digit(text: &[u8]) -> Option<(u8, &[u8])>
     ensures some { IfSome result (λ first. text.now ≡ (48 + first.0) ∷ first.1.now) }
     ensures digit { IfSome result (λ first. first.0 ≤ 9) }

@@ -9,5 +9,5 @@ pub mod plan;
 pub mod profile_numbers;
 /// Sets of soups.
 pub mod soup_set;
-/// A text among the words of a call.
+/// A text among the command-line arguments.
 pub mod text;

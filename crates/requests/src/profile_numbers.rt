@@ -7,8 +7,8 @@ pub struct ProfileNumbers {
     pub period: u32,
     /// For how many generations clusters must keep apart, at most 4,096.
     pub horizon: u32,
-    /// How many generations there are from one look to the next, 1 to 10,000.
+    /// How many generations there are from one checkpoint to the next, 1 to 10,000.
     pub stride: u32,
-    /// The last generation at which there may be a look, at most 100,000.
+    /// The last generation at which there may be a checkpoint, at most 100,000.
     pub limit: u32,
 }

@@ -1,10 +1,10 @@
-//! Texts among the words of a call, at whose form nobody has looked yet.
+//! Texts among the command-line arguments, at whose form nobody has looked yet.
 
 ghost use Rattle.std.specs.Prelude.{◌≡◌};
 
 use std::marker::Model;
 
-/// A text among the words of a call, as that of a rule. Its form is not looked at yet.
+/// A text among the command-line arguments, as that of a rule. Its form is not looked at yet.
 ///
 /// Contracts see it as its bytes.
 #[derive(Drop)]

@@ -36,7 +36,7 @@ abbrev pub FindingsTurned : Type 0
 FindingsTurned = (o : Orientation) (rule : Numbers) (profile : Settling) (cells : List Cell) (finding : Finding)
     → InOrder cells → IsFinding rule profile cells finding → IsFinding rule profile (turned o cells) finding
 
--- The clusters of a pattern with these objects stay for good: each comes back, and they keep apart forever.
+-- The clusters of a pattern with these objects stay for good: each recurs, and they keep apart forever.
 pub record RestsForGood (rule : Numbers) (profile : Settling) (cells : List Cell) (objects : List (List ℕ × ℕ)) : Type 0 where
   pub clusters : List (List Cell)
   pub rest : RestsAs rule profile cells clusters

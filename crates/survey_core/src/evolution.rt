@@ -1,8 +1,8 @@
-//! The way of a pattern through its generations, from one look to the next.
+//! A pattern between two checkpoints.
 //!
-//! At first the pattern is a list of cells. When it goes on it is laid on a board, if there is one that has room for
-//! it, and stays there from look to look. A board goes on by even numbers of generations alone, so at an odd look the
-//! pattern is one generation ahead of what the board shows:
+//! At first the pattern is a list of cells. When it advances it is laid on a board, if there is one with room for it, and
+//! stays there from checkpoint to checkpoint. A board with removed spaceships advances by even numbers of generations
+//! only, so at an odd checkpoint the pattern is one generation ahead of what the board shows:
 //!
 //! ```text
 //! generation     0       101            202      303
@@ -10,8 +10,8 @@
 //! board shows            100, 1 ahead   202      302, 1 ahead
 //! ```
 //!
-//! Where the board has no room for the next leap, the pattern goes on from that generation as a list. Ships that are
-//! ahead of all the rest leave the board before it goes on, and are put back into the pattern where that is listed.
+//! If the board has no room for the next leap, the pattern becomes a list again. Spaceships that have escaped are removed
+//! from the board before it advances, and put back when the pattern is listed.
 
 ghost use Rattle.std.specs.Prelude.{◌≡◌, ◌%◌, ◌≤◌, ℕ, IfOk, IsTrue};
 ghost use Rattle.plane_core.specs.plane.Generations.{after};
@@ -38,17 +38,17 @@ use plane_core::plane::pattern::Pattern;
 use plane_core::plane::rule::Rule;
 use std::alloc::Global;
 
-/// A pattern on its way under a rule.
+/// A pattern as it evolves under a rule.
 #[derive(Drop)]
 pub(crate) enum Evolution {
-    /// It is in a list of cells.
+    /// The pattern is a list of cells.
     Listed(Pattern),
-    /// It is on a board, with the ships that have left it, as it was so many generations before: none or one.
+    /// It is on a board, with the spaceships that have left it, as it was so many generations before: none or one.
     Shown(SplitPattern, u32),
 }
 
 impl Evolution {
-    /// The pattern as it is now.
+    /// Returns the pattern as it is now.
     pub(crate) fn pattern_now(&self, alloc: Global, rule: &Rule) -> Result<Pattern, OutOfMemory>
         requires { IsKept rule.now self.now }
         ensures { IfOk result (λ pattern. pattern ≡ kept rule.now self.now) }
@@ -66,7 +66,7 @@ impl Evolution {
         }
     }
 
-    /// Whether the pattern is seen at a glance not to be at rest. `false` says nothing.
+    /// Returns `true` only if the pattern is not at rest. `false` says nothing.
     pub(crate) fn surely_moves(&self, rule: &Rule, profile: &Profile) -> bool
         requires { IsKept rule.now self.now }
         ensures { IsTrue result → ¬ IsAtRest rule.now profile.now (kept rule.now self.now) }
@@ -79,7 +79,7 @@ impl Evolution {
         }
     }
 
-    /// Whether it is seen that no even number of generations changes anything. `false` says nothing.
+    /// Returns `true` only if no even number of generations changes anything. `false` says nothing.
     pub(crate) fn is_still(&self) -> bool
         ensures { IsTrue result → (rule : Numbers) → IsKept rule self.now
             → (n : ℕ) → n % 2 ≡ 0 → after rule (kept rule self.now) n ≡ kept rule self.now }
@@ -90,7 +90,7 @@ impl Evolution {
         }
     }
 
-    /// The pattern at the next look: on the board of the memo, if it isn't on one yet.
+    /// Advances to the next checkpoint: on the spare board, if the pattern isn't on a board yet.
     pub(crate) fn go_on(
         self,
         alloc: Global,
@@ -116,7 +116,7 @@ impl Evolution {
         }
     }
 
-    /// Gives the board back on which the pattern was, for the next one.
+    /// Gives the board back, for the next pattern.
     pub(crate) fn end(self, spare: &mut SpareBoard) {
         if let Evolution::Shown(split, _) = self {
             spare.give_back(split.board);
@@ -124,7 +124,7 @@ impl Evolution {
     }
 }
 
-/// Goes on from a list by so many generations: on a board of the memo, if there is one with room.
+/// Advances a list by `generations`: on the spare board, if it has room for the pattern.
 fn from_list(
     alloc: Global,
     rule: &Rule,
@@ -150,8 +150,8 @@ fn from_list(
     on_board(alloc, rule, split, generations, spare)
 }
 
-/// Goes on by so many generations from what a board and its ships are. Where the board has no room, it goes back to the
-/// memo.
+/// Advances a split pattern by `generations`. If the board has no room, the pattern becomes a list, and the board is given
+/// back.
 fn on_board(
     alloc: Global,
     rule: &Rule,

@@ -86,7 +86,7 @@ pub fn findings_are_kept()
 {}
 
 /// A law of all patterns: if a finding says that the objects stay for good, the clusters, each run alone, keep apart
-/// and make up the whole forever, and the pattern comes back after the least common multiple of their periods.
+/// and make up the whole forever, and the pattern recurs after the least common multiple of their periods.
 pub fn findings_for_good()
     ensures { FindingsForGood }
 {}

@@ -40,7 +40,7 @@ impl fmt::Debug for ProfileError {
 /// When a pattern counts as settled, in four numbers of generations.
 ///
 /// A pattern is looked at in the generations 0, `stride`, twice the stride and so on, up to `limit`. It has settled if
-/// each of its clusters comes back within `period` generations, and if none of them comes into another's way for
+/// each of its clusters recurs within `period` generations, and if none of them comes into another's way for
 /// `horizon` generations.
 #[derive(Clone, Copy, Debug, PartialEq, Eq)]
 pub struct Profile {
@@ -125,7 +125,7 @@ impl Profile {
         self.horizon
     }
 
-    /// How many generations there are from one look to the next, 1 to 10,000.
+    /// How many generations there are from one checkpoint to the next, 1 to 10,000.
     pub fn stride(&self) -> u32
         ensures stride { result ≡ self.now.stride }
         ensures profile { IsProfile self.now }
@@ -133,7 +133,7 @@ impl Profile {
         self.stride
     }
 
-    /// The last generation at which there may be a look, at most 100,000.
+    /// The last generation at which there may be a checkpoint, at most 100,000.
     pub fn limit(&self) -> u32
         ensures limit { result ≡ self.now.limit }
         ensures profile { IsProfile self.now }

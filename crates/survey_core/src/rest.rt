@@ -1,4 +1,4 @@
-//! A pattern is at rest if each of its clusters comes back, and if the clusters, each run alone, are the whole pattern
+//! A pattern is at rest if each of its clusters recurs, and if the clusters, each run alone, are the whole pattern
 //! in every generation up to the horizon. Two blinkers with two empty rows between them show why the second is asked
 //! for:
 //!
@@ -13,8 +13,8 @@
 //!                     .O.
 //! ```
 //!
-//! Most patterns that are looked at are not at rest, and nearly always some cluster doesn't come back. So that is asked
-//! first, and the sweep of each cluster is kept. Sweeps tell which clusters may come near each other: these are a
+//! Most patterns that are looked at are not at rest, and nearly always some cluster doesn't recur. So that is asked
+//! first, and the envelope of each cluster is kept. Envelopes tell which clusters may come near each other: these are a
 //! group, and clusters of different groups are never run side by side. In a group the whole and its clusters are
 //! stepped, a generation at a time, until a generation differs, or until each cluster is itself again in its place:
 //! then the whole is what it was as well, and all that follows has been seen. Even before that a cluster that is itself
@@ -182,7 +182,7 @@ fn keep_apart(
 }
 
 /// The laws of patterns at rest: the empty pattern is at rest, and a pattern whose objects stay for good keeps them
-/// apart in every later generation, and comes back after the least common multiple of their periods.
+/// apart in every later generation, and recurs after the least common multiple of their periods.
 #[tactic(auto, using(crate::proofs::lemmas::rest::ForGoodLemmas::empty_is_at_rest))]
 pub fn at_rest_for_good()
     ensures empty { EmptyIsAtRest }

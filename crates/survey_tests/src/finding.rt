@@ -129,7 +129,7 @@ fn surveys_soups(rt: HostRuntime) -> Result<(), Fail> {
     Ok(())
 }
 
-// No pattern comes back after one generation but a still life, and no soup is one.
+// No pattern recurs after one generation but a still life, and no soup is one.
 #[test]
 fn leaves_a_soup_unsettled(rt: HostRuntime) -> Result<(), Fail> {
     let finding = of_soup(rt.alloc(), at_once(1, 1)?, 0)?;

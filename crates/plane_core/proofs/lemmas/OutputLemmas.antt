@@ -28,12 +28,12 @@ cut piece prefix remainder n e h =
     e ∙ ap (λ (xs : List ℕ). prefix ++ xs) (sym (take-append-drop n remainder)) ∙ sym (append_assoc prefix (take n remainder) (drop n remainder))
     ∙ ap (λ (xs : List ℕ). (prefix ++ take n remainder) ++ xs) (sym (take-drop-remainder n remainder))
 
--- a text and then a front of another is a front of the two in a row
+-- a text and then a prefix of another is a prefix of the two in a row
 pub AppendsPrefix-append : (x y z : Option (List ℕ)) (a b : List ℕ) → Appends x y a → AppendsPrefix y z b → AppendsPrefix x z (a ++ b)
 AppendsPrefix-append x y z a b p q =
     (a ++ q.0, q.1, ap (λ (w : List ℕ). a ++ w) q.2 ∙ sym (append_assoc a q.0 q.1), Appends-append x y z a q.0 p q.3)
 
--- a front of a text is a front of a longer one
+-- a prefix of a text is a prefix of a longer one
 pub AppendsPrefix-longer : (x y : Option (List ℕ)) (a b : List ℕ) → AppendsPrefix x y a → AppendsPrefix x y (a ++ b)
 AppendsPrefix-longer x y a b p = (p.0, p.1 ++ b, ap (λ (w : List ℕ). w ++ b) p.2 ∙ append_assoc p.0 p.1 b, p.3)
 

@@ -25,7 +25,7 @@ pub record IsBoard (at : Frame) (rule : Numbers) (words : List ℕ) (boxes : Lis
   pub quiet : IsQuiet rule (cells_on at words) boxes
   pub all : holds_all ≡ true → HoldAll boxes (cells_on at words)
 
--- and the spans of its lanes, which have all live cells; it lies on the plane
+-- and the spans of its word columns, which have all live cells; it lies on the plane
 pub record IsSpannedBoard (at : Frame) (rule : Numbers) (words : List ℕ) (boxes : List Bounds) (holds_all : Bool)
     (spans : List RowSpan) : Type 0 where
   pub board : IsBoard at rule words boxes holds_all

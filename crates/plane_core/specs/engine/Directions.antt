@@ -31,7 +31,7 @@ pub record GoesDeeper (way : Direction) (cells : List Cell) (found later : Optio
   pub kept : (z : ℤ) → IsReached found z → IsReached later z
   pub some : IfSome found (HasDepth way cells) → IfSome later (HasDepth way cells)
 
--- the column of a lane that lies farthest to the right, or to the left
+-- the column of a word column that lies farthest to the right, or to the left
 abbrev pub outer_column : Bool → ℕ
 outer_column true = 63
 outer_column false = 0
@@ -41,7 +41,7 @@ abbrev pub inner_row : Bool → RowSpan → ℕ → ℕ
 inner_row true rows step = rows.end - (step + 1)
 inner_row false rows step = rows.from + step
 
--- no cell in this row of a lane, alive or dead, is deeper than what was found
+-- no cell in this row of a word column, alive or dead, is deeper than what was found
 abbrev pub NoDeeperRow : Frame → Direction → ℕ → ℕ → Option ℤ → Type 0
 NoDeeperRow at way word_column row found = (i : ℕ) → i < 64 → IsReached found (depth_in way (board_cell at word_column row i))
 
@@ -50,7 +50,7 @@ abbrev pub NoDeeper : Frame → Direction → ℕ → RowSpan → ℕ → Option
 NoDeeper at way word_column rows first found =
     (step : ℕ) → first ≤ step → step < rows.end - rows.from → NoDeeperRow at way word_column (inner_row way.down rows step) found
 
--- each live cell in this row of a lane has been seen: it is no deeper than what was found
+-- each live cell in this row of a word column has been seen: it is no deeper than what was found
 abbrev pub IsSeen : Frame → Direction → List Cell → ℕ → ℕ → Option ℤ → Type 0
 IsSeen at way cells word_column row found =
     (i : ℕ) → i < 64 → has cells (board_cell at word_column row i) ≡ true → IsReached found (depth_in way (board_cell at word_column row i))

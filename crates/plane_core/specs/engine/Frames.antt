@@ -1,4 +1,4 @@
--- A board: a rectangle of cells in words, a word for each row of a lane of 64 columns, and where its cells lie on the plane.
+-- A board: a rectangle of cells in words, a word for each row of a word column of 64 columns, and where its cells lie on the plane.
 use Rattle.std.specs.Prelude.{◌≡◌, ◌==◌, ◌+◌, ◌*◌, ◌/◌, ◌<◌, ◌≤◌, ◌^◌, ℕ, ◌+ℤ◌, ◌-ℤ◌, pos, List, length, slice_index, true, unsigned_abs}
 use Rattle.std.specs.Int.{bit_at}
 use Rattle.plane_core.specs.declared.plane.bounds.Bounds.{Bounds}
@@ -7,7 +7,7 @@ use Rattle.plane_core.specs.declared.plane.cell.Cell.{Cell}
 use Rattle.plane_core.specs.plane.Bounds.{AreSidesWithin, IsWithin}
 use Rattle.plane_core.specs.plane.Cells.{cell_at, has, plane_bound}
 
--- the cell that bit i of row r of lane s is
+-- the cell that bit i of row r of word column s is
 abbrev pub board_cell : Frame → ℕ → ℕ → ℕ → Cell
 board_cell at s r i = cell_at (at.left +ℤ pos (64 * s + i)) (at.top +ℤ pos r)
 
@@ -37,14 +37,14 @@ bounds_of at = record {
   bottom = at.top +ℤ (pos at.rows -ℤ pos 1);
 }
 
--- a frame of one lane and 64 rows, on the plane
+-- a frame of one word column and 64 rows, on the plane
 pub record IsViewFrame (at : Frame) : Type 0 where
   pub frame : IsFrame at
   pub plane : AreSidesWithin plane_bound (bounds_of at)
   pub word_columns : at.word_columns ≡ 1
   pub rows : at.rows ≡ 64
 
--- a board has a word for each row of each lane
+-- a board has a word for each row of each word column
 abbrev pub FillsFrame : Frame → List ℕ → Type 0
 FillsFrame at words = length words ≡ at.word_columns * at.rows
 

@@ -22,10 +22,10 @@ pub record HasReadRows (at : Frame) (words : List ℕ) (n : ℕ) (new : List Cel
   pub sound : (others : List Cell) → Shows at words others → AreAmong others new
   pub complete : (s r i : ℕ) → s < at.word_columns → r < n → i < 64 → bit_at (slice_index words (word_of at s r)) i ≡ 1 → has new (board_cell at s r i) ≡ true
 
--- no cell of a band of eight rows is alive in a lane
+-- no cell of a band of eight rows is alive in a word column
 abbrev pub IsWordColumnEmpty : Frame → List ℕ → ℕ → ℕ → Type 0
 IsWordColumnEmpty at words band s = (k b : ℕ) → k < 8 → b < 64 → bit_at (slice_index words (word_of at s (8 * band + k))) b ≡ 0
 
--- nor of any lane from one to before another
+-- nor of any word column from one to before another
 abbrev pub IsBandEmpty : Frame → List ℕ → ℕ → ℕ → ℕ → Type 0
 IsBandEmpty at words band from to = (s : ℕ) → from ≤ s → s < to → IsWordColumnEmpty at words band s

@@ -1,4 +1,4 @@
--- Which rows of each lane of a board may have a live cell.
+-- Which rows of each word column of a board may have a live cell.
 use Rattle.std.specs.Prelude.{◌≡◌, ◌<◌, ◌≤◌, ℕ, List, length, slice_index_or, true}
 use Rattle.plane_core.specs.declared.plane.cell.Cell.{Cell}
 use Rattle.plane_core.specs.declared.engine.frame.Frame.{Frame}
@@ -14,15 +14,15 @@ pub record HasRow (span : RowSpan) (n : ℕ) : Type 0 where
   pub low : span.from ≤ n
   pub high : n < span.end
 
--- the span of a lane; a lane that isn't there has no rows
+-- the span of a word column; a word column that isn't there has no rows
 abbrev pub span_of : List RowSpan → ℕ → RowSpan
 span_of spans s = slice_index_or spans s (record { from = 0; end = 0 })
 
--- the row lies in the span of its lane
+-- the row lies in the span of its word column
 abbrev pub IsInSpan : List RowSpan → ℕ → ℕ → Type 0
 IsInSpan spans s r = HasRow (span_of spans s) r
 
--- each live cell of the board lies in the span of its lane
+-- each live cell of the board lies in the span of its word column
 abbrev pub LieInSpans : Frame → List RowSpan → List Cell → Type 0
 LieInSpans at spans cells = (s r i : ℕ) → s < at.word_columns → r < at.rows → i < 64 → has cells (board_cell at s r i) ≡ true → IsInSpan spans s r
 
@@ -39,11 +39,11 @@ pub record AreSpans (at : Frame) (cells : List Cell) (spans : List RowSpan) : Ty
   pub word_columns : length spans ≡ at.word_columns
   pub live : LieInSpans at spans cells
 
--- only these lanes have rows in their spans
+-- only these word columns have rows in their spans
 abbrev pub LieInWordColumns : Frame → List RowSpan → RowSpan → Type 0
 LieInWordColumns at spans word_columns = (s r : ℕ) → s < at.word_columns → IsInSpan spans s r → HasRow word_columns s
 
--- the lane is in the hull, and the row
+-- the word column is in the hull, and the row
 pub record IsInHull (hull : Hull) (s r : ℕ) : Type 0 where
   pub word_column : HasRow hull.word_columns s
   pub row : HasRow hull.rows r

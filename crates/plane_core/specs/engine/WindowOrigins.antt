@@ -20,7 +20,7 @@ pub record IsInnerCell (p : WindowOrigin) (c : Cell) : Type 0 where
 abbrev pub IsCovered : List WindowOrigin → Cell → Type 0
 IsCovered places c = Any (λ p. IsInnerCell p c) places
 
--- The whole window lies on the board, with a lane to its right: it is column x and row y of the board at which it begins.
+-- The whole window lies on the board, with a word column to its right: it is column x and row y of the board at which it begins.
 pub record IsOnBoard (at : Frame) (p : WindowOrigin) : Type 0 where
   pub x : ℕ
   pub y : ℕ

@@ -16,7 +16,7 @@ pub record Diverges (rule : Numbers) (whole cluster : List Cell) (horizon : ℕ)
   pub alone : has (after rule cluster generation) cell ≡ true
   pub missing : has (after rule whole generation) cell ≡ false
 
--- some cluster of the pattern strays from it within the horizon, or is itself never again within the period
+-- some cluster of the pattern diverges from it within the horizon, or is itself never again within the period
 pub record HasRestlessCluster (rule : Numbers) (cells : List Cell) (horizon period : ℕ) : Type 0 where
   pub cluster : List Cell
   pub is : IsCluster cells cluster
@@ -48,7 +48,7 @@ pub record HasDivergingCell (n : ℕ) (whole alone : List (List ℕ)) (depth : �
   pub lit : bit_at (row_at n alone r) i ≡ 1
   pub dark : bit_at (row_at n whole r) i ≡ 0
 
--- what the one window shows strays from what the other shows
+-- what the one window shows diverges from what the other shows
 abbrev pub DivergesFromWhole : Numbers → ℕ → List (List ℕ) → List (List ℕ) → ℕ → ℕ → Type 0
 DivergesFromWhole rule n whole alone depth horizon =
     (cells cluster : List Cell) (left top : ℤ) → InOrder cells → InOrder cluster → IsShownInside n left top depth whole cells

@@ -47,7 +47,7 @@ pub record IsFirstFault (text : List ℕ) (place : ℕ) : Type 0 where
   pub before : BeginsRule (take place text)
   pub there : place < length text → ¬ BeginsRule (take (place + 1) text)
 
--- numbers read off the front of a text, as a table of answers, and the text after them
+-- numbers read off the prefix of a text, as a table of answers, and the text after them
 pub record Reading : Type 0 where
   pub logic : List Bool
   pub remainder : List ℕ

@@ -37,14 +37,14 @@ use memory::OutOfMemory;
 use std::alloc::Global;
 use std::marker::Model;
 
-/// How many lanes a large board has: 64, and one more, since a window wants a lane to its right.
+/// How many word columns a large board has: 64, and one more, since a window wants a word column to its right.
 const LARGE_WORD_COLUMNS: usize = 65;
 
-/// How many rows it has: as many as columns, and 72 more. A multiple of 512 would bring the same row of several lanes
+/// How many rows it has: as many as columns, and 72 more. A multiple of 512 would bring the same row of several word columns
 /// to one place of the processor's cache.
 const LARGE_ROWS: usize = 4168;
 
-/// How many lanes a small board has, whose words are cleared in no time: 8, and one more.
+/// How many word columns a small board has, whose words are cleared in no time: 8, and one more.
 const SMALL_WORD_COLUMNS: usize = 9;
 
 /// And how many rows: as many as columns, and 72 more.
@@ -58,7 +58,7 @@ pub struct Board {
     at: Frame,
     logic: RuleLogic,
     words: Vec<u64>,
-    /// Which rows of each lane may have a live cell.
+    /// Which rows of each word column may have a live cell.
     spans: Vec<RowSpan>,
     boxes: Vec<Bounds>,
     /// Whether the boxes hold all live cells.
@@ -108,7 +108,7 @@ impl Drop for Board {
 
 impl Board {
     /// An empty board that lies round the origin, for patterns that are shown one after another. It has 4,096 columns,
-    /// and a lane more, and 4,168 rows.
+    /// and a word column more, and 4,168 rows.
     ///
     /// # Errors
     ///
@@ -126,7 +126,7 @@ impl Board {
         Board::blank(alloc, rule, at)
     }
 
-    /// An empty board as `new` makes it, but for its size: it has 512 columns, and a lane more, and 584 rows, so it
+    /// An empty board as `new` makes it, but for its size: it has 512 columns, and a word column more, and 584 rows, so it
     /// is made fifty times as fast.
     ///
     /// # Errors

@@ -61,7 +61,7 @@ impl Direction {
         counted(self.right, cell.x) + counted(self.down, cell.y)
     }
 
-    /// The column of a lane that lies farthest in the direction.
+    /// The column of a word column that lies farthest in the direction.
     pub(crate) fn outer_column(self) -> usize
         ensures column { result ≡ outer_column self.right }
         ensures small { result < 64 }

@@ -1,9 +1,9 @@
 //! Where a board lies, and where a cell stands in its words.
 //!
-//! A board is cut into lanes of 64 columns. The words stand lane after lane, a word for each row of a lane:
+//! A board is cut into word columns of 64 columns. The words stand word column after word column, a word for each row of a word column:
 //!
 //! ```text
-//!          lane 0                 lane 1
+//!          word column 0                 word column 1
 //! row 0    word 0                 word 0 + rows
 //! row 1    word 1                 word 1 + rows
 //! row 2    word 2                 word 2 + rows
@@ -23,7 +23,7 @@ use crate::plane::cell::{BOUND, Cell};
 use crate::plane::coordinate::{apart, back};
 use crate::plane::pattern::Pattern;
 
-/// Where a board lies: its first column and row, how many lanes of 64 columns it has, and how many rows. The rows are a
+/// Where a board lies: its first column and row, how many word columns of 64 columns it has, and how many rows. The rows are a
 /// multiple of eight.
 #[derive(Clone, Copy)]
 pub(crate) struct Frame {
@@ -174,7 +174,7 @@ impl Frame {
         self.word_columns * self.rows
     }
 
-    /// The place of a row of a lane in the list of words.
+    /// The place of a row of a word column in the list of words.
     pub(crate) fn index(self, word_column: usize, row: usize) -> usize
         requires frame { IsFrame self }
         requires word_column { word_column < self.word_columns }
@@ -186,7 +186,7 @@ impl Frame {
         word_column * self.rows + row
     }
 
-    /// The first cell of a row of a lane.
+    /// The first cell of a row of a word column.
     pub(crate) fn corner(self, word_column: usize, row: usize) -> Cell
         requires frame { IsFrame self }
         requires word_column { word_column < self.word_columns }

@@ -86,7 +86,7 @@ pub(crate) fn run_all(
     Ok(true)
 }
 
-/// Puts all inner parts back, and widens the spans by them. Each may lie in two lanes.
+/// Puts all inner parts back, and widens the spans by them. Each may lie in two word columns.
 pub(crate) fn put_all(
     words: &mut [u64],
     spans: &mut [RowSpan],

@@ -1,10 +1,10 @@
 //! The cells of a board in a list, in their order: row by row, and each row from the left.
 //!
-//! The rows are gone through in bands of eight, from the first that a span reaches to the last. Most lanes have no live
+//! The rows are gone through in bands of eight, from the first that a span reaches to the last. Most word columns have no live
 //! cell in a band: either its span doesn't reach there, or eight words at once are seen to be empty.
 //!
 //! ```text
-//! lane      0     1     2     3     4
+//! word column      0     1     2     3     4
 //! band 0    .     .     .     .     .
 //! band 1    .    [#]   [.]    .     .      Only where the spans reach, in brackets, is a word looked at.
 //! band 2    .    [#]   [#]   [#]    .
@@ -87,7 +87,7 @@ pub(crate) fn along(cell: Cell, columns: usize) -> Cell
     }
 }
 
-/// The word of a row of a lane, of which this is the span. Outside of it nothing is alive, and no word is looked at.
+/// The word of a row of a word column, of which this is the span. Outside of it nothing is alive, and no word is looked at.
 fn word_at(at: Frame, words: &[u64], span: RowSpan, word_column: usize, row: usize) -> u64
     requires frame { IsFrame at }
     requires word_column { word_column < at.word_columns }
@@ -102,7 +102,7 @@ fn word_at(at: Frame, words: &[u64], span: RowSpan, word_column: usize, row: usi
     words[at.index(word_column, row)]
 }
 
-/// Reads the cells of a band of eight rows, row by row, and adds them to a list. All lie in these lanes.
+/// Reads the cells of a band of eight rows, row by row, and adds them to a list. All lie in these word columns.
 fn read_band(
     at: Frame,
     words: &[u64],
@@ -136,7 +136,7 @@ fn read_band(
     Ok(())
 }
 
-/// The lanes from the first to the last in which a cell of a band is alive, of these lanes. If there is none, they end
+/// The word columns from the first to the last in which a cell of a band is alive, of these word columns. If there is none, they end
 /// where they begin.
 fn word_columns_of_band(
     at: Frame,
@@ -169,7 +169,7 @@ fn word_columns_of_band(
     RowSpan { from, end }
 }
 
-/// Whether no cell of a band is alive in a lane.
+/// Whether no cell of a band is alive in a word column.
 fn is_word_column_empty(
     at: Frame,
     words: &[u64],

@@ -1,4 +1,4 @@
-//! The next generation of a small pattern, made in a window that has nothing else in it:
+//! A window with a small pattern and nothing else, and the next generation made in it:
 //!
 //! ```text
 //!  cells             window               cells
@@ -55,7 +55,7 @@ pub(crate) fn next_in_window(
         return Ok(None);
     }
     generation(&mut window, &RuleLogic::new(rule));
-    // The window as a board, of one lane.
+    // The window as a board, of one word column.
     let at = Frame {
         left: origin.left,
         top: origin.top,
@@ -78,7 +78,8 @@ pub(crate) fn pattern_of(alloc: Global, at: Frame, rows: &[u64; 64]) -> Result<P
     list(alloc, at, rows, &spans, ROOM)
 }
 
-/// Where a window round a small pattern lies, which is far from the edge of the plane.
+/// Returns the origin of a window in whose middle a small pattern lies, far from the edge of the plane. `None` if the
+/// pattern is empty, larger than 62 by 62 cells, or too far out.
 pub(crate) fn origin_round(pattern: &Pattern) -> Option<WindowOrigin>
     ensures inland { IfSome result IsInland }
     ensures inside { IfSome result
@@ -101,7 +102,7 @@ pub(crate) fn origin_round(pattern: &Pattern) -> Option<WindowOrigin>
     })
 }
 
-/// The window at this place with these cells.
+/// Returns the window at this origin that shows these cells.
 pub(crate) fn window_of(origin: WindowOrigin, cells: &[Cell]) -> [u64x4; 16]
     requires order { InOrder cells.now }
     requires inside { (c : Cell) → has cells.now c ≡ true → IsInWindow 16 origin.left origin.top c }

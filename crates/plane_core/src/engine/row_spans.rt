@@ -1,10 +1,10 @@
-//! Which rows of each lane of a board may have a live cell. So a large board that is nearly empty is read and emptied
+//! Which rows of each word column of a board may have a live cell. So a large board that is nearly empty is read and emptied
 //! at little cost:
 //!
 //! ```text
-//! lane      0     1     2     3
+//! word column      0     1     2     3
 //! row 0     .     .     .     .
-//! row 1     .     #     .     .      The rows from the first that was written in a lane to the last. Outside of them
+//! row 1     .     #     .     .      The rows from the first that was written in a word column to the last. Outside of them
 //! row 2     .     #     #     .      all is dead.
 //! row 3     .     .     #     .
 //! ```
@@ -60,7 +60,7 @@ impl RowSpan {
     }
 }
 
-/// Widens the span of a lane by these rows.
+/// Widens the span of a word column by these rows.
 pub(crate) fn widen(spans: &mut [RowSpan], word_column: usize, rows: RowSpan)
     requires { word_column < length spans.old }
     ensures kept { AreWidened spans.old spans.new }
@@ -69,14 +69,14 @@ pub(crate) fn widen(spans: &mut [RowSpan], word_column: usize, rows: RowSpan)
     spans[word_column] = spans[word_column].joined(rows);
 }
 
-/// The lanes from the first that has rows to the last, and the rows from the least to the greatest.
+/// The word columns from the first that has rows to the last, and the rows from the least to the greatest.
 #[derive(Clone, Copy)]
 pub(crate) struct Hull {
     pub(crate) word_columns: RowSpan,
     pub(crate) rows: RowSpan,
 }
 
-/// The lanes and the rows in which spans lie.
+/// The word columns and the rows in which spans lie.
 pub(crate) fn hull_of(at: Frame, spans: &[RowSpan]) -> Hull
     requires frame { IsFrame at }
     requires long { length spans.now ≡ at.word_columns }
@@ -114,7 +114,7 @@ pub(crate) fn empty(at: Frame, words: &mut [u64], spans: &mut [RowSpan])
     }
 }
 
-/// Empties the rows of a lane that lie in the span.
+/// Empties the rows of a word column that lie in the span.
 fn empty_word_column(at: Frame, words: &mut [u64], word_column: usize, span: RowSpan)
     requires frame { IsFrame at }
     requires word_column { word_column < at.word_columns }

@@ -1,9 +1,9 @@
 //! Windows read from a board, and their inner parts put back.
 //!
-//! A window may begin in any column, so each of its rows lies in two lanes of the board:
+//! A window may begin in any column, so each of its rows lies in two word columns of the board:
 //!
 //! ```text
-//!   lane x / 64        |  the lane after it
+//!   word column x / 64        |  the word column after it
 //!   ..........[aaaaaaaa|bbbbbbbbbbbb].......
 //!             column x
 //! ```
@@ -41,7 +41,7 @@ pub(crate) fn row_of(at: Frame, origin: WindowOrigin) -> usize
 }
 
 /// Reads the rows of a window that begins in column x and row y of the board: each is the end of a word of the first
-/// lane with the beginning of one of the second. They are read in order, so that four of them are read at once.
+/// word column with the beginning of one of the second. They are read in order, so that four of them are read at once.
 #[inline(always)]
 pub(crate) fn read_rows<const R: usize>(words: &[u64], at: Frame, x: usize, y: usize) -> [u64; R]
     requires long { FillsFrame at words.now }
@@ -59,7 +59,7 @@ pub(crate) fn read_rows<const R: usize>(words: &[u64], at: Frame, x: usize, y: u
     rows
 }
 
-/// The word's columns that lie in the first lane, where it begins in this column of it.
+/// The word's columns that lie in the first word column, where it begins in this column of it.
 #[inline(always)]
 fn in_first(word: u64, shift: usize) -> u64
     requires { shift < 64 }
@@ -69,7 +69,7 @@ fn in_first(word: u64, shift: usize) -> u64
     word << shift
 }
 
-/// The word's columns that lie in the second lane.
+/// The word's columns that lie in the second word column.
 #[inline(always)]
 #[tactic(auto, using(crate::proofs::lemmas::windows::ShiftLemmas::bit_second))]
 fn in_second(word: u64, shift: usize) -> u64

@@ -1,4 +1,4 @@
-//! Where a window lies on the plane.
+//! The origin of a window: where it lies on the plane.
 //!
 //! A window has 64 columns and 40 rows, and is cut off at its border. So after four generations it is right in its
 //! inner part alone, four cells inside its border:
@@ -26,7 +26,7 @@ pub(crate) struct WindowOrigin {
 }
 
 impl WindowOrigin {
-    /// Whether the window lies on the board, with a lane to its right.
+    /// Whether the window lies on the board, with a word column to its right.
     #[inline(always)]
     pub(crate) fn is_on_board(self, at: Frame) -> bool
         ensures { IsTrue result → IsOnBoard at self }

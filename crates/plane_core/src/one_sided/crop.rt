@@ -4,7 +4,7 @@
 //! ```text
 //!  0  . . . . . . . .
 //!  1  . . . . . . . .     . . . . . . . .   0
-//!  2  . . O O . . . .     . . O O . . . .   1     The excerpt begins with row 1. No cell of the cluster lies in a row
+//!  2  . . O O . . . .     . . O O . . . .   1     The crop begins with row 1. No cell of the cluster lies in a row
 //!  3  . . . O O . . .     . . . O O . . .   2     outside of it.
 //!  4  . . . . . . . .     . . . . . . . .   3
 //!  5  . . . . . . . .
@@ -16,10 +16,10 @@ use crate::windows::row_packing::packed;
 use crate::windows::window_queries::{first_row, last_row, row};
 use std::simd::u64x4;
 
-/// How many rows a cluster has at most for which there is an excerpt. Larger ones mostly grow out of it.
+/// How many rows a cluster has at most for which there is an crop. Larger ones mostly grow out of it.
 const MOST: usize = 32;
 
-/// The first row of an excerpt that has all of the cluster, with about as many rows above it as below. `None` if it is
+/// The first row of an crop that has all of the cluster, with about as many rows above it as below. `None` if it is
 /// too large.
 pub(crate) fn crop_round(alone: &[u64x4; 16]) -> Option<usize>
     ensures { IfSome result (λ from. LiesInCrop from alone.now) }

@@ -1,14 +1,14 @@
-//! Whether a cluster that is run alone comes to have a cell that the whole pattern hasn't:
+//! A one-sided test that a cluster, run alone, comes to have a cell that the whole pattern doesn't have:
 //!
 //! ```text
 //! the whole              one cluster alone
 //! . . . . . . . .        . . . . . . . .
-//! . . x . . O O .        . . x . . . . .     What else is there keeps cell x from living. So the cluster is not one
-//! . . O O . O O .        . . O O . . . .     of the objects at rest that the pattern falls into.
+//! . . x . . O O .        . . x . . . . .     In the whole, something else keeps cell x from living. So the cluster is
+//! . . O O . O O .        . . O O . . . .     none of the objects of a pattern at rest.
 //! . . O . . . . .        . . O . . . . .
 //! ```
 //!
-//! Both are run in windows, which are right a cell less far out with each generation.
+//! Both are run in windows, which are right one cell less far out with each generation.
 ghost use Rattle.std.specs.Prelude.{◌+◌, ◌≤◌, ◌<◌, IsTrue};
 ghost use Rattle.plane_core.specs.windows.RuleLogic.{rule_of};
 ghost use Rattle.plane_core.specs.one_sided.RestlessClusters.{HasDivergingCell, DivergesFromWhole};
@@ -18,7 +18,7 @@ use crate::windows::window::generation;
 use crate::windows::window_queries::{are_alike, in_any_lane, row};
 use std::simd::u64x4;
 
-/// Whether it is seen within so many generations, and within 15, that what one window shows alone strays from the whole
+/// Whether it is seen within so many generations, and within 15, that what one window shows alone diverges from the whole
 /// that the other one shows, both right at this depth. `false` says nothing.
 pub(crate) fn diverges_from_whole<const N: usize>(
     whole: &[u64x4; N],

@@ -1,14 +1,13 @@
-//! An early no to a board: what is at rest has no cluster that strays or is never itself again.
+//! Rejecting a checkpoint of a board early: a pattern at rest has no cluster that diverges from it or never recurs.
 //!
-//! One cluster is looked at in the view of a box:
+//! One cluster is tested in the view of an active box:
 //!
 //! ```text
 //! boxes      small  LARGE  small  small  LARGE  small
-//! tried by    3rd    1st    4th           2nd           Those that are larger than the box of any small oscillator
-//!                                                       are tried first.
+//! tried       3rd    1st    4th           2nd           Boxes larger than that of any small oscillator are tried first.
 //! ```
 //!
-//! Four boxes at most are tried, since a board on which nothing is found so has mostly fallen into objects at rest.
+//! At most four boxes are tried: if they show nothing, the board has mostly fallen into objects at rest.
 ghost use Rattle.std.specs.Prelude.{◌≤◌, IsTrue};
 ghost use Rattle.plane_core.specs.plane.Generations.{after};
 ghost use Rattle.plane_core.specs.one_sided.RestlessClusters.{HasRestlessCluster};
@@ -25,8 +24,8 @@ const SMALL: u32 = 6;
 /// How many boxes are tried at most.
 const TRIES: u32 = 4;
 
-/// What is asked of the pattern so many generations ahead, at most 1: whether a cluster strays within the horizon, or
-/// is never itself again within the period.
+/// What is asked of the pattern `ahead` generations later, 0 or 1: whether some cluster diverges within `horizon`
+/// generations, or doesn't recur within `period` generations.
 #[derive(Clone, Copy)]
 struct RestQuestion {
     ahead: u32,
@@ -35,8 +34,8 @@ struct RestQuestion {
 }
 
 impl Board {
-    /// Whether it is seen that so many generations ahead, at most 1, the pattern is not at rest: one of its clusters
-    /// strays from it within the horizon, or is never itself again within the period. `false` says nothing.
+    /// Returns `true` only if the pattern is not at rest `ahead` generations later, 0 or 1: one of its clusters diverges
+    /// from it within `horizon` generations, or doesn't recur within `period` generations. `false` says nothing.
     pub fn rules_out_rest(&self, ahead: u32, horizon: u32, period: u32) -> bool
         requires { ahead ≤ 1 }
         ensures { IsTrue result

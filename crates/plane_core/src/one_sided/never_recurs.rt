@@ -1,16 +1,17 @@
-//! Whether a pattern in a window is seen not to come back. The window has the pattern and nothing else, so its
-//! generations are the pattern's as long as no cell stands on the rim:
+//! A one-sided test that a pattern never recurs. The pattern is run by itself in a window; the result is exact as long as
+//! no live cell reaches the window's rim:
 //!
 //! ```text
 //! +----------------+
-//! |                |    A generation that is the start again, moved or not, has live cells in the same columns from
-//! |    OO.         |    the first one on, and the same rows from the first row and the first column on. Mostly the
-//! |     OO.        |    columns already differ.
+//! |                |    A generation that is the start again, possibly displaced, has live cells in the same columns,
+//! |    OO.         |    counted from the first one, and the same rows, counted from the first row and column. Mostly
+//! |     OO.        |    the columns already differ.
 //! |      O         |
-//! +----------------+    Where a generation is one that was there before, all that follow were there before too.
+//! +----------------+    If a generation equals an earlier one, all that follow were there before too.
 //! ```
 //!
-//! Only the 'no' is sure: what may have come back, or has come to the rim, is run elsewhere.
+//! `true` is a proof that no generation up to the limit is a translate of the first. `false` says nothing: what may recur,
+//! or reaches the rim, is run elsewhere.
 ghost use Rattle.std.specs.Prelude.{◌≡◌, ◌+◌, ◌-◌, ◌*◌, ◌/◌, ◌^◌, ◌<◌, ◌≤◌, ℕ, ℤ, IfSome, IsTrue, List, max};
 ghost use Rattle.std.specs.Int.{bit_at};
 ghost use Rattle.plane_core.specs.windows.RuleLogic.{rule_of};
@@ -26,8 +27,8 @@ use crate::windows::window::generation;
 use crate::windows::window_queries::{are_alike, columns_of, first_row, is_rim_clear, row};
 use std::simd::u64x4;
 
-/// Whether it is seen that no generation from 1 to `most` is the pattern again, moved or not, and that each lies in the
-/// window. The pattern is what `start` shows, and lies in the window whole. `false` says nothing.
+/// Returns `true` only if no generation from 1 to `most` is the pattern again, possibly displaced, and each of them lies in
+/// the window. The pattern is what `start` shows; all of it lies in the window.
 pub(crate) fn never_recurs<const N: usize>(start: &[u64x4; N], rule: &RuleLogic, most: u32) -> bool
     requires some { 0 < N }
     requires few { N ≤ 16 }

@@ -1,17 +1,5 @@
-//! A glance at a small pattern: it is run alone, in a window of 64 by 64 cells, to see at a few operations a vector
-//! that it doesn't come back:
-//!
-//! ```text
-//! +----------------+
-//! |                |    The pattern lies in the middle of the window, with as many empty columns and rows on each
-//! |    XO          |    side, or one more to the right and below.
-//! |     OO         |
-//! |      O         |
-//! |                |
-//! +----------------+
-//! ```
-//!
-//! Only the 'no' is sure: what may have come back, or has come to the rim, is run elsewhere.
+//! One-sided tests on a small pattern, which is run alone in a window of 64 by 64 cells: a few operations per vector show
+//! that it changes, or that it isn't at rest. `true` is a proof, and `false` says nothing.
 ghost use Rattle.std.specs.Prelude.{◌≡◌, ◌≤◌, ℕ, IsTrue, false};
 ghost use Rattle.plane_core.specs.plane.Generations.{NeverRecurs, after, touches_edge};
 ghost use Rattle.plane_core.specs.one_sided.RestlessClusters.{HasRestlessCluster};
@@ -24,9 +12,8 @@ use crate::plane::rule::Rule;
 use crate::windows::rule_logic::RuleLogic;
 
 impl Pattern {
-    /// Whether it is seen at a glance that no generation from 1 to this one is the pattern again, moved or not, and
-    /// that none touches the edge of the plane. `false` says nothing: the pattern may come back, or be or grow too
-    /// large.
+    /// Returns `true` only if no generation from 1 to `generations` is the pattern again, possibly displaced, and none
+    /// touches the edge of the plane. `false` says nothing: the pattern may recur, or be or grow too large.
     pub fn surely_changes(&self, rule: &Rule, generations: u32) -> bool
         ensures new { IsTrue result → NeverRecurs rule.now self.now generations }
         ensures inside { IsTrue result → (g : ℕ) → g ≤ generations → touches_edge (after rule.now self.now g) ≡ false }
@@ -38,8 +25,8 @@ impl Pattern {
         never_recurs(&window, &RuleLogic::new(rule), generations)
     }
 
-    /// Whether it is seen at a glance that the pattern is not at rest: one of its clusters strays from it within the
-    /// horizon, or is never itself again within the period. `false` says nothing.
+    /// Returns `true` only if the pattern is not at rest: one of its clusters diverges from it within `horizon`
+    /// generations, or doesn't recur within `period` generations.
     pub fn rules_out_rest(&self, rule: &Rule, horizon: u32, period: u32) -> bool
         ensures { IsTrue result → HasRestlessCluster rule.now self.now horizon period }
     {

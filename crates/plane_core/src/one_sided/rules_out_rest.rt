@@ -1,13 +1,13 @@
-//! Whether a window shows a pattern that isn't at rest, told by one cluster:
+//! A one-sided test that the pattern in a window isn't at rest, by one of its clusters:
 //!
 //! ```text
-//! . . . . . . . .      The window has a piece of the pattern. A cell that changes within two generations is looked
-//! . O O . . . S .      for, and its cluster is grown from it. Alone, that cluster may stray from what the whole does,
-//! . O O . . S S .      or never be itself again. Then the pattern hasn't fallen into objects at rest.
+//! . . . . . . . .      The window shows a piece of the pattern. The test looks for a cell that changes within two
+//! . O O . . . S .      generations, and grows its cluster. Run alone, the cluster may diverge from the whole, or never
+//! . O O . . S S .      recur. Then the pattern hasn't fallen into objects at rest.
 //! . . . . . . S .
 //! ```
 //!
-//! Only the 'no' to a rest is sure, and most patterns that aren't at rest are told so by a single cluster.
+//! Most patterns that aren't at rest are rejected by a single cluster.
 ghost use Rattle.std.specs.Prelude.{◌≤◌, IsTrue};
 ghost use Rattle.plane_core.specs.windows.RuleLogic.{rule_of};
 ghost use Rattle.plane_core.specs.one_sided.RestlessClusters.{AreAllRestless};
@@ -21,8 +21,8 @@ use crate::windows::row_packing::{packed, unpacked};
 use crate::windows::rule_logic::RuleLogic;
 use std::simd::u64x4;
 
-/// Whether it is seen that no pattern which the window shows at this depth is at rest: one of its clusters strays from
-/// it within the horizon, or is never itself again within the period. `false` says nothing.
+/// Returns `true` only if no pattern that the window shows at depth `depth` is at rest: one of its clusters diverges from it
+/// within `horizon` generations, or doesn't recur within `period` generations.
 pub(crate) fn rules_out_rest(
     window: &[u64x4; 16],
     rule: &RuleLogic,

@@ -1,4 +1,4 @@
-//! Candidates for ships: clusters of a few cells that change.
+//! Candidates for spaceships: clusters of a few cells that change.
 //!
 //! In the view of each box the cells that change within two generations are looked for, and the cluster of one after
 //! another is grown:
@@ -11,7 +11,7 @@
 //! . . . . . . . . . .      . . . . . . . . . .
 //! ```
 //!
-//! A lone ship has a small box, so only these are looked at, and of these only those that lie ahead of all others.
+//! A lone spaceship has a small box, so only these are looked at, and of these only those that lie ahead of all others.
 ghost use Rattle.std.specs.Prelude.{All, IfOk, List, OnOk};
 ghost use Rattle.plane_core.specs.plane.Cells.{InOrder};
 ghost use Rattle.plane_core.specs.clusters.Clusters.{IsCluster};
@@ -34,7 +34,7 @@ use std::alloc::Global;
 /// How many boxes are looked at, at most.
 const BOXES: u32 = 32;
 
-/// How many columns and rows the box of what changes in a ship has at most: a heavyweight spaceship's has nine. A ship
+/// How many columns and rows the box of what changes in a spaceship has at most: a heavyweight spaceship's has nine. A spaceship
 /// that has just left a larger group shares its box, and gets one of its own soon.
 const SPACESHIP: u32 = 10;
 
@@ -60,7 +60,7 @@ impl Board {
             if tries == 0 {
                 break;
             }
-            // Little else than a ship may change in a small box.
+            // Little else than a spaceship may change in a small box.
             if longer_side(*bounds) >= SPACESHIP || !leads_somewhere(boxes, *bounds) {
                 continue;
             }
@@ -88,7 +88,7 @@ fn leads_somewhere(boxes: &[Bounds], bounds: Bounds) -> bool {
         let left = other.left.saturating_sub(bounds.right);
         let down = bounds.top.saturating_sub(other.bottom);
         let up = other.top.saturating_sub(bounds.bottom);
-        // Those that it meets don't count, since a ship has boxes from more than one window.
+        // Those that it meets don't count, since a spaceship has boxes from more than one window.
         if right.max(left).max(down).max(up) <= 1 {
             continue;
         }

@@ -36,7 +36,7 @@ impl Pattern {
     {
         let mut near = neighbourhoods(alloc, self.cells())?;
         near.sort_unstable();
-        // The cells that live are moved to the front of the list.
+        // The cells that live are moved to the prefix of the list.
         let mut kept = 0;
         let mut count = 0;
         let end = near.len();

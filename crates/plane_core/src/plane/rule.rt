@@ -190,7 +190,7 @@ fn put_numbers(
     end
 }
 
-/// Reads the numbers from `least` on whose digits stand in order at the front of the text, and returns the text after
+/// Reads the numbers from `least` on whose digits stand in order at the prefix of the text, and returns the text after
 /// them.
 fn read_numbers<const N: usize>(text: &[u8], least: u8) -> ([bool; N], &[u8])
     requires { least + N ≤ 10 }

@@ -113,7 +113,7 @@ sorted_codes R xs ys all = (
 -- ---- the image of a pattern at rest
 
 module _ (f g : Cell → Cell) (rigid : IsRigid f g) (there : KeepsObjects f) (home : KeepsObjects g) (rule : Numbers) where
-  -- what comes back does so in the image
+  -- what recurs does so in the image
   back-image : (limit : ℕ) (cells : List Cell) → InOrder cells → RecursWithin rule limit cells → RecursWithin rule limit (image_by f cells)
   back-image limit cells order (r, back) =
       let move = there.moves r.dx r.dy cells order in (

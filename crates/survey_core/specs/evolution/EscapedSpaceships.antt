@@ -1,4 +1,4 @@
--- Ships that are ahead of all the rest of a pattern. Nothing ever comes near them, so they run alone for good.
+-- Spaceships that are ahead of all the rest of a pattern. Nothing ever comes near them, so they run alone for good.
 use Rattle.std.specs.Prelude.{◌≡◌, ◌+◌, ◌*◌, ◌<◌, ◌≤◌, ℕ, ℤ, pos, ◌+ℤ◌, ◌*ℤ◌, ◌≤ℤ◌, ◌||◌, true, List}
 use Rattle.plane_core.specs.declared.plane.cell.Cell.{Cell}
 use Rattle.plane_core.specs.declared.plane.orientation.Orientation.{Orientation}
@@ -17,13 +17,13 @@ use Rattle.survey_core.specs.declared.shapes.envelope_bounds.EnvelopeBounds.{Env
 abbrev pub LiesFrom : Orientation → ℤ → List Cell → Type 0
 LiesFrom o m cells = (c : Cell) → has cells c ≡ true → m ≤ℤ depth (turned_cell o c)
 
--- a pattern in order that comes back like this
+-- a pattern in order that recurs like this
 pub record IsSpaceship (rule : Numbers) (r : Recurrence) (cells : List Cell) : Type 0 where
   pub in_order : InOrder cells
   pub some : 1 ≤ r.period
   pub back : after rule cells r.period ≡ shifted r.dx r.dy cells
 
--- A ship that is ahead of all that lies up to m in a diagonal direction: it goes there by at least a cell in two generations, and
+-- A spaceship that is ahead of all that lies up to m in a diagonal direction: it goes there by at least a cell in two generations, and
 -- begins far enough past m.
 pub record IsAheadOf (rule : Numbers) (way : Orientation) (m : ℤ) (r : Recurrence) (spaceship : List Cell) : Type 0 where
   pub comes : IsSpaceship rule r spaceship
@@ -33,7 +33,7 @@ pub record IsAheadOf (rule : Numbers) (way : Orientation) (m : ℤ) (r : Recurre
   pub room : ((pos 2 *ℤ m) +ℤ pos (r.period + 10)) ≤ℤ (pos 2 *ℤ from)
 
 -- Under a slow rule, what lies up to m now, and what lies up to k further n generations later, where k is at most half of n + 1, stays more
--- than two cells from the ship.
+-- than two cells from the spaceship.
 abbrev pub SpaceshipsStayAhead : Type 0
 SpaceshipsStayAhead = (rule : Numbers) (way : Orientation) (m : ℤ) (r : Recurrence) (spaceship cells : List Cell) (n k g : ℕ) → is_slow rule ≡ true
     → IsAheadOf rule way m r spaceship → InOrder cells → LiesUpTo way (m +ℤ pos k) cells → 2 * k ≤ n + 1
@@ -51,13 +51,13 @@ pub record IsForemost (rule : Numbers) (whole : List Cell) (r : Recurrence) (spa
   pub ahead : IsAheadOf rule way m r spaceship
   pub behind : LiesUpTo way m (without whole spaceship)
 
--- a pattern goes on as such a ship and the rest do alone
+-- a pattern goes on as such a spaceship and the rest do alone
 abbrev pub SpaceshipsRunAlone : Type 0
 SpaceshipsRunAlone = (rule : Numbers) (whole : List Cell) (r : Recurrence) (spaceship : List Cell) → is_slow rule ≡ true → InOrder whole
     → IsForemost rule whole r spaceship
     → (g : ℕ) (c : Cell) → has (after rule whole g) c ≡ (has (after rule (without whole spaceship) g) c || has (after rule spaceship g) c)
 
--- the box of all phases of a ship begins far enough past m
+-- the box of all phases of a spaceship begins far enough past m
 pub record BeginsPast (way : Orientation) (m : ℤ) (envelope : EnvelopeBounds) : Type 0 where
   pub from : ℤ
   pub least : (c : Cell) → IsWithin envelope.bounds c → from ≤ℤ depth (turned_cell way c)

@@ -1,4 +1,4 @@
--- A board, and the ships that have left it.
+-- A board, and the spaceships that have left it.
 use Rattle.std.specs.Prelude.{◌≡◌, ◌≢◌, ◌+◌, ◌*◌, ◌-◌, ◌≤◌, ℕ, ℤ, pos, ◌+ℤ◌, true, List, ◌∷◌, All, map, unsigned_abs}
 use Rattle.plane_core.specs.declared.plane.cell.Cell.{Cell}
 use Rattle.plane_core.specs.declared.plane.orientation.Orientation.{Orientation}
@@ -13,25 +13,25 @@ use Rattle.survey_core.specs.rest.Groups.{union_of}
 use Rattle.survey_core.specs.UnderWay.{survey_reach}
 use Rattle.survey_core.specs.evolution.EscapedSpaceships.{IsAheadOf, IsPartOf, IsSpaceship}
 
--- where a ship is at time t
+-- where a spaceship is at time t
 abbrev pub spaceship_at : Numbers → ℕ → Spaceship → List Cell
 spaceship_at rule t spaceship = after rule spaceship.cells (t - spaceship.since)
 
--- the whole pattern at time t: what the board shows, and the ships
+-- the whole pattern at time t: what the board shows, and the spaceships
 abbrev pub whole_at : Numbers → ℕ → List Cell → List Spaceship → List Cell
 whole_at rule t board spaceships = union_of (board ∷ map (spaceship_at rule t) spaceships)
 
--- none of the ships has these cells
+-- none of the spaceships has these cells
 abbrev pub IsNoneOf : List Spaceship → List Cell → Type 0
 IsNoneOf spaceships cells = All (λ spaceship. spaceship.cells ≢ cells) spaceships
 
--- Clusters of what the board showed before some of them left it as ships. The others are parts of it still.
+-- Clusters of what the board showed before some of them left it as spaceships. The others are parts of it still.
 pub record AreCandidates (board : List Cell) (spaceships : List Spaceship) (clusters : List (List Cell)) : Type 0 where
   pub before : List Cell
   pub each : All (IsCluster before) clusters
   pub still : (cluster : List Cell) → IsCluster before cluster → IsNoneOf spaceships cluster → IsPartOf board cluster
 
--- The ship has been off the board for an even number of generations, twice `half`; it was ahead when it was taken off, and since then
+-- The spaceship has been off the board for an even number of generations, twice `half`; it was ahead when it was taken off, and since then
 -- the board hasn't come further than a cell in two generations.
 pub record IsOff (rule : Numbers) (t : ℕ) (board : List Cell) (spaceship : Spaceship) : Type 0 where
   pub slow : is_slow rule ≡ true
@@ -42,36 +42,36 @@ pub record IsOff (rule : Numbers) (t : ℕ) (board : List Cell) (spaceship : Spa
   pub ahead : IsAheadOf rule way m spaceship.recurrence spaceship.cells
   pub behind : LiesUpTo way (m +ℤ pos half) board
 
--- the ships are off the board for good: the whole pattern goes on as the board and each of them does alone
+-- the spaceships are off the board for good: the whole pattern goes on as the board and each of them does alone
 pub record AreOff (rule : Numbers) (t : ℕ) (board : List Cell) (spaceships : List Spaceship) : Type 0 where
   pub in_order : InOrder board
   pub each : All (IsOff rule t board) spaceships
   pub alone : (g : ℕ) → after rule (whole_at rule t board spaceships) g ≡ whole_at rule (t + g) (after rule board g) spaceships
 
--- the ship's numbers are small, so that its cells can be computed at any time of a survey
+-- the spaceship's numbers are small, so that its cells can be computed at any time of a survey
 pub record HasSmallNumbers (spaceship : Spaceship) : Type 0 where
   pub near : lies_within survey_reach spaceship.cells ≡ true
   pub period : spaceship.recurrence.period ≤ 64
   pub across : unsigned_abs spaceship.recurrence.dx ≤ 64
   pub down : unsigned_abs spaceship.recurrence.dy ≤ 64
 
--- where the ship is at time t can be computed
+-- where the spaceship is at time t can be computed
 pub record IsTraced (rule : Numbers) (t : ℕ) (spaceship : Spaceship) : Type 0 where
   pub comes : IsSpaceship rule spaceship.recurrence spaceship.cells
   pub small : HasSmallNumbers spaceship
   pub since : spaceship.since ≤ t
 
--- until when ships are kept off a board: by then none of them has come near the edge of the plane
+-- until when spaceships are kept off a board: by then none of them has come near the edge of the plane
 abbrev pub latest_time : ℕ
 latest_time = 800000
 
--- a board and the ships that have left it
+-- a board and the spaceships that have left it
 pub record IsSplitAt (rule : Numbers) (t : ℕ) (board : List Cell) (spaceships : List Spaceship) : Type 0 where
   pub off : AreOff rule t board spaceships
   pub small : All HasSmallNumbers spaceships
   pub early : t ≤ latest_time
 
--- a board that goes by the rule, and the ships that have left it
+-- a board that goes by the rule, and the spaceships that have left it
 abbrev pub IsSplit : Numbers → SplitPattern → Type 0
 IsSplit rule split = (split.board.rule ≡ rule) × IsSplitAt rule split.time split.board.cells split.spaceships.items
 

@@ -6,7 +6,7 @@ use Rattle.plane_core.specs.plane.Rules.{Numbers}
 use Rattle.survey_core.specs.Profiles.{Settling}
 use Rattle.survey_core.specs.rest.Rest.{IsAtRest}
 
--- the look in generation t is known to say no: the first of the two is about even generations, and the second about odd ones
+-- the checkpoint in generation t is known not to be at rest: the first of the two is about even generations, and the second about odd ones
 abbrev pub is_known : List Bool → ℕ → Bool
 is_known known_restless t = get_or known_restless (t % 2) false
 

@@ -14,7 +14,7 @@ use Rattle.survey_core.specs.rest.Rest.{IsAtRest, KeepApart, RestsAs}
 abbrev pub EmptyIsAtRest : Type 0
 EmptyIsAtRest = (rule : Numbers) (profile : Settling) → IsAtRest rule profile []
 
--- Objects that stay for good keep apart forever, not just up to the horizon, and the pattern comes back after each common multiple.
+-- Objects that stay for good keep apart forever, not just up to the horizon, and the pattern recurs after each common multiple.
 pub record RestsForever (rule : Numbers) (cells : List Cell) (clusters : List (List Cell)) (period : ℕ) : Type 0 where
   pub apart : (g : ℕ) → KeepApart rule cells clusters g
   pub back : (g : ℕ) → after rule cells (g + period) ≡ after rule cells g

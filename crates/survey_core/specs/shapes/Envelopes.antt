@@ -1,4 +1,4 @@
--- The sweep of a pattern that comes back: a box in which all its phases lie, and which moves along with it.
+-- The envelope of a pattern that recurs: a box in which all its phases lie, and which moves along with it.
 use Rattle.std.specs.Prelude.{◌≡◌, ◌+◌, ◌*◌, ◌+ℤ◌, ◌<◌, ◌≤◌, ◌⊎◌, ◌||◌, ◌&&◌, Bool, true, int_le, int_lt, ℕ, ℤ, zero, suc, pos, List, All, get_or, length}
 use lib.IntN.{◌-ℤ◌}
 use Rattle.plane_core.specs.declared.plane.cell.Cell.{Cell}
@@ -17,18 +17,18 @@ abbrev pub times : ℕ → ℤ → ℤ
 times zero d = pos 0
 times (suc n) d = times n d +ℤ d
 
--- the sweep of a pattern: how it comes back, and a box in which it lies in each generation of its period
+-- the envelope of a pattern: how it recurs, and a box in which it lies in each generation of its period
 pub record IsEnvelope (rule : Numbers) (limit : ℕ) (cells : List Cell) (envelope : EnvelopeBounds) : Type 0 where
   pub in_order : InOrder cells
   pub recurs : Recurs rule cells limit envelope.recurrence
   pub within : (g : ℕ) → g < envelope.recurrence.period → All (IsWithin envelope.bounds) (after rule cells g)
 
--- the sweeps of some patterns, one for each
+-- the envelopes of some patterns, one for each
 pub record AreEnvelopes (rule : Numbers) (limit : ℕ) (parts : List (List Cell)) (envelopes : List EnvelopeBounds) : Type 0 where
   pub count : length envelopes ≡ length parts
   pub each : (i : ℕ) (d : List Cell) (e : EnvelopeBounds) → i < length parts → IsEnvelope rule limit (get_or parts i d) (get_or envelopes i e)
 
--- turns of so many generations suit a sweep: they are its period, or it doesn't move
+-- cycles of so many generations suit a envelope: they are its period, or it doesn't move
 abbrev pub Serves : ℕ → EnvelopeBounds → Type 0
 Serves period envelope = (period ≡ envelope.recurrence.period) ⊎ ((envelope.recurrence.dx ≡ pos 0) × (envelope.recurrence.dy ≡ pos 0))
 
@@ -57,17 +57,17 @@ gap_stays gaps dx dy = gaps.right && int_le (pos 0) dx || gaps.left && int_le dx
 abbrev pub is_clear : Bounds → Bounds → ℤ → ℤ → Bool
 is_clear one other x y = is_gap (gaps_of one other x y)
 
--- so many turns the boxes are clear of each other
+-- so many cycles the boxes are clear of each other
 abbrev pub StayClear : ℕ → EnvelopeBounds → EnvelopeBounds → Type 0
 StayClear cycles one other = (n : ℕ) → n < cycles → is_clear one.bounds other.bounds (times n (other.recurrence.dx -ℤ one.recurrence.dx))
     (times n (other.recurrence.dy -ℤ one.recurrence.dy)) ≡ true
 
--- Up to the horizon patterns with these sweeps, each run alone, are at king distance 3 or more.
+-- Up to the horizon patterns with these envelopes, each run alone, are at king distance 3 or more.
 abbrev pub StayApart : ℕ → EnvelopeBounds → EnvelopeBounds → Type 0
 StayApart horizon one other = (rule : Numbers) (limit : ℕ) (cells others : List Cell) → IsEnvelope rule limit cells one → IsEnvelope rule limit others other
     → (g : ℕ) → g ≤ horizon → LieApart (after rule cells g) (after rule others g)
 
--- what comes back moves by its shift each period
+-- what recurs moves by its shift each period
 abbrev pub SpaceshipsMoveByCycles : Type 0
 SpaceshipsMoveByCycles = (rule : Numbers) (cells : List Cell) (p : ℕ) (dx dy : ℤ) → InOrder cells → after rule cells p ≡ shifted dx dy cells → (n r : ℕ)
     → after rule cells (n * p + r) ≡ shifted (times n dx) (times n dy) (after rule cells r)

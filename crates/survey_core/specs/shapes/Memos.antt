@@ -7,7 +7,7 @@ use Rattle.code_core.specs.Names.{IsCode}
 use Rattle.survey_core.specs.declared.shapes.envelope_bounds.EnvelopeBounds.{EnvelopeBounds}
 use Rattle.survey_core.specs.shapes.Envelopes.{IsEnvelope}
 
--- what is noted of a shape: under which rule and within how many generations it was seen to come back, its sweep, and its code
+-- what is noted of a shape: under which rule and within how many generations it was seen to recur, its envelope, and its code
 pub record Fact : Type 0 where
   pub rule : Numbers
   pub limit : ℕ
@@ -15,7 +15,7 @@ pub record Fact : Type 0 where
   pub envelope : EnvelopeBounds
   pub code : List ℕ
 
--- it is true: the sweep and the code are those of the shape
+-- it is true: the envelope and the code are those of the shape
 pub record IsKnown (fact : Fact) : Type 0 where
   pub enveloped : IsEnvelope fact.rule fact.limit fact.shape fact.envelope
   pub named : IsCode fact.rule fact.shape fact.limit fact.code

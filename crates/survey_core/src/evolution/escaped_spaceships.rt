@@ -1,15 +1,15 @@
-//! Ships that are ahead of all the rest of a pattern. Nothing ever comes near them, so they may leave the board:
+//! Escaped spaceships: nothing else in the pattern can ever catch up with them, so they may be removed from the board:
 //!
 //! ```text
-//! O O . . . . . . .     A cell's depth is its column and its row together. In two generations the rest gets at most
-//! . O O . . . . . .     one deeper, and a glider does too, since it goes one to the right and one down in four. So
-//! . . . . . O . . .     a glider whose box begins seven deeper than the deepest cell of the rest is never caught.
-//! . . . . . . O . .     The same is true of the three other diagonal directions.
+//! O O . . . . . . .     The depth of a cell is the sum of its column and its row. In two generations the rest gets at
+//! . O O . . . . . .     most one deeper, and a glider does too: it moves one cell right and one down in four. So a
+//! . . . . . O . . .     glider whose bounding box begins seven deeper than the deepest cell of the rest is never
+//! . . . . . . O . .     caught. The same holds in the three other diagonal directions.
 //! . . . . O O O . .
 //! ```
 //!
-//! A ship is kept as it was when it left, with the time. Where it is later comes of whole periods, each of which moves
-//! it by the same shift, and of a part of one, which is made generation by generation.
+//! A spaceship is kept as it was when it was removed, with the time. Its later positions come from whole periods, each of
+//! which displaces it by the same vector, and from single generations for the remainder.
 
 ghost use Rattle.std.specs.Prelude.{◌≡◌, ◌≢◌, ◌+◌, ◌≤◌, ◌^◌, [], IfOk, IfSome, IsTrue, true, unsigned_abs};
 ghost use Rattle.std.specs.Prelude.{◌+ℤ◌, ◌*ℤ◌, ◌≤ℤ◌, pos};
@@ -39,29 +39,29 @@ use plane_core::plane::rule::Rule;
 use plane_core::plane::transform::PlaceError;
 use std::alloc::Global;
 
-/// Within how many generations a ship has to come back, so that it is taken off the board. All that soups of Life leave
-/// come back within four; what comes back later stays, and is run with the rest.
+/// The longest period of a spaceship that is removed from the board, in generations. All that soups of Life leave recur
+/// within four.
 const SHORT: u32 = 8;
 
-/// A ship that was taken off a board.
+/// A spaceship that was removed from a board.
 #[derive(Drop)]
 pub(crate) struct Spaceship {
-    /// Its cells when it was taken off.
+    /// Its cells when it was removed.
     pub(crate) cells: Pattern,
-    /// When that was: so many generations had been made on the board.
+    /// How many generations had been made on the board by then.
     pub(crate) since: u32,
-    /// How it comes back.
+    /// How it recurs.
     pub(crate) recurrence: Recurrence,
 }
 
-/// The laws of ships. Under a slow rule, what a ship is ahead of never comes within two cells of it, and a pattern from
-/// which a ship is taken away that is ahead of all the rest goes on as the rest and the ship do alone.
+/// The laws of spaceships. Under a slow rule, what a spaceship is ahead of never comes within two cells of it, and a pattern from
+/// which a spaceship is taken away that is ahead of all the rest goes on as the rest and the spaceship do alone.
 pub fn spaceships_are_never_caught()
     ensures ahead { SpaceshipsStayAhead }
     ensures alone { SpaceshipsRunAlone }
 {}
 
-/// The ship that a part of the board is, if it comes back, and is ahead of all the rest.
+/// Returns the spaceship that `part` of the board is, if it recurs and is ahead of all the rest.
 pub(crate) fn spaceship_of(
     alloc: Global,
     rule: &Rule,
@@ -83,7 +83,7 @@ pub(crate) fn spaceship_of(
     ensures small { IfOk result (λ found. IfSome found HasSmallNumbers) }
 {
     part.recall_order();
-    // Few clusters that change are ships, so this is asked first, and for a short time.
+    // Few clusters that change are spaceships, so this is asked first, and for a short time.
     if part.surely_changes(rule, limit.min(SHORT)) {
         return Ok(None);
     }
@@ -110,7 +110,7 @@ pub(crate) fn spaceship_of(
     }))
 }
 
-/// The orientation that turns the way of a ship to the right and down.
+/// The orientation that turns the way of a spaceship to the right and down.
 fn way_of(recurrence: Recurrence) -> Orientation {
     if recurrence.dx >= 0 {
         if recurrence.dy >= 0 {
@@ -125,7 +125,7 @@ fn way_of(recurrence: Recurrence) -> Orientation {
     }
 }
 
-/// Whether what comes back like this, turned by the orientation, gets at least a cell deeper in two generations.
+/// Whether what recurs like this, turned by the orientation, gets at least a cell deeper in two generations.
 fn is_fast(way: Orientation, recurrence: Recurrence) -> bool
     ensures { IsTrue result
         → pos recurrence.period ≤ℤ (pos 2 *ℤ depth (turned_cell way (cell_at recurrence.dx recurrence.dy))) }
@@ -149,7 +149,7 @@ fn begins_past(way: Orientation, frontier: i32, envelope: &EnvelopeBounds) -> bo
     twice_least(frontier, recurrence.period) <= 2 * least_depth(way, bounds)
 }
 
-/// Twice how deep a ship with this period lies at least, if it is ahead of all that lies up to the frontier.
+/// Twice how deep a spaceship with this period lies at least, if it is ahead of all that lies up to the frontier.
 fn twice_least(frontier: i32, period: u32) -> i64
     ensures { result ≡ ((pos 2 *ℤ frontier) +ℤ pos (period + 10)) }
 {
@@ -183,7 +183,7 @@ fn sum(one: i32, other: i32) -> i64
     i64::from(one) + i64::from(other)
 }
 
-/// The ship at a time: whole periods are a shift, and the rest is made generation by generation.
+/// Returns the spaceship at `time`: whole periods are a displacement, and the remainder is made generation by generation.
 pub(crate) fn at_time(
     alloc: Global,
     rule: &Rule,

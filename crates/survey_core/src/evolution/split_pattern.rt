@@ -1,13 +1,13 @@
-//! A board, and the ships that have left it. Together they are the pattern, and each goes on alone:
+//! A board together with the spaceships that were removed from it. Together they are the pattern, and each evolves alone:
 //!
 //! ```text
-//! generation     202                    404                       606
-//! board          the rest, a glider     the rest                  the rest
-//! ships                                 the glider, since 404     the glider, since 404
+//! generation     202                      404                       606
+//! board          the rest and a glider    the rest                  the rest
+//! spaceships                              the glider, since 404     the glider, since 404
 //! ```
 //!
-//! A board with ships off goes on by even numbers of generations: an odd number, again and again, could bring the rest
-//! nearer to a ship than half of their sum.
+//! Such a board advances by even numbers of generations only: repeated odd numbers could bring the rest nearer to a
+//! spaceship than half their sum.
 
 ghost use Rattle.std.specs.Prelude.{◌≡◌, ◌+◌, ◌≤◌, All, IfOk, OnOk, false, true};
 ghost use Rattle.plane_core.specs.plane.Cells.{InOrder};
@@ -27,18 +27,18 @@ use plane_core::plane::pattern::Pattern;
 use plane_core::plane::rule::Rule;
 use std::alloc::Global;
 
-/// Until when ships are kept off a board. No survey goes on so long, and until then no ship has come near the edge of
-/// the plane.
+/// The last generation up to which spaceships are kept off a board. No survey takes so long, and until then no spaceship
+/// comes near the edge of the plane.
 pub(crate) const LATEST_TIME: u32 = 800_000;
 
-/// Ships are looked for about once in so many generations: a look for them costs as much as a leap or two, and until
-/// it is found a ship costs a window in each leap.
+/// How often spaceships are looked for, in generations. A search costs as much as a leap or two, and a spaceship that isn't
+/// found yet costs a window in every leap.
 const EVERY: u32 = 64;
 
-/// Under a lower limit on periods no ship comes back, since the fastest takes four generations.
+/// The shortest period of a spaceship that can escape, in generations.
 const SHORTEST_PERIOD: u32 = 4;
 
-/// A board, and the ships that have left it.
+/// A board together with the spaceships that were removed from it.
 #[derive(Drop)]
 pub(crate) struct SplitPattern {
     pub(crate) board: Board,
@@ -48,9 +48,9 @@ pub(crate) struct SplitPattern {
 }
 
 impl SplitPattern {
-    /// Takes ships off the board that are ahead of all the rest, before it goes on by so many generations. They are
-    /// looked for only before the board comes past a multiple of `EVERY`. Ships whose period is over the limit, 1 to
-    /// 64, stay.
+    /// Removes escaped spaceships from the board, so that they no longer cost a window in every leap. Call this before
+    /// advancing the board by `generations`. It searches only if the board is about to pass a multiple of `EVERY`
+    /// generations. Spaceships whose period is over `limit`, 1 to 64, stay on the board.
     pub(crate) fn remove_escaped(
         &mut self,
         alloc: Global,
@@ -95,8 +95,8 @@ impl SplitPattern {
     }
 }
 
-/// Takes those of the clusters off the board that are ahead of all the rest, one after another. Then another one may be
-/// ahead that was behind one of these.
+/// Removes each of the clusters that is ahead of all the rest, one after another. After that another cluster, which was
+/// behind one of these, may be ahead.
 fn remove_ahead(
     alloc: Global,
     rule: &Rule,
@@ -133,7 +133,7 @@ fn remove_ahead(
     Ok(())
 }
 
-/// Whether one of the ships has these cells.
+/// Checks whether one of the spaceships has these cells.
 fn has_escaped(spaceships: &[Spaceship], cells: &Pattern) -> bool
     ensures { result ≡ false → IsNoneOf spaceships.now cells.now }
 {
@@ -146,7 +146,7 @@ fn has_escaped(spaceships: &[Spaceship], cells: &Pattern) -> bool
     false
 }
 
-/// The pattern that a board and some ships are together.
+/// Returns the pattern that a board and some spaceships are together.
 pub(crate) fn whole(
     alloc: Global,
     rule: &Rule,

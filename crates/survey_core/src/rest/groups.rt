@@ -23,7 +23,7 @@ use std::alloc::Global;
 /// longer than running them side by side. A soup leaves some hundred.
 const MOST_GROUPED: usize = 4096;
 
-/// The groups of clusters with these sweeps: for each the number of its group. Those of different groups stay apart up
+/// The groups of clusters with these envelopes: for each the number of its group. Those of different groups stay apart up
 /// to the horizon.
 pub(crate) fn groups(
     alloc: Global,

@@ -1,17 +1,17 @@
-//! The sweep of a cluster that comes back: the least box of all its phases, which moves along with it. This is the
-//! glider's, with the four phases in it, and where it lies a turn of four generations later:
+//! The envelope of a cluster that recurs: the least box of all its phases, which moves along with it. This is the
+//! glider's, with the four phases in it, and where it lies a cycle of four generations later:
 //!
 //! ```text
-//! .O..    ....    ....    ....    turn 0    turn 1
+//! .O..    ....    ....    ....    cycle 0    cycle 1
 //! ..O.    O.O.    ..O.    .O..    +---+
 //! OOO.    .OO.    O.O.    ..OO    |   |+---+
 //! ....    .O..    .OO.    .OO.    +---+|   |
 //!                                      +---+
 //! ```
 //!
-//! Two clusters stay apart if their sweeps, one of them grown by 2, do so in every turn up to the horizon. Only the
+//! Two clusters stay apart if their envelopes, one of them grown by 2, do so in every cycle up to the horizon. Only the
 //! step of the one against the other counts. Once the one lies past a side of the other, and no step leads back over
-//! that side, they never meet again, and no later turn is looked at. What doesn't move has turns of any length; two
+//! that side, they never meet again, and no later cycle is looked at. What doesn't move has cycles of any length; two
 //! that move with different periods are taken to come near each other, and are run.
 
 ghost use Rattle.std.specs.Prelude.{◌≡◌, ◌≢◌, ◌↔◌, ◌+◌, ◌*◌, ◌/◌, ◌-ℤ◌, ◌+ℤ◌, ◌<◌, ◌≤◌, ◌<ℤ◌, ◌≤ℤ◌, ◌⊎◌, ◌^◌};
@@ -35,7 +35,7 @@ use plane_core::plane::pattern::Pattern;
 use plane_core::plane::rule::Rule;
 use std::alloc::Global;
 
-/// How a cluster comes back, and a box in which all its phases lie.
+/// How a cluster recurs, and a box in which all its phases lie.
 #[derive(Clone, Copy)]
 pub(crate) struct EnvelopeBounds {
     pub(crate) recurrence: Recurrence,
@@ -43,7 +43,7 @@ pub(crate) struct EnvelopeBounds {
 }
 
 impl EnvelopeBounds {
-    /// The sweep of a pattern, or `None` if it doesn't come back within so many generations.
+    /// The envelope of a pattern, or `None` if it doesn't recur within so many generations.
     pub(crate) fn find(
         alloc: Global,
         rule: &Rule,
@@ -89,12 +89,12 @@ fn box_round(pattern: &Pattern) -> Bounds
     }
 }
 
-/// Whether patterns with these sweeps are seen to stay apart up to the horizon.
+/// Whether patterns with these envelopes are seen to stay apart up to the horizon.
 pub(crate) fn stay_apart(horizon: u32, one: &EnvelopeBounds, other: &EnvelopeBounds) -> bool
     requires { horizon ≤ 4096 }
     ensures { IsTrue result → StayApart horizon one.now other.now }
 {
-    // How many generations a turn has for both, if there is such a number.
+    // How many generations a cycle has for both, if there is such a number.
     let period = if is_still(one) {
         other.recurrence.period
     } else {
@@ -106,7 +106,7 @@ pub(crate) fn stay_apart(horizon: u32, one: &EnvelopeBounds, other: &EnvelopeBou
     are_clear_for(one, other, cycles_in(horizon, period))
 }
 
-/// How many turns begin up to the horizon. Most objects come back after 1, 2 or 4 generations, and then nothing need be
+/// How many cycles begin up to the horizon. Most objects recur after 1, 2 or 4 generations, and then nothing need be
 /// divided.
 #[inline(always)]
 fn cycles_in(horizon: u32, period: u32) -> u32
@@ -122,22 +122,22 @@ fn cycles_in(horizon: u32, period: u32) -> u32
     }
 }
 
-/// Whether turns of so many generations suit the sweep.
+/// Whether cycles of so many generations suit the envelope.
 fn serves(period: u32, envelope: &EnvelopeBounds) -> bool
     ensures { IsTrue result → Serves period envelope.now }
 {
     period == envelope.recurrence.period || is_still(envelope)
 }
 
-/// Whether the pattern comes back in its place.
+/// Whether the pattern recurs in its place.
 fn is_still(envelope: &EnvelopeBounds) -> bool
     ensures { IsTrue result ↔ ((envelope.now.recurrence.dx ≡ pos 0) × (envelope.now.recurrence.dy ≡ pos 0)) }
 {
     envelope.recurrence.dx == 0 && envelope.recurrence.dy == 0
 }
 
-/// Whether the boxes are clear of each other for so many turns. Once they part, or where neither moves against the
-/// other, no later turn is looked at.
+/// Whether the boxes are clear of each other for so many cycles. Once they part, or where neither moves against the
+/// other, no later cycle is looked at.
 fn are_clear_for(one: &EnvelopeBounds, other: &EnvelopeBounds, cycles: u32) -> bool
     requires { cycles ≤ 4097 }
     ensures { IsTrue result → StayClear cycles one.now other.now }
@@ -180,7 +180,7 @@ impl Offset {
     }
 }
 
-/// The step of the other against the one in a turn.
+/// The step of the other against the one in a cycle.
 fn step(one: &EnvelopeBounds, other: &EnvelopeBounds) -> Offset
     ensures x { result.x ≡ other.now.recurrence.dx -ℤ one.now.recurrence.dx }
     ensures y { result.y ≡ other.now.recurrence.dy -ℤ one.now.recurrence.dy }
@@ -262,7 +262,7 @@ fn two_past(at: i64) -> i64
     at + 2
 }
 
-/// A law of all patterns that come back after p generations, moved by a shift: after n times p and r generations they
+/// A law of all patterns that recur after p generations, moved by a shift: after n times p and r generations they
 /// are what they are after r, moved by n times the shift.
 #[tactic(auto, using(crate::proofs::lemmas::shapes::EnvelopeLemmas::after_cycles))]
 pub fn spaceships_move_by_cycles()

@@ -1,17 +1,17 @@
-//! What a worker remembers of clusters that came back, since nearly every soup leaves the same few shapes:
+//! A table of clusters that recur, since nearly every soup leaves the same few shapes:
 //!
 //! ```text
-//! slot    rule      limit    shape    comes back                     name
+//! slot    rule      limit    shape    recurs                         apgcode
 //! 516     b3s23     64       OOO      after 2 generations, in place  xp2_7
 //! 517     -
 //! 518     b3s23     64       OO       after 1 generation, in place   xs4_33
 //!                            OO
 //! ```
 //!
-//! A number that is made of the cells, as they lie from the first one, chooses the slot: so a shape finds its slot
-//! wherever it lies. What stands there is about a cluster if rule and limit are the same, and if some shift makes the
-//! shape into the cluster. Then the cluster comes back as the shape does, has its name, and its sweep is that of the
-//! shape, moved. Else the cluster is run and named, and is what stands in the slot from then on.
+//! A hash of the cells, counted from the first one, chooses the slot, so a shape finds its slot wherever it lies. An entry
+//! is about a cluster if rule and limit are the same, and if some displacement turns the shape into the cluster. Then the
+//! cluster recurs as the shape does and has its apgcode, and its envelope is that of the shape, displaced. Otherwise the
+//! cluster is run and named, and replaces the entry.
 //!
 //! Which slot is chosen and what is kept are free choices: a memo that forgets makes a survey slower, and nothing else.
 
@@ -36,7 +36,7 @@ use plane_core::plane::rule::Rule;
 use std::alloc::Global;
 use std::marker::Model;
 
-/// How many slots a memo has. Soups leave some hundred shapes again and again, and some thousand once.
+/// How many slots a memo has. Soups leave some hundred shapes again and again, and some thousand only once.
 const SLOTS: usize = 4096;
 
 /// How many cells a shape that is kept has at the most. Larger ones hardly ever come twice, and would take memory.
@@ -112,7 +112,7 @@ impl Memo {
         }
     }
 
-    /// The sweeps of patterns, or `None` if one of them doesn't come back within so many generations.
+    /// Returns the envelopes of `patterns`, or `None` if one of them doesn't recur within `limit` generations, 1 to 64.
     pub(crate) fn envelopes(
         &mut self,
         alloc: Global,
@@ -129,7 +129,7 @@ impl Memo {
             (λ found. IfSome found (λ envelopes. AreEnvelopes rule.now limit patterns.now envelopes.items)) }
         ensures never { IfOk result (λ found. IfNone found (¬ All (RecursWithin rule.now limit) patterns.now)) }
     {
-        // A large pattern takes long to be followed, and mostly a small one says no at a glance.
+        // A large pattern takes long to be followed, and mostly a small one says no by a quick test.
         if self.any_surely_changes(rule, limit, patterns) {
             return Ok(None);
         }
@@ -143,8 +143,7 @@ impl Memo {
         Ok(Some(envelopes))
     }
 
-    /// Whether it is seen at a glance that one of the patterns doesn't come back within so many generations. One that
-    /// is remembered does.
+    /// Returns `true` only if one of `patterns` doesn't recur within `limit` generations. `false` says nothing.
     fn any_surely_changes(&self, rule: &Rule, limit: u32, patterns: &[Pattern]) -> bool
         ensures { IsTrue result → ¬ All (RecursWithin rule.now limit) patterns.now }
     {
@@ -159,8 +158,8 @@ impl Memo {
         false
     }
 
-    /// The sweep of a pattern, or `None` if it doesn't come back within so many generations. One that does is named,
-    /// and what is known of it is kept in its slot, unless it is large.
+    /// Returns the envelope of `pattern`, or `None` if it doesn't recur within `limit` generations, 1 to 64. A pattern that
+    /// does is named and kept in its slot, unless it is large.
     pub(crate) fn envelope(
         &mut self,
         alloc: Global,
@@ -198,7 +197,7 @@ impl Memo {
         Ok(Some(envelope))
     }
 
-    /// The code of a pattern that comes back within so many generations.
+    /// Returns the apgcode of a pattern that recurs within `limit` generations, 1 to 64.
     pub(crate) fn code(
         &self,
         alloc: Global,
@@ -219,7 +218,7 @@ impl Memo {
         }
     }
 
-    /// The sweep of a pattern, if it is remembered: that of the shape, moved, if 32 bits can say its numbers.
+    /// The envelope of a pattern, if it is remembered: that of the shape, moved, if 32 bits can say its numbers.
     fn recalled_envelope(
         &self,
         rule: &Rule,
@@ -273,7 +272,7 @@ fn moved(first: i32, last: i32, by: i32) -> Option<(i32, i32)>
     first.checked_add(by).zip(last.checked_add(by))
 }
 
-/// The code of a pattern that comes back within so many generations.
+/// Returns the apgcode of a pattern that recurs within `limit` generations, 1 to 64.
 fn code_of(
     alloc: Global,
     rule: &Rule,

@@ -48,7 +48,7 @@ impl Objects {
         self.counted.as_slice()
     }
 
-    /// The objects of clusters that all come back within so many generations.
+    /// The objects of clusters that all recur within so many generations.
     pub(crate) fn of_clusters(
         alloc: Global,
         rule: &Rule,

@@ -3,7 +3,7 @@ use Rattle.std.specs.Io.KnownBytes.{Consumes, prepend_known}
 use Rattle.commands.specs.Lines.{IsOneLine}
 use Rattle.commands.proofs.lines.read_line.Given as goal
 
--- a front of the line was read, in which is no line feed, and nothing more is at hand
+-- a prefix of the line was read, in which is no line feed, and nothing more is at hand
 abbrev pub invariant-loop-before : goal.invariant-loop-before
 invariant-loop-before g l = record {
   counted : l.reads ≡ l.before;

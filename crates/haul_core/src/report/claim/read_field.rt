@@ -63,7 +63,7 @@ pub(crate) fn number_after(name: &[u8], field: &[u8]) -> Option<u64>
     number_in(after(name, field)?)
 }
 
-/// What stands after a name at the front of a field, if it stands there.
+/// What stands after a name at the prefix of a field, if it stands there.
 fn after<'a>(name: &[u8], field: &'a [u8]) -> Option<&'a [u8]>
     ensures { MatchOption result ((remainder : List ℕ) → field.now ≢ name.now ++ remainder)
         (λ remainder. field.now ≡ name.now ++ remainder.now) }
@@ -152,7 +152,7 @@ fn profile_of(text: &[u8]) -> Option<Profile>
     }
 }
 
-/// The number up to 100,000 at the front of a text, and the text after the comma that follows it.
+/// The number up to 100,000 at the prefix of a text, and the text after the comma that follows it.
 fn first_number(text: &[u8]) -> Option<(u32, &[u8])>
     ensures { BeginsNumber text.now (option_map (λ first. (first.0, first.1.now)) result) }
 {

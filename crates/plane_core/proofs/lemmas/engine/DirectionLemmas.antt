@@ -86,7 +86,7 @@ far_left right word i is some small one =
 pub first_one : (word : ℕ) → 0 < word → word < 2 ^ 64 → bit_at word (trailing_zeros w64 word) ≡ 1
 first_one word some small = (bit_at-trailing_zeros w64 word some small).1
 
--- ---- the bits of cells in a row of a lane
+-- ---- the bits of cells in a row of a word column
 
 pub bit_is : (word : ℕ) (first cell : Cell) (i : ℕ) → (bit_at word i ≡ 1 → cell_at (first.x +ℤ pos i) first.y ≡ cell)
     → (cell_at (first.x +ℤ pos i) first.y ≡ cell → bit_at word i ≡ 1) → (bit_at word i == 1) ≡ same_cell (cell_at (first.x +ℤ pos i) first.y) cell
@@ -164,7 +164,7 @@ row_without at words gone s r word bits i hs hr hi small is here =
 
 -- ---- depths
 
--- the cell so many columns further than the first of a row of a lane
+-- the cell so many columns further than the first of a row of a word column
 pub cell_along : (at : Frame) (s r i : ℕ) (first c : Cell) → first ≡ board_cell at s r 0 → c ≡ cell_at (first.x +ℤ pos i) first.y
     → c ≡ board_cell at s r i
 cell_along at s r i first c begins is = is ∙ ap (λ (d : Cell). cell_at (d.x +ℤ pos i) d.y) begins ∙ along_cell at s r i
@@ -245,7 +245,7 @@ pub goes_deeper : (way : Direction) (cells : List Cell) (found mid later : Optio
     → GoesDeeper way cells found later
 goes_deeper way cells found mid later first second = record { kept = λ z h. second.kept z (first.kept z h); some = λ h. second.some (first.some h) }
 
--- the bits of a word are the cells of the pattern in a row of a lane
+-- the bits of a word are the cells of the pattern in a row of a word column
 abbrev pub IsRow : Frame → List Cell → ℕ → ℕ → ℕ → Type 0
 IsRow at cells word_column row word = (i : ℕ) → i < 64 → (bit_at word i == 1) ≡ has cells (board_cell at word_column row i)
 
@@ -278,7 +278,7 @@ row_deeper at way cells word_column row word column found deep later is low one 
     }
     deepest (inr before) h = subst (λ (o : Option ℤ). IfSome o (HasDepth way cells)) before h
 
--- ---- a lane
+-- ---- a word column
 
 -- a row of which the word is 0 has no live cell
 dead_row_seen : (at : Frame) (way : Direction) (words : List ℕ) (gone : List Cell) (word_column row : ℕ) (found : Option ℤ) → word_column < at.word_columns → row < at.rows
@@ -298,7 +298,7 @@ inner_row_low : (down : Bool) (rows : RowSpan) (step limit : ℕ) → rows.end �
 inner_row_low true rows step limit most low = omega arith
 inner_row_low false rows step limit most low = omega arith
 
--- the first rows of a lane, from the outermost inwards, have been seen
+-- the first rows of a word column, from the outermost inwards, have been seen
 abbrev pub AreSeen : Frame → Direction → List Cell → ℕ → RowSpan → ℕ → Option ℤ → Type 0
 AreSeen at way cells word_column rows count found = (step : ℕ) → step < count → IsSeen at way cells word_column (inner_row way.down rows step) found
 
@@ -362,9 +362,9 @@ word_column_seen at way words gone word_column rows step next end found hs most 
         dead_row_seen at way words gone word_column (inner_row way.down rows k) found hs (inner_row_low way.down rows k at.rows most low) (dead k after near)
     go k low (inr after) (inr far) = λ i small alive. none k (omega (arith, past, far)) low i small
 
--- ---- all lanes
+-- ---- all word columns
 
--- all cells of the first lanes have been seen
+-- all cells of the first word columns have been seen
 abbrev pub AreWordColumnsSeen : Frame → Direction → List Cell → ℕ → Option ℤ → Type 0
 AreWordColumnsSeen at way cells count found = (word_column row : ℕ) → word_column < count → row < at.rows → IsSeen at way cells word_column row found
 

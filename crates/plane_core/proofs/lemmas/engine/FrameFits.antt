@@ -168,7 +168,7 @@ has_room at b width height far across down wide high plane sides near = record {
     less : (n m : ℕ) → n + 1 + 400 ≤ m → n + 1 ≤ m
     less n m low = omega arith
 
--- ---- the first cell of a row of a lane
+-- ---- the first cell of a row of a word column
 
 pub fits_column : (at : Frame) (word_column : ℕ) → IsFrame at → word_column < at.word_columns → Fits w64 (64 * word_column)
 fits_column at word_column frame low = let h = frame.word_columns in record { fits = omega arith }

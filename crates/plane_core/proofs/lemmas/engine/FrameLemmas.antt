@@ -56,7 +56,7 @@ one_spot at t y k s d i hk hi e =
     let z : at.top +ℤ pos y ≡ at.top +ℤ pos d = ap (λ (c : Cell). c.y) e in
     (omega (arith, ints), omega (arith, ints), omega (arith, ints))
 
--- a cell on the board stands in one of its lanes and rows
+-- a cell on the board stands in one of its word columns and rows
 pub spot_inside : (at : Frame) (c : Cell) (a d : ℕ) → IsWithin (bounds_of at) c → pos a ≡ c.x -ℤ at.left → pos d ≡ c.y -ℤ at.top
     → (a / 64 < at.word_columns) × (d < at.rows)
 spot_inside at c a d within p q =

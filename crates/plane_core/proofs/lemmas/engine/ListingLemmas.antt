@@ -115,7 +115,7 @@ along_cell at s r i = same_cells _ _ _ _ (omega (arith, ints)) refl
 pub row-none : (at : Frame) (words : List ℕ) (r : ℕ) (old : List Cell) → HasReadRow at words r old 0 old
 row-none at words r old = record { grows = λ d e. e; sound = λ others shown among. among; complete = λ s i low. absurd (omega arith) }
 
--- lanes without a cell have nothing to read
+-- word columns without a cell have nothing to read
 pub row-on : (at : Frame) (words : List ℕ) (r n m : ℕ) (old new : List Cell) → IsRowEmpty at words r n m → HasReadRow at words r old n new
     → HasReadRow at words r old m new
 row-on at words r n m old new empty before = record {
@@ -204,14 +204,14 @@ word_column-empty at words s band from columns is zero here k b low small =
     let spot : word_of at s (8 * band + k) ≡ from + k = omega (arith, is) in
     ap (λ (n : ℕ). bit_at (slice_index words n) b) spot ∙ here b k (ap (λ (n : ℕ). bit_at n b) zero ∙ bit_at-zero b) low
 
--- one lane more of a band is empty
+-- one word column more of a band is empty
 pub band-more : (at : Frame) (words : List ℕ) (band n : ℕ) → IsBandEmpty at words band 0 n → IsWordColumnEmpty at words band n → IsBandEmpty at words band 0 (n + 1)
 band-more at words band n before here s low near = elim (same_or_not s n) [
   | inl same ↦ subst (λ (t : ℕ). IsWordColumnEmpty at words band t) (sym same) here
   | inr apart ↦ before s low (omega (arith, near, apart))
 ]
 
--- and one lane more at its end
+-- and one word column more at its end
 pub band-less : (at : Frame) (words : List ℕ) (band n m : ℕ) → 1 ≤ n → IsBandEmpty at words band n m → IsWordColumnEmpty at words band (n - 1)
     → IsBandEmpty at words band (n - 1) m
 band-less at words band n m some before here s low near = elim (same_or_not s (n - 1)) [
@@ -237,13 +237,13 @@ eight-more words from k columns before b m none near = go (same_or_not m k)
 pub missed_eight : (span : RowSpan) (first : ℕ) → (nat_le span.end first || nat_le (first + 8) span.from) ≡ true → (k : ℕ) → k < 8 → HasRow span (first + k) → ⊥
 missed_eight span first e k low inside = let a = inside.low in let b = inside.high in grind (arith, nat_tests)
 
--- where its span doesn't reach, a lane is empty
+-- where its span doesn't reach, a word column is empty
 pub word_column_missed : (at : Frame) (words : List ℕ) (spans : List RowSpan) (s band : ℕ) → s < at.word_columns → band < at.rows / 8
     → LieInSpans at spans (cells_on at words) → ((k : ℕ) → k < 8 → IsInSpan spans s (8 * band + k) → ⊥) → IsWordColumnEmpty at words band s
 word_column_missed at words spans s band hs hb live missed k b low small =
     dead_outside at words spans s (8 * band + k) b live hs (omega (arith, low, hb)) small (missed k low)
 
--- and where no span reaches, lanes are
+-- and where no span reaches, word columns are
 pub band_missed : (at : Frame) (words : List ℕ) (spans : List RowSpan) (word_columns : RowSpan) (band from to : ℕ) → band < at.rows / 8 → to ≤ at.word_columns
     → LieInSpans at spans (cells_on at words) → LieInWordColumns at spans word_columns → ((s : ℕ) → from ≤ s → s < to → HasRow word_columns s → ⊥)
     → IsBandEmpty at words band from to

@@ -1,4 +1,4 @@
--- A pattern that is alone in a window, as the pattern of a board of one lane.
+-- A pattern that is alone in a window, as the pattern of a board of one word column.
 use Rattle.std.proofs.Common.{◌≡◌, ◌∙◌, ◌==◌, ◌+◌, ◌*◌, ◌<◌, ℕ, pos, ◌+ℤ◌, List, arith, ap, sym, slice_index}
 use Rattle.std.specs.Int.{bit_at}
 use Rattle.std.proofs.lemmas.Int.{ints}

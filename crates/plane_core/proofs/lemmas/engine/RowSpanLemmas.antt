@@ -1,4 +1,4 @@
--- The rows of the lanes of a board that may have a live cell.
+-- The rows of the word columns of a board that may have a live cell.
 use Rattle.std.proofs.Common.{◌≡◌, ◌≢◌, ◌==◌, ◌+◌, ◌/◌, ◌%◌, ◌<◌, ◌≤◌, ℕ, pos, ◌+ℤ◌, ◌-ℤ◌, true, List, [], ◌∷◌}
 use Rattle.std.proofs.Common.{arith, ap, ◌∙◌, sym, subst, inl, inr, ◌⊎◌, length, take, get_or, get_or-set_other, get_or-set_same, set}
 use Rattle.std.proofs.Common.{slice_index, slice_index_or}
@@ -40,7 +40,7 @@ in_or_not span n = low (less_or_not n span.from)
 
 -- ---- widening
 
--- a cell that is put on the board lies in a row that is put in the span of its lane
+-- a cell that is put on the board lies in a row that is put in the span of its word column
 pub cell_held : (at : Frame) (spans : List RowSpan) (c : Cell) (a d : ℕ) → pos a ≡ c.x -ℤ at.left → pos d ≡ c.y -ℤ at.top
     → ((r : ℕ) → HasRow (record { from = d; end = d + 1 }) r → IsInSpan spans (a / 64) r) → LieInSpans at spans (c ∷ [])
 cell_held at spans c a d p q held s r i hs hr hi e = elim (has-cases c [] (board_cell at s r i) e) [
@@ -63,7 +63,7 @@ held_more at old new cs k d low wide before here s r i hs hr hi e =
     c : Cell
     c = board_cell at s r i
 
--- the inner part of a window lies in two lanes
+-- the inner part of a window lies in two word columns
 pub inner_held : (at : Frame) (p : WindowOrigin) (x y : ℕ) (mid new : List RowSpan) → p.left ≡ at.left +ℤ pos x → p.top ≡ at.top +ℤ pos y
     → ((r : ℕ) → HasRow (record { from = y + 4; end = y + 36 }) r → IsInSpan mid (x / 64) r) → AreWidened mid new
     → ((r : ℕ) → HasRow (record { from = y + 4; end = y + 36 }) r → IsInSpan new (x / 64 + 1) r) → HoldInner at new p
@@ -149,7 +149,7 @@ dead_outside at words spans s r i live hs hr hi outside =
       | inr apart ↦ omega (arith, low, apart)
     ]
 
--- the first n lanes are dead
+-- the first n word columns are dead
 abbrev pub AreWordColumnsDead : Frame → List ℕ → ℕ → Type 0
 AreWordColumnsDead at words n = (s r i : ℕ) → s < n → r < at.rows → i < 64 → bit_at (slice_index words (word_of at s r)) i ≡ 0
 
@@ -187,7 +187,7 @@ empty_spans at words spans none long = record {
   live = λ s r i hs hr hi e. absurd (false≢true (sym (ap (λ (S : List Cell). has S (board_cell at s r i)) none) ∙ e));
 }
 
--- one row of a lane more is emptied
+-- one row of a word column more is emptied
 pub row_emptied : (at : Frame) (words : List ℕ) (word_column row from i : ℕ) → i ≡ word_of at word_column row → i < length words
     → ((r : ℕ) → from ≤ r → r < row → slice_index words (word_of at word_column r) ≡ 0) → (r : ℕ) → from ≤ r → r < row + 1
     → slice_index (set words i 0) (word_of at word_column r) ≡ 0

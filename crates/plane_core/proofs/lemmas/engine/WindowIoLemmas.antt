@@ -75,7 +75,7 @@ abbrev IsOnePut : ℕ → ℕ → ℕ → ℕ → ℕ → ℕ → ℕ → Type 0
 IsOnePut x y word old new u v =
     ((c : IsInnerColumn x u) × (v ≡ y) × (new ≡ bit_at word c.i)) ⊎ ((IsInnerColumn x u → v ≢ y) × (new ≡ old))
 
--- a place in one of the two lanes: it is column i of the word, if that is an inner one
+-- a place in one of the two word columns: it is column i of the word, if that is an inner one
 put_there : (x y word old new u v i mask value : ℕ) → v ≡ y → (i < 64 → u ≡ x + i) → (IsInnerColumn x u → u ≡ x + i)
     → mask ≡ bit_at inner_mask i → value ≡ bit_at word i → new ≡ cond (mask == 1) value old → IsOnePut x y word old new u v
 put_there x y word old new u v i mask value row there back m w is = split (inner_bit i)
@@ -231,6 +231,6 @@ fits_row at words x y small long word_column row = fits_begin at words x y 1 sma
 pub fits_place : (n : ℕ) (words : List ℕ) → length words * 8 < 9223372036854775808 → n < length words → Fits w64 n
 fits_place n words small low = record { fits = omega (arith, small, low) }
 
--- the word of a row of a lane
+-- the word of a row of a word column
 pub index_in : (at : Frame) (words : List ℕ) (s r n : ℕ) → FillsFrame at words → s < at.word_columns → r < at.rows → n ≡ word_of at s r → n < length words
 index_in at words s r n long word_column row is = let inside = word-inside at s r word_column row in omega (arith, long, is, inside)

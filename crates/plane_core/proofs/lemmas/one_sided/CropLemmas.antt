@@ -24,7 +24,7 @@ lies_in window first last from above below high few is = record {
   below = λ r far low. below r (omega (arith, far, few, high, is)) low;
 }
 
--- ---- what an excerpt shows
+-- ---- what an crop shows
 
 -- as deep inside as the window
 pub crop_shown : (window part : List (List ℕ)) (from depth : ℕ) (left top : ℤ) (cells : List Cell) → from ≤ 24 → IsCrop from window part

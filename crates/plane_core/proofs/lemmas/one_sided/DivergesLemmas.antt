@@ -17,7 +17,7 @@ pub record AreMade (rule : Numbers) (n : ℕ) (whole alone later later_alone : L
   pub one : HasMade rule n whole later made
   pub other : HasMade rule n alone later_alone made
 
--- a cell that is seen then is a stray
+-- a cell that is seen then is a diverge
 pub diverging_seen : (rule : Numbers) (n : ℕ) (whole alone later later_alone : List (List ℕ)) (depth made most : ℕ)
     → AreMade rule n whole alone later later_alone made → made ≤ most → HasDivergingCell n later later_alone (depth + made)
     → DivergesFromWhole rule n whole alone depth most

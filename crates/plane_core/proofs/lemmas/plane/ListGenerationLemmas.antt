@@ -149,7 +149,7 @@ tested p n c cs left made all is off t =
     joined true = append_assoc made (c ∷ []) (picked p 0 cs)
     joined false = ap (λ (xs : List Cell). xs ++ picked p 0 cs) (append-nil made)
 
--- The cells that passed were moved to the front of the list, of which the rest is as it was. So many are kept there.
+-- The cells that passed were moved to the prefix of the list, of which the rest is as it was. So many are kept there.
 pub record IsKept (p : Cell → ℕ → Bool) (n kept place end : ℕ) (near all : List Cell) : Type 0 where
   pub whole : length near ≡ end
   pub prefix : kept ≤ place

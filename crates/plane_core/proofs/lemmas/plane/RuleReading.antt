@@ -73,7 +73,7 @@ numbers_at-other_remainder (suc k) n text c cs more =
     begins-same_prefix prefix c (48 + n) more cs ∙ ap (λ (xs : List ℕ). begins xs ((48 + n) ∷ [])) whole ∙ h in
     numbers_at-miss k n (prefix ++ c ∷ more) miss ∙ ap (λ (r : Reading). with_answer false r) (numbers_at-other_remainder k (n + 1) text c cs more remainder))
 
--- no digit stands at the front of the text
+-- no digit stands at the prefix of the text
 pub record IsPastDigits (remainder : List ℕ) : Type 0 where
   pub past : (n : ℕ) → n < 10 → begins remainder ((48 + n) ∷ []) ≡ false
 

@@ -1,6 +1,6 @@
 //! How far the pattern of a board reaches in a diagonal direction, without some of its cells.
 //!
-//! Of each lane only the rows of its span are looked at, from the outermost one inwards, and only for as long as a row
+//! Of each word column only the rows of its span are looked at, from the outermost one inwards, and only for as long as a row
 //! could have a cell that is deeper than the deepest so far:
 //!
 //! ```text
@@ -53,7 +53,7 @@ impl Board {
     }
 }
 
-/// The depth of the deepest cell that was found so far or stands in these rows of a lane.
+/// The depth of the deepest cell that was found so far or stands in these rows of a word column.
 fn deepest_in_word_column(
     at: Frame,
     words: &[u64],
@@ -87,7 +87,7 @@ fn deepest_in_word_column(
     }
 }
 
-/// How many of the rows of a lane, from the outermost on, could have a cell that is deeper than the deepest so far.
+/// How many of the rows of a word column, from the outermost on, could have a cell that is deeper than the deepest so far.
 fn rows_to_see(
     at: Frame,
     word_column: usize,
@@ -118,7 +118,7 @@ fn rows_to_see(
     count.min(outermost.abs_diff(deepest) as usize)
 }
 
-/// The first step inwards, from this one on, to a row of a lane that has a live cell; or if there is none, the end, or
+/// The first step inwards, from this one on, to a row of a word column that has a live cell; or if there is none, the end, or
 /// what lies past it.
 fn next_live(
     at: Frame,
@@ -164,7 +164,7 @@ fn row_inwards(rows: RowSpan, way: Direction, step: usize) -> usize
     }
 }
 
-/// The depth of the deepest cell that was found so far or stands in this row of a lane.
+/// The depth of the deepest cell that was found so far or stands in this row of a word column.
 fn deepest_in_row(
     at: Frame,
     words: &[u64],
@@ -195,7 +195,7 @@ fn deepest_in_row(
     Some(found.unwrap_or(depth).max(depth))
 }
 
-/// How deep the cell in this column of a row of a lane lies.
+/// How deep the cell in this column of a row of a word column lies.
 #[inline(always)]
 fn depth_at(at: Frame, word_column: usize, row: usize, column: usize, way: Direction) -> i32
     requires frame { IsFrame at }

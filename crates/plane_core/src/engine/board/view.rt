@@ -21,7 +21,7 @@ use crate::engine::frame::Frame;
 use crate::engine::window_io::read_rows;
 use crate::plane::bounds::Bounds;
 
-/// What is seen, and where it lies: a board of its own, of one lane.
+/// What is seen, and where it lies: a board of its own, of one word column.
 #[derive(Clone, Copy)]
 pub(crate) struct View {
     pub(crate) at: Frame,
@@ -29,7 +29,7 @@ pub(crate) struct View {
 }
 
 impl Board {
-    /// The view in whose middle the middle of the box lies, if it lies on the board, with a lane to its right.
+    /// The view in whose middle the middle of the box lies, if it lies on the board, with a word column to its right.
     pub(crate) fn view(&self, bounds: Bounds) -> Option<View>
         ensures frame { IfSome result (λ view. IsViewFrame view.at) }
         ensures shown { IfSome result

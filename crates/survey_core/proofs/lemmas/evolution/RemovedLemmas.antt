@@ -1,4 +1,4 @@
--- Ships that are off a board: how they and the board go on, and what the board says of the whole.
+-- Spaceships that are off a board: how they and the board go on, and what the board says of the whole.
 use Rattle.std.proofs.Common.{◌≡◌, ◌∙◌, ◌+◌, ◌-◌, ◌*◌, ◌≤◌, ◌⊎◌, ℕ, ℤ, pos, ◌+ℤ◌, ◌*ℤ◌, ◌≤ℤ◌, Bool, true, false, ◌||◌, not, add-zero}
 use Rattle.std.proofs.Common.{List, [], ◌∷◌, ◌++◌, Any, arith, ap, refl, sym, subst, inl, inr, get_or, map}
 use Rattle.std.specs.List.{list_any}
@@ -25,7 +25,7 @@ use Rattle.survey_core.specs.evolution.EscapedSpaceships.{IsForemost}
 use Rattle.survey_core.proofs.lemmas.PartitionLemmas.{has-joined, joined}
 use Rattle.survey_core.proofs.lemmas.evolution.SpaceshipLemmas.{cluster_part, left_has, or_nothing, spaceships_run_alone, spaceships_stay_ahead}
 
--- ---- the board and the ships are the whole
+-- ---- the board and the spaceships are the whole
 
 any_spaceship : (rule : Numbers) (t : ℕ) (spaceships : List Spaceship) (c : Cell)
     → list_any (λ (part : List Cell). has part c) (map (spaceship_at rule t) spaceships) ≡ list_any (λ (spaceship : Spaceship). has (spaceship_at rule t spaceship) c) spaceships
@@ -41,13 +41,13 @@ has-whole rule t board spaceships c =
 in_order-whole : (rule : Numbers) (t : ℕ) (board : List Cell) (spaceships : List Spaceship) → InOrder (whole_at rule t board spaceships)
 in_order-whole rule t board spaceships = in_order-set_of (joined (board ∷ map (spaceship_at rule t) spaceships))
 
--- without ships the board is the whole
+-- without spaceships the board is the whole
 pub whole-none : (rule : Numbers) (t : ℕ) (board : List Cell) → InOrder board → whole_at rule t board [] ≡ board
 whole-none rule t board order =
     same_lists (whole_at rule t board []) board (in_order-whole rule t board []) order
     (λ c. has-whole rule t board [] c ∙ or_nothing (has board c))
 
--- a ship more
+-- a spaceship more
 pub whole-more : (rule : Numbers) (t : ℕ) (all board : List Cell) (spaceships : List Spaceship) (spaceship : Spaceship)
     → ((c : Cell) → has all c ≡ (has board c || has (spaceship_at rule t spaceship) c)) → whole_at rule t all spaceships ≡ whole_at rule t board (spaceships ++ spaceship ∷ [])
 whole-more rule t all board spaceships spaceship is =
@@ -71,7 +71,7 @@ whole-more rule t all board spaceships spaceship is =
 
 -- ---- off the board
 
--- no ship has left yet
+-- no spaceship has left yet
 pub none_off : (rule : Numbers) (t : ℕ) (board : List Cell) → InOrder board → AreOff rule t board []
 none_off rule t board order = record {
   in_order = order;
@@ -113,7 +113,7 @@ all_off_later rule t k board spaceships off = record {
     times_add : (a b c : ℕ) → a + (b + c) ≡ (a + b) + c
     times_add a b c = omega arith
 
--- ---- one ship more
+-- ---- one spaceship more
 
 -- so the whole is the same when it has left
 pub same_whole : (rule : Numbers) (t g : ℕ) (board : List Cell) (spaceships : List Spaceship) (spaceship : Spaceship) → InOrder board → is_slow rule ≡ true
@@ -136,7 +136,7 @@ same_whole_now rule t board spaceships spaceship order slow now is =
     (λ i. whole_at rule (sym (add-zero t) i) (sym (after-none rule board) i) spaceships) ∙ same_whole rule t 0 board spaceships spaceship order slow now is
     ∙ (λ i. whole_at rule (add-zero t i) (after-none rule (without board spaceship.cells) i) (spaceships ++ spaceship ∷ []))
 
--- and the ship is off
+-- and the spaceship is off
 pub all_off_more : (rule : Numbers) (t : ℕ) (board : List Cell) (spaceships : List Spaceship) (spaceship : Spaceship) → is_slow rule ≡ true → spaceship.since ≡ t
     → IsForemost rule board spaceship.recurrence spaceship.cells → AreOff rule t board spaceships → AreOff rule t (without board spaceship.cells) (spaceships ++ spaceship ∷ [])
 all_off_more rule t board spaceships spaceship slow now is off = record {
@@ -176,7 +176,7 @@ all_off_more rule t board spaceships spaceship slow now is off = record {
 
 -- ---- what the board says of the whole
 
--- a part of the board, at most a generation later, stays away from each ship
+-- a part of the board, at most a generation later, stays away from each spaceship
 part_apart : (rule : Numbers) (t : ℕ) (board cells : List Cell) (spaceship : Spaceship) (ahead g : ℕ) → IsOff rule t board spaceship → InOrder board → InOrder cells
     → ahead ≤ 1 → ((c : Cell) → has cells c ≡ true → has (after rule board ahead) c ≡ true)
     → LieApart (after rule cells g) (spaceship_at rule (t + (ahead + g)) spaceship)
@@ -192,7 +192,7 @@ part_apart rule t board cells spaceship ahead g off order in_order few part =
     further : (m d : ℤ) (half : ℕ) → (pos 2 *ℤ d) ≤ℤ ((pos 2 *ℤ (m +ℤ pos half)) +ℤ pos (ahead + 1)) → d ≤ℤ (m +ℤ pos (half + ahead))
     further m d half low = omega (arith, ints, few)
 
--- no ship has a cell within two of such a part
+-- no spaceship has a cell within two of such a part
 no_spaceship_near : (rule : Numbers) (t : ℕ) (board cells : List Cell) (spaceships : List Spaceship) (ahead g : ℕ) → AreOff rule t board spaceships → InOrder cells
     → ahead ≤ 1 → ((c : Cell) → has cells c ≡ true → has (after rule board ahead) c ≡ true) → (c d : Cell) → has (after rule cells g) c ≡ true
     → king_distance c d ≤ 2 → list_any (λ (spaceship : Spaceship). has (spaceship_at rule (t + (ahead + g)) spaceship) d) spaceships ≡ true → ⊥
@@ -205,7 +205,7 @@ no_spaceship_near rule t board cells spaceships ahead g off in_order few part c 
         let far : 3 ≤ king_distance c d = part_apart rule t board cells spaceship ahead g is off.in_order in_order few part c d here there in
         omega (arith, near, far)
 
--- the cells of the whole at a later time that are none of the board's are a ship's
+-- the cells of the whole at a later time that are none of the board's are a spaceship's
 whole_later : (rule : Numbers) (t : ℕ) (board : List Cell) (spaceships : List Spaceship) (g : ℕ) (c : Cell) → AreOff rule t board spaceships
     → has (after rule (whole_at rule t board spaceships) g) c
     ≡ (has (after rule board g) c || list_any (λ (spaceship : Spaceship). has (spaceship_at rule (t + g) spaceship) c) spaceships)

@@ -1,4 +1,4 @@
--- Ships that are ahead of a pattern: nothing comes near them, and they and the rest go on alone.
+-- Spaceships that are ahead of a pattern: nothing comes near them, and they and the rest go on alone.
 use Rattle.std.proofs.Common.{◌≡◌, ◌∙◌, ◌+◌, ◌*◌, ◌/◌, ◌%◌, ◌<◌, ◌≤◌, ◌⊎◌, ℕ, ℤ, pos, ◌+ℤ◌, ◌*ℤ◌, ◌≤ℤ◌, zero, suc, Bool, true, false, ◌||◌, ◌&&◌, not}
 use Rattle.std.proofs.Common.{zero-add}
 use Rattle.std.proofs.Common.{FitsSigned, IsTrue, ◌^◌, int_le, of_z, to_z, w64, unsigned_abs, ◌-ℤ◌, IfSome, IsNone, Option, None, Some}
@@ -40,7 +40,7 @@ use Rattle.survey_core.specs.shapes.Envelopes.{IsEnvelope, times}
 use Rattle.survey_core.proofs.lemmas.rest.AloneLemmas.{parts_run_alone}
 use Rattle.survey_core.proofs.lemmas.shapes.EnvelopeLemmas.{after_cycles}
 
--- ---- how deep a ship lies
+-- ---- how deep a spaceship lies
 
 depth-moved : (o : Orientation) (dx dy : ℤ) (c : Cell)
     → depth (turned_cell o (moved_by dx dy c)) ≡ depth (turned_cell o c) +ℤ depth (turned_cell o (cell_at dx dy))
@@ -78,7 +78,7 @@ cycles_deep o dx dy p (suc n) fast =
     more : (k j : ℕ) (d e f : ℤ) → k ≡ j + p → d ≡ e +ℤ f → pos j ≤ℤ (pos 2 *ℤ e) → pos p ≤ℤ (pos 2 *ℤ f) → pos k ≤ℤ (pos 2 *ℤ d)
     more k j d e f same sum low fast = omega (arith, ints)
 
--- so after n generations a ship lies at least half of n deeper than at first, but for a part of its period
+-- so after n generations a spaceship lies at least half of n deeper than at first, but for a part of its period
 spaceship_deep : (rule : Numbers) (o : Orientation) (m : ℤ) (r : Recurrence) (spaceship : List Cell) (n : ℕ) (c : Cell) → (ahead : IsAheadOf rule o m r spaceship)
     → has (after rule spaceship n) c ≡ true → ((pos 2 *ℤ ahead.from) +ℤ pos (n + 1)) ≤ℤ ((pos 2 *ℤ depth (turned_cell o c)) +ℤ pos r.period)
 spaceship_deep rule o m r spaceship n c ahead e =
@@ -119,7 +119,7 @@ spaceship_deep rule o m r spaceship n c ahead e =
 deeper_apart : (c d : Cell) → (depth c +ℤ pos 5) ≤ℤ depth d → 3 ≤ king_distance c d
 deeper_apart c d low = omega (arith, ints)
 
--- nothing comes near a ship that is ahead of it
+-- nothing comes near a spaceship that is ahead of it
 pub spaceships_stay_ahead : SpaceshipsStayAhead
 spaceships_stay_ahead rule o m r spaceship cells n k g slow ahead order behind few c d in_cells in_spaceship =
     subst (λ (w : ℕ). 3 ≤ w) (turned-keeps o c d)
@@ -195,7 +195,7 @@ two_run_alone rule cells one other order first second is far g c =
     keeps : KeepApart rule cells parts g
     keeps = parts_run_alone rule cells parts g order each partition all_far g (omega arith)
 
--- ---- a pattern without a ship
+-- ---- a pattern without a spaceship
 
 -- what is left without some cells
 pub left_has : (board spaceship : List Cell) (c : Cell) → has (without board spaceship) c ≡ true → (has board c ≡ true) × (has spaceship c ≡ false)
@@ -238,7 +238,7 @@ spaceships_run_alone rule whole r spaceship slow order is =
         same : (d : ℤ) → d ≡ d +ℤ pos 0
         same d = omega (arith, ints)
 
--- ---- how a ship is found
+-- ---- how a spaceship is found
 
 -- the least depth of a box, where both of its sides are turned
 pub both_turned : (o : Orientation) (b : Bounds) (s : ℤ) (c : Cell) → (o ≡ Half) ⊎ (o ≡ AntiDiagonal) → s ≡ b.right +ℤ b.bottom → IsWithin b c
@@ -282,7 +282,7 @@ pub minus_told : (s : ℤ) → unsigned_abs s ≤ 2 ^ 33 → to_z w64 (of_z w64 
 minus_told s small =
     ap (λ (v : ℤ). to_z w64 (of_z w64 (pos 0 -ℤ v))) (is_told s small) ∙ is_told (pos 0 -ℤ s) (minus_small s small)
 
--- a sweep that begins far enough past m
+-- a envelope that begins far enough past m
 pub ahead_by_envelope : (rule : Numbers) (limit : ℕ) (cells : List Cell) (envelope : EnvelopeBounds) (way : Orientation) (m : ℤ) → IsEnvelope rule limit cells envelope
     → pos envelope.recurrence.period ≤ℤ (pos 2 *ℤ depth (turned_cell way (cell_at envelope.recurrence.dx envelope.recurrence.dy))) → BeginsPast way m envelope
     → IsAheadOf rule way m envelope.recurrence cells
@@ -295,7 +295,7 @@ ahead_by_envelope rule limit cells envelope way m is fast room = record {
   room = room.room;
 }
 
--- no ship is faster than light
+-- no spaceship is faster than light
 pub no_faster : (rule : Numbers) (cells : List Cell) (p : ℕ) (dx dy : ℤ) → (cells ≡ [] → ⊥) → after rule cells p ≡ shifted dx dy cells
     → (unsigned_abs dx ≤ p) × (unsigned_abs dy ≤ p)
 no_faster rule cells p dx dy some back = go (box_of cells) refl
@@ -351,7 +351,7 @@ half_by_test p d v p_fits d_fits twice_fits test low =
     further : p ≤ℤ (pos 2 *ℤ d) → p ≤ℤ (pos 2 *ℤ v)
     further q = omega (arith, ints)
 
--- ---- where a ship is
+-- ---- where a spaceship is
 
 -- n steps are a product
 pub times-product : (n : ℕ) (d : ℤ) → times n d ≡ pos n *ℤ d
@@ -365,7 +365,7 @@ spaceship_by_cycles rule r cells age is =
     ap (after rule cells) (sym (div-add-mod' age r.period))
     ∙ after_cycles rule cells r.period r.dx r.dy is.in_order is.back (age / r.period) (age % r.period)
 
--- so, some steps further, is the ship
+-- so, some steps further, is the spaceship
 pub spaceship_moved : (rule : Numbers) (r : Recurrence) (cells phase result : List Cell) (age : ℕ) (x y dx dy : ℤ) → IsSpaceship rule r cells
     → phase ≡ after rule cells (age % r.period) → x ≡ times (age / r.period) dx → y ≡ times (age / r.period) dy → dx ≡ r.dx → dy ≡ r.dy
     → result ≡ shifted x y phase → result ≡ after rule cells age

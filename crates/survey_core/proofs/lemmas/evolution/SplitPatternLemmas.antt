@@ -1,4 +1,4 @@
--- A board and the ships that have left it, as the code keeps them.
+-- A board and the spaceships that have left it, as the code keeps them.
 use Rattle.std.proofs.Common.{◌≡◌, ◌∙◌, ◌+◌, ◌*◌, ◌/◌, ◌%◌, ◌<◌, ◌≤◌, ℕ, ◌==◌, Bool, true, false, ◌||◌, not}
 use Rattle.std.proofs.Common.{unsigned_abs}
 use Rattle.std.proofs.Common.{List, [], ◌∷◌, ◌++◌, All, arith, ap, refl, sym, subst, get_or, length, map}
@@ -31,7 +31,7 @@ use Rattle.survey_core.proofs.lemmas.PlaneLemmas.{within_later, within_more}
 use Rattle.survey_core.proofs.lemmas.evolution.SpaceshipLemmas.{cluster_part, no_faster}
 use Rattle.survey_core.proofs.lemmas.evolution.RemovedLemmas.{all_off_later, all_off_more, has-whole, none_off, whole-none}
 
--- ---- the numbers of a ship
+-- ---- the numbers of a spaceship
 
 -- for long it lies on the plane
 pub spaceship_on_plane : (rule : Numbers) (cells : List Cell) (age : ℕ) → lies_within survey_reach cells ≡ true → age ≤ latest_time + 10001
@@ -39,7 +39,7 @@ pub spaceship_on_plane : (rule : Numbers) (cells : List Cell) (age : ℕ) → li
 unfolding on_plane
 spaceship_on_plane rule cells age near early = within_later survey_reach plane_bound rule cells age (omega arith) near
 
--- a ship with a short period has small numbers
+-- a spaceship with a short period has small numbers
 pub small_by_envelope : (rule : Numbers) (limit : ℕ) (spaceship : Spaceship) (cells : List Cell) (envelope : EnvelopeBounds) → limit ≤ 64 → (cells ≡ [] → ⊥)
     → lies_within survey_reach cells ≡ true → spaceship.cells ≡ cells → spaceship.recurrence ≡ envelope.recurrence → IsEnvelope rule limit cells envelope
     → HasSmallNumbers spaceship
@@ -59,9 +59,9 @@ small_by_envelope rule limit spaceship cells envelope few some near same back is
     light : (unsigned_abs envelope.recurrence.dx ≤ envelope.recurrence.period) × (unsigned_abs envelope.recurrence.dy ≤ envelope.recurrence.period)
     light = no_faster rule cells envelope.recurrence.period envelope.recurrence.dx envelope.recurrence.dy some is.recurs.back
 
--- ---- a harbour
+-- ---- a split pattern
 
--- where each ship is can be computed at any later time
+-- where each spaceship is can be computed at any later time
 pub traced_later : (rule : Numbers) (t g : ℕ) (board : List Cell) (spaceships : List Spaceship) → IsSplitAt rule t board spaceships
     → All (IsTraced rule (t + g)) spaceships
 traced_later rule t g board spaceships is k d low = record {
@@ -76,7 +76,7 @@ traced_later rule t g board spaceships is k d low = record {
     early : (t half since : ℕ) → t ≡ since + 2 * half → since ≤ t + g
     early t half since e = omega arith
 
--- a board that no ship has left
+-- a board that no spaceship has left
 pub new_split : (rule : Numbers) (board : List Cell) (spaceships : List Spaceship) → InOrder board → spaceships ≡ [] → IsSplitAt rule 0 board spaceships
 new_split rule board spaceships order none = subst (IsSplitAt rule 0 board) (sym none) (record {
   off = none_off rule 0 board order;
@@ -109,7 +109,7 @@ parts_near near far rule t board spaceships parts low are within = subst (All (�
     (All-map (λ (part : List Cell). lies_within far part ≡ true) (spaceship_at rule t) spaceships
     (λ k d there. within_more near far (spaceship_at rule t (get_or spaceships k d)) low (spaceship_near near rule t board spaceships k d there within))))
 
--- where no ship is, the board is all
+-- where no spaceship is, the board is all
 pub whole-empty : (rule : Numbers) (t : ℕ) (board : List Cell) (spaceships : List Spaceship) (is_empty : Bool) → is_empty ≡ (length spaceships == 0)
     → is_empty ≡ true → InOrder board → whole_at rule t board spaceships ≡ board
 whole-empty rule t board [] is_empty is empty order = whole-none rule t board order
@@ -137,7 +137,7 @@ split_later rule r t n most board b spaceships is even all same at early =
     off : AreOff rule (t + n) (after rule board n) spaceships
     off = subst (λ (k : ℕ). AreOff rule (t + k) (after rule board k) spaceships) twice (all_off_later rule t (n / 2) board spaceships is.off)
 
--- a ship more
+-- a spaceship more
 pub split_more : (rule : Numbers) (t : ℕ) (board b : List Cell) (spaceships s : List Spaceship) (spaceship : Spaceship) → IsSplitAt rule t board spaceships
     → is_slow rule ≡ true
     → spaceship.since ≡ t → IsForemost rule board spaceship.recurrence spaceship.cells → HasSmallNumbers spaceship → b ≡ without board spaceship.cells → s ≡ spaceships ++ spaceship ∷ []
@@ -157,7 +157,7 @@ pub whole_gone_on : (rule : Numbers) (t n : ℕ) (board b whole : List Cell) (sp
 whole_gone_on rule t n board b whole spaceships is all at =
     ap (λ (S : List Cell). whole_at rule (t + n) S spaceships) at ∙ sym (is.off.alone n) ∙ ap (λ (S : List Cell). after rule S n) all
 
--- ---- a harbour that goes on
+-- ---- a split pattern that goes on
 
 -- the board goes on by the rule
 pub board_later : (rule : Numbers) (split : SplitPattern) (n : ℕ) (b : List Cell) → IsSplit rule split → b ≡ after split.board.rule split.board.cells n

@@ -62,7 +62,7 @@ empty_is_at_rest rule profile = (
   },
 )
 
--- ---- a pattern that comes back in its place
+-- ---- a pattern that recurs in its place
 
 -- after any number of periods it is itself
 after_periods : (rule : Numbers) (cells : List Cell) (p k : ℕ) → after rule cells p ≡ cells → after rule cells (k * p) ≡ cells
@@ -87,7 +87,7 @@ shifted-none (c ∷ cs) = λ i. record { y = unmoved c.y i; x = unmoved c.x i } 
 
 -- ---- what a code says of the cluster that has it
 
--- a code that isn't a spaceship's is that of a pattern that comes back in its place, after the period that the code tells
+-- a code that isn't a spaceship's is that of a pattern that recurs in its place, after the period that the code tells
 in_its_place : (rule : Numbers) (cells : List Cell) (limit : ℕ) (code : List ℕ) → limit ≤ 64 → IsCode rule cells limit code → kind_in code ≢ Ship
     → after rule cells (period_in code) ≡ cells
 in_its_place rule cells limit code low is stays = go (int_eq r.dx (pos 0) && int_eq r.dy (pos 0)) refl

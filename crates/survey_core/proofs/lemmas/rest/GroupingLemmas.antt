@@ -143,7 +143,7 @@ pub first_of : (envelopes : List EnvelopeBounds) (i : ℕ) → i < length envelo
 first_of [] i low = absurd (omega arith)
 first_of (s ∷ ss) i low = s
 
--- sweeps of different groups stay apart, whichever stands first
+-- envelopes of different groups stay apart, whichever stands first
 pub groups_stay_apart : (rule : Numbers) (limit horizon : ℕ) (parts : List (List Cell)) (envelopes : List EnvelopeBounds) (groups : List ℕ)
     → AreEnvelopes rule limit parts envelopes → AreGroups horizon envelopes groups → GroupsStayApart rule groups parts horizon
 groups_stay_apart rule limit horizon parts envelopes groups are right i j d g one other ne low = go (nat_lt i j) refl

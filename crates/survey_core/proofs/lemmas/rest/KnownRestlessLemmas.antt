@@ -15,7 +15,7 @@ use Rattle.survey_core.proofs.lemmas.FindingLemmas.{after-then}
 pub none_known : (rule : Numbers) (profile : Settling) (cells : List Cell) (t : ℕ) → AreKnownRestless rule profile cells t (replicate 2 false)
 none_known rule profile cells t n known = absurd (false≢true (sym (get_or-replicate 2 ((t + n) % 2) false false (omega arith)) ∙ known))
 
--- a look that is known says no
+-- a checkpoint that is known not to be at rest
 pub known_now : (rule : Numbers) (profile : Settling) (cells : List Cell) (t : ℕ) (known_restless : List Bool) → AreKnownRestless rule profile cells t known_restless
     → is_known known_restless t ≡ true → ¬ IsAtRest rule profile cells
 known_now rule profile cells t known_restless are known rest =
@@ -33,7 +33,7 @@ known_later rule profile cells t s known_restless are n known rest =
     same : t + (s + n) ≡ (t + s) + n
     same = omega arith
 
--- one look more that says no, where an even number of generations changes nothing
+-- one checkpoint more that is not at rest, where an even number of generations changes nothing
 pub known_more : (rule : Numbers) (profile : Settling) (cells : List Cell) (t : ℕ) (known_restless : List Bool) → AreKnownRestless rule profile cells t known_restless
     → ¬ IsAtRest rule profile cells → ((n : ℕ) → n % 2 ≡ 0 → after rule cells n ≡ cells) → AreKnownRestless rule profile cells t (set known_restless (t % 2) true)
 known_more rule profile cells t known_restless are moves still n known = elim (cases_eq ((t + n) % 2) (t % 2)) [

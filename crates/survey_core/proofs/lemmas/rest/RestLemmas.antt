@@ -72,7 +72,7 @@ apart_now rule cells clusters g whole alone is_whole is_alone apart =
     subst (λ (parts : List (List Cell)). Partition whole parts) (sym is_alone)
     (subst (λ (w : List Cell). Partition w (map (λ part. after rule part g) clusters)) (sym is_whole) apart)
 
--- where all clusters come back and keep apart, the pattern is at rest; its clusters are the only ones that may say so
+-- where all clusters recur and keep apart, the pattern is at rest; its clusters are the only ones that may say so
 pub same_clusters : (rule : Numbers) (profile : Settling) (cells : List Cell) (clusters : List (List Cell)) → AreClusters cells clusters
     → IsAtRest rule profile cells → RestsAs rule profile cells clusters
 same_clusters rule profile cells clusters are (others, rest) =

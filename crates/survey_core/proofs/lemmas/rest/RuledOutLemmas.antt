@@ -1,4 +1,4 @@
--- A cluster that strays or is never itself again is no part of a pattern at rest.
+-- A cluster that diverges or never recurs is no part of a pattern at rest.
 use Rattle.std.proofs.Common.{◌≡◌, ◌∙◌, ◌⊎◌, ℕ, true, List, Any, sym, subst, inl, inr}
 use Rattle.std.specs.Cmp.{both_ways}
 use Rattle.std.proofs.lemmas.Bool.{false≢true}
@@ -38,7 +38,7 @@ is_one_of cells cluster clusters are is = go (are.every is.start is.has_start)
             (λ h. (is.members x).1 (linked-trans cells is.start other.start x (linked-sym cells other.start is.start way) ((other.members x).0 h)))
             (λ h. (other.members x).1 (linked-trans cells other.start is.start x way ((is.members x).0 h))))
 
--- each cluster of a pattern at rest comes back
+-- each cluster of a pattern at rest recurs
 rest_recurs : (rule : Numbers) (profile : Settling) (cells cluster : List Cell) → IsAtRest rule profile cells → IsCluster cells cluster
     → RecursWithin rule profile.period cluster
 rest_recurs rule profile cells cluster (clusters, rest) is = go (is_one_of cells cluster clusters rest.parts is)
@@ -46,7 +46,7 @@ rest_recurs rule profile cells cluster (clusters, rest) is = go (is_one_of cells
     go : Any (λ one. one ≡ cluster) clusters → RecursWithin rule profile.period cluster
     go (k, one, low, at, same) = subst (RecursWithin rule profile.period) same (subst (RecursWithin rule profile.period) at (rest.back k one low))
 
--- and none of them strays
+-- and none of them diverges
 rest_holds : (rule : Numbers) (profile : Settling) (cells cluster : List Cell) → IsAtRest rule profile cells → IsCluster cells cluster
     → Diverges rule cells cluster profile.horizon → ⊥
 rest_holds rule profile cells cluster (clusters, rest) is strays = go (is_one_of cells cluster clusters rest.parts is)

@@ -1,4 +1,4 @@
--- Sweeps: where a pattern that comes back lies in each turn, and boxes that stay clear of each other.
+-- Envelopes: where a pattern that recurs lies in each cycle, and boxes that stay clear of each other.
 use Rattle.std.proofs.Common.{◌≡◌, ◌∙◌, ◌+◌, ◌*◌, ◌/◌, ◌%◌, ◌<◌, ◌≤◌, ◌+ℤ◌, ◌-ℤ◌, ◌≤ℤ◌, ◌<ℤ◌, ap, sym, refl, subst, ℕ, ℤ, pos, zero, suc, List, [], ◌∷◌}
 use Rattle.std.proofs.Common.{All, Bool, arith, get_or, inl, inr, ◌⊎◌, ◌&&◌, ◌||◌, true, zero-add, eq-or-lt_of_le, int_le, int_lt, length, mul_comm, take, unsigned_abs, ◌++◌, FitsSigned, to_z, of_z, w32, w64}
 use Rattle.std.proofs.lemmas.Int.{ints, to_z-of_z}
@@ -19,9 +19,9 @@ use Rattle.survey_core.specs.shapes.Envelopes.{AreEnvelopes, IsEnvelope, Serves,
 use Rattle.survey_core.proofs.lemmas.FindingLemmas.{after-then}
 use Rattle.survey_core.proofs.lemmas.rest.ForGoodLemmas.{after_remainder, shifted-none}
 
--- ---- turns
+-- ---- cycles
 
--- the box of turn n
+-- the box of cycle n
 abbrev carried : ℕ → EnvelopeBounds → Bounds
 carried n envelope = record {
   left = envelope.bounds.left +ℤ times n envelope.recurrence.dx;
@@ -37,7 +37,7 @@ shifted-twice : (sx sy tx ty : ℤ) (cells : List Cell) → shifted tx ty (shift
 shifted-twice sx sy tx ty [] = refl
 shifted-twice sx sy tx ty (c ∷ cs) = λ i. cell_at (one_more c.x sx tx i) (one_more c.y sy ty i) ∷ shifted-twice sx sy tx ty cs i
 
--- what comes back moves by its shift each period
+-- what recurs moves by its shift each period
 pub after_cycles : SpaceshipsMoveByCycles
 after_cycles rule cells p dx dy order back zero r =
     ap (after rule cells) (ap (λ (m : ℕ). m + r) (zero-mul p) ∙ zero-add r) ∙ sym (shifted-none (after rule cells r))
@@ -80,7 +80,7 @@ within_shifted b tx ty cells all =
         low : (a e t : ℤ) → a ≤ℤ e → (a +ℤ t) ≤ℤ (e +ℤ t)
         low a e t h = omega (arith, ints, h)
 
--- in each generation of turn n the pattern lies in its box of that turn
+-- in each generation of cycle n the pattern lies in its box of that cycle
 pub in_cycle : (rule : Numbers) (limit : ℕ) (cells : List Cell) (s : EnvelopeBounds) (p n r : ℕ) → IsEnvelope rule limit cells s → Serves p s → r < p
     → All (IsWithin (carried n s)) (after rule cells (n * p + r))
 in_cycle rule limit cells s p n r is (inl same) low =
@@ -132,7 +132,7 @@ far_ahead end begin x t u a b h e low high =
     strict : (m n : ℤ) → int_lt m n ≡ true → m <ℤ n
     strict m n k = grind (arith, ints)
 
--- cells of boxes that are clear of each other in a turn
+-- cells of boxes that are clear of each other in a cycle
 clear_apart : (one other : EnvelopeBounds) (n : ℕ) (c d : Cell)
     → is_clear one.bounds other.bounds (times n (other.recurrence.dx -ℤ one.recurrence.dx)) (times n (other.recurrence.dy -ℤ one.recurrence.dy)) ≡ true
     → IsWithin (carried n one) c → IsWithin (carried n other) d → 3 ≤ king_distance c d
@@ -163,7 +163,7 @@ clear_apart one other n c d clear v w = elim (or_cases _ _ clear) [
     down : 3 ≤ distance c.y d.y → 3 ≤ king_distance c d
     down h = omega arith
 
--- boxes that are clear in all turns up to the horizon
+-- boxes that are clear in all cycles up to the horizon
 pub apart_by_cycles : (horizon p : ℕ) (one other : EnvelopeBounds) → 1 ≤ p → Serves p one → Serves p other → StayClear (horizon / p + 1) one other
     → StayApart horizon one other
 apart_by_cycles horizon p one other some s t clear rule limit cells others is that g low c d in_one in_other =
@@ -179,7 +179,7 @@ apart_by_cycles horizon p one other some s t clear rule limit cells others is th
     (recursion_from_All (IsWithin (carried (g / p) other)) (after rule others g)
     (subst (λ (m : ℕ). All (IsWithin (carried (g / p) other)) (after rule others m)) (sym whole) (in_cycle rule limit others other p (g / p) (g % p) that t inside))) in_other)
 
--- ---- the loop over turns
+-- ---- the loop over cycles
 
 times_small : (n : ℕ) (d : ℤ) → unsigned_abs d ≤ 8589934592 → unsigned_abs (times n d) ≤ n * 8589934592
 times_small zero d small = omega (arith, ints)
@@ -211,7 +211,7 @@ clear_more one other n x y is_x is_y before now m low = elim (eq-or-lt_of_le (m_
     m_low : (m : ℕ) → m < n + 1 → m ≤ n
     m_low m h = omega arith
 
--- what holds in a turn, and in the turn after each in which it holds, holds in all later turns
+-- what holds in a cycle, and in the cycle after each in which it holds, holds in all later cycles
 in_later_cycles : (P : ℕ → Type 0) (n : ℕ) → ((m : ℕ) → P m → P (suc m)) → P n → (m : ℕ) → n ≤ m → P m
 in_later_cycles P n more now zero low = subst P (omega (arith, low)) now
 in_later_cycles P n more now (suc m) low = elim (eq-or-lt_of_le low) [
@@ -242,11 +242,11 @@ ahead_later end begin d n m low h =
 either : {a b c d : Bool} → (a ≡ true → c ≡ true) → (b ≡ true → d ≡ true) → (a || b) ≡ true → (c || d) ≡ true
 either {a} {b} {c} {d} one other some = elim (or_cases a b some) [ inl e ↦ or_left c d (one e) | inr e ↦ or_right c d (other e) ]
 
--- the boxes are clear of each other, and stay so, if the other goes on by (dx, dy) in each turn
+-- the boxes are clear of each other, and stay so, if the other goes on by (dx, dy) in each cycle
 abbrev is_parting : Bounds → Bounds → ℤ → ℤ → ℤ → ℤ → Bool
 is_parting one other x y dx dy = gap_stays (gaps_of one other x y) dx dy
 
--- boxes that part are clear in all later turns
+-- boxes that part are clear in all later cycles
 parting_clear : (one other : Bounds) (dx dy : ℤ) (n m : ℕ) → n ≤ m → is_parting one other (times n dx) (times n dy) dx dy ≡ true
     → is_clear one other (times m dx) (times m dy) ≡ true
 parting_clear one other dx dy n m low =
@@ -276,7 +276,7 @@ phases_more rule cells age phase bounds box both first second at now before g lo
   | inr less ↦ λ k d there. first (get_or (after rule cells g) k d) (before g (omega arith) k d there)
 ]
 
--- ---- the sweeps of some patterns, one after another
+-- ---- the envelopes of some patterns, one after another
 
 envelopes_push : (rule : Numbers) (limit : ℕ) (parts : List (List Cell)) (envelopes : List EnvelopeBounds) (part : List Cell) (envelope : EnvelopeBounds)
     → AreEnvelopes rule limit parts envelopes → IsEnvelope rule limit part envelope → AreEnvelopes rule limit (parts ++ part ∷ []) (envelopes ++ envelope ∷ [])

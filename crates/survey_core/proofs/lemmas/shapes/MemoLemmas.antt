@@ -27,11 +27,11 @@ moved_bounds shift b = record {
   bottom = b.bottom +ℤ shift.1;
 }
 
--- the sweep of a moved pattern: it comes back as before, in the moved box
+-- the envelope of a moved pattern: it recurs as before, in the moved box
 abbrev pub moved_envelope : ℤ × ℤ → EnvelopeBounds → EnvelopeBounds
 moved_envelope shift envelope = record { recurrence = envelope.recurrence; bounds = moved_bounds shift envelope.bounds }
 
--- what is never itself again doesn't come back
+-- what never recurs doesn't recur
 pub never_recurs : (rule : Numbers) (limit : ℕ) (cells : List Cell) → NeverRecurs rule cells limit → ¬ RecursWithin rule limit cells
 never_recurs rule limit cells never (r, recurs) = never r.period r.dx r.dy recurs.some recurs.within recurs.back
 
@@ -44,7 +44,7 @@ within_moved shift b c w = record {
   bottom = omega (arith, ints, w.bottom);
 }
 
--- the sweep of a moved pattern
+-- the envelope of a moved pattern
 envelope_moved : (shift : ℤ × ℤ) (rule : Numbers) (limit : ℕ) (cells : List Cell) (envelope : EnvelopeBounds) → IsEnvelope rule limit cells envelope
     → IsEnvelope rule limit (shifted shift.0 shift.1 cells) (moved_envelope shift envelope)
 envelope_moved shift rule limit cells envelope is = record {
@@ -56,7 +56,7 @@ envelope_moved shift rule limit cells envelope is = record {
       (λ k d there. within_moved shift envelope.bounds _ (is.within g low k d there)));
 }
 
--- the sweep of a pattern that the fact is about
+-- the envelope of a pattern that the fact is about
 pub envelope_known : (rule : Numbers) (limit : ℕ) (cells : List Cell) (shift : ℤ × ℤ) (fact : Fact) → IsKnown fact → IsAbout rule limit cells shift fact
     → IsEnvelope rule limit cells (moved_envelope shift fact.envelope)
 envelope_known rule limit cells shift fact known about =

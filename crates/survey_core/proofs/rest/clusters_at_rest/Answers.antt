@@ -25,7 +25,7 @@ envelopes-requires-clause-near c =
     subst (All (λ (part : List Cell). lies_within survey_reach part ≡ true)) (sym c.as_slice-parts.ensures.value)
     (clusters_near survey_reach c.args.pattern.now c.in_ok-clusters.clusters.items c.in_ok-clusters.ensures.clusters c.requires)
 
--- some cluster doesn't come back
+-- some cluster doesn't recur
 pub returns-in_default-clause-moves : goal.returns-in_default-clause-moves
 returns-in_default-clause-moves c = λ rest.
     let same : RestsAs c.args.rule.now c.args.profile.now c.args.pattern.now c.in_ok-clusters.clusters.items =
@@ -44,7 +44,7 @@ groups_keep_apart-requires-clause-off c =
     subst ShareNoCell (sym c.as_slice-parts.ensures.value)
     (clusters_off c.args.pattern.now c.in_ok-clusters.clusters.items c.in_ok-clusters.ensures.clusters)
 
--- the sweeps and the groups, as they are known of the clusters
+-- the envelopes and the groups, as they are known of the clusters
 enveloped : (c : goal.After-drop-envelopes-2)
     → AreEnvelopes c.args.rule.now c.args.profile.now.period c.in_ok-clusters.clusters.items c.in-Some.envelopes.items
 enveloped c =

@@ -20,7 +20,7 @@ one_less counter most low = omega arith
 pub loop-smaller : goal.loop-smaller
 loop-smaller g c = one_less c.loop.counter 18446744073709551615 c.loop-test.true
 
--- a write wrote a front of the rest, or was interrupted and wrote nothing
+-- a write wrote a prefix of the rest, or was interrupted and wrote nothing
 pub loop-preserved : goal.loop-preserved
 loop-preserved g c =
     let written = c.loop.invariant.1 in
@@ -37,7 +37,7 @@ loop-preserved g c =
           (c.loop.invariant.0, (written.0, rw w.remainder-is written.1, Appends-kept _ _ _ written.0 written.2 w.in-Err.ensures.bytes))
     ]
 
--- what was written before a write that wrote nothing is a front of the piece
+-- what was written before a write that wrote nothing is a prefix of the piece
 pub returns : goal.returns
 returns g c =
     let written = c.loop.invariant.1 in

@@ -2,7 +2,7 @@ use Rattle.std.proofs.Common.{◌≡◌, false, List, ℕ, ◌++◌}
 use Rattle.std.specs.Io.KnownBytes.{Appends}
 use Rattle.plane_core.proofs.output.Out.put.Given as goal
 
--- a front of the piece has been written, and the rest has not
+-- a prefix of the piece has been written, and the rest has not
 abbrev pub invariant-loop : goal.invariant-loop
 invariant-loop g l =
     (l.self-inside.failed ≡ false)

@@ -39,7 +39,7 @@ loop-spaceship-preserved c =
     ∙ ap (λ (parts : List (List Cell)). flat_map (λ (part : List Cell). part) (c.args.board.now.cells ∷ parts))
     (sym (map_more there spaceships n item c.loop-spaceship-test.true))
 
--- once all ships were gone through
+-- once all spaceships were gone through
 all_cells : (there : Spaceship → List Cell) (board : List Cell) (spaceships : List Spaceship) (k : ℕ) (cells : List Cell)
     → cells ≡ flat_map (λ part. part) (board ∷ map there (take k spaceships)) → length spaceships ≤ k → cells ≡ flat_map (λ part. part) (board ∷ map there spaceships)
 all_cells there board spaceships k cells are end =

@@ -31,7 +31,7 @@ pub moved-offset-requires-clause-down : goal.moved-offset-requires-clause-down
 moved-offset-requires-clause-down c =
     offset_small c.loop.counter c.args.cycles c.step-step.result.y c.loop.offset.y c.loop-test.true c.requires c.step-step.ensures.down c.loop.invariant.y
 
--- one turn more
+-- one cycle more
 pub loop-preserved : goal.loop-preserved
 loop-preserved c = record {
   x = c.moved-offset.ensures.x ∙ ap (λ (o : ℤ). o +ℤ c.step-step.result.x) c.loop.invariant.x

@@ -10,7 +10,7 @@ use Rattle.survey_core.specs.shapes.Objects.{IsMultiple, period_in, period_of_ki
 use Rattle.survey_core.proofs.lemmas.shapes.ObjectLemmas.{multiple_then, never_of_none}
 use Rattle.survey_core.proofs.shapes.objects.is_common_multiple.Goals as goal
 
--- whatever comes back later has its number as its period
+-- whatever recurs later has its number as its period
 period_unless : (kind : Kind) (number : ℕ) → kind ≢ Still → period_of_kind kind number ≡ number
 period_unless Still number ne = absurd (ne refl)
 period_unless Oscillator number ne = refl

@@ -10,14 +10,14 @@ use Rattle.survey_core.specs.UnderWay.{survey_reach}
 use Rattle.survey_core.proofs.lemmas.shapes.EnvelopeLemmas.{envelopes_more}
 use Rattle.survey_core.proofs.shapes.memo.Memo.envelopes.Goals as goal
 
--- one that doesn't come back
+-- one that doesn't recur
 pub returns-in_default-clause-never : goal.returns-in_default-clause-never
 returns-in_default-clause-never c = λ all.
     let never : ¬ RecursWithin c.args.rule.now c.args.limit c.pattern-item.result = rw c.in_default.is at c.in_ok-envelope.ensures.never in
     never (subst (RecursWithin c.args.rule.now c.args.limit) (sym c.pattern-item.is)
     (all c.loop-pattern.pattern-index c.pattern-item.result c.loop-pattern-test.true))
 
--- one sweep more
+-- one envelope more
 pub loop-pattern-preserved : goal.loop-pattern-preserved
 loop-pattern-preserved c =
     let found : IsEnvelope c.args.rule.now c.args.limit c.pattern-item.result c.in-Some.envelope = rw c.in-Some.is at c.in_ok-envelope.ensures.envelope in
