@@ -280,6 +280,14 @@ impl Haul {
         taken.as_slice()
     }
 
+    /// Recalls, for a proof, what always holds: the numbers taken are distinct, and each is of the haul's set.
+    pub fn recall_taken_is_subset(&self)
+        ensures distinct { IsDistinct nat_eq (numbers_in self.now.taken) }
+        ensures within { All (λ t. is_in self.now.terms.ranges t.1 ≡ true) self.now.taken }
+    {
+        self.taken();
+    }
+
     /// The numbers of the set that haven't been taken, ascending.
     ///
     /// # Errors
