@@ -78,7 +78,13 @@ pub fn do_take<W: Write, E: Write, T: Threads + Wait + Sync, H: ProgressObserver
 ///
 /// As of `do_take`, and `Incomplete` if the gate stopped a worker and soups are missing: then the haul text of what was
 /// taken was written, and a line on standard error says how many are missing.
-pub fn do_take_with<W: Write, E: Write, G: Gate + Sync, T: Threads + Wait + Sync, H: ProgressObserver>(
+pub fn do_take_with<
+    W: Write,
+    E: Write,
+    G: Gate + Sync,
+    T: Threads + Wait + Sync,
+    H: ProgressObserver,
+>(
     machine: &mut Machine<'_, T, E, H>,
     plan: &Plan<'_>,
     workers: u8,
@@ -119,8 +125,7 @@ fn print_haul<W: Write, E: Write, G: Gate + Sync, T: Threads + Wait + Sync, H: P
 {
     let haul = open_haul(machine.alloc, plan, workers)?;
     let (mut haul, taken) = complete_by_crew(machine, haul, workers, gate);
-    // For the prover: what it has taken is of its set, and no number twice.
-    let _ = haul.taken();
+    haul.recall_taken_is_subset();
     print_taken(&mut haul, taken, output)
 }
 

@@ -25,6 +25,7 @@ use atomic_table::{Join, Play, Seat, Shared, Split, Table, TableRule};
 use memory::OutOfMemory;
 use std::alloc::Global;
 use std::collections::LinkedList;
+use std::fmt;
 use std::marker::Model;
 use thiserror::Error;
 
@@ -35,17 +36,31 @@ const MOST_NUMBERS: u64 = 1 << 24;
 const MOST_PASSES: u8 = 16;
 
 /// Why no tickets were opened.
-#[derive(Clone, Copy, Debug, PartialEq, Eq, Error)]
+#[derive(Clone, Copy, PartialEq, Eq, Error)]
 pub enum TicketsError {
     /// There are over 2^24 numbers.
-    #[error("too many numbers")]
     BadCount,
     /// There are not 1 to 16 passes.
-    #[error("bad number of passes")]
     BadPasses,
     /// Memory ran out.
-    #[error("out of memory")]
     Memory(OutOfMemory),
+}
+
+impl fmt::Display for TicketsError {
+    fn fmt<W: fmt::Write>(&self, f: &mut fmt::Formatter<W>) -> fmt::Result {
+        f.write_str(match self {
+            TicketsError::BadCount => "too many numbers",
+            TicketsError::BadPasses => "bad number of passes",
+            TicketsError::Memory(_) => "out of memory",
+        })
+    }
+}
+
+/// Shows the message, as `Display` does.
+impl fmt::Debug for TicketsError {
+    fn fmt<W: fmt::Write>(&self, f: &mut fmt::Formatter<W>) -> fmt::Result {
+        fmt::Display::fmt(self, f)
+    }
 }
 
 impl<E: Into<OutOfMemory>> From<E> for TicketsError {

@@ -5,15 +5,17 @@
 //! 0+5, 10+2           their normal form: ascending, none empty, none touching the next
 //! ```
 
-ghost use Rattle.std.specs.Prelude.{◌≡◌, ◌↔◌, ◌≤◌, ◌+◌, ◌++◌, IfOk, IfNone, IfSome, IsTrue, All, OnOk, if◌then◌else◌};
+ghost use Rattle.std.specs.Prelude.{◌≡◌, ◌↔◌, ◌≤◌, ◌+◌, ◌++◌, IfOk, IfNone, IfSome, IsTrue, All, OnOk, Some, if◌then◌else◌};
 ghost use Rattle.std.specs.List.{filter, list_any};
 ghost use Rattle.std.specs.List.Sorted.{IsNonDecreasingBy, IsPermutation};
+ghost use Rattle.ranges.specs.RangeLists.{pair_text, written};
 ghost use Rattle.ranges.specs.RangeSteps.{Ascending, has_numbers, shares};
 ghost use Rattle.ranges.specs.Ranges.{AreBelow, AreNormal, AreSmall, IsNormalForm, OneNormalForm, Overlap, ShareNumber};
 ghost use Rattle.ranges.specs.Ranges.{end_of, is_in, is_in_range, number_bound, size_of};
 
 use memory::OutOfMemory;
 use std::alloc::Global;
+use std::fmt;
 use std::marker::Model;
 
 /// Soup numbers lie below this, so that there are enough of them for anybody, and sums over them stay small.
@@ -27,6 +29,16 @@ pub const MOST_NUMBERS: u64 = 1 << 24;
 pub struct Range {
     pub first: u64,
     pub count: u64,
+}
+
+/// Shows the range as a list of ranges is written: `first+count`, such as `10+2`.
+impl fmt::Display for Range {
+    ghost output = { λ range. Some (pair_text (written range)) };
+
+    fn fmt<W: fmt::Write>(&self, f: &mut fmt::Formatter<W>) -> fmt::Result {
+        let Range { first, count } = *self;
+        write!(f, "{first}+{count}")
+    }
 }
 
 impl Range {

@@ -19,18 +19,33 @@ ghost use Rattle.ranges.specs.declared.range_list.ListError.TheVariants.{BadList
 use crate::range::Range;
 use memory::OutOfMemory;
 use std::alloc::Global;
+use std::fmt;
 use thiserror::Error;
 
 /// Why a text is not read as a list of ranges.
-#[derive(Clone, Copy, Debug, PartialEq, Eq, Error)]
+#[derive(Clone, Copy, PartialEq, Eq, Error)]
 pub enum ListError {
     /// The byte at `place` can't stand there, or the text ends there too early, or a decimal of 2^64 or more begins
     /// there. Places count bytes from 0.
-    #[error("bad range list at {place}")]
     BadList { place: usize },
     /// Memory ran out.
-    #[error("out of memory")]
     Memory(OutOfMemory),
+}
+
+impl fmt::Display for ListError {
+    fn fmt<W: fmt::Write>(&self, f: &mut fmt::Formatter<W>) -> fmt::Result {
+        match self {
+            ListError::BadList { place } => write!(f, "bad range list at {place}"),
+            ListError::Memory(_) => f.write_str("out of memory"),
+        }
+    }
+}
+
+/// Shows the message, as `Display` does.
+impl fmt::Debug for ListError {
+    fn fmt<W: fmt::Write>(&self, f: &mut fmt::Formatter<W>) -> fmt::Result {
+        fmt::Display::fmt(self, f)
+    }
 }
 
 impl<E: Into<OutOfMemory>> From<E> for ListError {

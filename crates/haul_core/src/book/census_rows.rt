@@ -5,6 +5,7 @@ ghost use Rattle.std.specs.BTreeMap.{IsOrdered};
 ghost use Rattle.std.specs.Cmp.Lexicographic.{slice_cmp};
 ghost use Rattle.std.specs.Map.{lookup};
 ghost use Rattle.std.specs.Ordering.{nat_cmp};
+ghost use Rattle.std.specs.Slice.Iter.{iter_rest};
 ghost use Rattle.survey_core.specs.shapes.Objects.{is_code};
 ghost use Rattle.haul_core.specs.Rows.{AreInOrder};
 ghost use Rattle.haul_core.specs.RowSteps.{AreRowsFrom, row_from, with_objects};
@@ -18,6 +19,7 @@ use memory::OutOfMemory;
 use std::alloc::Global;
 use std::collections::BTreeMap;
 use std::marker::Model;
+use std::slice::Iter;
 
 /// What a census says of a code.
 #[derive(Debug, Drop)]
@@ -54,6 +56,13 @@ impl Rows {
         ensures in_order { AreInOrder self.now }
     {
         self.rows.as_slice()
+    }
+
+    /// Returns an iterator over the rows, in ASCII order of their codes.
+    pub fn iter(&self) -> Iter<'_, Row>
+        ensures { iter_rest result ≡ self.now }
+    {
+        self.as_slice().iter()
     }
 
     /// The rows of the codes that have an object.

@@ -41,31 +41,58 @@ use indexmap::IndexMap;
 use memory::OutOfMemory;
 use ranges::range::{Range, Ranges, overlap, small_size};
 use std::alloc::Global;
+use std::fmt;
 use std::marker::Model;
 use survey_core::finding::Finding;
 use survey_core::job::{Job, is_same_job};
 use thiserror::Error;
 
 /// A haul that is closed is not closed again.
-#[derive(Clone, Copy, Debug, PartialEq, Eq, Error)]
-#[error("already closed")]
+#[derive(Clone, Copy, PartialEq, Eq, Error)]
 pub struct AlreadyClosed;
 
+impl fmt::Display for AlreadyClosed {
+    fn fmt<W: fmt::Write>(&self, f: &mut fmt::Formatter<W>) -> fmt::Result {
+        f.write_str("already closed")
+    }
+}
+
+/// Shows the message, as `Display` does.
+impl fmt::Debug for AlreadyClosed {
+    fn fmt<W: fmt::Write>(&self, f: &mut fmt::Formatter<W>) -> fmt::Result {
+        fmt::Display::fmt(self, f)
+    }
+}
+
 /// Why no haul was opened.
-#[derive(Clone, Copy, Debug, PartialEq, Eq, Error)]
+#[derive(Clone, Copy, PartialEq, Eq, Error)]
 pub enum OpenError {
     /// There are not 1 to 16 workers.
-    #[error("bad number of workers")]
     BadWorkers,
     /// A range goes past 2^40, or the ranges have over 2^24 numbers together.
-    #[error("range too large")]
     BadRange,
     /// Two ranges share a number.
-    #[error("ranges overlap")]
     Overlap,
     /// Memory ran out.
-    #[error("out of memory")]
     Memory(OutOfMemory),
+}
+
+impl fmt::Display for OpenError {
+    fn fmt<W: fmt::Write>(&self, f: &mut fmt::Formatter<W>) -> fmt::Result {
+        f.write_str(match self {
+            OpenError::BadWorkers => "bad number of workers",
+            OpenError::BadRange => "range too large",
+            OpenError::Overlap => "ranges overlap",
+            OpenError::Memory(_) => "out of memory",
+        })
+    }
+}
+
+/// Shows the message, as `Display` does.
+impl fmt::Debug for OpenError {
+    fn fmt<W: fmt::Write>(&self, f: &mut fmt::Formatter<W>) -> fmt::Result {
+        fmt::Display::fmt(self, f)
+    }
 }
 
 impl<E: Into<OutOfMemory>> From<E> for OpenError {
@@ -251,6 +278,14 @@ impl Haul {
     {
         let Haul { taken, .. } = self;
         taken.as_slice()
+    }
+
+    /// Recalls, for a proof, what always holds: the numbers taken are distinct, and each is of the haul's set.
+    pub fn recall_taken_is_subset(&self)
+        ensures distinct { IsDistinct nat_eq (numbers_in self.now.taken) }
+        ensures within { All (λ t. is_in self.now.terms.ranges t.1 ≡ true) self.now.taken }
+    {
+        self.taken();
     }
 
     /// The numbers of the set that haven't been taken, ascending.

@@ -2,29 +2,44 @@
 
 use crate::report::Report;
 use memory::OutOfMemory;
+use std::fmt;
 use thiserror::Error;
 
 /// Why a report is refused.
-#[derive(Clone, Copy, Debug, PartialEq, Eq, Error)]
+#[derive(Clone, Copy, PartialEq, Eq, Error)]
 pub enum OfferError {
     /// The haul is closed.
-    #[error("closed")]
     Closed,
     /// The report is of another job.
-    #[error("other job")]
     OtherJob,
     /// The haul has fewer workers.
-    #[error("unknown worker")]
     UnknownWorker,
     /// The number is not in the haul's set.
-    #[error("out of range")]
     OutOfRange,
     /// A report of this soup was taken before, from this worker.
-    #[error("double of a report by {worker}")]
     Double { worker: u8 },
     /// Memory ran out.
-    #[error("out of memory")]
     Memory(OutOfMemory),
+}
+
+impl fmt::Display for OfferError {
+    fn fmt<W: fmt::Write>(&self, f: &mut fmt::Formatter<W>) -> fmt::Result {
+        match self {
+            OfferError::Closed => f.write_str("closed"),
+            OfferError::OtherJob => f.write_str("other job"),
+            OfferError::UnknownWorker => f.write_str("unknown worker"),
+            OfferError::OutOfRange => f.write_str("out of range"),
+            OfferError::Double { worker } => write!(f, "double of a report by {worker}"),
+            OfferError::Memory(_) => f.write_str("out of memory"),
+        }
+    }
+}
+
+/// Shows the message, as `Display` does.
+impl fmt::Debug for OfferError {
+    fn fmt<W: fmt::Write>(&self, f: &mut fmt::Formatter<W>) -> fmt::Result {
+        fmt::Display::fmt(self, f)
+    }
 }
 
 /// A report that was not taken, and why.

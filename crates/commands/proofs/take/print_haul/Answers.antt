@@ -15,9 +15,11 @@ returns-in_err-haul-clause-reached g c reader bytes errors still =
 pub returns-clause-reached : goal.returns-clause-reached
 returns-clause-reached g c reader bytes errors still =
     let crew = c.complete_by_crew-haul.ensures in
+    let taken = c.recall_taken_is_subset.ensures in
     let end = c.print_taken.ensures in
     take_ends (g.G.Gate.may_stop c.args.gate.now) c.args.plan.now reader bytes c.in_ok-haul.haul c.complete_by_crew-haul.result.0
-    c.complete_by_crew-haul.result.1 c.print_taken.result _ errors c.in_ok-haul.ensures.opened crew.grown c.taken.ensures.within c.taken.ensures.distinct crew.ends end.finishes end.none end.gives_up still
+    c.complete_by_crew-haul.result.1 c.print_taken.result _ errors c.in_ok-haul.ensures.opened crew.grown
+    taken.within taken.distinct crew.ends end.finishes end.none end.gives_up still
 
 pub returns-in_err-haul-clause-untouched : goal.returns-in_err-haul-clause-untouched
 returns-in_err-haul-clause-untouched g c = rw (err_of _ _ c.from_residual.ensures.1) (λ is. refl)

@@ -12,25 +12,40 @@ use crate::book::haul::Haul;
 use indexmap::IndexMap;
 use memory::OutOfMemory;
 use std::alloc::Global;
+use std::fmt;
 use survey_core::finding::findings_are_determined;
 use survey_core::job::is_same_job;
 use thiserror::Error;
 
 /// Why two hauls were not joined.
-#[derive(Clone, Copy, Debug, PartialEq, Eq, Error)]
+#[derive(Clone, Copy, PartialEq, Eq, Error)]
 pub enum JoinError {
     /// One of them is not closed.
-    #[error("open")]
     Open,
     /// They are of different jobs.
-    #[error("other job")]
     OtherJob,
     /// A number is in both sets.
-    #[error("ranges overlap")]
     Overlap,
     /// Memory ran out.
-    #[error("out of memory")]
     Memory(OutOfMemory),
+}
+
+impl fmt::Display for JoinError {
+    fn fmt<W: fmt::Write>(&self, f: &mut fmt::Formatter<W>) -> fmt::Result {
+        f.write_str(match self {
+            JoinError::Open => "open",
+            JoinError::OtherJob => "other job",
+            JoinError::Overlap => "ranges overlap",
+            JoinError::Memory(_) => "out of memory",
+        })
+    }
+}
+
+/// Shows the message, as `Display` does.
+impl fmt::Debug for JoinError {
+    fn fmt<W: fmt::Write>(&self, f: &mut fmt::Formatter<W>) -> fmt::Result {
+        fmt::Display::fmt(self, f)
+    }
 }
 
 impl Haul {

@@ -19,18 +19,33 @@ use crate::report::claim::read_start::{LineStart, start_in};
 use crate::report::claim::{Claim, SettledClaim};
 use memory::OutOfMemory;
 use std::alloc::Global;
+use std::fmt;
 use thiserror::Error;
 
 /// Why a line is not read as that of a claim.
-#[derive(Clone, Copy, Debug, PartialEq, Eq, Error)]
+#[derive(Clone, Copy, PartialEq, Eq, Error)]
 pub enum LineError {
     /// The field that begins at `place` can't stand there, or a field is missing there, at the line's end. Places count
     /// bytes from 0.
-    #[error("bad line at {place}")]
     BadLine { place: usize },
     /// Memory ran out.
-    #[error("out of memory")]
     Memory(OutOfMemory),
+}
+
+impl fmt::Display for LineError {
+    fn fmt<W: fmt::Write>(&self, f: &mut fmt::Formatter<W>) -> fmt::Result {
+        match self {
+            LineError::BadLine { place } => write!(f, "bad line at {place}"),
+            LineError::Memory(_) => f.write_str("out of memory"),
+        }
+    }
+}
+
+/// Shows the message, as `Display` does.
+impl fmt::Debug for LineError {
+    fn fmt<W: fmt::Write>(&self, f: &mut fmt::Formatter<W>) -> fmt::Result {
+        fmt::Display::fmt(self, f)
+    }
 }
 
 impl<E: Into<OutOfMemory>> From<E> for LineError {
