@@ -223,7 +223,7 @@ fn one_at(pattern: &Pattern, bounds: Bounds, x: u32, y: u32) -> u8
     ensures value { result ≡ (if has (at_corner pattern.now) (cell_at (pos x) (pos y)) then 1 else 0) }
     ensures bound { result ≤ 1 }
 {
-    // What it ensures: the pattern, and so its box, lies on the plane.
-    let _cells = pattern.cells();
+    // So the pattern and its box lie on the plane.
+    pattern.recall_order();
     u8::from(pattern.has(along(bounds.left, x), along(bounds.top, y)))
 }

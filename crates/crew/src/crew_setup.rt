@@ -49,8 +49,7 @@ impl CrewSetup {
         ensures receiver { IfOk result (λ setup. setup.receiver ≡ deaf setup.shared.belt) }
         ensures back { IfOk result (λ setup. HaveRoom workers setup.back) }
     {
-        // For the prover: a haul has at most 16 workers.
-        let _ = haul.workers();
+        haul.recall_workers_are_few();
         let missing = haul.missing()?;
         let (tickets, passes) = match Tickets::open(alloc, missing.len() as u64, workers) {
             Ok(opened) => opened,

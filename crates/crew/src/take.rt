@@ -205,14 +205,12 @@ fn end_crew(shared: Shared, crew: Crew) -> (Haul, Option<CrewError>)
         ..
     } = crew;
     let Shared { tickets, belt, .. } = shared;
-    // For the prover: all numbers were drawn, if all passes are back and one of them has heard that none is left.
-    let _ = tickets.gather(passes);
-    // For the prover: what was received of a worker is a prefix of what it presented.
+    // All numbers were drawn, if all passes are back and one of them has heard that none is left.
+    tickets.gather(passes);
+    // What was received of a worker is a prefix of what it presented.
     drop(belt.gather(senders, receiver));
-    // For the prover: the haul has taken no number twice.
-    let _ = haul.taken();
-    // For the prover: a haul of which nothing is missing is complete.
-    let _ = haul.missing_count();
+    haul.recall_taken_is_subset();
+    haul.recall_complete_if_none_missing();
     (haul, cause(stopped, lacking))
 }
 

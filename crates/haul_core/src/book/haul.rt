@@ -288,6 +288,21 @@ impl Haul {
         self.taken();
     }
 
+    /// Recalls, for a proof, that the workers are 1 to 16.
+    pub fn recall_workers_are_few(&self)
+        ensures { IsWorker self.now.terms.workers }
+    {
+        self.workers();
+    }
+
+    /// Recalls, for a proof, that a haul is complete exactly if nothing is missing.
+    pub fn recall_complete_if_none_missing(&self)
+        ensures { (length (missing_of self.now.terms.ranges self.now.taken) ≡ 0)
+            ↔ IsComplete self.now.terms.ranges self.now.taken }
+    {
+        self.missing_count();
+    }
+
     /// The numbers of the set that haven't been taken, ascending.
     ///
     /// # Errors

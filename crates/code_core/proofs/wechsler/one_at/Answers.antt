@@ -8,13 +8,13 @@ pub along-requires-clause-from : goal.along-requires-clause-from
 along-requires-clause-from c =
     let b = c.args.bounds in
     let fits : FitsSigned w32 b.left = search rules in
-    rw (to_z-of_z w32 b.left fits) (left_on_plane c.args.pattern.now b c.cells-cells.ensures.pattern c.requires.bounds)
+    rw (to_z-of_z w32 b.left fits) (left_on_plane c.args.pattern.now b c.recall_order.ensures c.requires.bounds)
 
 pub along-requires-2-clause-from : goal.along-requires-2-clause-from
 along-requires-2-clause-from c =
     let b = c.args.bounds in
     let fits : FitsSigned w32 b.top = search rules in
-    rw (to_z-of_z w32 b.top fits) (top_on_plane c.args.pattern.now b c.cells-cells.ensures.pattern c.requires.bounds)
+    rw (to_z-of_z w32 b.top fits) (top_on_plane c.args.pattern.now b c.recall_order.ensures c.requires.bounds)
 
 pub returns-clause-value : goal.returns-clause-value
 returns-clause-value c =
