@@ -221,7 +221,7 @@ impl<N: Drop> Belt<N> {
                 }
                 Err(back) => note = back,
             }
-            self.left.wait(rt, seen);
+            self.left.sleep_while(rt, seen);
         }
         unreachable!()
     }
@@ -237,7 +237,7 @@ impl<N: Drop> Belt<N> {
                 self.left.notify();
                 return note;
             }
-            self.arrived.wait(rt, seen);
+            self.arrived.sleep_while(rt, seen);
         }
         unreachable!()
     }

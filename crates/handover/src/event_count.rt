@@ -4,7 +4,7 @@
 //! receiver   reads the count: 7
 //! receiver   finds nothing on the belt
 //! sender     puts a note on the belt, and notifies: 8
-//! receiver   waits while the count is 7: goes on at once
+//! receiver   sleeps while the count is 7: goes on at once
 //! ```
 //!
 //! All five atomic steps are sequentially consistent, as is the model of the proofs, which don't speak of wakes. What the
@@ -49,7 +49,7 @@ impl EventCount {
     }
 
     /// Sleeps while the count is `seen`. It may return early for no reason.
-    pub(crate) fn wait<R: Wait>(&self, rt: &R, seen: u32) {
+    pub(crate) fn sleep_while<R: Wait>(&self, rt: &R, seen: u32) {
         // Before the count is read again, so `SeqCst`: it is the other half of what `notify` does, and one of the two has
         // to see the other.
         self.sleepers.fetch_add(1, Ordering::SeqCst);
