@@ -354,11 +354,12 @@ def fault_of_samples(lines: Lines, code: str, total: int, ranges: list[Range], f
         lines.next_line()
         if lines.matched(CODE) != code:
             return lines.bad_field(1, OTHER_CODE)
-        latest, most = -1, min(MOST_SAMPLES, total)
-        for _ in range(min(max(len(lines.fields) - 1, 1), most)):
-            latest = lines.number_in(latest + 1, NUMBER_LIMIT - 1, SAMPLES_DESCEND, OUT_OF_RANGE)
-            if not is_in(latest, ranges, firsts):
+        least, most = 0, min(MOST_SAMPLES, total)
+        for _ in range(most):
+            number = lines.number_in(least, NUMBER_LIMIT, SAMPLES_DESCEND, OUT_OF_RANGE)
+            if not is_in(number, ranges, firsts):
                 return lines.bad_field(1, OUT_OF_RANGE)
+            least = number + 1
         if lines.read < len(lines.fields) and most == total and DECIMAL.fullmatch(lines.fields[lines.read]):
             return lines.bad_field(0, MORE_SAMPLES)
         lines.end_line()

@@ -117,11 +117,13 @@ class Generations(unittest.TestCase):
         self.assertEqual(next_generation(rule_of("bs"), frozenset([(5, 5)])), frozenset())
 
     def test_how_patterns_recur(self) -> None:
-        """A single cluster that recurs has the code that `census name` gives it; of anything else it names no single object."""
-        calls = [(["name", "--limit=0", f"--rule={RULES[place % len(RULES)]}"], plaintext(cells)) for place, cells in enumerate(patterns())]
+        """A single cluster that recurs within eight generations has the code that `census name` gives it; of anything else it names no
+        single object."""
+        most = ["--period=8", "--horizon=8"]
+        calls = [(["name", "--limit=0", *most, f"--rule={RULES[place % len(RULES)]}"], plaintext(cells)) for place, cells in enumerate(patterns())]
         recurring = 0
         for place, (cells, text) in enumerate(zip(patterns(), asked(calls), strict=True)):
-            recurrence = recurrence_of(rule_of(RULES[place % len(RULES)]), cells) if is_cluster(cells) else None
+            recurrence = recurrence_of(rule_of(RULES[place % len(RULES)]), cells, 8) if is_cluster(cells) else None
             known = {code_of(recurrence): 1} if recurrence is not None else None
             objects = found(text)
             self.assertEqual(known, dict(objects) if objects.total() == 1 else None)
@@ -165,8 +167,10 @@ class Clusters(unittest.TestCase):
         """Where all cells stay, `census` counts the clusters. Stretched by two, cells that touch are two steps apart, and cells two
         steps apart are four: so the clusters are the islands."""
         stretched = [frozenset((2 * x, 2 * y) for x, y in cells) for cells in patterns()]
-        clusters = asked([(["name", "--limit=0", f"--rule={STILL}"], plaintext(cells)) for cells in patterns()])
-        islands = asked([(["name", "--limit=0", f"--rule={STILL}"], plaintext(cells)) for cells in stretched])
+        # A longer horizon shows nothing where all cells stay.
+        short = ["--period=1", "--horizon=1"]
+        clusters = asked([(["name", "--limit=0", *short, f"--rule={STILL}"], plaintext(cells)) for cells in patterns()])
+        islands = asked([(["name", "--limit=0", *short, f"--rule={STILL}"], plaintext(cells)) for cells in stretched])
         for cells, one, other in zip(patterns(), clusters, islands, strict=True):
             self.assertEqual(is_cluster(cells), found(one).total() == 1)
             known = [recurrence_of(rule_of(STILL), frozenset((2 * x, 2 * y) for x, y in island)) for island in islands_of([cells])]

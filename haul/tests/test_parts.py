@@ -91,7 +91,8 @@ class Parts(unittest.TestCase):
         # Six bi-blocks in a row are twelve blocks; two tables on each other beside nine blocks have eleven islands, and two are no parts.
         self.assertEqual(parts("xs48_" + "rr0" * 6), Separation(("xs4_33",) * 12))
         for blocks, wanted in ((8, Separation(("xs12_raar", *["xs4_33"] * 8))), (9, None)):
-            code = f"xs{12 + 4 * blocks}_raar" + "066" * (blocks % 2) + "0rr" * (blocks // 2)
+            code = f"xs{12 + 4 * blocks}_raar" + "0rr" * (blocks // 2) + "w33" * (blocks % 2)
+            self.assertIsNotNone(object_of(rule_of("b3s23"), code))
             self.assertEqual(parts(code), wanted or unknown(code))
 
     def test_a_part_that_falls_apart(self) -> None:

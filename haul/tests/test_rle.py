@@ -87,8 +87,11 @@ class Reading(unittest.TestCase):
                              ("Life without Death", "b3s012345678"), ("2x2", "b36s125"), ("Live Free or Die", "b2s0"), ("Maze", "b3s12345")):
             with self.subTest(said=said):
                 text = f"x = 3, y = 3, rule = {said}\nbo$2bo$3o!"
-                self.assertEqual(cells(text), (0, GLIDER, f"haul: rule {said} is --rule {option}\n"))
-        for said in ("B3/S23", "b3/s23", "B3S23", "23/3", "32/3", "B33/S23", "Life", "LIFE", "Conway's Life"):
+                self.assertEqual((read_rle(text.encode())[1], option_of(said)), (said, option))
+        self.assertEqual(cells("x = 3, y = 3, rule = HighLife\nbo$2bo$3o!"), (0, GLIDER, "haul: rule HighLife is --rule b36s23\n"))
+        for said in ("Life", "LIFE", "Conway's Life"):
+            self.assertEqual(option_of(said), "b3s23")
+        for said in ("B3/S23", "b3/s23", "B3S23", "23/3", "32/3", "B33/S23", "Life"):
             with self.subTest(said=said):
                 self.assertEqual(cells(f"x = 3, y = 3, rule = {said}\nbo$2bo$3o!"), (0, GLIDER, ""))
 

@@ -337,6 +337,7 @@ in A alone: xq4_153 xs8_rr; in B alone: xp15_4r4z4r4
         told = json.loads(self.printed("compare", "--json", "a", "b", "c"))
         self.assertEqual([one["alone"] for one in told["hauls"]], [["xq4_153", "xs8_rr"], ["xp15_4r4z4r4"], ["ov_p123"]])
         self.assertEqual([(one["haul"], one["rule"], one["soups"]) for one in told["hauls"]], [("A", "b3s23", 1000), ("B", "b36s23", 500), ("C", "b3s12", 1000)])
+        self.assertEqual({one["code"]: one["name"] for one in told["objects"] if one["code"] in ("xp2_7", "ov_p123")}, {"xp2_7": "blinker", "ov_p123": None})
         block = told["objects"][0]
         self.assertEqual((block["code"], block["totals"], block["ratios"], block["differs"]), ("xs4_33", [500, 1000, 510], [None, 4.0, 1.02], [False, True, False]))
 

@@ -185,6 +185,13 @@ class Reading(unittest.TestCase):
                 self.assertEqual(LARGER.count(old), 1)
                 self.assertEqual(said_of(LARGER.replace(old, new)), said)
 
+    def test_what_comes_before_a_fault_is_right(self) -> None:
+        """The largest total, and the least number of a soup."""
+        most = 2**64 - 1
+        self.assertEqual(said_of(LARGER.replace("xs4_33 4\n", f"xs4_33 {most} x\n")), f"line 15 column {len(f'xs4_33 {most} ') + 1}")
+        first = LARGER.replace("@RANGE 3 2", "@RANGE 0 5").replace("SOUPS 3", "SOUPS 6").replace("xp2_7 3 10", "xp2_7 0 9")
+        self.assertEqual(said_of(first), "line 18 column 9: the number is in no range")
+
     def test_the_sum_comes_after_the_table(self) -> None:
         wrong = LARGER.replace("OBJECTS 6", "OBJECTS 7")
         self.assertEqual(fault(wrong.replace("xs4_33 4\n", "xs4_33 x\n")), "line 15 column 8")
