@@ -1,7 +1,7 @@
 //! The table of the program's commands, each with the rows of its arguments.
 
 use crate::options::{
-    ALSO, Parameter, CODE, COUNT, FIRST, GENERATIONS, HORIZON, LIMIT, NUMBER, PERIOD, PROGRESS,
+    ALSO, CODE, COUNT, FIRST, GENERATIONS, HORIZON, LIMIT, NUMBER, PERIOD, PROGRESS, Parameter,
     REPORTERS, RULE, SEED, STRIDE, WORKER, WORKERS,
 };
 

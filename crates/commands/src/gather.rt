@@ -170,7 +170,14 @@ fn gather_lines<R: Read, E: Write>(
     let mut size = 0u64;
     for before in 0..GATHER_LIMIT + 1 {
         let read = next_line(
-            alloc, input, &mut ahead, &mut line, before, &mut surveyor, haul, errors,
+            alloc,
+            input,
+            &mut ahead,
+            &mut line,
+            before,
+            &mut surveyor,
+            haul,
+            errors,
         )?;
         size += read.size;
         if size > GATHER_LIMIT {

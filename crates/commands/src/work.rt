@@ -107,7 +107,14 @@ fn put_all<W: Write>(
         (stream W.contents output.old output.new) }
 {
     let mut surveyor = Surveyor::new(alloc);
-    put_reports(alloc, &haul.job(), worker, haul.ranges(), &mut surveyor, output)
+    put_reports(
+        alloc,
+        &haul.job(),
+        worker,
+        haul.ranges(),
+        &mut surveyor,
+        output,
+    )
 }
 
 /// Writes the reports on the soups of some ranges.

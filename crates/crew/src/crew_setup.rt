@@ -7,8 +7,8 @@ ghost use Rattle.handover.specs.Tickets.{fresh};
 ghost use Rattle.crew.specs.CrewSteps.{HaveRoom};
 ghost use Rattle.crew.specs.Takes.{was_missing};
 
-use crate::note::Note;
 use crate::endpoints::Endpoints;
+use crate::note::Note;
 use crate::shared::Shared;
 use handover::belt::{Belt, ReceiverPass};
 use handover::tickets::{Tickets, TicketsError};

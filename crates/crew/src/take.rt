@@ -24,13 +24,13 @@ ghost use Rattle.handover.specs.Tickets.{AreAllBelow, drawn_by_all, fresh, how_m
 ghost use Rattle.crew.specs.declared.take.CrewError.TheVariants as CrewError;
 
 use crate::collector::collect;
+use crate::crew_setup::CrewSetup;
+use crate::endpoints::Endpoints;
 use crate::gate::Gate;
 use crate::note::Note;
-use crate::endpoints::Endpoints;
-use crate::worker::{End, WorkerResult, run_worker};
-use crate::shared::Shared;
-use crate::crew_setup::CrewSetup;
 use crate::progress_observer::ProgressObserver;
+use crate::shared::Shared;
+use crate::worker::{End, WorkerResult, run_worker};
 use handover::belt::{ReceiverPass, SenderPass};
 use handover::tickets::Pass;
 use haul_core::book::haul::Haul;
@@ -279,11 +279,27 @@ fn run_crew<'s, E, G: Gate + Sync, R: Threads + Wait + Sync, H: ProgressObserver
     crew.away += started;
     run_crew(alloc, rt, scope, shared, gate, crew, observer);
     crew.away -= started;
-    note_result(crew, join_worker(rt, Duty { worker, shared, gate }, begun));
+    note_result(
+        crew,
+        join_worker(
+            rt,
+            Duty {
+                worker,
+                shared,
+                gate,
+            },
+            begun,
+        ),
+    );
 }
 
 /// Collects what the workers report that have been started, until the last of them is done.
-fn receive_all<R: Wait, H: ProgressObserver>(rt: &R, shared: &Shared, crew: &mut Crew, observer: &mut H)
+fn receive_all<R: Wait, H: ProgressObserver>(
+    rt: &R,
+    shared: &Shared,
+    crew: &mut Crew,
+    observer: &mut H,
+)
     requires { crew.old.receiver.belt ≡ shared.now.belt }
     ensures collected { Collected (collector_of crew.old.away crew.old) (collector_of 0 crew.new)
         (not (is_some crew.new.lacking)) }
@@ -324,7 +340,11 @@ fn start_worker<'s, E, G: Gate + Sync, R: Threads + Wait + Sync>(
     ensures unstarted { IfErr result (λ worker_result. was_started worker_result.end ≡ false) }
 {
     let worker = sender.number();
-    let duty = Duty { worker, shared, gate };
+    let duty = Duty {
+        worker,
+        shared,
+        gate,
+    };
     let worker_result = move || -> WorkerResult
         requires { (pass ≡ fresh shared.now.tickets) × (sender ≡ silent shared.now.belt.name sender.number)
             × IsWorker sender.number }

@@ -9,10 +9,10 @@ mod gates;
 #[cfg(test)]
 mod left;
 #[cfg(test)]
+mod progress_observer;
+#[cfg(test)]
 mod shortage;
 #[cfg(test)]
 mod small;
 #[cfg(test)]
 mod tickets;
-#[cfg(test)]
-mod progress_observer;

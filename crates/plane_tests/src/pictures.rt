@@ -1,6 +1,6 @@
 //! Patterns drawn by hand.
-use plane_core::plane::orientation::Orientation;
 use plane_core::output::Out;
+use plane_core::plane::orientation::Orientation;
 use plane_core::plane::pattern::Pattern;
 use plane_core::plane::rule::Rule;
 use std::alloc::Global;

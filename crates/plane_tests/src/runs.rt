@@ -1,7 +1,7 @@
 //! Runs of many blinkers and gliders: no clause says that there is enough memory for them, or that a run ends in time.
 use memory::OutOfMemory;
-use plane_core::plane::cell::Cell;
 use plane_core::generation::StepError;
+use plane_core::plane::cell::Cell;
 use plane_core::plane::pattern::{FromCellsError, Pattern};
 use plane_core::plane::rule::Rule;
 use std::alloc::Global;

@@ -1,6 +1,6 @@
 //! A run ends rightly, or fails because memory ran out, whichever allocation is refused. `checks/memory` refuses each in turn.
-use plane_core::plane::cell::Cell;
 use plane_core::generation::StepError;
+use plane_core::plane::cell::Cell;
 use plane_core::plane::pattern::Pattern;
 use plane_core::plane::rule::Rule;
 use std::test::Fail;

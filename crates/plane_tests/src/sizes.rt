@@ -1,9 +1,9 @@
 //! Each call that takes memory, once on nothing and once on 100,000 cells: no clause says that there is enough.
 use memory::OutOfMemory;
+use plane_core::output::Out;
 use plane_core::plane::bounds::Bounds;
 use plane_core::plane::cell::Cell;
 use plane_core::plane::orientation::{Orientation, orientations};
-use plane_core::output::Out;
 use plane_core::plane::pattern::{FromCellsError, Pattern};
 use plane_core::plane::rule::Rule;
 use std::alloc::Global;

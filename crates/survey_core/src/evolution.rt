@@ -28,10 +28,10 @@ pub(crate) mod spare_board;
 /// A board, and the spaceships that were removed from it.
 pub(crate) mod split_pattern;
 
+use crate::evolution::spare_board::SpareBoard;
 use crate::evolution::split_pattern::{LATEST_TIME, SplitPattern, whole};
 use crate::patterns::{next, run_on};
 use crate::profile::Profile;
-use crate::evolution::spare_board::SpareBoard;
 use crate::shapes::memo::Memo;
 use memory::OutOfMemory;
 use plane_core::plane::pattern::Pattern;

@@ -3,16 +3,16 @@ ghost use Rattle.std.specs.Prelude.{◌≡◌, IfOk, true};
 ghost use Rattle.plane_core.specs.plane.Generations.{lies_within};
 
 use memory::OutOfMemory;
-use plane_core::plane::pattern::Pattern;
 use plane_core::plaintext::PlaintextError;
+use plane_core::plane::pattern::Pattern;
 use plane_core::plane::rule::Rule;
 use std::alloc::Global;
 use std::test::Fail;
 use survey_core::finding::{Finding, survey, survey_pattern};
 use survey_core::job::Job;
-use survey_core::surveyor::Surveyor;
 use survey_core::profile::Profile;
 use survey_core::seed::Seed;
+use survey_core::surveyor::Surveyor;
 
 /// A pattern as it is drawn.
 fn drawn(alloc: Global, picture: &str) -> Result<Pattern, PlaintextError>

@@ -15,9 +15,9 @@ use code_core::name::name;
 use haul_core::book::haul::{Haul, OpenError};
 use haul_core::report::{Report, ReportError};
 use memory::OutOfMemory;
-use plane_core::plane::cell::Cell;
 use plane_core::clusters::clusters_are_determined;
 use plane_core::generation::StepError;
+use plane_core::plane::cell::Cell;
 use plane_core::plane::pattern::{FromCellsError, Pattern};
 use plane_core::plane::rule::Rule;
 use ranges::range::Range;
@@ -27,9 +27,9 @@ use std::io::{self, Read};
 use std::time::Instant;
 use survey_core::finding::Finding;
 use survey_core::job::Job;
-use survey_core::surveyor::Surveyor;
 use survey_core::profile::Profile;
 use survey_core::seed::Seed;
+use survey_core::surveyor::Surveyor;
 
 /// How many clusters the pattern has.
 fn cluster_count(alloc: Global, pattern: &Pattern) -> Result<usize, OutOfMemory>

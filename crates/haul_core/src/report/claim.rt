@@ -12,8 +12,8 @@ pub mod check;
 /// The codes of claims.
 pub mod claimed_code;
 /// How claims are read from their lines.
-pub mod read_line;
 mod read_field;
+pub mod read_line;
 mod read_start;
 
 /// What a worker claims of a soup: the job, the worker, the soup's number, and what is said to be found.

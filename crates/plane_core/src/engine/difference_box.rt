@@ -15,8 +15,8 @@ ghost use Rattle.plane_core.specs.engine.WindowOrigins.{MarksDifferences};
 ghost use Rattle.plane_core.specs.declared.plane.cell.Cell.{Cell};
 
 use crate::engine::window_origin::WindowOrigin;
-use crate::windows::window::INNER_COLUMNS;
 use crate::plane::bounds::Bounds;
+use crate::windows::window::INNER_COLUMNS;
 
 /// The mask of a window's inner rows, 4 to 35.
 const INNER_ROWS: u64 = 0x0000_000f_ffff_fff0;

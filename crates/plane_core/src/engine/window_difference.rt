@@ -35,7 +35,13 @@ fn differing(one: u64x4, other: u64x4, k: usize) -> u64x4
     ensures { (j i : ℕ) → j < 4 → 4 ≤ i → i < 60 → 4 ≤ j * 10 + k → j * 10 + k < 36 → bit_of result j i ≡ 0
         → bit_of one j i ≡ bit_of other j i }
 {
-    (one ^ other) & u64x4::from_array([inner_if(k >= 4), INNER_COLUMNS, INNER_COLUMNS, inner_if(k < 6)])
+    (one ^ other)
+        & u64x4::from_array([
+            inner_if(k >= 4),
+            INNER_COLUMNS,
+            INNER_COLUMNS,
+            inner_if(k < 6),
+        ])
 }
 
 /// The rows of vector k of which a place is set, as bits of a word in each lane.

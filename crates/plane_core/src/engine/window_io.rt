@@ -101,7 +101,12 @@ fn write_row(words: &mut [u64], at: Frame, x: usize, y: usize, word: u64)
 {
     let i = x / 64 * at.rows + y;
     let shift = x % 64;
-    put_word(words, i, in_first(INNER_COLUMNS, shift), in_first(word, shift));
+    put_word(
+        words,
+        i,
+        in_first(INNER_COLUMNS, shift),
+        in_first(word, shift),
+    );
     put_word(
         words,
         i + at.rows,

@@ -103,7 +103,7 @@ returns g c =
         ends = elim (cases_Bool (has_printed status)) [
           | inl is ↦
               let changed : c.send_buffered-status.result ≢ status = unlike (λ s. c.send_buffered-status.result ≢ s) status is
-                  (λ e. undone (ap exit_code e)) (λ e. complete (ap exit_code e)) in
+              (λ e. undone (ap exit_code e)) (λ e. complete (ap exit_code e)) in
               inr (is, ap exit_code (sent.failed changed), refl, record { line = sent.line changed; stays = sent.stays })
           | inr isnt ↦ let same = sent.kept isnt in
               inl (isnt, ap exit_code same.0, ap (stream g.E.Write.contents c.args.machine.now.errors) same.1)

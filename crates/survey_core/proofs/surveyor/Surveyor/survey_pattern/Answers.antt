@@ -41,7 +41,7 @@ pub returns-in-Some : goal.returns-in-Some
 returns-in-Some c = record {
   few = rw c.in-Some.is at c.in_ok-found.ensures.few;
   finding = finding_from c.args.rule.now c.args.profile.now c.args.pattern (kept c.args.rule.now c.loop-evolution.evolution) c.loop-evolution.checkpoint c.in-Some.finding
-    (rw c.in-Some.is at c.in_ok-found.ensures.settled) c.loop-evolution.invariant.latest c.loop-evolution.invariant.here c.loop-evolution.invariant.before;
+      (rw c.in-Some.is at c.in_ok-found.ensures.settled) c.loop-evolution.invariant.latest c.loop-evolution.invariant.here c.loop-evolution.invariant.before;
 }
 
 pub overflow_sub-limit : goal.overflow_sub-limit
@@ -52,11 +52,11 @@ pub returns-then-limit-checkpoint : goal.returns-then-limit-checkpoint
 returns-then-limit-checkpoint c = record {
   few = omega arith;
   finding = none_at_last c.args.rule.now c.args.profile.now c.args.pattern (kept c.args.rule.now c.loop-evolution.evolution) c.loop-evolution.checkpoint
-    (rw c.in_default.is at c.in_ok-found.ensures.moves) c.loop-evolution.invariant.latest c.stride-stride.ensures.profile.onward
-    c.loop-evolution.invariant.here
-    (no_room c.args.profile.now.limit c.args.profile.now.stride c.limit-limit.result c.stride-stride.result c.loop-evolution.checkpoint
-    c.limit-limit.ensures.limit c.stride-stride.ensures.stride c.if-limit-checkpoint.true)
-    c.loop-evolution.invariant.before;
+      (rw c.in_default.is at c.in_ok-found.ensures.moves) c.loop-evolution.invariant.latest c.stride-stride.ensures.profile.onward
+      c.loop-evolution.invariant.here
+      (no_room c.args.profile.now.limit c.args.profile.now.stride c.limit-limit.result c.stride-stride.result c.loop-evolution.checkpoint
+      c.limit-limit.ensures.limit c.stride-stride.ensures.stride c.if-limit-checkpoint.true)
+      c.loop-evolution.invariant.before;
 }
 
 -- not yet
