@@ -193,6 +193,24 @@ class Usage(unittest.TestCase):
         self.assertEqual((ended.returncode, ended.stdout, ended.stderr), (2, b"", b"haul: Python 3.10 or later is needed, and this is 3.9\n"))
 
 
+class Starter(unittest.TestCase):
+    """What Python itself would say before this program begins."""
+
+    def test_a_folder_as_input(self) -> None:
+        ended = subprocess.run(["bash", "-c", 'exec "$0" join < /', HAUL], capture_output=True, check=False)
+        self.assertEqual((ended.returncode, ended.stdout, ended.stderr), (5, b"", b"haul: Is a directory\n"))
+
+    def test_an_interrupt_while_python_starts(self) -> None:
+        """It ends without a word, whenever it comes; a shell says 130 then."""
+        for moment in range(30):
+            with subprocess.Popen([HAUL, "join"], stdin=subprocess.PIPE, stdout=subprocess.PIPE, stderr=subprocess.PIPE,
+                                  preexec_fn=lambda: signal.signal(signal.SIGINT, signal.SIG_DFL)) as program:
+                time.sleep(moment * 0.003)
+                program.send_signal(signal.SIGINT)
+                errors = program.communicate()[1]
+            self.assertEqual((program.returncode, errors), (-signal.SIGINT, b""))
+
+
 class NoThreads(unittest.TestCase):
     """The system starts no more threads, of which the first one is that in which all is done."""
 
