@@ -208,6 +208,16 @@ impl Hash for Apgcode {
     }
 }
 
+/// Shows the text.
+impl fmt::Display for Apgcode {
+    ghost output = { λ code. Some code };
+
+    fn fmt<W: fmt::Write>(&self, f: &mut fmt::Formatter<W>) -> fmt::Result {
+        f.write_str(self.text())
+    }
+}
+
+/// Shows the text, as `Display` does.
 impl fmt::Debug for Apgcode {
     fn fmt<W: fmt::Write>(&self, f: &mut fmt::Formatter<W>) -> fmt::Result {
         f.write_str(self.text())
