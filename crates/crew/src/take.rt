@@ -36,6 +36,7 @@ use handover::tickets::Pass;
 use haul_core::book::haul::Haul;
 use memory::OutOfMemory;
 use std::alloc::Global;
+use std::fmt;
 use std::sync::Wait;
 use std::sync::atomic::Ordering;
 use std::thread;
@@ -43,17 +44,31 @@ use std::thread::{Promise, PromisedHandle, Scope, Threads};
 use thiserror::Error;
 
 /// Why a crew did not complete a haul.
-#[derive(Clone, Copy, Debug, PartialEq, Eq, Error)]
+#[derive(Clone, Copy, PartialEq, Eq, Error)]
 pub enum CrewError {
     /// The haul is closed.
-    #[error("closed")]
     Closed,
     /// The gate stopped a worker: of those that it stopped, this is the one with the least number.
-    #[error("worker {worker} was stopped")]
     Stopped { worker: u8 },
     /// Memory ran out, or there was none for a thread.
-    #[error("out of memory")]
     Memory(OutOfMemory),
+}
+
+impl fmt::Display for CrewError {
+    fn fmt<W: fmt::Write>(&self, f: &mut fmt::Formatter<W>) -> fmt::Result {
+        match self {
+            CrewError::Closed => f.write_str("closed"),
+            CrewError::Stopped { worker } => write!(f, "worker {worker} was stopped"),
+            CrewError::Memory(_) => f.write_str("out of memory"),
+        }
+    }
+}
+
+/// Shows the message, as `Display` does.
+impl fmt::Debug for CrewError {
+    fn fmt<W: fmt::Write>(&self, f: &mut fmt::Formatter<W>) -> fmt::Result {
+        fmt::Display::fmt(self, f)
+    }
 }
 
 /// Has `workers` workers survey what is missing in a haul, each in a thread of its own, and offers what they report.

@@ -172,17 +172,17 @@ fn put_numbers(
     place: usize,
     letter: u8,
     least: u8,
-    logic: &[bool],
+    answers: &[bool],
 ) -> usize
-    requires digits { least + length logic.now ≤ 10 }
-    requires room { place + 1 + length logic.now ≤ 19 }
-    ensures end { result ≤ place + 1 + length logic.now }
-    ensures text { take result text.new ≡ take place text.old ++ letter ∷ digits least logic.now }
+    requires digits { least + length answers.now ≤ 10 }
+    requires room { place + 1 + length answers.now ≤ 19 }
+    ensures end { result ≤ place + 1 + length answers.now }
+    ensures text { take result text.new ≡ take place text.old ++ letter ∷ digits least answers.now }
 {
     text[place] = letter;
     let mut end = place + 1;
-    for (i, next_cells) in logic.iter().enumerate() {
-        if *next_cells {
+    for (i, answer) in answers.iter().enumerate() {
+        if *answer {
             text[end] = b'0' + least + i as u8;
             end += 1;
         }
