@@ -36,11 +36,10 @@ use handover::tickets::Pass;
 use haul_core::book::haul::Haul;
 use memory::OutOfMemory;
 use std::alloc::Global;
-use std::fmt;
 use std::sync::Wait;
 use std::sync::atomic::Ordering;
-use std::thread;
 use std::thread::{Promise, PromisedHandle, Scope, Threads};
+use std::{fmt, thread};
 use thiserror::Error;
 
 /// Why a crew did not complete a haul.
