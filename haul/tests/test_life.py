@@ -219,7 +219,7 @@ class Soups(unittest.TestCase):
             self.assertEqual(trimmed(soup_of(f"{seed}{number}")), printed.splitlines())
 
     def test_trimmed(self) -> None:
-        self.assertEqual((trimmed(["...", ".O.", "...", "OO.", "..."]), trimmed(["...", "..."]), trimmed([])), ([".O", "..", "OO"], [], []))
+        self.assertEqual((trimmed(["....", "..O.", "....", ".OO.", "...."]), trimmed(["...", "..."]), trimmed([])), ([".O", "..", "OO"], [], []))
 
 
 if __name__ == "__main__":
