@@ -152,7 +152,7 @@ class Comparison:
 
     def json(self) -> Iterator[str]:
         """Yields the lines of a JSON object, in which each code has one."""
-        hauls = [
+        hauls: list[dict[str, object]] = [
             {"haul": letter, **facts_of(haul), "alone": self.alone(haul), **parts_facts(objects)}
             for (letter, haul), objects in zip(lettered(self.hauls), self.objects, strict=True)
         ]

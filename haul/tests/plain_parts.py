@@ -4,7 +4,7 @@ from __future__ import annotations
 
 import re
 from collections import defaultdict
-from collections.abc import Iterator
+from collections.abc import Callable, Iterator
 from itertools import groupby
 
 Cell = tuple[int, int]
@@ -12,8 +12,10 @@ Cells = frozenset[Cell]
 Rule = tuple[frozenset[int], frozenset[int]]
 
 DIGITS = "0123456789abcdefghijklmnopqrstuvwxyz"
-ORIENTATIONS = [lambda x, y: (x, y), lambda x, y: (-y, x), lambda x, y: (-x, -y), lambda x, y: (y, -x),
-                lambda x, y: (-x, y), lambda x, y: (x, -y), lambda x, y: (y, x), lambda x, y: (-y, -x)]
+ORIENTATIONS: list[Callable[[int, int], tuple[int, int]]] = [
+    lambda x, y: (x, y), lambda x, y: (-y, x), lambda x, y: (-x, -y), lambda x, y: (y, -x),
+    lambda x, y: (-x, y), lambda x, y: (x, -y), lambda x, y: (y, x), lambda x, y: (-y, -x),
+]
 
 
 def rule_of(text: str) -> Rule:

@@ -142,7 +142,7 @@ class Generations(unittest.TestCase):
             for phase in recurrence.phases:
                 self.assertEqual(phase, later)
                 later = next_generation(rule_of("b3s23"), later)
-            self.assertEqual((later, sorted(map(abs, recurrence.shift))), (moved(cells, recurrence.shift), sorted(map(abs, shift))))
+            self.assertEqual((later, sorted(abs(way) for way in recurrence.shift)), (moved(cells, recurrence.shift), sorted(abs(way) for way in shift)))
 
     def test_the_longest_period(self) -> None:
         """A census looks for 64 generations, and a pulsar takes three; what dies or becomes another pattern never recurs."""

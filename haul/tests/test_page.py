@@ -304,7 +304,8 @@ class Ends(unittest.TestCase):
         self.assertEqual([one for one, _ in elements(page(made({"xs4_33": 8}, [(0, 9)], (1, 1, 1, 0))), "details")], [{}])
 
     def test_which_options_are_passed_on(self) -> None:
-        for words, wanted in (([], (1, 500)), (["--least=7", "--play=3"], (7, 3))):
+        none: list[str] = []
+        for words, wanted in ((none, (1, 500)), (["--least=7", "--play=3"], (7, 3))):
             with patch("haul.main.page_of", return_value=[]) as made_of, patch("haul.main.the_haul"):
                 self.assertEqual(do_page(parser().parse_args(["page", "--census", CENSUS, *words])), 0)
             self.assertEqual(made_of.call_args.args[2:], wanted)

@@ -16,6 +16,7 @@ from itertools import permutations
 from math import exp, fsum, lgamma, log, ulp
 from pathlib import Path
 from types import FrameType
+from typing import Any
 
 from haul.columns import figure
 from haul.compare import lettered, meet
@@ -103,7 +104,8 @@ class Intervals(unittest.TestCase):
         deviations = 1.959963984540054
 
         def quantile(shape: int, z: float) -> float:
-            return shape + z * shape**0.5 + (z * z - 1) / 3 + (z**3 - 7 * z) / (36 * shape**0.5) - (3 * z**4 + 7 * z * z - 16) / (810 * shape)
+            root: float = shape**0.5
+            return shape + z * root + (z * z - 1) / 3 + (z**3 - 7 * z) / (36 * root) - (3 * z**4 + 7 * z * z - 16) / (810 * shape)
 
         for total in (31, 50, 1000, 20000, 10**6, 10**8, 10**9, 2**33, 2**36, 2**40, 2**46, 2**53):
             low, high = interval(total)
@@ -136,7 +138,7 @@ def lines_of(function: Callable[[int], object], number: int) -> int:
     """How many lines of Python it runs for this number."""
     lines = 0
 
-    def count(_frame: FrameType, event: str, _argument: object) -> Callable[..., object]:
+    def count(_frame: FrameType, event: str, _argument: Any) -> Any:
         nonlocal lines
         lines += event == "line"
         return count
@@ -202,7 +204,8 @@ rank  code     total  per_million  one_in_at_most  samples  label
     def test_codes_that_say_nothing(self) -> None:
         """One that names no kind has none, and no period."""
         text = haul("b3s23", 10, {"xs4_33": 3, "zz_1": 2, "y": 1}).encode()
-        for words, codes in (([], ["xs4_33", "zz_1", "y"]), (["--period=1"], ["xs4_33"]), (["--kind=s"], ["xs4_33"])):
+        none: list[str] = []
+        for words, codes in ((none, ["xs4_33", "zz_1", "y"]), (["--period=1"], ["xs4_33"]), (["--kind=s"], ["xs4_33"])):
             self.assertEqual([line.split()[1] for line in run("table", *words, text=text)[1].splitlines()[1:]], codes)
 
     def test_csv(self) -> None:
@@ -273,12 +276,13 @@ in A alone: xq4_153 xs8_rr; in B alone: xp15_4r4z4r4
                  "c": (1000, {"xs4_33": 510, "xp2_7": 20, "ov_p123": 5})}
         rules = {"a": "b3s23", "b": "b36s23", "c": "b3s12"}
         ends = {total: exact_ends(total) for total in (0, 1, 2, 3, 4, 5, 20, 500, 510, 1000)}
+        none: list[str] = []
 
         def shown(number: float) -> str:
             return f"{number:.2f}" if number >= 1 or number == 0 else f"{number:.3g}"
 
         for order in permutations("abc"):
-            for words, least, unit in (([], 1, 10**6), (["--per", "soup"], 1, 1), (["--least", "4"], 4, 10**6), (["--rare"], 1, 10**6)):
+            for words, least, unit in ((none, 1, 10**6), (["--per", "soup"], 1, 1), (["--least", "4"], 4, 10**6), (["--rare"], 1, 10**6)):
                 hauls = [facts[name] for name in order]
                 best = {code: max(totals.get(code, 0) / soups for soups, totals in hauls) for _, totals in hauls for code in totals
                         if any(other.get(code, 0) >= least for _, other in hauls)}
