@@ -4,11 +4,11 @@ _haul() {
     local word=${COMP_WORDS[COMP_CWORD]} before=${COMP_WORDS[COMP_CWORD - 1]} options=''
     COMPREPLY=()
     if [[ $COMP_CWORD == 1 ]]; then
-        mapfile -t COMPREPLY < <(compgen -W 'check join compare table page soup cells rle --help --version' -- "$word")
+        mapfile -t COMPREPLY < <(compgen -W 'check join compare table page soup soups cells rle --help --version' -- "$word")
         return
     fi
     case $before in
-        --workers | --least | --rule | --top | --period | --play) return ;;
+        --workers | --least | --rule | --top | --period | --play | --longest | --code) return ;;
         --per)
             mapfile -t COMPREPLY < <(compgen -W 'million soup' -- "$word")
             return
@@ -29,6 +29,7 @@ _haul() {
         table) options='--top --rare --kind --period --strict --parts --csv --json --help' ;;
         page) options='--least --play --census --help' ;;
         soup) options='--help' ;;
+        soups) options='--longest --exact --unsettled --code --csv --json --census --help' ;;
         cells) options='--help' ;;
         rle) options='--rule --help' ;;
     esac

@@ -34,10 +34,10 @@ class Children:
         # Held while one is started, so that each that runs is known.
         self.starts = threading.Lock()
 
-    def start(self, words: list[str], stdout: int, stderr: int | None) -> subprocess.Popen[bytes]:
-        """Starts a program that reads nothing. Raises `OSError` if that fails."""
+    def start(self, words: list[str], stdout: int, stderr: int | None, stdin: int) -> subprocess.Popen[bytes]:
+        """Starts a program. Raises `OSError` if that fails."""
         with self.starts:
-            program = subprocess.Popen(words, stdin=subprocess.DEVNULL, stdout=stdout, stderr=stderr)
+            program = subprocess.Popen(words, stdin=stdin, stdout=stdout, stderr=stderr)
             self.running.append(program)
         return program
 

@@ -4,13 +4,16 @@ from __future__ import annotations
 
 from haul.by_parts import Objects
 from haul.columns import exact
-from haul.text import Haul
+from haul.text import Haul, Job
 from haul.words import noun
 
 
+def job_text(job: Job) -> str:
+    return f"seed={job.seed} rule={job.rule} profile={','.join(map(str, job.profile))}"
+
+
 def job_line(letter: str, haul: Haul) -> str:
-    period, horizon, stride, limit = haul.job.profile
-    return f"{letter}: seed={haul.job.seed} rule={haul.job.rule} profile={period},{horizon},{stride},{limit}"
+    return f"{letter}: {job_text(haul.job)}"
 
 
 def soups_line(letter: str, haul: Haul, by_parts: bool = False) -> str:

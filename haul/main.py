@@ -16,11 +16,14 @@ from haul.children import NoThread, status_of
 from haul.columns import width_of_terminal
 from haul.compare import Comparison, ranked
 from haul.join import CantJoin, Joining
-from haul.options import parser
+from haul.options import parsed
 from haul.page import page_of
 from haul.plaintext import BadPlaintext, is_plaintext, read_plaintext
 from haul.program import Census, Ended, NoCensus, tell
+from haul.reports import Reports
 from haul.rle import LIFE, BadRle, option_of, read_rle, rle_of
+from haul.settling import Settling
+from haul.soup_lists import Leaving, Longest, SoupList, Unsettled
 from haul.soups import BadSample, soups_of
 from haul.table import Choice, csv, json, table_of, text
 from haul.text import BadHaul, Haul, lines_of, read_hauls, read_one_haul
@@ -167,8 +170,32 @@ def do_soup(asked: argparse.Namespace) -> int:
     return DONE
 
 
+def do_soups(asked: argparse.Namespace) -> int:
+    reports, settling, soups = Reports(), Settling(), soups_asked(asked)
+    for name in asked.files or [None]:
+        with opened(name) as stream:
+            for report in reports.read(stream, place_of(name)):
+                settling.add(report)
+                soups.add(report)
+    tell("")
+    table = soups.table(reports.job, settling)
+    form = table.csv if asked.csv else table.json if asked.json else table.text
+    write(form(reports.job, settling))
+    return DONE
+
+
+def soups_asked(asked: argparse.Namespace) -> SoupList:
+    """The list of soups that is asked for."""
+    if asked.longest is not None:
+        return Longest(asked.longest, Census(asked.census) if asked.exact else None)
+    if asked.unsettled:
+        return Unsettled(Census(asked.census))
+    return Leaving(asked.code) if asked.code is not None else SoupList()
+
+
 COMMANDS = {
-    "check": do_check, "join": do_join, "compare": do_compare, "table": do_table, "page": do_page, "soup": do_soup, "cells": do_cells, "rle": do_rle,
+    "check": do_check, "join": do_join, "compare": do_compare, "table": do_table, "page": do_page, "soup": do_soup, "soups": do_soups,
+    "cells": do_cells, "rle": do_rle,
 }
 
 
@@ -209,7 +236,7 @@ def reason_of(error: OSError) -> str:
 
 def do_command() -> int:
     try:
-        asked = parser().parse_args()
+        asked = parsed()
     except SystemExit as ended:
         # Help or the version was asked for, or the words weren't understood; either has been told.
         return DONE if ended.code == 0 else USAGE

@@ -6,9 +6,11 @@ import argparse
 
 from haul import VERSION
 from haul.compare import MOST_HAULS
-from haul.text import RULE
+from haul.text import CODE, RULE
 
-DESCRIPTION = "Checks, joins, compares and shows hauls, the texts that `census take` and `census gather` print, and reads and writes RLE."
+DESCRIPTION = """\
+Checks, joins, compares and shows hauls, the texts that `census take` and `census gather` print,
+lists what the report lines of `census work` say of soups, and reads and writes RLE."""
 
 EXAMPLES = """\
 examples:
@@ -19,6 +21,7 @@ examples:
   haul table --strict --rare all.haul             the rarest objects of a haul
   haul page < all.haul > all.html                 a page with pictures
   haul soup C1/k_abcdef12345 | census name        what a sample of Catagolue leaves
+  haul soups --longest 10 parts/*.lines           the soups of report lines that settled last
   haul cells gun.rle | census run 30              a pattern in RLE, as census reads it
   census show xq4_153 | haul rle                  a pattern of census, as Golly reads it
 
@@ -42,9 +45,17 @@ def parser() -> argparse.ArgumentParser:
     top = argparse.ArgumentParser(prog="haul", description=DESCRIPTION, epilog=EXAMPLES, formatter_class=raw)
     top.add_argument("--version", action="version", version=f"haul {VERSION}")
     commands = Commands(top)
-    for add in (add_check, add_join, add_compare, add_table, add_page, add_soup, add_cells, add_rle):
+    for add in (add_check, add_join, add_compare, add_table, add_page, add_soup, add_soups, add_cells, add_rle):
         add(commands)
     return top
+
+
+def parsed(words: list[str] | None = None) -> argparse.Namespace:
+    """Reads the words of a call, by default those of this one. Ends with a text if they aren't understood."""
+    asked = parser().parse_args(words)
+    if asked.command == "soups" and asked.exact and asked.longest is None:
+        asked.refuse("--exact needs --longest")
+    return asked
 
 
 def add_check(commands: Commands) -> None:
@@ -144,6 +155,27 @@ def add_soup(commands: Commands) -> None:
     soup.add_argument("samples", nargs="+", metavar="ID", help="the sample")
 
 
+def add_soups(commands: Commands) -> None:
+    soups = commands.add(
+        "soups", "list what report lines say of their soups",
+        "Without a list, it prints when they\nsettled: the quartiles and the mean of the checkpoints, and a bar for every 500\n"
+        "generations. The lines, which `census work` prints, aren't checked; `census gather` does\nthat. A bad line, and a line of another job "
+        "than the first, is reported and skipped. Each\nsoup counts once.\n\n"
+        "examples:\n  census work --count 200 --worker 1 | haul soups\n  haul soups --longest 10 --exact parts/*.lines\n"
+        "  haul soups --code xp2_7e parts/*.lines",
+    )
+    lists = soups.add_mutually_exclusive_group()
+    lists.add_argument("--longest", type=count, metavar="N", help="list the N soups that settled last")
+    lists.add_argument("--unsettled", action="store_true", help="list the unsettled soups, each with its population at the last checkpoint, and how "
+                       "much that grew over 1,000 generations")
+    lists.add_argument("--code", type=code, metavar="CODE", help="list the soups that left an object of this code, each with how many")
+    soups.add_argument("--exact", action="store_true", help="with --longest: find the generations themselves, with `census name --stride 1`")
+    add_forms(soups)
+    add_census(soups)
+    soups.add_argument("files", nargs="*", metavar="file", help="the lines (default: standard input)")
+    soups.set_defaults(refuse=soups.error)
+
+
 def add_cells(commands: Commands) -> None:
     cells = commands.add(
         "cells", "print a pattern in RLE as plaintext, which `census run` and `census name` read",
@@ -182,6 +214,12 @@ def count(text: str) -> int:
     if not (text.isascii() and text.isdigit()):
         raise argparse.ArgumentTypeError(f"{text} is no number")
     return int(text)
+
+
+def code(text: str) -> str:
+    if not CODE.fullmatch(text.encode("utf-8", "surrogateescape")):
+        raise argparse.ArgumentTypeError(f"{text} is no code, as xs4_33 is one")
+    return text
 
 
 def rule(text: str) -> str:

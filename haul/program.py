@@ -28,6 +28,10 @@ FAILED = 5
 # Why a program can't be started where there is none, or none of this machine. With any other reason there may be one.
 NOT_THERE = (errno.ENOENT, errno.ENOTDIR, errno.EACCES, errno.EPERM, errno.ENOEXEC, errno.ELOOP, errno.ENAMETOOLONG, errno.EINVAL)
 
+# How much is read at a time of a pattern that isn't kept, and the byte of a live cell in it.
+BYTES_AT_A_TIME = 2**20
+LIVE = b"O"
+
 # A line of `work` after the job: a number, and what was found.
 REPORT = re.compile(rb"([0-9]{1,13}) ([a-z0-9_=* ]+)")
 
@@ -60,11 +64,22 @@ class Census:
             raise NoCensus("no census beside this program or on the PATH")
         self.path = found
 
-    def ask(self, words: list[str]) -> bytes:
-        """What the program prints."""
-        with started([self.path, *words], subprocess.PIPE, subprocess.PIPE) as program:
+    def ask(self, words: list[str], pattern: bytes = b"") -> bytes:
+        """What the program prints. The pattern that it reads has to fit into a pipe, as that of a soup does."""
+        with piped(pattern) as read, started([self.path, *words], subprocess.PIPE, subprocess.PIPE, read) as program:
             printed, errors = program.communicate()
         return checked(program.returncode, printed, errors)
+
+    def live_cells(self, words: list[str], pattern: bytes) -> int:
+        """Counts the live cells of the pattern that the program prints. The pattern isn't kept, since it may be larger than memory."""
+        cells = 0
+        with piped(pattern) as read, started([self.path, *words], subprocess.PIPE, subprocess.PIPE, read) as program:
+            assert program.stdout and program.stderr
+            while piece := program.stdout.read(BYTES_AT_A_TIME):
+                cells += piece.count(LIVE)
+            errors = program.stderr.read()
+        checked(program.returncode, b"", errors)
+        return cells
 
     def each(self, ask: Callable[[list[Asked]], Said], asked: list[Asked], size: int, told: str) -> Iterator[Said]:
         """What is answered to these, so many at once, and several times so many at a time."""
@@ -152,10 +167,22 @@ def missing(path: str) -> NoCensus:
 
 
 @contextmanager
-def started(words: list[str], stdout: int, stderr: int | None) -> Iterator[subprocess.Popen[bytes]]:
+def piped(text: bytes) -> Iterator[int]:
+    """The end of a pipe from which a text can be read. The text has to fit into the pipe."""
+    read, written = os.pipe()
+    try:
+        with open(written, "wb") as pipe:
+            pipe.write(text)
+        yield read
+    finally:
+        os.close(read)
+
+
+@contextmanager
+def started(words: list[str], stdout: int, stderr: int | None, stdin: int = subprocess.DEVNULL) -> Iterator[subprocess.Popen[bytes]]:
     """A program that runs, and has ended after this. With no number for the errors, it complains by itself."""
     try:
-        program = children.start(words, stdout, stderr)
+        program = children.start(words, stdout, stderr, stdin)
     except OSError as error:
         if error.errno in NOT_THERE:
             raise missing(words[0]) from None
@@ -184,11 +211,13 @@ def pass_on(stream: IO[bytes], errors: bytearray) -> None:
 
 
 def job_words(job: Job) -> list[str]:
+    return [f"--seed={job.seed}", *pattern_words(job)]
+
+
+def pattern_words(job: Job) -> list[str]:
+    """The words for a pattern, which has no seed."""
     period, horizon, stride, limit = job.profile
-    return [
-        f"--seed={job.seed}", f"--rule={job.rule}", f"--period={period}", f"--horizon={horizon}", f"--stride={stride}",
-        f"--limit={limit}",
-    ]
+    return [f"--rule={job.rule}", f"--period={period}", f"--horizon={horizon}", f"--stride={stride}", f"--limit={limit}"]
 
 
 def set_words(ranges: list[Range]) -> list[str]:
