@@ -63,7 +63,7 @@ def comma_separated(rows: Iterable[list[str]]) -> Iterator[str]:
 
 
 def as_json(facts: dict[str, object], objects: Iterable[dict[str, object]], name: str = "objects") -> Iterator[str]:
-    """The lines of a JSON object, in which each of the objects, a list of this name, stands in a line of its own."""
+    """The lines of a JSON object. The objects are a list of this name in it, each in a line of its own."""
     yield f'{json.dumps(facts)[:-1]}, "{name}": ['
     before: str | None = None
     for one in objects:

@@ -8,7 +8,9 @@ from haul import VERSION
 from haul.compare import MOST_HAULS
 from haul.text import CODE, RULE
 
-DESCRIPTION = "Checks, joins, compares and shows hauls, the texts that `census take` and `census gather` print, lists what the report lines of\n`census work` say of soups, and reads and writes RLE."
+DESCRIPTION = """\
+Checks, joins, compares and shows hauls, the texts that `census take` and `census gather` print,
+lists what the report lines of `census work` say of soups, and reads and writes RLE."""
 
 EXAMPLES = """\
 examples:
@@ -50,10 +52,9 @@ def parser() -> argparse.ArgumentParser:
 
 def parsed(words: list[str] | None = None) -> argparse.Namespace:
     """Reads the words of a call, by default those of this one. Ends with a text if they aren't understood."""
-    top = parser()
-    asked = top.parse_args(words)
+    asked = parser().parse_args(words)
     if asked.command == "soups" and asked.exact and asked.longest is None:
-        top.error("soups: --exact needs --longest")
+        asked.refuse("--exact needs --longest")
     return asked
 
 
@@ -157,9 +158,9 @@ def add_soup(commands: Commands) -> None:
 def add_soups(commands: Commands) -> None:
     soups = commands.add(
         "soups", "list what report lines say of their soups",
-        "Reads lines of `census work`. Prints when\nthe soups settled: quartiles, the mean, and a bar for every 500 generations. The lines "
-        "aren't\nchecked against the soups; `census gather` does that. A line that is no report line or has\nanother job than the first one "
-        "is reported and skipped, and a soup counts once.\n\n"
+        "Without a list, it prints when they\nsettled: the quartiles and the mean of the checkpoints, and a bar for every 500\n"
+        "generations. The lines, which `census work` prints, aren't checked; `census gather` does\nthat. A bad line, and a line of another job "
+        "than the first, is reported and skipped. Each\nsoup counts once.\n\n"
         "examples:\n  census work --count 200 --worker 1 | haul soups\n  haul soups --longest 10 --exact parts/*.lines\n"
         "  haul soups --code xp2_7e parts/*.lines",
     )
@@ -172,6 +173,7 @@ def add_soups(commands: Commands) -> None:
     add_forms(soups)
     add_census(soups)
     soups.add_argument("files", nargs="*", metavar="file", help="the lines (default: standard input)")
+    soups.set_defaults(refuse=soups.error)
 
 
 def add_cells(commands: Commands) -> None:

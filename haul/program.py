@@ -65,13 +65,13 @@ class Census:
         self.path = found
 
     def ask(self, words: list[str], pattern: bytes = b"") -> bytes:
-        """What the program prints. It reads a pattern, which is at most as long as that of a soup."""
+        """What the program prints. The pattern that it reads has to fit into a pipe, as that of a soup does."""
         with piped(pattern) as read, started([self.path, *words], subprocess.PIPE, subprocess.PIPE, read) as program:
             printed, errors = program.communicate()
         return checked(program.returncode, printed, errors)
 
     def live_cells(self, words: list[str], pattern: bytes) -> int:
-        """Counts the live cells of the pattern that the program prints, of which nothing is kept: it may be larger than memory."""
+        """Counts the live cells of the pattern that the program prints. The pattern isn't kept, since it may be larger than memory."""
         cells = 0
         with piped(pattern) as read, started([self.path, *words], subprocess.PIPE, subprocess.PIPE, read) as program:
             assert program.stdout and program.stderr

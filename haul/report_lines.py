@@ -1,4 +1,4 @@
-"""Report lines of versions 1 and 2, as docs/FORMATS.md has them: what a line says, and where a bad one is wrong."""
+"""Reads report lines of versions 1 and 2, as docs/FORMATS.md describes them, and finds where a bad line is wrong."""
 
 from __future__ import annotations
 

@@ -1,4 +1,4 @@
-"""The reports that stand in files: those of one job, and of each soup the first. Nothing else is checked of them."""
+"""Reads the reports in files: those of one job, and the first one of each soup. Whether they are right isn't checked."""
 
 from __future__ import annotations
 
@@ -16,7 +16,7 @@ TOLD_AFTER = 10_000
 
 
 class Reports:
-    """What has been read so far."""
+    """The reports that have been read so far."""
 
     def __init__(self) -> None:
         # The job of the first good line.
@@ -25,8 +25,8 @@ class Reports:
         self.lines = 0
 
     def read(self, stream: IO[bytes], place: str) -> Iterator[Report]:
-        """Yields the reports of an input that are of the job, without those on a soup that has one. Each other line is told, except
-        where a soup comes again. The place stands before its number."""
+        """Yields each report that has the job of the first one, unless its soup has been read before. A bad line, or a report of
+        another job, is told on standard error, with `place` before the number of the line."""
         for number, line in enumerate(lines_of(stream), 1):
             self.lines += 1
             if self.lines % TOLD_AFTER == 0:
@@ -45,7 +45,7 @@ class Reports:
 
 
 def lines_of(stream: IO[bytes]) -> Iterator[bytes]:
-    """Yields the lines of an input without their line feeds. Of a line that is too long, one byte more than a line may have."""
+    """Yields the lines of an input without their line feeds. A line that is too long is cut to one byte more than is allowed."""
     while line := stream.readline(LINE_LIMIT + 1):
         yield line.removesuffix(b"\n")
         while len(line) > LINE_LIMIT and not line.endswith(b"\n"):
@@ -53,7 +53,7 @@ def lines_of(stream: IO[bytes]) -> Iterator[bytes]:
 
 
 def complain(line: str) -> None:
-    """Says of a line why it isn't taken, if that can be written."""
+    """Writes why a line is skipped to standard error. If that fails, nothing is said."""
     tell("")
     with suppress(OSError):
         print(f"haul: {line}", file=sys.stderr, flush=True)

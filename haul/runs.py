@@ -1,4 +1,4 @@
-"""What becomes of soups, asked of `census` by their patterns: the exact generation in which they settle, and how they grow."""
+"""Asks `census` about the patterns of soups: in which generation exactly they settle, and how they grow."""
 
 from __future__ import annotations
 
@@ -25,7 +25,7 @@ def pattern_of(job: Job, soup: int) -> bytes:
 
 
 def exact_generations(census: Census, job: Job, soups: list[int]) -> Iterator[int | None]:
-    """Yields the first generation at which each soup is at rest, up to the limit; none if there isn't one."""
+    """Yields the first generation at which each soup is at rest; none if there isn't one up to the limit."""
     return census.each(partial(exact_generation, census, job), soups, SOUPS_IN_A_CALL, "soups run")
 
 
@@ -41,8 +41,8 @@ def exact_generation(census: Census, job: Job, soups: list[int]) -> int | None:
 
 
 def growths(census: Census, job: Job, soups: list[int]) -> Iterator[tuple[int, int, int]]:
-    """Yields the last checkpoint, the population of each soup there, and how many more live cells that is than a thousand
-    generations before, or than in the soup if there aren't as many."""
+    """Yields three numbers for each soup: the last checkpoint, the population there, and its growth in the
+    `GENERATIONS_OF_GROWTH` before it, or since the soup if there are fewer."""
     return census.each(partial(growth, census, job), soups, SOUPS_IN_A_CALL, "soups run")
 
 

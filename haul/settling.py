@@ -1,4 +1,4 @@
-"""When soups settled: how many, by their checkpoints, and the quartiles and the mean of these."""
+"""When soups settled: how many at each checkpoint, and the quartiles and the mean of the checkpoints."""
 
 from __future__ import annotations
 
@@ -42,7 +42,7 @@ class Settling:
         return [self.smallest(-(-quarter * soups // QUARTERS)) for quarter in range(1, QUARTERS)] if soups else None
 
     def smallest(self, place: int) -> int:
-        """Returns the checkpoint in a place, from 1 on, when those of all settled soups are sorted."""
+        """Returns the `place`-th smallest checkpoint, counted from 1, where each settled soup has one."""
         for checkpoint, soups in sorted(self.checkpoints.items()):
             place -= soups
             if place <= 0:
@@ -54,7 +54,7 @@ class Settling:
         return sum(checkpoint * number for checkpoint, number in self.checkpoints.items()) / soups if soups else None
 
     def bars(self) -> list[tuple[int, int, int]]:
-        """Returns a first generation, a last one, and how many soups settled between them, for each bar up to the last soup's."""
+        """Returns the bars, up to the last checkpoint: the first and the last generation of each, and how many soups settled there."""
         soups: Counter[int] = Counter()
         for checkpoint, number in self.checkpoints.items():
             soups[checkpoint // GENERATIONS_OF_A_BAR] += number

@@ -1,4 +1,4 @@
-"""The lists of `haul soups`: what each keeps of the reports, and the table that it makes of them."""
+"""The lists of `haul soups`. Each keeps what it needs of the reports, and makes a table of that."""
 
 from __future__ import annotations
 
@@ -16,13 +16,13 @@ from haul.words import noun
 
 
 class SoupList:
-    """All soups together, and none by itself. The other lists keep some soups."""
+    """Lists no single soup: its table counts all soups together. This is the base of the other lists."""
 
     def add(self, report: Report) -> None:
-        """Takes a report into account."""
+        """Keeps what the list needs of a report."""
 
     def table(self, _job: Job | None, settling: Settling) -> SoupTable:
-        """Returns the table of the reports that were added. The job is that of the reports; none if there is no report."""
+        """Returns the table of the reports that were added, which are of this job. Without a report there is no job."""
         return SoupTable("bars", ["from", "to", "settled"], [list(bar) for bar in settling.bars()], settled_text(settling), has_bars=True)
 
 
@@ -48,7 +48,7 @@ class Longest(SoupList):
             self.count -= len(self.kept.pop(first))
 
     def table(self, job: Job | None, _settling: Settling) -> SoupTable:
-        """Returns the table by descending generation, and by number where generations are equal."""
+        """Returns the table by descending generation. If generations are equal, the lower number comes first."""
         rows: list[list[int | None]] = [[soup, checkpoint, objects] for checkpoint, soups in self.kept.items() for soup, objects in soups]
         heads = ["soup", "checkpoint", "objects"]
         if self.census and job:
@@ -61,7 +61,7 @@ class Longest(SoupList):
 
 @dataclass
 class Unsettled(SoupList):
-    """The unsettled soups, each with its population at the last checkpoint, and how much that grew."""
+    """The unsettled soups, each with its population at the last checkpoint and its growth before that."""
 
     census: Census
     soups: list[int] = field(default_factory=list)
@@ -80,7 +80,7 @@ class Unsettled(SoupList):
 
 @dataclass
 class Leaving(SoupList):
-    """The soups that left an object of a code, each with how many."""
+    """The soups that left objects of a code, and how many each left."""
 
     code: str
     objects: dict[int, int] = field(default_factory=dict)

@@ -1,4 +1,4 @@
-"""What `haul soups` prints: a table, and what the reports say of all their soups together."""
+"""What `haul soups` prints: facts on all soups together, and a table."""
 
 from __future__ import annotations
 
@@ -44,9 +44,9 @@ class SoupTable:
         yield from aligned([self.heads + [""] * self.has_bars, *shown], {len(self.heads)}, 0, None)
 
     def bars(self) -> list[str]:
-        """Returns the bars, of which the longest has `LONGEST_BAR` characters. No number but 0 is without one."""
+        """Returns a bar for each row. The longest has `LONGEST_BAR` characters, and only that of 0 is empty."""
         numbers = [row[-1] or 0 for row in self.rows]
-        most = max(numbers, default=0)
+        most = max(numbers)
         return ["#" * -(-number * LONGEST_BAR // most) if number else "" for number in numbers]
 
     def csv(self, job: Job | None, settling: Settling) -> Iterator[str]:

@@ -85,7 +85,7 @@ class Faults(unittest.TestCase):
     def test_the_mark(self) -> None:
         second = START.replace("report 1", "report 2")
         for after, place in ((" at=0", 62), (" at=0 xs4_33*1", 63), (" at=0 good=maybe", 63), (" at=0 good=yes", None), (" at=0 good=no a*1", None),
-                             (" at=0 good=yes good=yes", 72), (" unsettled good=no", 68)):
+                             (" at=0 good=yes good=yes", 72), (" at=0 good=no a*1 a*1", 75), (" unsettled good=no", 68)):
             self.assertEqual(fault(second + after), place, after)
 
     def test_a_line_that_lost_its_end(self) -> None:

@@ -14,10 +14,13 @@ import unittest
 from collections.abc import Iterator
 from contextlib import contextmanager
 from pathlib import Path
+from unittest.mock import call, patch
 
 from haul.life import Cells, Rule, next_generation, rule_of, soup_of
 from haul.report_lines import Report
+from haul.reports import Reports
 from haul.settling import Settling
+from haul.soup_lists import Longest
 from haul.tests.called import CENSUS, HAUL, census, run
 from haul.text import Job
 
@@ -98,7 +101,7 @@ from    to  settled
         self.assertEqual(run("soups"), (0, "0 soups, 0 unsettled, 0 for good\nno soup has settled\nfrom   to  settled\n   0  499        0\n", ""))
         told = json.loads(run("soups", "--json")[1])
         self.assertEqual((told["seed"], told["profile"], told["quartiles"], told["mean"]), (None, None, None, None))
-        self.assertEqual(rows(lines=[]), [["0", "499", "0"]])
+        self.assertEqual(run("soups", "--csv")[1].splitlines()[1:], ["0,499,0,,,,0,0,0,0,,,,"])
         for words in (["--longest=3"], ["--longest=3", "--exact"], ["--unsettled"], ["--code=xp2_7"]):
             self.assertEqual(rows(*words, "--census", CENSUS, lines=[]), [])
 
@@ -133,6 +136,13 @@ class Lines(unittest.TestCase):
         for right, wrong in (("seed=abc", "seed="), ("b3s23", "b36s23"), ("=64,", "=63,"), ("512", "511"), (",101", ",100"), ("30300", "30200")):
             lines = [LINES[0], LINES[1].replace(right, wrong)]
             self.assertEqual(run("soups", text=text_of(lines))[2], "haul: line 2: other job\n")
+
+    def test_progress(self) -> None:
+        """A line of progress is written after each ten thousand lines of all inputs together."""
+        reports, inputs = Reports(), [text_of(LINES[:1] * number) for number in (6_000, 6_000, 7_999)]
+        with patch("haul.reports.tell") as tell:
+            self.assertEqual([report.soup for lines in inputs for report in reports.read(io.BytesIO(lines), "")], [7])
+        self.assertEqual(tell.call_args_list, [call("10000 lines")])
 
     def test_a_file_that_is_not_there(self) -> None:
         self.assertEqual(run("soups", "/nowhere/lines"), (5, "", "haul: /nowhere/lines: No such file or directory\n"))
@@ -180,6 +190,8 @@ class TheLongest(unittest.TestCase):
         self.assertEqual(run("soups", "--longest=2", text=text_of(LINES))[1].splitlines()[2:], ["soup  checkpoint  objects", "   3        1200        5", "   5         700        1"])
         self.assertEqual(rows("--longest=9"), [["3", "1200", "5"], ["5", "700", "1"], ["11", "500", "2"], ["7", "499", "2"], ["10", "0", "0"]])
         self.assertEqual(rows("--longest=0"), [])
+        lines = [f"report 2 {JOB} worker=1 soup={soup} at={at} good=yes" for soup, at in ((4, 0), (9, 1))]
+        self.assertEqual(rows("--longest=2", lines=lines), [["9", "1", "0"], ["4", "0", "0"]])
 
     def test_equal_checkpoints(self) -> None:
         """The soup with the lower number comes first, in whatever order they are read."""
@@ -187,6 +199,13 @@ class TheLongest(unittest.TestCase):
         for most, soups in ((1, "4"), (2, "42"), (3, "426"), (5, "42689"), (6, "426891")):
             self.assertEqual([row[0] for row in rows(f"--longest={most}", lines=lines)], list(soups))
             self.assertEqual([row[0] for row in rows(f"--longest={most}", lines=lines[::-1])], list(soups))
+
+    def test_few_are_kept(self) -> None:
+        """Of however many soups, only those that may be listed are kept."""
+        longest = Longest(3, None)
+        for soup in range(999):
+            longest.add(Report(Job("", "b3s23", (1, 1, 1, 0)), soup, soup // 2, None, {}))
+        self.assertEqual(longest.kept, {498: [(996, 0), (997, 0)], 499: [(998, 0)]})
 
     def test_exact(self) -> None:
         """The generations are those of a census with each generation as a checkpoint; they decide between equal checkpoints."""
