@@ -51,7 +51,7 @@ def parser() -> argparse.ArgumentParser:
 
 
 def parsed(words: list[str] | None = None) -> argparse.Namespace:
-    """Reads the words of a call, by default those of this one. Ends with a text if they aren't understood."""
+    """Reads the command-line arguments, by default those of this process. Ends with a text if they aren't understood."""
     asked = parser().parse_args(words)
     if asked.command == "soups" and asked.exact and asked.longest is None:
         asked.refuse("--exact needs --longest")
