@@ -67,11 +67,11 @@ rows_with e v rows = with_values e.name (reading_of (parser_for e.kind)) Command
 abbrev pub faults_of : Entry → Text → List Row → Kinds
 faults_of e v rows = or_else (repeat_fault false e.name rows) (values_kinds false (parser_for e.kind) (v ∷ []))
 
--- a argument with the whole use, once what was held before is settled
+-- an argument with the whole use, once what was held before is settled
 abbrev pub reacts : Kinds × Held → Entry → Text → Met
 reacts p e v = ((record { rows = rows_with e v p.1.rows; pending = None; skip = p.1.skip }, next idle), or_else p.0 (faults_of e v p.1.rows))
 
--- a argument with the name alone, after which values of the argument wait
+-- an argument with the name alone, after which values of the argument wait
 abbrev pub asks : Kinds × Held → Entry → Met
 asks p e = ((record { rows = p.1.rows; pending = Some (e.name, []); skip = p.1.skip }, next (option e.name)), p.0)
 

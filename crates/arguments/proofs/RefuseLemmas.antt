@@ -46,7 +46,7 @@ faulty_first one two f = grind arith
 stray : (s : Shape) → IsFaulty (stray_fault s)
 stray s = grind arith
 
--- a argument that is a fault is one whatever comes after it
+-- an argument that is a fault is one whatever comes after it
 abbrev pub turn_kinds : Shape → ℕ → Met → Kinds
 turn_kinds s position m = or_else m.1 (step_fault s position m.0.0 m.0.1)
 
@@ -146,7 +146,7 @@ module _ (command : Command) (here : IsIn command commands) {h : Held} {position
       (cases_Bool (has_row (lone command) rows))
   refused u there stands of bad = use_faulty u there stands of tt bad
 
-  -- a argument that is a fault by itself
+  -- an argument that is a fault by itself
   refused_word : (argument : Text) → IsFaulty (other_fault s None argument h) → Refused (argument ∷ more)
   refused_word argument f = word_faulty s h position argument more (faulty_first (other_fault s None argument h) _ f)
 
@@ -201,7 +201,7 @@ others_ask_for_nothing command here = record {
 
 -- ---- no command
 
--- a argument that isn't the name of a command
+-- an argument that isn't the name of a command
 abbrev help_command : Command
 help_command = record { name = codes "help"; parameters = [] }
 

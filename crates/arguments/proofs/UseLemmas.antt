@@ -33,7 +33,7 @@ rows_in uses = map row_in uses
 abbrev pub HasOrLacks : Use → Type 0
 HasOrLacks u = IsOfKind (entry_in u).kind (value_in u) ⊎ IsNotOfKind (entry_in u).kind (value_in u)
 
--- so it has no sign, if it stands in a argument of its own
+-- so it has no sign, if it stands in an argument of its own
 pub bare_value : (k : ValueKind) (v : Text) → is_flag k ≡ false → IsBare k v → IsOfKind k v ⊎ IsNotOfKind k v → starts_with_minus v ≡ false
 bare_value kind.Text v no_flag bare of = bare
 bare_value kind.Flag v no_flag bare of = cc
@@ -62,7 +62,7 @@ module _ (command : Command) (here : IsIn command commands) {h : Held} {position
   abbrev s : Shape
   s = leaf command
 
-  -- a argument with the whole use
+  -- an argument with the whole use
   react_step : (e : Entry) (v argument : Text) → stands_alone e ≡ false → met s idle h position argument ≡ reacts (settling s h) e v
       → Step command h position rows (argument ∷ []) e v
   react_step e v argument named meets = record {

@@ -34,9 +34,9 @@ end_faults s p = or_else p.0 (or_else (defaults_fault p.1.rows s.rules) (check_f
 abbrev pub faults_by : Shape → Kinds × Walk → Kinds
 faults_by s r = or_else r.0 (end_faults s (settling s r.1.held))
 
--- ---- a argument
+-- ---- an argument
 
--- what a argument is found to be, with its faults
+-- what an argument is found to be, with its faults
 abbrev pub Met : Type 0
 Met = (Held × WalkStep) × Kinds
 
@@ -54,7 +54,7 @@ unfolding walked walk_fault
 turn s idle h position argument more m is = ap (goes_on s idle h position argument more) is
 turn s waiting h position argument more m is = ap (goes_on s waiting h position argument more) is
 
--- a argument that doesn't begin with `-` is no flag
+-- an argument that doesn't begin with `-` is no flag
 pub plain_met : (s : Shape) (waiting : Waiting) (h : Held) (position : ℕ) (argument : Text) → starts_with_minus argument ≡ false
     → met s waiting h position argument ≡ (plain_word s.rules waiting argument h, [])
 plain_met s waiting h position argument bare = grind (arith, bare)

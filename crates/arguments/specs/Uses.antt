@@ -46,7 +46,7 @@ abbrev pub is_flag : ValueKind → Bool
 is_flag kind.Flag = true
 is_flag _ = false
 
--- in a argument of its own a text doesn't begin with `-`
+-- in an argument of its own a text doesn't begin with `-`
 abbrev pub IsBare : ValueKind → Text → Type 0
 IsBare kind.Text value = starts_with_minus value ≡ false
 IsBare _ value = ⊤

@@ -28,7 +28,7 @@ pub record AreEnvelopes (rule : Numbers) (limit : ℕ) (parts : List (List Cell)
   pub count : length envelopes ≡ length parts
   pub each : (i : ℕ) (d : List Cell) (e : EnvelopeBounds) → i < length parts → IsEnvelope rule limit (get_or parts i d) (get_or envelopes i e)
 
--- cycles of so many generations suit a envelope: they are its period, or it doesn't move
+-- cycles of so many generations suit an envelope: they are its period, or it doesn't move
 abbrev pub Serves : ℕ → EnvelopeBounds → Type 0
 Serves period envelope = (period ≡ envelope.recurrence.period) ⊎ ((envelope.recurrence.dx ≡ pos 0) × (envelope.recurrence.dy ≡ pos 0))
 

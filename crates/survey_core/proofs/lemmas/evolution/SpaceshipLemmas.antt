@@ -282,7 +282,7 @@ pub minus_told : (s : ℤ) → unsigned_abs s ≤ 2 ^ 33 → to_z w64 (of_z w64 
 minus_told s small =
     ap (λ (v : ℤ). to_z w64 (of_z w64 (pos 0 -ℤ v))) (is_told s small) ∙ is_told (pos 0 -ℤ s) (minus_small s small)
 
--- a envelope that begins far enough past m
+-- an envelope that begins far enough past m
 pub ahead_by_envelope : (rule : Numbers) (limit : ℕ) (cells : List Cell) (envelope : EnvelopeBounds) (way : Orientation) (m : ℤ) → IsEnvelope rule limit cells envelope
     → pos envelope.recurrence.period ≤ℤ (pos 2 *ℤ depth (turned_cell way (cell_at envelope.recurrence.dx envelope.recurrence.dy))) → BeginsPast way m envelope
     → IsAheadOf rule way m envelope.recurrence cells
