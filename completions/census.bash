@@ -1,28 +1,26 @@
 # Completion of census for bash.
+# Made by `checks/options --write` from the tables of commands and options: don't edit it.
 
 _census() {
-    local word=${COMP_WORDS[COMP_CWORD]} before=${COMP_WORDS[COMP_CWORD - 1]} options='' set profile
+    local word=${COMP_WORDS[COMP_CWORD]} before=${COMP_WORDS[COMP_CWORD - 1]} options=''
     COMPREPLY=()
-    set='--seed --first --count --also'
-    profile='--period --horizon --stride --limit --rule'
     if [[ $COMP_CWORD == 1 ]]; then
         mapfile -t COMPREPLY < <(compgen -W 'run name show soup take work gather help --help --version' -- "$word")
         return
     fi
-    # After an option that takes a value nothing is proposed, and after `=` neither.
+    # After an option that takes a value, only its values are proposed.
     case $before in
         =) return ;;
-        --progress | --help) ;;
-        --*) return ;;
+        --rule | --period | --horizon | --stride | --limit | --seed | --first | --count | --also | --workers | --worker) return ;;
     esac
     case ${COMP_WORDS[1]} in
         run) options='--rule --help' ;;
-        name) options="$profile --help" ;;
+        name) options='--period --horizon --stride --limit --rule --help' ;;
         show) options='--help' ;;
         soup) options='--seed --help' ;;
-        take) options="$set $profile --workers --progress --help" ;;
-        work) options="$set $profile --worker --help" ;;
-        gather) options="$set $profile --workers --help" ;;
+        take) options='--seed --first --count --also --period --horizon --stride --limit --rule --workers --progress --help' ;;
+        work) options='--seed --first --count --also --period --horizon --stride --limit --rule --worker --help' ;;
+        gather) options='--seed --first --count --also --period --horizon --stride --limit --rule --workers --help' ;;
         help) options='run name show soup take work gather' ;;
     esac
     mapfile -t COMPREPLY < <(compgen -W "$options" -- "$word")

@@ -1,14 +1,17 @@
 # Completion of haul for bash.
+# Made by `checks/options --write` from the tables of commands and options: don't edit it.
 
 _haul() {
     local word=${COMP_WORDS[COMP_CWORD]} before=${COMP_WORDS[COMP_CWORD - 1]} options=''
     COMPREPLY=()
     if [[ $COMP_CWORD == 1 ]]; then
-        mapfile -t COMPREPLY < <(compgen -W 'check join compare table page soup soups cells rle --help --version' -- "$word")
+        mapfile -t COMPREPLY < <(compgen -W 'search check join compare table page soup soups cells rle --help --version' -- "$word")
         return
     fi
+    # After an option that takes a value, only its values are proposed.
     case $before in
-        --workers | --least | --rule | --top | --period | --play | --longest | --code) return ;;
+        =) return ;;
+        --until | --part | --workers | --seed | --first | --rule | --period | --horizon | --stride | --limit | --random | --choice | --least | --top | --play | --longest | --code) return ;;
         --per)
             mapfile -t COMPREPLY < <(compgen -W 'million soup' -- "$word")
             return
@@ -17,19 +20,20 @@ _haul() {
             mapfile -t COMPREPLY < <(compgen -W 's p q' -- "$word")
             return
             ;;
-        --census)
+        --finds | --census)
             mapfile -t COMPREPLY < <(compgen -f -- "$word")
             return
             ;;
     esac
     case ${COMP_WORDS[1]} in
-        check) options='--workers --samples --census --help' ;;
+        search) options='--until --part --workers --finds --seed --first --rule --period --horizon --stride --limit --census --help' ;;
+        check) options='--workers --samples --random --choice --census --help' ;;
         join) options='--help' ;;
         compare) options='--least --intervals --per --rare --parts --csv --json --help' ;;
         table) options='--top --rare --kind --period --strict --parts --csv --json --help' ;;
         page) options='--least --play --census --help' ;;
         soup) options='--help' ;;
-        soups) options='--longest --exact --unsettled --code --csv --json --census --help' ;;
+        soups) options='--longest --unsettled --code --exact --csv --json --census --help' ;;
         cells) options='--help' ;;
         rle) options='--rule --help' ;;
     esac

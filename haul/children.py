@@ -9,6 +9,8 @@ import threading
 from collections.abc import Callable, Iterator
 from contextlib import contextmanager, suppress
 
+from haul.stopping import Stopping
+
 # What ends this program, unless it was started so that it takes no notice of it.
 ENDING = (signal.SIGINT, signal.SIGTERM, signal.SIGHUP)
 # What is told in place of a signal when the work is done. No signal has this number.
@@ -33,6 +35,8 @@ class Children:
         self.running: list[subprocess.Popen[bytes]] = []
         # Held while one is started, so that each that runs is known.
         self.starts = threading.Lock()
+        # The work that ends by itself when a signal comes; none if a signal ends it.
+        self.stopping: Stopping | None = None
 
     def start(self, words: list[str], stdout: int, stderr: int | None, stdin: int) -> subprocess.Popen[bytes]:
         """Starts a program. Raises `OSError` if that fails."""
@@ -40,6 +44,10 @@ class Children:
             program = subprocess.Popen(words, stdin=stdin, stdout=stdout, stderr=stderr)
             self.running.append(program)
         return program
+
+    def heed(self, stopping: Stopping) -> None:
+        """From here on signals are noted, and the work ends by itself."""
+        self.stopping = stopping
 
     @contextmanager
     def known(self, program: subprocess.Popen[bytes]) -> Iterator[None]:
@@ -65,7 +73,8 @@ children = Children()
 
 def status_of(work: Callable[[], int]) -> int:
     """Does the work in a thread of its own, and returns its status. A signal ends the programs that were started, and then this
-    one, as if nothing had been done about it.
+    one, as if nothing had been done about it. If the work heeds signals, it is told of them instead, and the one that it ended for
+    ends this program after it.
 
     Python looks for signals between two steps of its main thread, so one that comes just before that thread begins to wait would
     be seen only after the wait. Here it waits for nothing but a byte, which each signal writes as soon as it comes.
@@ -88,6 +97,10 @@ def status_of(work: Callable[[], int]) -> int:
 
     start_thread(threading.Thread(target=do, daemon=True))
     came = os.read(told, 1)[0]
+    while came != IS_DONE and children.stopping is not None and children.stopping.came(came):
+        came = os.read(told, 1)[0]
+    if came == IS_DONE and children.stopping is not None and children.stopping.number is not None:
+        came = children.stopping.number
     if came != IS_DONE:
         children.end()
         signal.signal(came, signal.SIG_DFL)

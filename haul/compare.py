@@ -21,7 +21,7 @@ MOST_HAULS = len(LETTERS)
 UNITS = {"million": MILLION, "soup": 1}
 # The columns of code and name. In those after them a number stands.
 TEXTS = {0, 1}
-# What stands in each row of comma-separated values, too: what the text says of a haul before its table.
+# The columns about a haul in each row of comma-separated values: what the text says before its table.
 FACTS = ("seed", "rule", "profile", "soups", "unsettled", "for_good", "objects")
 EXPLAINED = "intervals: 95 %, as if objects came singly; *: doesn't meet that of A, which is no test at 5 %"
 

@@ -44,18 +44,14 @@ def runs_of(row: str) -> tuple[int, str, int] | None:
     return first, text, end
 
 
-def picture(phases: list[Cells], name: str) -> str:
-    """Draws an object in the box of all phases that are shown."""
-    cells = phases[0]
-    box = cells.union(*phases)
-    paths = [path_of(rows_of(phase, box)) for phase in phases]
-    (columns, rows), (width, height) = size_of(cells), size_of(box)
+def picture(cells: Cells, name: str) -> str:
+    """Draws a pattern with a margin of one cell."""
+    width, height = size_of(cells)
     scale = LARGER_SCALE if len(cells) < FEW_CELLS else SCALE
-    moves = f" data-phases='{'|'.join(paths)}'" if len(paths) > 1 else ""
-    title = f"{name}: {columns} by {rows}, {counted(len(cells), 'cell')}"
+    title = f"{name}: {width} by {height}, {counted(len(cells), 'cell')}"
     return (
-        f"<svg width='{width * scale}' height='{height * scale}' viewBox='0 0 {width} {height}' role='img'{moves}>"
-        f"<title>{escape(title)}</title><path d='{paths[0]}'/></svg>"
+        f'<svg class="cells-{scale}" width="{(width + 2) * scale}" height="{(height + 2) * scale}" viewBox="-1 -1 {width + 2} {height + 2}" role="img">'
+        f'<title>{escape(title)}</title><path d="{path_of(rows_of(cells, cells))}"/></svg>'
     )
 
 

@@ -22,9 +22,9 @@ LIVE_AND_DEAD = str.maketrans("01", ".O")
 MOST_PERIOD = 64
 # `census` reads no pattern with more columns or rows.
 SIDE = 1000
-# A code's text has a box of at most so many columns and rows.
+# The most columns and rows of the box of a code's text.
 SIDE_OF_TEXT = 40
-# A soup has so many columns and rows.
+# The columns and rows of a soup.
 SOUP_SIDE = 16
 
 # The characters of extended Wechsler format. The first 32 are columns of a strip, which is five rows high; these are their live rows.

@@ -12,24 +12,30 @@ from typing import BinaryIO
 
 from haul.by_parts import Objects
 from haul.check import differences, taken_again, wrong_samples
-from haul.children import NoThread, status_of
+from haul.children import NoThread, children, status_of
 from haul.columns import width_of_terminal
 from haul.compare import Comparison, ranked
 from haul.join import CantJoin, Joining
+from haul.keeper import CantKeep, Keeper
 from haul.options import parsed
 from haul.page import page_of
 from haul.plaintext import BadPlaintext, is_plaintext, read_plaintext
-from haul.program import Census, Ended, NoCensus, tell
+from haul.program import Census, Ended, NoCensus, complain, tell
+from haul.random_choice import RandomChoice
 from haul.reports import Reports
 from haul.rle import LIFE, BadRle, option_of, read_rle, rle_of
+from haul.search import Dropped, Plan, Search, processors
+from haul.search_job import Disagrees, begun, next_soup, refuse_others
 from haul.settling import Settling
 from haul.soup_lists import Leaving, Longest, SoupList, Unsettled
 from haul.soups import BadSample, soups_of
+from haul.stopping import Stopping
 from haul.table import Choice, csv, json, table_of, text
 from haul.text import BadHaul, Haul, lines_of, read_hauls, read_one_haul
 
 # The statuses of `census`, and one more.
 DONE, USAGE, REFUSED, NO_MEMORY, FAILED, NOT_RIGHT = 0, 2, 3, 4, 5, 7
+RIGHT = "right"
 # A pattern has no more bytes, as in `census`.
 PATTERN_LIMIT = 2**24
 
@@ -66,7 +72,39 @@ def write(lines: Iterable[str]) -> None:
 
 
 def do_check(asked: argparse.Namespace) -> int:
-    haul = the_haul(asked.file)
+    if len(asked.files) <= 1 and asked.random is None:
+        lines = checked_lines(asked, asked.files[0] if asked.files else None)
+        write(lines)
+        return DONE if lines == [RIGHT] else NOT_RIGHT
+    files = asked.files
+    if asked.random is not None:
+        choice = RandomChoice(files, asked.random, asked.choice)
+        write([choice.text()])
+        sys.stdout.flush()
+        files = choice.chosen()
+    return worst([check_one(asked, name) for name in files])
+
+
+def check_one(asked: argparse.Namespace, name: str) -> int:
+    """Checks one of several files, and returns the status for it. What is said begins with its name."""
+    try:
+        lines = checked_lines(asked, name)
+    except Refused as why:
+        place = place_of(name)
+        return complained(str(why) if str(why).startswith(place) else f"{place}{why}", REFUSED)
+    write(f"{name}: {line}" for line in lines)
+    sys.stdout.flush()
+    return DONE if lines == [RIGHT] else NOT_RIGHT
+
+
+def worst(statuses: list[int]) -> int:
+    """Returns the status for several files: a wrong haul counts more than a refused text."""
+    return max(statuses, default=DONE)
+
+
+def checked_lines(asked: argparse.Namespace, name: str | None) -> list[str]:
+    """Returns what `haul check` says of a haul."""
+    haul = the_haul(name)
     census = Census(asked.census)
     if asked.samples:
         wrong = list(wrong_samples(census, haul))
@@ -74,8 +112,7 @@ def do_check(asked: argparse.Namespace) -> int:
         raise Refused("haul with missing soups")
     else:
         wrong = list(differences(haul, taken_again(census, haul, asked.workers)))
-    write(wrong or ["right"])
-    return NOT_RIGHT if wrong else DONE
+    return wrong or [RIGHT]
 
 
 def do_join(asked: argparse.Namespace) -> int:
@@ -122,8 +159,8 @@ def do_table(asked: argparse.Namespace) -> int:
 
 
 def do_page(asked: argparse.Namespace) -> int:
-    haul = the_haul(asked.file)
-    sys.stdout.writelines(page_of(Census(asked.census), haul, asked.least, asked.play))
+    hauls = [the_haul(name) for name in asked.files or [None]]
+    sys.stdout.writelines(page_of(Census(asked.census), hauls, asked.least, asked.play))
     return DONE
 
 
@@ -147,8 +184,7 @@ def do_cells(asked: argparse.Namespace) -> int:
     except (BadPlaintext, BadRle) as bad:
         raise Refused(f"{place_of(asked.file)}{bad}") from None
     if rule is not None and option_of(rule) != LIFE:
-        with suppress(OSError):
-            print(f"haul: rule {rule} is --rule {option_of(rule)}", file=sys.stderr, flush=True)
+        complain(f"rule {rule} is --rule {option_of(rule)}")
     write(rows)
     return DONE
 
@@ -193,17 +229,33 @@ def soups_asked(asked: argparse.Namespace) -> SoupList:
     return Leaving(asked.code) if asked.code is not None else SoupList()
 
 
+def do_search(asked: argparse.Namespace) -> int:
+    try:
+        keeper = Keeper(asked.file)
+        haul = keeper.read()
+        if haul is None:
+            haul = begun(asked)
+        refuse_others(asked, haul)
+        plan = Plan(next_soup(asked, haul), asked.until, asked.part, asked.workers or processors(), asked.finds)
+        stopping = Stopping()
+        search = Search(plan, haul, keeper, Census(asked.census), stopping)
+        children.heed(stopping)
+        with suppress(Dropped):
+            search.run()
+    except (CantKeep, Disagrees, CantJoin) as why:
+        raise Refused(str(why)) from None
+    return DONE
+
+
 COMMANDS = {
-    "check": do_check, "join": do_join, "compare": do_compare, "table": do_table, "page": do_page, "soup": do_soup, "soups": do_soups,
+    "check": do_check, "search": do_search, "join": do_join, "compare": do_compare, "table": do_table, "page": do_page, "soup": do_soup, "soups": do_soups,
     "cells": do_cells, "rle": do_rle,
 }
 
 
-def complain(line: str, status: int) -> int:
-    """Says why it ends, if that can be written; the status is the same if not."""
-    tell("")
-    with suppress(OSError):
-        print(f"haul: {line}", file=sys.stderr, flush=True)
+def complained(line: str, status: int) -> int:
+    """Says why it ends, and returns the status for that."""
+    complain(line)
     return status
 
 
@@ -213,20 +265,20 @@ def run() -> int:
         sys.stdout.flush()
         return status
     except Refused as why:
-        return complain(str(why), REFUSED)
+        return complained(str(why), REFUSED)
     except NoCensus as why:
-        return complain(str(why), USAGE)
+        return complained(str(why), USAGE)
     except Ended as why:
-        return complain(str(why), why.status)
+        return complained(str(why), why.status)
     except MemoryError:
-        return complain("out of memory", NO_MEMORY)
+        return complained("out of memory", NO_MEMORY)
     except NoThread as error:
-        return complain(str(error), NO_MEMORY)
+        return complained(str(error), NO_MEMORY)
     except BrokenPipeError:
-        # Whoever reads has enough.
+        # The program that reads the output has ended.
         return FAILED
     except OSError as error:
-        return complain(reason_of(error), FAILED)
+        return complained(reason_of(error), FAILED)
 
 
 def reason_of(error: OSError) -> str:
@@ -244,15 +296,15 @@ def do_command() -> int:
 
 
 def open_streams() -> None:
-    """Makes standard output a buffered stream of UTF-8, whatever the environment says. Where a standard stream is closed, each
-    read or write of it fails from here on, and no file that is opened later takes its place."""
+    """Makes standard output a buffered stream of UTF-8, whatever the environment says; the name of a file is written byte for byte.
+    Where a standard stream is closed, each read or write of it fails from here on, and no file that is opened later takes its place."""
     for number, stream in enumerate((sys.stdin, sys.stdout, sys.stderr)):
         if stream is None:
             # This is the lowest number that is free. What is opened for reading can't be written, and the other way round.
             os.open(os.devnull, os.O_WRONLY if number == 0 else os.O_RDONLY)
     if sys.stdin is None:
         sys.stdin = open(0, encoding="utf-8", closefd=False)
-    sys.stdout = open(1, "w", encoding="utf-8", closefd=False)
+    sys.stdout = open(1, "w", encoding="utf-8", errors="surrogateescape", closefd=False)
     if sys.stderr is None:
         sys.stderr = open(2, "w", encoding="utf-8", closefd=False)
 
@@ -262,8 +314,8 @@ def main() -> None:
         open_streams()
         status = status_of(run)
     except NoThread as error:
-        status = complain(str(error), NO_MEMORY)
+        status = complained(str(error), NO_MEMORY)
     except OSError as error:
-        status = complain(reason_of(error), FAILED)
+        status = complained(reason_of(error), FAILED)
     # Python's own end would write once more what couldn't be written.
     os._exit(status)

@@ -117,7 +117,7 @@ class Census:
                 start_thread(watcher)
                 shutil.copyfileobj(program.stdout, out)
             except BaseException:
-                # Else it would be waited for, perhaps for hours.
+                # Otherwise, this would wait for it, perhaps for hours.
                 program.terminate()
                 raise
             finally:
@@ -249,3 +249,10 @@ def tell(line: str) -> None:
     if sys.stderr.isatty():
         with suppress(OSError):
             print(f"\r\033[K{line}", end="", file=sys.stderr, flush=True)
+
+
+def complain(line: str) -> None:
+    """Writes a line of its own to standard error. If that fails, nothing is said."""
+    tell("")
+    with suppress(OSError):
+        print(f"haul: {line}", file=sys.stderr, flush=True)

@@ -2,12 +2,10 @@
 
 from __future__ import annotations
 
-import sys
 from collections.abc import Iterator
-from contextlib import suppress
 from typing import IO
 
-from haul.program import tell
+from haul.program import complain, tell
 from haul.report_lines import LINE_LIMIT, BadLine, Report, read_line
 from haul.text import Job
 
@@ -50,10 +48,3 @@ def lines_of(stream: IO[bytes]) -> Iterator[bytes]:
         yield line.removesuffix(b"\n")
         while len(line) > LINE_LIMIT and not line.endswith(b"\n"):
             line = stream.readline(LINE_LIMIT + 1)
-
-
-def complain(line: str) -> None:
-    """Writes why a line is skipped to standard error. If that fails, nothing is said."""
-    tell("")
-    with suppress(OSError):
-        print(f"haul: {line}", file=sys.stderr, flush=True)

@@ -11,7 +11,7 @@ from haul.life import soup_of
 from haul.program import Census, missing, pattern_words
 from haul.text import Job
 
-# Growth is counted over so many generations.
+# The generations over which growth is counted.
 GENERATIONS_OF_GROWTH = 1000
 EVERY_GENERATION = 1
 # A call of `census` runs one soup, so that several can run at a time.

@@ -6,7 +6,7 @@ from collections import Counter
 
 from haul.report_lines import Report
 
-# A bar stands for so many generations.
+# The generations of a bar.
 GENERATIONS_OF_A_BAR = 500
 QUARTERS = 4
 

@@ -47,6 +47,8 @@ MORE_HAULS = "more than one haul"
 # Least and most of period, stride and limit. A horizon isn't below its period.
 PERIOD, STRIDE, LIMIT = (1, 64), (1, 10000), (0, 100000)
 MOST_HORIZON = 4096
+# The standard profile.
+STANDARD = (64, 512, 101, 30300)
 
 Range = tuple[int, int]
 
@@ -81,7 +83,7 @@ class Haul:
     for_good: int
     # How many objects there are of each code, in the order of the codes.
     totals: dict[str, int]
-    # The least numbers of soups that left an object of a code, for the same codes.
+    # The lowest numbers of soups that left an object of a code, for the same codes.
     samples: dict[str, list[int]]
     # The line of the input in which the text begins.
     line: int = 1

@@ -29,7 +29,7 @@ def places_of(checkout: Checkout, zsh: str) -> dict[str, str]:
         places[f"completions/{name}.fish"] = f"share/fish/vendor_completions.d/{name}.fish"
     for file in checkout.files:
         folder, _, name = file.rpartition("/")
-        if folder == "cluster" or folder == "haul" and name.endswith((".py", ".html", ".css", ".js")):
+        if folder == "cluster" or folder in ("haul", "haul/page") and name.endswith((".py", ".html", ".css", ".js")):
             places[file] = f"share/census/{file}"
     lacking = sorted(set(places) - checkout.files)
     if lacking:

@@ -1,8 +1,12 @@
-"""Pages, as they are seen at first, or with each object counted by its parts."""
+"""Pages, and what is read from them: the table for readers without scripts, and the data of the script."""
 
 from __future__ import annotations
 
+import json
 import re
+from dataclasses import dataclass, field
+from html.parser import HTMLParser
+from typing import Any
 
 from haul.page import page_of
 from haul.program import Census
@@ -11,14 +15,72 @@ from haul.text import Haul
 
 
 def page(haul: Haul, *more: int) -> str:
-    """The page of a haul, from `--play` on, without what is counted by parts."""
-    return seen("".join(page_of(Census(CENSUS), haul, 1, *more)))
+    """Returns the page of a haul. `more` is `--play`."""
+    return "".join(page_of(Census(CENSUS), [haul], 1, *more))
 
 
-def page_by_parts(haul: Haul, *more: int) -> str:
-    return seen("".join(page_of(Census(CENSUS), haul, 1, *more)), "objects")
+def compared(*hauls: Haul, least: int = 1, play: int = 0) -> str:
+    return "".join(page_of(Census(CENSUS), list(hauls), least, play))
 
 
-def seen(text: str, hidden: str = "parts") -> str:
-    """A page without one of the two ways in which it counts."""
-    return re.sub(rf"<(dl|div|span|tbody)[^>]* data-counts=['\"]{hidden}['\"][^>]*>.*?</\1>", "", text, flags=re.DOTALL)
+def data_of(text: str) -> dict[str, Any]:
+    """Reads the data of a page."""
+    found: dict[str, Any] = json.loads(re.findall('<script type="application/json" id="data">(.*?)</script>', text, re.DOTALL)[0])
+    return found
+
+
+def objects_of(text: str) -> dict[str, Any]:
+    """Returns the objects in the data of a page by their codes."""
+    return {one["code"]: one for one in data_of(text)["objects"]}
+
+
+def before_table(text: str) -> str:
+    """Returns what a page has before its table."""
+    return text.partition("<noscript>")[0].partition("<body>")[2]
+
+
+@dataclass
+class Row:
+    """A row of the table."""
+
+    cells: list[str] = field(default_factory=list)
+    links: list[str] = field(default_factory=list)
+    paths: list[str] = field(default_factory=list)
+
+
+class Table(HTMLParser):
+    """The table of a page. What stands in a `noscript` element is for this reader as for a browser without scripts."""
+
+    def __init__(self, text: str) -> None:
+        super().__init__()
+        self.rows: list[Row] = []
+        self.heads: list[str] = []
+        self.place = ""
+        self.feed(text.partition("<noscript>")[2].partition("</noscript>")[0])
+
+    def handle_starttag(self, tag: str, attributes: list[tuple[str, str | None]]) -> None:
+        known = dict(attributes)
+        if tag in ("thead", "tbody"):
+            self.place = tag
+        elif tag == "th":
+            self.heads.append("")
+        elif self.place == "tbody":
+            if tag == "tr":
+                self.rows.append(Row())
+            elif tag == "td":
+                self.rows[-1].cells.append("")
+            elif tag == "a":
+                self.rows[-1].links.append(known["href"] or "")
+            elif tag == "path":
+                self.rows[-1].paths.append(known["d"] or "")
+
+    def handle_data(self, data: str) -> None:
+        # A line feed stands only between rows.
+        if self.place == "thead" and self.heads:
+            self.heads[-1] += data
+        elif self.place == "tbody" and self.rows and self.rows[-1].cells:
+            self.rows[-1].cells[-1] += data.rstrip("\n")
+
+
+def table_of(text: str) -> Table:
+    return Table(text)

@@ -23,7 +23,7 @@ from haul.tests.drawn import text_of
 from haul.tests.test_text import SMALL
 from haul.text import Haul, Job, read_one_haul
 
-# A haul over so many soups that its census takes hours. It isn't right.
+# A wrong haul with enough soups that its census takes hours.
 LONG = SMALL.replace("@RANGE 0 4", f"@RANGE 0 {2**24}").replace("SOUPS 2", f"SOUPS {2**24}").replace("@PROFILE 1 1 1 0", "@PROFILE 64 512 101 30300")
 
 # A haul of so many sample soups that several calls run them. It isn't right.
@@ -175,10 +175,11 @@ class Usage(unittest.TestCase):
     def test_help(self) -> None:
         """Each command says what it does, in the list of all and by itself."""
         listed = " ".join(run("--help")[1].split())
-        for command, does in (("check", "take the census of a haul again, and compare"), ("join", "add up hauls of one job over sets that share no number"),
-                              ("compare", "set hauls side by side"), ("table", "print the table of a haul, with how often each object comes"),
-                              ("page", "make a page of a haul, with pictures of its objects and soups"),
-                              ("soup", "print the soup that a sample of Catagolue names"),
+        for command, does in (("search", "run soups until it is stopped, and keep their haul in FILE"), ("check", "take the census of a haul again, and compare"),
+                              ("join", "add up hauls of one job whose sets of soups don't overlap"),
+                              ("compare", "set hauls side by side"), ("table", "print the table of a haul, with how often each object occurs"),
+                              ("page", "make a page of a haul, or of several, with pictures of its objects and soups"),
+                              ("soup", "print the soup of a sample on Catagolue"), ("soups", "list what report lines say about their soups"),
                               ("cells", "print a pattern in RLE as plaintext, which `census run` and `census name` read"),
                               ("rle", "print a plaintext pattern as RLE, which Golly and LifeWiki read")):
             self.assertIn(f" {command} {does} ", listed)

@@ -1,319 +1,348 @@
-"""What a page has for whoever looks at it in a browser: words, sizes, phases, and the ends of soups.."""
+"""What a page has: its words, its table, the data of its script, and the ends of soups."""
 
 from __future__ import annotations
 
+import base64
 import io
 import re
 import subprocess
+import tempfile
 import unittest
-from html.parser import HTMLParser
+from html import unescape
+from pathlib import Path
 from unittest.mock import patch
 
+from haul.ends import End, end_of, populations_of
+from haul.life import rule_of
 from haul.main import do_page
 from haul.options import parser
-from haul.life import rule_of
-from haul.ends import End, end_of, populations_of
-from haul.page import page_of
-from haul.program import Census
+from haul.page.shell import unsettled_command
+from haul.page.top import profile_words
+from haul.poisson import interval
 from haul.tests.called import CENSUS, TOP, census, run
-from haul.tests.pages import page, page_by_parts, seen
+from haul.tests.drawn import text_of
+from haul.tests.pages import before_table, compared, data_of, objects_of, page, table_of
 from haul.tests.test_whole import cells_of, drawn, made
-from haul.text import Haul, Job, read_one_haul
+from haul.text import Haul, Job, Range, read_one_haul
+
+STANDARD = (64, 512, 101, 30300)
+PULSAR = "xp3_co9nas0san9oczgoldlo0oldlogz1047210127401"
 
 
-class Elements(HTMLParser):
-    """Each element of a page that has a tag: its attributes, and the text in it."""
-
-    def __init__(self, text: str, tag: str) -> None:
-        super().__init__()
-        self.tag = tag
-        self.found: list[tuple[dict[str, str | None], str]] = []
-        self.depth = 0
-        # What stands in a `noscript` is for this reader as for any without scripts.
-        self.feed(text)
-
-    def handle_starttag(self, tag: str, attributes: list[tuple[str, str | None]]) -> None:
-        if tag == self.tag:
-            self.found.append((dict(attributes), ""))
-            self.depth += 1
-
-    def handle_endtag(self, tag: str) -> None:
-        self.depth -= tag == self.tag
-
-    def handle_data(self, data: str) -> None:
-        if self.depth:
-            self.found[-1] = self.found[-1][0], self.found[-1][1] + data
+def tiles(text: str) -> list[tuple[str, str]]:
+    """Returns the names and the values of a page's tiles."""
+    return re.findall("<div><dt>(.*?)</dt><dd>(.*?)</dd></div>", before_table(text))
 
 
-def elements(text: str, tag: str) -> list[tuple[dict[str, str | None], str]]:
-    return Elements(text, tag).found
+def folds(text: str) -> dict[str, str]:
+    """Returns what opens at the top of a page, by what it is called."""
+    return dict(re.findall("<details><summary>(.*?)</summary>\n(.*?)</details>", before_table(text), re.DOTALL))
 
 
-class Words(unittest.TestCase):
-    def test_heads(self) -> None:
-        heads = [text for _, text in elements(page(made({"xs4_33": 7}, [(0, 9)])), "th")]
-        self.assertEqual(heads, ["Picture", "Code", "Name", "What it is", "Cells", "Total", "One object in", "Soups with one", "Sample soups", "Parts"])
+class Top(unittest.TestCase):
+    HAUL = Haul(Job("a", "b36s23", STANDARD), [(5, 7), (2048, 1)], 8, 1, 2, {"xp2_7": 10, "xs4_33": 100, "xs4_y": 1, "xs8_rr": 2},
+                {"xp2_7": [6], "xs4_33": [5, 2048], "xs4_y": [11], "xs8_rr": [5, 6]})
 
-    def test_axis(self) -> None:
-        """A mark for each power of ten up to the largest total, and what is counted."""
-        texts = [text for _, text in elements(page(made({"xs4_33": 1234, "xp2_7": 10}, [(0, 9)])).partition("</svg>")[0], "text")]
-        self.assertEqual(texts, ["1", "10", "100", "1,000", "how many objects there are, on a logarithmic scale", "block", "1,234", "blinker", "10"])
-        texts = [text for _, text in elements(page(made({"xs4_33": 1}, [(0, 9)])).partition("</svg>")[0], "text")]
-        self.assertEqual(texts, ["1", "how many objects there are, on a logarithmic scale", "block", "1"])
+    def test_each_word(self) -> None:
+        """The whole top of a small page."""
+        self.assertTrue(before_table(page(self.HAUL, 0)).startswith("""
+<a class="skip" href="#objects" hidden>Skip to the objects</a>
+<main>
+<header>
+<h1>A census of 8 soups under B36/S23</h1>
+<p>Random soups of 16 by 16 cells (numbers 5 to 11, 2048 of the seed <code class="seed">a</code>) ran under the rule <code>b36s23</code> (B36/S23) \
+until they had settled, and the objects that they left were counted.</p>
+<dl class="tiles"><div><dt>soups</dt><dd>8</dd></div><div><dt>objects</dt><dd>113</dd></div><div><dt>objects per soup</dt><dd>14.12</dd></div>\
+<div><dt>distinct objects</dt><dd>4</dd></div><div><dt>of these strict</dt><dd>2</dd></div><div><dt>unsettled soups</dt><dd>1</dd></div>\
+<div><dt>settled for good</dt><dd>2</dd></div></dl>
+<div class="more"><details><summary>How to verify it</summary>
+<p>If the haul of this page is in the file <code>all.haul</code>, <code>haul check all.haul</code> runs the whole census again and compares, \
+and <code>haul check --samples all.haul</code> runs only the sample soups.</p>
+</details>
+<details><summary>1 unsettled soup</summary>
+"""), before_table(page(self.HAUL, 0)))
 
-    def test_lengths_of_bars(self) -> None:
-        """They begin at 1, where each has two points; ten times as many are as much longer as from one mark to the next."""
-        text = page(made({"xs4_33": 1000, "xp2_7": 100, "xs5_253": 1}, [(0, 9)])).partition("</svg>")[0]
-        lengths = [float(length) for length in re.findall("class='bar' d='M200 [0-9]+h([0-9.]+)v", text)]
-        self.assertEqual(lengths, [332, 222, 2])
-        self.assertEqual(re.findall("class='mark' d='M([0-9.]+) ", text), ["200.0", "310.0", "420.0", "530.0"])
+    def test_all_objects_count(self) -> None:
+        """Also those that have no place on the page."""
+        self.assertEqual(tiles(compared(self.HAUL, least=50)), tiles(page(self.HAUL, 0)))
 
-    def test_what_it_is(self) -> None:
-        """As the code says, whatever the object is."""
-        for code, said in (("xs4_33", "still life"), ("xp2_7", "oscillator of period 2"), ("xq123_33", "spaceship of period 123"), ("zz_1", "an object"),
-                           ("ov_q7", "spaceship of period 7")):
-            self.assertEqual(elements(page(made({code: 1}, [(0, 9)]), 0), "td")[3][1], said)
+    def test_no_soup(self) -> None:
+        text = page(Haul(Job("", "b3s23", (1, 1, 1, 0)), [], 0, 0, 0, {}, {}), 0)
+        self.assertEqual(dict(tiles(text))["objects per soup"], "–")
+        self.assertIn("(numbers none of the empty seed)", text)
+        self.assertNotIn("Soups are missing", text)
+        self.assertNotIn("unsettled soup<", before_table(text).partition("</dl>")[2])
 
-    def test_few_of_each(self) -> None:
-        """The largest total goes to the last mark or past it, but one under ten has the first mark of ten before it."""
-        for total, length in ((50, "332.0"), (10, "332.0"), (5, "232.7"), (1, "2.0")):
-            self.assertIn(f"class='bar' d='M200 4h{length}v13h-{length}z'", page(made({"xs4_33": total}, [(0, 9)]), 0))
-
-    def test_how_many_bars(self) -> None:
-        """Twenty, with names of at most 26 characters."""
-        for count, words in ((1, "The most frequent one"), (2, "The 2 most frequent"), (20, "The 20 most frequent"), (21, "The 20 most frequent")):
-            text = page(made({f"xs4_{'1' * k}": 2 for k in range(1, count + 1)}, [(0, 9)]), 0)
-            self.assertEqual((text.count("class='bar'"), f"<h2>{words}</h2>" in text), (min(count, 20), True))
-        names = [text for _, text in elements(page(made({"xs4_" + "1" * 22: 2, "xs4_" + "1" * 23: 1}, [(0, 9)])).partition("</svg>")[0], "text")]
-        self.assertEqual([names[2], names[4]], ["xs4_" + "1" * 22, "xs4_" + "1" * 21 + "…"])
-
-    def test_looks(self) -> None:
-        for profile, said in (((1, 2, 1, 0), "the only one, at generation 0"), ((1, 2, 1, 1), "one each generation, up to generation 1"),
-                              ((1, 2, 2, 2), "one each 2 generations, up to generation 2"), ((1, 2, 3, 2), "the only one, at generation 0"),
-                              ((1, 2, 3, 1234), "one each 3 generations, up to generation 1,234")):
-            self.assertIn(f"first checkpoint ({said}) at", page(made({"xs4_33": 1}, [(5, 1)], profile), 0))
-
-    def test_no_soup_and_some_missing(self) -> None:
-        """Without a soup there is no rate, and where soups are missing the whole can't be taken again."""
-        none = Haul(Job("", "b3s23", (1, 1, 1, 0)), [], 0, 0, 0, {}, {})
-        self.assertIn("<dt>Soups</dt><dd>0</dd>", page(none))
-        self.assertIn("<dt>Objects per soup</dt><dd>none</dd>", page(none))
-        self.assertIn("(the empty seed, numbers none)", page(none))
+    def test_missing_soups(self) -> None:
+        """They can't be run again, since a haul doesn't say which ones they are."""
         some = Haul(Job("", "b3s23", (1, 1, 1, 0)), [(0, 2000)], 1999, 0, 0, {}, {})
-        self.assertIn("<dt>Soups</dt><dd>1,999 of 2,000</dd>", page(some))
-        self.assertIn("Soups are missing from this haul", page(some))
-        self.assertNotIn("Soups are missing", page(none))
+        self.assertEqual(tiles(page(some, 0))[0], ("soups", "1,999 <small>of 2,000</small>"))
+        said = "Soups are missing from this haul, so only <code>haul check --samples all.haul</code> works there."
+        self.assertIn(said, folds(page(some, 0))["How to verify it"])
+        whole = Haul(Job("", "b3s23", (1, 1, 1, 0)), [(0, 2)], 2, 0, 0, {}, {})
+        self.assertIn("Soups are missing from the haul B, so only", compared(whole, some))
+        self.assertIn("Soups are missing from the hauls A, C, so only", compared(some, whole, some))
 
-    def test_many_ranges(self) -> None:
-        """Of more than twelve only so many are told, and one of two numbers has both."""
-        self.assertIn("numbers 5 to 6, 9, 11 to 13)", page(made({"xs4_33": 1}, [(5, 2), (9, 1), (11, 3)])))
-        for count, said in ((12, ", 33)"), (13, ", 33, 1 more range)"), (14, ", 33, 2 more ranges)")):
-            self.assertIn(f"numbers 0, 3, 6, 9, 12, 15, 18, 21, 24, 27, 30{said} were", page(made({"xs4_33": 1}, [(3 * k, 1) for k in range(count)])))
+    def test_ranges(self) -> None:
+        """More than twelve are counted, and a range of one number has no end."""
+        def numbers(ranges: list[Range]) -> str:
+            return "".join(re.findall(r"\(numbers (.*?) of the", page(made({"xs4_33": 1}, ranges), 0)))
 
-    def test_labels(self) -> None:
-        cells = [text for _, text in elements(page(made({"xp2_1110s": 7, "xs10_25520oo": 3, "xs12_256o8a6": 2, "xs8_rr": 1, "ov_p3": 1}, [(0, 9)])), "td")]
-        self.assertEqual((cells[2::10], cells[9::10]), (["", "", "", "", "bi-block"], ["2 blinkers", "block and beehive", "", "not separated", ""]))
-        texts = [text for _, text in elements(page(made({"xp2_1110s": 7, "xs12_256o8a6": 2}, [(0, 9)])).partition("</svg>")[0], "text")]
-        self.assertEqual(texts[2::2], ["2 blinkers", "xs12_256o8a6"])
+        self.assertEqual(numbers([(5, 2), (9, 1), (11, 3)]), "5 to 6, 9, 11 to 13")
+        for count, last in ((12, "33"), (13, "33, 1 more range"), (14, "33, 2 more ranges")):
+            self.assertEqual(numbers([(3 * k, 1) for k in range(count)]), f"0, 3, 6, 9, 12, 15, 18, 21, 24, 27, 30, {last}")
+
+    def test_checkpoints(self) -> None:
+        for profile, said in (((1, 2, 1, 0), "the only one, at generation 0"), ((1, 2, 1, 1), "one every generation, up to generation 1"),
+                              ((1, 2, 2, 2), "one every 2 generations, up to generation 2"), ((1, 2, 3, 2), "the only one, at generation 0"),
+                              ((1, 2, 3, 1234), "one every 3 generations, up to generation 1,234")):
+            words = profile_words(profile)
+            self.assertIn(f"first checkpoint ({said}) at", words)
+            self.assertIn("within 1 generation, and for 2 generations no object", words)
+            self.assertIn(words, folds(page(made({"xs4_33": 1}, [(5, 1)], profile), 0))["How objects are counted"])
 
 
-class ByParts(unittest.TestCase):
-    """The page counted by parts: all of it, whether or not an object has a row."""
+class Unsettled(unittest.TestCase):
+    """The command that lists unsettled soups."""
 
-    HAUL = made({"xp2_1110s": 7, "xs10_25520oo": 3, "xs4_33": 2, "xs8_rr": 1}, [(0, 9)], samples={
-        "xp2_1110s": [4, 5], "xs10_25520oo": [1, 8], "xs4_33": [2], "xs8_rr": [7]})
+    def haul(self, ranges: list[Range], seed: str = "", rule: str = "b3s23") -> Haul:
+        return Haul(Job(seed, rule, STANDARD), ranges, sum(count for _, count in ranges), 1, 0, {}, {})
 
-    def test_rows(self) -> None:
+    def test_one_call_for_each_range(self) -> None:
+        self.assertEqual(unsettled_command(self.haul([(3, 4)])), "census work --first=3 --count=4 --worker=1 | haul soups --unsettled")
+        self.assertEqual(unsettled_command(self.haul([(3, 4), (9, 1)], "a b'", "b36s23")),
+                         "{ census work --seed='a b'\"'\"'' --rule=b36s23 --first=3 --count=4 --worker=1; "
+                         "census work --seed='a b'\"'\"'' --rule=b36s23 --first=9 --count=1 --worker=1; } | haul soups --unsettled")
+
+    def test_long_sets(self) -> None:
+        """No call takes more than 2^24 numbers, and more than twelve calls aren't written."""
+        self.assertEqual(unsettled_command(self.haul([(0, 2**24 + 1)])).count("--count=16777216 --worker=1; census work --first=16777216 --count=1 "), 1)
+        for count in (12, 13):
+            command = unsettled_command(self.haul([(3 * k, 1) for k in range(count)]))
+            self.assertEqual((command.count("census work"), "; ..; }" in command), (12, count == 13))
+
+    def test_it_lists_them(self) -> None:
+        """Run by a shell, it lists as many soups as the page says."""
+        words = ["--first=600", "--count=40", "--limit=7070"]
+        text = page(read_one_haul(io.BytesIO(census("take", *words))), 0)
+        found = re.findall("<summary>2 unsettled soups</summary>.*?<pre><code>(.*?)</code>", text, re.DOTALL)
+        command = unescape(found[0]).replace("census work", f"{CENSUS} work").replace("haul soups", f"{TOP / 'bin' / 'haul'} soups --census {CENSUS}")
+        said = subprocess.run(["bash", "-c", command], stdout=subprocess.PIPE, check=True).stdout.decode()
+        self.assertEqual([line.split()[0] for line in said.splitlines()[3:]], ["603", "636"])
+
+
+class Rows(unittest.TestCase):
+    """The table for readers without scripts."""
+
+    def test_each_cell(self) -> None:
+        haul = made({"xs4_33": 1200, "xp15_4r4z4r4": 40, "xq4_153": 3, "xp2_1110s": 2, "ov_p123": 1, "ov_s4000": 1, "zz_1": 1}, [(5, 7)],
+                    samples={"xs4_33": [5, 6, 11], "xp15_4r4z4r4": [7], "xq4_153": [8], "xp2_1110s": [9], "ov_p123": [10], "ov_s4000": [10], "zz_1": [11]})
+        table = table_of(page(haul, 0))
+        self.assertEqual(table.heads, ["Picture", "Name and code", "What it is", "Cells", "Total", "≤ 1 in N soups", "Sample soups"])
+        self.assertEqual([row.cells for row in table.rows], [
+            ["block: 2 by 2, 4 cells", "block xs4_33", "still life", "4", "1,200", "1", "5 6 11"],
+            ["pentadecathlon: 3 by 10, 12 cells", "pentadecathlon xp15_4r4z4r4", "oscillator of period 15", "12", "40", "1", "7"],
+            ["glider: 3 by 3, 5 cells", "glider xq4_153", "spaceship of period 4", "5", "3", "2", "8"],
+            ["xp2_1110s: 5 by 5, 6 cells", "2 blinkers xp2_1110s", "oscillator of period 2", "6", "2", "3", "9"],
+            ["too large to draw", "not separated ov_p123", "oscillator of period 123", "", "1", "7", "10"],
+            ["too large to draw", "not separated ov_s4000", "still life", "4000", "1", "7", "10"],
+            ["can't be drawn", "not separated zz_1", "an object", "", "1", "7", "11"]])
+        self.assertEqual(table.rows[0].links, ["https://catagolue.hatsya.com/object/xs4_33/b3s23", *(
+            f"https://catagolue.hatsya.com/hashsoup/C1/a{number}/b3s23" for number in (5, 6, 11))])
+        self.assertEqual(table.rows[4].links, ["https://catagolue.hatsya.com/hashsoup/C1/a10/b3s23"])
+
+    def test_pictures(self) -> None:
+        """Objects of more than ten rows, too, cell for cell, with a margin of one cell. A cell has twelve points if there are under ten."""
+        for code, scale in (("xs28_g88m952g8gz1218kid221", 4), (PULSAR, 4), ("xs4_1zzzz1zz1", 12), ("xs9_31ego", 12), ("xs10_178kk8", 4)):
+            text = page(made({code: 1}, [(9, 1)]), 0)
+            (path,) = table_of(text).rows[0].paths
+            wanted = cells_of(census("show", "--", code).decode())
+            self.assertEqual(drawn(path), wanted)
+            width, height = (max(side) + 1 for side in zip(*wanted))
+            self.assertIn(f'<svg class="cells-{scale}" width="{(width + 2) * scale}" height="{(height + 2) * scale}" viewBox="-1 -1 {width + 2} {height + 2}"', text)
+
+    def test_addresses_of_soups(self) -> None:
+        """A seed may have any sign."""
+        haul = Haul(Job("a/b?#%", "b36s23", STANDARD), [(5, 1)], 1, 0, 0, {"xs4_33": 1}, {"xs4_33": [5]})
+        self.assertEqual(table_of(page(haul, 0)).rows[0].links[1], "https://catagolue.hatsya.com/hashsoup/C1/a%2Fb%3F%23%255/b36s23")
+
+    def test_what_is_left_out(self) -> None:
+        haul = made({"xs4_33": 3, "xp2_7": 2, "xs5_253": 2}, [(0, 9)])
+        for least, said in ((2, "3 of 3 distinct objects, the most frequent first.<"), (3, "1 of 3 distinct objects, the most frequent first. Of the others there are fewer than 3.<")):
+            self.assertIn(f"<p>{said}", compared(haul, least=least))
+
+
+class Data(unittest.TestCase):
+    """What the script of the page reads."""
+
+    HAUL = made({"xp2_1110s": 7, "xs10_25520oo": 3, "xs4_33": 2, "xs8_rr": 1, "ov_p3": 1}, [(0, 9)], samples={
+        "xp2_1110s": [4, 5], "xs10_25520oo": [1, 8], "xs4_33": [2], "xs8_rr": [7], "ov_p3": [0]})
+
+    def test_each_object(self) -> None:
         """14 blinkers, of which no object is one alone; 3 + 2 + 2 blocks; 3 beehives."""
-        text = page_by_parts(self.HAUL)
-        cells = [text for _, text in elements(text.partition("<tbody")[2], "td")]
-        self.assertEqual([cells[k : k + 8] for k in range(1, len(cells), 10)], [
-            ["xp2_7", "blinker", "oscillator of period 2", "3", "14", "2", "1 in 1 soup at most", cells[8]],
-            ["xs4_33", "block", "still life", "4", "7", "3", "1 in 1 soup at most", cells[18]],
-            ["xs6_696", "beehive", "still life", "6", "3", "8", "1 in 3 soups at most", cells[28]]])
-        self.assertEqual([re.findall("<summary>([0-9]+)</summary>", row) for row in text.partition("<tbody")[2].split("<tr")[1:]],
-                         [["4", "5"], ["1", "2", "7"], ["1", "8"]])
-        self.assertEqual(text.count("data-phases="), 1)
+        self.assertEqual(data_of(page(self.HAUL, 0))["objects"], [
+            {"code": "xp2_1110s", "label": "2 blinkers", "made": [["xp2_7", "xp2_7"]], "objects": [[7, 4, 5]], "cells": 6},
+            {"code": "xs10_25520oo", "label": "block and beehive", "made": [["xs4_33", "xs6_696"]], "objects": [[3, 1, 8]], "cells": 10},
+            {"code": "xs4_33", "label": "block", "made": ["strict"], "objects": [[2, 2]], "parts": [[7, 1, 2, 7]], "cells": 4},
+            {"code": "ov_p3", "label": "", "made": ["not separated"], "objects": [[1, 0]], "parts": [[1, 0]]},
+            {"code": "xs8_rr", "label": "bi-block", "made": [["xs4_33", "xs4_33"]], "objects": [[1, 7]], "cells": 8},
+            {"code": "xp2_7", "label": "blinker", "made": ["strict"], "parts": [[14, 4, 5]], "cells": 3},
+            {"code": "xs6_696", "label": "beehive", "made": ["strict"], "parts": [[3, 1, 8]], "cells": 6}])
+
+    def test_the_haul(self) -> None:
+        data = data_of(page(self.HAUL, 3))
+        self.assertEqual({name: data[name] for name in ("least", "play", "kinds", "kindsOfParts", "intervals")}, {
+            "least": 1, "play": 3, "kinds": 5, "kindsOfParts": 4, "intervals": {}})
+        self.assertEqual(data["hauls"], [{
+            "letter": "A", "option": "b3s23", "rule": "B3/S23", "seed": "a", "soups": 9, "objects": 14, "parts": 25,
+            "commands": ["census soup --seed=a ", " | census name"]}])
+
+    def test_least(self) -> None:
+        """An object has a place if there are as many of it, and a part if there are as many by parts. What is left out counts as parts."""
+        text = compared(self.HAUL, least=3)
+        self.assertEqual([(code, one.get("objects"), one.get("parts")) for code, one in objects_of(text).items()], [
+            ("xp2_1110s", [[7, 4, 5]], None), ("xs10_25520oo", [[3, 1, 8]], None), ("xp2_7", None, [[14, 4, 5]]), ("xs4_33", [[2, 2]], [[7, 1, 2, 7]]),
+            ("xs6_696", None, [[3, 1, 8]])])
+        self.assertEqual((data_of(text)["kinds"], data_of(text)["hauls"][0]["objects"]), (5, 14))
+
+    def test_large_totals(self) -> None:
+        """JavaScript loses digits of a number over 2^53, so that is a text."""
+        objects = objects_of(page(made({"xs4_33": 2**53, "xs5_253": 2**53 + 1}, [(0, 9)]), 0))
+        self.assertEqual([objects[code]["objects"][0][0] for code in ("xs4_33", "xs5_253")], [2**53, str(2**53 + 1)])
+
+    def test_soups(self) -> None:
+        """Cell for cell as `census soup` draws them, of objects and of parts."""
+        soups = data_of(page(self.HAUL, 0))["soups"][0]
+        self.assertEqual(sorted(map(int, soups)), [0, 1, 2, 4, 5, 7, 8])
+        for number, (cells,) in soups.items():
+            bits = "".join(format(byte, "08b") for byte in base64.b64decode(cells + "="))
+            self.assertEqual({(k % 16, k // 16) for k, bit in enumerate(bits) if bit == "1"}, cells_of(census("soup", "--seed=a", number).decode()))
+
+    def test_nothing_ends_the_script(self) -> None:
+        seed = "</script><!--"
+        text = page(Haul(Job(seed, "b3s23", STANDARD), [(0, 1)], 1, 0, 0, {"xs4_33": 1}, {"xs4_33": [0]}), 0)
+        self.assertEqual(data_of(text)["hauls"][0]["seed"], seed)
+        self.assertEqual((text.count("</script>"), text.count("<!--")), (2, 0))
+
+    def test_the_files_are_in_it(self) -> None:
+        """The page has each of its files, and loads nothing."""
+        text = page(self.HAUL, 0)
+        files = [*TOP.glob("haul/page/*.js"), *TOP.glob("haul/page/*.css")]
+        self.assertGreater(len(files), 8)
+        for file in files:
+            self.assertEqual(text.count(file.read_text()), 1, file)
+        self.assertEqual(re.findall("<(?:link|img|iframe|script) [^>]*(?:src|href)=|@import|url\\(|fetch\\(", text), [])
+
+
+class Comparing(unittest.TestCase):
+    LIFE = made({"xs4_33": 1000, "xp2_7": 10, "xs12_raar": 4}, [(0, 100)])
+    OTHER = Haul(Job("b", "bs123", STANDARD), [(7, 50)], 50, 3, 4, {"xs12_raar": 4, "xs4_33": 5}, {"xs12_raar": [7], "xs4_33": [8, 9]})
+
+    def test_title(self) -> None:
+        for hauls, title in (([self.LIFE, self.OTHER], "Censuses under B3/S23 and B/S123, compared"), ([self.LIFE, self.LIFE], "2 censuses under B3/S23, compared"),
+                             ([self.LIFE], "A census of 100 soups in Conway&#x27;s Game of Life"), ([self.OTHER], "A census of 50 soups under B/S123")):
+            self.assertIn(f"<title>{title}</title>", compared(*hauls))
 
     def test_facts(self) -> None:
-        text = page_by_parts(self.HAUL)
-        self.assertIn("<dt>Objects</dt><dd>24</dd></div><div><dt>Objects per soup</dt><dd>2.67</dd></div><div><dt>Kinds of object</dt><dd>3</dd>", text)
-        self.assertIn("3 kinds, the most frequent first.", text)
-        self.assertIn("<h2>The 3 most frequent</h2>", text)
+        """A row for each haul."""
+        rows = re.findall('<tr><th scope="row">(.*?)</th>(.*?)</tr>', before_table(compared(self.LIFE, self.OTHER)))
+        self.assertEqual([[re.sub("<.*?>", "", head), *re.findall("<td>(.*?)</td>", cells)] for head, cells in rows], [
+            ["A B3/S23", "100", "1,014", "10.14", "3", "3", "0", "0", '<code class="seed">a</code>', "0 to 99"],
+            ["B B/S123", "50", "9", "0.18", "2", "1", "3", "4", '<code class="seed">b</code>', "7 to 56"]])
 
-    def test_what_has_no_row_is_counted(self) -> None:
-        text = seen("".join(page_of(Census(CENSUS), self.HAUL, 3, 0)), "objects")
-        cells = [text for _, text in elements(text.partition("<tbody")[2], "td")]
-        self.assertEqual([cells[k : k + 5 : 4] for k in range(1, len(cells), 10)], [["xp2_7", "14"], ["xs4_33", "7"], ["xs6_696", "3"]])
-        self.assertIn("1 kind, the most frequent first. 3 more have fewer than 5 objects and are left out.",
-                      seen("".join(page_of(Census(CENSUS), self.HAUL, 5, 0))))
+    def test_each_under_its_rule(self) -> None:
+        """A table on table falls apart under the rule of B alone, and each value has a place for each haul."""
+        objects = objects_of(compared(self.LIFE, self.OTHER))
+        self.assertEqual(objects["xs12_raar"], {"code": "xs12_raar", "label": "table on table", "made": ["strict", ["xs6_9f"] * 2], "objects": [[4, 0], [4, 7]],
+                                                "parts": [[4, 0], 0], "cells": 12})
+        self.assertEqual(objects["xs6_9f"], {"code": "xs6_9f", "label": "", "made": [None, "strict"], "parts": [0, [8, 7]], "cells": 6})
+        self.assertEqual(objects["xp2_7"]["objects"], [[10, 0], 0])
+        self.assertEqual(list(objects), ["xs4_33", "xp2_7", "xs12_raar", "xs6_9f"])
 
-    def test_at_first_it_is_hidden(self) -> None:
-        text = "".join(page_of(Census(CENSUS), self.HAUL, 1, 0))
-        self.assertEqual(re.findall(r"<(\w+)[^>]* data-counts=['\"](\w+)['\"]( hidden)?", text), [
-            (tag, counts, " hidden" if counts == "parts" else "") for tag in ("dl", "div", "span", "tbody") for counts in ("objects", "parts")])
+    def test_intervals(self) -> None:
+        """Those of each total on the page, and of 0."""
+        found = data_of(compared(self.LIFE, self.OTHER))["intervals"]
+        self.assertEqual({int(total): tuple(ends) for total, ends in found.items()}, {total: interval(total) for total in (0, 4, 5, 8, 10, 1000)})
 
+    def test_the_table(self) -> None:
+        table = table_of(compared(self.LIFE, self.OTHER))
+        self.assertEqual(table.heads[4:], ["Total in A", "≤ 1 in N soups in A", "Sample soups in A", "Total in B", "≤ 1 in N soups in B", "Sample soups in B"])
+        self.assertEqual([row.cells[4:] for row in table.rows], [["1,000", "1", "0", "5", "10", "8 9"], ["10", "10", "0", "0", "", ""], ["4", "25", "0", "4", "12", "7"]])
 
-class Whole(unittest.TestCase):
-    """Everything of a small page, but the style and the script."""
+    def test_least_in_one_of_them(self) -> None:
+        self.assertEqual([row.cells[4] for row in table_of(compared(self.LIFE, self.OTHER, least=10)).rows], ["1,000", "10"])
 
-    HAUL = Haul(Job("a", "b36s23", (64, 512, 101, 30300)), [(5, 7), (2048, 1)], 8, 1, 2, {"xp2_7": 10, "xs4_33": 100, "xs4_y": 1},
-                {"xp2_7": [6], "xs4_33": [5, 2048], "xs4_y": [11]})
-    HEAD = """\
-<h1>A census of 8 soups under B36/S23</h1>
-<p>Random patterns of 16 by 16 cells (seed <code>a</code>, numbers 5 to 11, 2048) were run under the rule
-<code>b36s23</code> (B36/S23) until they had settled, and the objects that they left were counted.
-A pattern has settled at the first checkpoint (one each 101 generations, up to generation 30,300) at which each of its objects comes back \
-within 64 generations, and for 512 generations none comes into another&#x27;s way. It is settled for good if it has no spaceship and all \
-its objects come back together within that time.</p>
-<dl class='facts' data-counts='objects'><div><dt>Soups</dt><dd>8</dd></div><div><dt>Unsettled</dt><dd>1</dd></div><div><dt>Settled for good</dt><dd>2</dd></div>\
-<div><dt>Objects</dt><dd>111</dd></div><div><dt>Objects per soup</dt><dd>13.88</dd></div><div><dt>Kinds of object</dt><dd>3</dd></div></dl>
-<p>To verify this census, run it again. With the text of this haul in the file <code>all.haul</code>, \
-<code>haul check all.haul</code> does that and compares; <code>haul check --samples all.haul</code> runs the sample soups alone.</p>
-"""
-    # From 1 at 200 to 100 at 530: each mark is 165 points after the one before, and a bar has two more.
-    BARS = """\
-<div data-counts='objects'><h2>The 3 most frequent</h2>
-<svg class='bars' viewBox='0 0 640 92' role='img'><title>Totals of the most frequent objects</title>
-<path class='mark' d='M200.0 0V58'/><text x='200.0' y='72' text-anchor='middle'>1</text>\
-<path class='mark' d='M365.0 0V58'/><text x='365.0' y='72' text-anchor='middle'>10</text>\
-<path class='mark' d='M530.0 0V58'/><text x='530.0' y='72' text-anchor='middle'>100</text>\
-<text x='200' y='88'>how many objects there are, on a logarithmic scale</text>
-<text x='194' y='15' text-anchor='end'>block</text><path class='bar' d='M200 4h332.0v13h-332.0z'/><text x='538.0' y='15'>100</text>
-<text x='194' y='33' text-anchor='end'>blinker</text><path class='bar' d='M200 22h167.0v13h-167.0z'/><text x='373.0' y='33'>10</text>
-<text x='194' y='51' text-anchor='end'>xs4_y</text><path class='bar' d='M200 40h2.0v13h-2.0z'/><text x='208.0' y='51'>1</text>
-</svg>
-</div>"""
-    # The blinker's column is drawn first, and then its row.
-    ROWS = """\
-<tr><td><svg width='24' height='24' viewBox='0 0 2 2' role='img'><title>block: 2 by 2, 4 cells</title><path d='M0 0.5h2m-2 1h2'/></svg></td>\
-<td><a href='https://catagolue.hatsya.com/object/xs4_33/b36s23'>xs4_33</a></td><td>block</td><td>still life</td><td>4</td><td>100</td><td>1</td>\
-<td>1 in 1 soup at most</td><td><noscript>SAMPLE 5SAMPLE 2048</noscript></td><td></td></tr>
-<tr><td><svg width='36' height='36' viewBox='0 0 3 3' role='img' data-phases='M1 0.5h1m-1 1h1m-1 1h1|M0 1.5h3'>\
-<title>blinker: 1 by 3, 3 cells</title><path d='M1 0.5h1m-1 1h1m-1 1h1'/></svg></td>\
-<td><a href='https://catagolue.hatsya.com/object/xp2_7/b36s23'>xp2_7</a></td><td>blinker</td><td>oscillator of period 2</td><td>3</td><td>10</td><td>11</td>\
-<td>1 in 1 soup at most</td><td><noscript>SAMPLE 6</noscript></td><td></td></tr>
-<tr><td>can't be drawn</td>\
-<td><a href='https://catagolue.hatsya.com/object/xs4_y/b36s23'>xs4_y</a></td><td></td><td>still life</td><td></td><td>1</td><td>111</td>\
-<td>1 in 8 soups at most</td><td><noscript>SAMPLE 11</noscript></td><td>not separated</td></tr>
-"""
+    def test_ends_of_each(self) -> None:
+        """Soup 0 of A and soup 0 of B are different soups under different rules."""
+        words = [["--seed=x", "--count=3"], ["--seed=y", "--count=3", "--rule=b36s23", "--stride=50"]]
+        soups = data_of(compared(*(read_one_haul(io.BytesIO(census("take", *some))) for some in words), play=500))["soups"]
+        for known, options in zip(soups, (["--seed=x"], ["--seed=y"]), strict=True):
+            rule = [] if options == ["--seed=x"] else ["--rule=b36s23", "--stride=50"]
+            for number, (_, *end) in known.items():
+                named = subprocess.run([CENSUS, "name", *rule], input=census("soup", *options, number), stdout=subprocess.PIPE, check=True).stdout.decode()
+                self.assertEqual(named.split()[1], str(end[0]))
+            self.assertEqual(len(known), 3)
 
-    def test_each_byte(self) -> None:
-        text = page(self.HAUL, 2)
-        for number in (5, 2048, 6, 11):
-            soup = census("soup", "--seed=a", str(number))
-            known = ""
-            if number != 11:
-                named = subprocess.run([CENSUS, "name", "--rule=b36s23"], input=soup, stdout=subprocess.PIPE, check=True).stdout.decode().split()[1]
-                live = subprocess.run([CENSUS, "run", "--rule=b36s23", named], input=soup, stdout=subprocess.PIPE, check=True).stdout.count(b"O")
-                known = f" data-settled='{named}' data-least='{live}' data-most='{live}'"
-            before, path, after = re.split(f"(?<=<summary>{number}</summary><svg class='soup' viewBox='0 0 16 16'><path d=')([^']*)", text)
-            self.assertEqual(drawn(path), cells_of(soup.decode()))
-            start = before.rindex("<details")
-            self.assertEqual(before[start:], f"<details{known}><summary>{number}</summary><svg class='soup' viewBox='0 0 16 16'><path d='")
-            end = f"'/></svg><code>census soup --seed=a {number} | census name --rule=b36s23</code></details>"
-            self.assertTrue(after.startswith(end))
-            text = before[:start] + f"SAMPLE {number}" + after[len(end) :]
-        title, style, script = "<title>A census of 8 soups under B36/S23</title>\n<style>\n", "</style>\n</head>\n<body>\n<main>\n", "<script>\n'use strict';\n{\n"
-        self.assertTrue(text.startswith('<!DOCTYPE html>\n<html lang="en">\n<head>\n<meta charset="utf-8">\n'))
-        self.assertEqual(text.partition(title)[2].partition(style)[0], (TOP / "haul" / "page.css").read_text())
-        self.assertTrue(text.partition(style)[2].startswith(self.HEAD + self.BARS + "<h2>All objects</h2>\n<p><span data-counts='objects'>3 kinds, the most frequent first.</span> A click"))
-        self.assertIn('<table id="objects" data-rule="B36/S23"><thead><tr><th scope=\'col\'>Picture</th>', text)
-        self.assertEqual(text.partition('<tbody data-counts="objects">\n')[2].partition("</tbody>")[0], self.ROWS)
-        both = "".join((TOP / "haul" / name).read_text() for name in ("player.js", "page.js"))
-        self.assertEqual(text.partition(script)[2], both + "}\n</script>\n</body>\n</html>\n")
-
-
-class Pictures(unittest.TestCase):
-    def svg(self, code: str, *more: int) -> dict[str, str | None]:
-        return next(one for one, _ in elements(page(made({code: 1}, [(0, 1)]), *more), "svg") if one.get("viewbox") != "0 0 16 16" and "class" not in one)
-
-    def test_sizes(self) -> None:
-        """Twelve points a cell where there are under ten cells, and else four."""
-        for code, box, scale in (("xs4_33", (2, 2), 12), ("xs9_31ego", (5, 5), 12), ("xs10_178kk8", (6, 5), 4), ("xp2_7", (3, 3), 12), ("xs4_1yy1z1", (40, 6), 12)):
-            with self.subTest(code=code):
-                svg = self.svg(code)
-                if code != "xs4_1yy1z1":
-                    self.assertEqual(svg["viewbox"], "0 0 {} {}".format(*box))
-                width, height = map(int, (svg["viewbox"] or "").split()[2:])
-                self.assertEqual((svg["width"], svg["height"]), (str(width * scale), str(height * scale)))
-
-    def test_phases(self) -> None:
-        """Each as `census run` prints it, in one box, and the first is what stands there."""
-        for code, period in (("xp2_7", 2), ("xp3_co9nas0san9oczgoldlo0oldlogz1047210127401", 3), ("xq4_153", 4), ("xp15_4r4z4r4", 15)):
-            with self.subTest(code=code):
-                paths = (self.svg(code)["data-phases"] or "").split("|")
-                self.assertEqual(len(paths), period)
-                for generation, path in enumerate(paths):
-                    printed = subprocess.run([CENSUS, "run", str(generation)], input=census("show", code), stdout=subprocess.PIPE, check=True).stdout
-                    left, top = (min(side) for side in zip(*drawn(path)))
-                    self.assertEqual({(x - left, y - top) for x, y in drawn(path)}, cells_of(printed.decode()))
-        self.assertNotIn("data-phases", self.svg("xs4_33"))
-
-    def test_how_many_rows(self) -> None:
-        haul = made({"xp2_7": 9, "xs4_33": 8, "xp2_7e": 7, "xp2_318c": 6}, [(0, 1)])
-        for play, count in ((0, 0), (1, 1), (2, 1), (3, 2), (4, 3), (500, 3)):
-            self.assertEqual(page(haul, play).count("data-phases="), count)
+    def test_files(self) -> None:
+        """One to eight."""
+        with tempfile.TemporaryDirectory() as folder:
+            name = f"{folder}/haul"
+            Path(name).write_text(text_of(self.LIFE))
+            for count in (1, 2, 8):
+                status, text, errors = run("page", "--play=0", *[name] * count)
+                self.assertEqual((status, errors, len(data_of(text)["hauls"])), (0, "", count))
+            status, text, errors = run("page", "--play=0", *[name] * 9)
+            self.assertEqual((status, text), (2, ""))
+            self.assertIn("more than 8 hauls", errors)
+            self.assertEqual(run("page", name, "/dev/null"), (3, "", "haul: /dev/null: bad haul at line 1 column 1\n"))
 
 
 class Ends(unittest.TestCase):
     def test_when_soups_settle(self) -> None:
         """As `census name` says, and `census run` up to then."""
         haul, exact = read_one_haul(io.BytesIO(census("take", "--count", "12"))), 0
-        soups = {text.partition("census")[0]: one for one, text in elements(page(haul), "details")}
+        soups = data_of(page(haul))["soups"][0]
         self.assertEqual({int(number) for number in soups}, {number for numbers in haul.samples.values() for number in numbers})
-        for number, one in soups.items():
+        for number, (_, settled, least, most) in soups.items():
             soup = census("soup", number)
             named = subprocess.run([CENSUS, "name"], input=soup, stdout=subprocess.PIPE, check=True).stdout.decode()
-            settled = named.splitlines()[0].removeprefix("settled ")
-            then = subprocess.run([CENSUS, "run", settled], input=soup, stdout=subprocess.PIPE, check=True).stdout.decode()
-            self.assertEqual(one["data-settled"], settled)
-            self.assertTrue(int(one["data-least"] or 0) <= then.count("O") <= int(one["data-most"] or 0))
-            exact += one["data-least"] == one["data-most"]
+            self.assertEqual(named.split()[1], str(settled))
+            then = subprocess.run([CENSUS, "run", str(settled)], input=soup, stdout=subprocess.PIPE, check=True).stdout.decode()
+            self.assertTrue(least <= then.count("O") <= most)
+            exact += least == most
         self.assertGreater(exact, 5)
 
     def test_how_many_cells_there_are_then(self) -> None:
         """A pulsar has 48, 56 or 72 cells, a glider always five. What can't be drawn is known only if it is a still life."""
-        pulsar = "xp3_co9nas0san9oczgoldlo0oldlogz1047210127401"
         life = rule_of("b3s23")
-        for code, sizes in ((pulsar, {48, 56, 72}), ("xq4_153", {5}), ("xp2_318c", {6, 8}), ("ov_s123", {123}), ("ov_p123", set()), ("xp3_33", set())):
+        for code, sizes in ((PULSAR, {48, 56, 72}), ("xq4_153", {5}), ("xp2_318c", {6, 8}), ("ov_s123", {123}), ("ov_p123", set()), ("xp3_33", set())):
             self.assertEqual(populations_of(life, code), sizes)
         for fields, end in ((["unsettled"], None), (["at=101", "good=yes"], End(101, 0, 0)),
-                            (["at=0", "good=no", f"{pulsar}*2", "xq4_153*3", "ov_s123*1"], End(0, 96 + 15 + 123, 144 + 15 + 123)),
+                            (["at=0", "good=no", f"{PULSAR}*2", "xq4_153*3", "ov_s123*1"], End(0, 96 + 15 + 123, 144 + 15 + 123)),
                             (["at=0", "good=no", "ov_p123*1", "xq4_153*3"], None)):
             self.assertEqual(end_of(life, fields), end)
 
-    def test_another_job(self) -> None:
-        words = ["--seed=a", "--count=5", "--rule=b36s23", "--stride=7", "--limit=700"]
-        haul = read_one_haul(io.BytesIO(census("take", *words)))
-        for one, text in elements(page(haul), "details"):
-            soup = census("soup", "--seed=a", text.partition("census")[0])
-            named = subprocess.run([CENSUS, "name", "--rule=b36s23", "--stride=7", "--limit=700"], input=soup, stdout=subprocess.PIPE, check=True).stdout.decode()
-            self.assertEqual(one["data-settled"], named.splitlines()[0].removeprefix("settled "))
-
     def test_which_have_one(self) -> None:
-        """Those of the first rows, and of these no soup that doesn't settle."""
-        haul = made({"xp2_7": 9, "xs4_33": 8}, [(0, 9)], samples={"xp2_7": [0, 1], "xs4_33": [1, 2]})
-        def known(*more: int) -> list[str]:
-            return [text.partition("census")[0] for one, text in elements(page(haul, *more), "details") if "data-settled" in one]
+        """Those of the first objects. Strict ones come first, and objects that couldn't be separated count as strict."""
+        haul = made({"xp2_1110s": 9, "xs4_33": 8, "ov_p3": 7}, [(0, 9)], samples={"xp2_1110s": [0, 1], "xs4_33": [1, 2], "ov_p3": [3]})
+        def known(play: int) -> list[int]:
+            return sorted(int(number) for number, (_, *end) in data_of(page(haul, play))["soups"][0].items() if end)
 
-        self.assertEqual((known(), known(1), known(0)), (["0", "1", "1", "2"], ["0", "1", "1"], []))
-        # The first row is that of an object, though there are more blocks.
-        haul = made({"xp2_7": 9, "xs8_rr": 8}, [(0, 9)], samples={"xp2_7": [3], "xs8_rr": [4]})
-        self.assertEqual(known(1), ["3"])
-        self.assertEqual([one for one, _ in elements(page(made({"xs4_33": 8}, [(0, 9)], (1, 1, 1, 0))), "details")], [{}])
+        self.assertEqual([known(play) for play in (0, 1, 2, 3, 500)], [[], [1, 2], [1, 2, 3], [0, 1, 2, 3], [0, 1, 2, 3]])
+
+    def test_a_soup_without_end(self) -> None:
+        """It was asked about, and its end is 0."""
+        (end,) = data_of(page(made({"xs4_33": 8}, [(9, 1)], (1, 1, 1, 0))))["soups"][0].values()
+        self.assertEqual(end[1:], [0])
 
     def test_which_options_are_passed_on(self) -> None:
         none: list[str] = []
         for words, wanted in ((none, (1, 500)), (["--least=7", "--play=3"], (7, 3))):
-            with patch("haul.main.page_of", return_value=[]) as made_of, patch("haul.main.the_haul"):
+            with patch("haul.main.page_of", return_value=[]) as made_of, patch("haul.main.the_haul") as the_haul:
                 self.assertEqual(do_page(parser().parse_args(["page", "--census", CENSUS, *words])), 0)
-            self.assertEqual(made_of.call_args.args[2:], wanted)
-
-    def test_options(self) -> None:
-        text = census("take", "--count", "12")
-        self.assertEqual(run("page", "--play", "0", text=text)[1].count("<details data-settled"), 0)
-        self.assertGreater(run("page", "--play", "1", text=text)[1].count("<details data-settled"), 0)
+                self.assertEqual(do_page(parser().parse_args(["page", "--census", CENSUS, *words, "x", "y"])), 0)
+            self.assertEqual([call.args[2:] for call in made_of.call_args_list], [wanted, wanted])
+            self.assertEqual([call.args for call in the_haul.call_args_list], [(None,), ("x",), ("y",)])
 
 
 if __name__ == "__main__":

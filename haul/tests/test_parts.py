@@ -259,7 +259,7 @@ class Tables(unittest.TestCase):
                 self.assertEqual((status, errors), (0, ""))
                 self.assertEqual([row["code"] for row in csv.DictReader(output.splitlines())], [code, "xs4_33"])
             status, output, errors = run("page", "--play=0", f"{folder}/a")
-        self.assertEqual((status, errors, output.count("<td>can't be drawn</td>")), (0, "", 2))
+        self.assertEqual((status, errors, output.count("<td>can't be drawn</td>")), (0, "", 1))
 
 
 class SideBySide(unittest.TestCase):

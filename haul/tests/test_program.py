@@ -5,23 +5,21 @@ from __future__ import annotations
 import io
 import os
 import random
-import re
 import subprocess
 import sys
 import tempfile
 import unittest
-from html import unescape
+from html import escape
 from pathlib import Path
 from typing import IO
 
 from haul.by_parts import Objects
 from haul.check import differences, taken_again
 from haul.compare import Comparison
-from haul.page import page_of
+from haul.page.shell import commands
 from haul.program import Census, NoCensus, beside, pieces, set_words
 from haul.tests.called import CENSUS, census, run
-from haul.tests.drawn import text_of
-from haul.tests.pages import page, seen
+from haul.tests.pages import before_table, data_of, page, table_of
 from haul.text import BadHaul, Haul, Job, read_one_haul
 
 
@@ -275,53 +273,42 @@ class Pages(unittest.TestCase):
             for seed in self.HOSTILE:
                 with self.subTest(seed=seed):
                     words = [f"--seed={seed}", "--count=10", "--rule=b36s23", "--limit=303"]
-                    shown = page(read_one_haul(io.BytesIO(census("take", *words))))
-                    found = re.search("<summary>([0-9]+)</summary><svg.*?</svg><code>(census soup .*?)</code></details>", shown)
-                    assert found is not None
-                    told = subprocess.run(["bash", "-c", unescape(found[2])], cwd=folder, capture_output=True, check=False,
+                    shown = page(read_one_haul(io.BytesIO(census("take", *words))), 0)
+                    (of_haul,), (soups,) = data_of(shown)["hauls"], data_of(shown)["soups"]
+                    number = next(iter(soups))
+                    told = subprocess.run(["bash", "-c", number.join(of_haul["commands"])], cwd=folder, capture_output=True, check=False,
                                           env={"PATH": folder + os.pathsep + os.environ["PATH"]})
-                    soup = census("soup", f"--seed={seed}", found[1])
+                    soup = census("soup", f"--seed={seed}", number)
                     wanted = subprocess.run([CENSUS, "name", "--rule=b36s23", "--limit=303"], input=soup, stdout=subprocess.PIPE, check=True)
                     self.assertEqual((told.stdout, told.stderr), (wanted.stdout, b""))
                     self.assertEqual(os.listdir(folder), ["census"])
-                    self.assertEqual((shown.count("</script>"), shown.count("<b>")), (1, 0))
+                    self.assertEqual((shown.count("</script>"), before_table(shown).count("<b>")), (2, 0))
+                    self.assertIn(f'<code class="seed">{escape(seed)}</code>', shown)
 
     def test_all_is_there(self) -> None:
-        text = census("take", "--count", "40")
-        shown = page(read_one_haul(io.BytesIO(text)))
-        self.assertEqual(shown.count("</td></tr>"), 30)
-        self.assertEqual(shown.count("role='img'"), 31)
-        self.assertIn("href='https://catagolue.hatsya.com/object/xs4_33/b3s23'", shown)
-        self.assertIn("<td>traffic light</td>", shown)
-        self.assertIn("<td>3</td><td>1 in 1 soup at most</td>", shown)
-        self.assertNotIn("src=", shown)
+        shown = page(read_one_haul(io.BytesIO(census("take", "--count", "40"))))
+        rows = table_of(shown).rows
+        self.assertEqual((len(rows), sum(len(row.paths) for row in rows), len(data_of(shown)["objects"])), (30, 30, 30))
+        self.assertIn("traffic light xp2_s01110szw222", [row.cells[1] for row in rows])
+        self.assertEqual([row.cells[4:] for row in rows if row.cells[1] == "pond xs8_6996"], [["6", "6", "1 17 18"]])
 
-    def test_an_object_that_is_too_large_to_draw(self) -> None:
-        haul = Haul(Job("", "b3s23", (64, 512, 101, 30300)), [(0, 1)], 1, 0, 0, {"ov_s2000": 1}, {"ov_s2000": [0]})
-        shown = page(read_one_haul(io.BytesIO(text_of(haul).encode())))
-        self.assertIn("too large to be drawn", shown)
+    def test_options_of_a_sample(self) -> None:
+        """Those that aren't standard, and no other."""
+        for profile, words in (((64, 512, 101, 30300), ""), ((64, 512, 100, 30300), " --stride=100"), ((64, 512, 102, 30300), " --stride=102"),
+                               ((63, 512, 101, 30300), " --period=63"), ((64, 511, 101, 30300), " --horizon=511"), ((64, 512, 101, 30299), " --limit=30299"),
+                               ((1, 2, 3, 4), " --period=1 --horizon=2 --stride=3 --limit=4")):
+            with self.subTest(profile=profile):
+                self.assertEqual(commands(Job("a", "b3s23", profile)), ("census soup --seed=a ", f" | census name{words}"))
 
     def test_codes_that_name_nothing(self) -> None:
         """A haul may be lawful with codes that the program can't draw. What else is in it is shown."""
         codes = ["xs4_33", "xs4_y", "yl3_1", "zz_"]
         haul = Haul(Job("", "b3s23", (64, 512, 101, 30300)), [(0, 1)], 1, 0, 0, {code: 1 for code in codes}, {code: [0] for code in codes})
-        shown = page(read_one_haul(io.BytesIO(text_of(haul).encode())))
-        self.assertEqual(shown.count("<tr><td>can't be drawn</td>"), 3)
-        self.assertEqual(shown.count("<tr><td><svg"), 1)
-
-    def test_one_and_more(self) -> None:
-        haul = Haul(Job("", "b3s23", (1, 1, 1, 0)), [(0, 1)], 1, 0, 0, {"xs4_33": 1}, {"xs4_33": [0]})
-        shown = page(haul)
-        for said in ("A census of 1 soup in", "<h2>The most frequent one</h2>", "1 kind, the", "within 1 generation, and for 1 generation none"):
-            self.assertIn(said, shown)
-        haul = Haul(Job("", "b3s23", (2, 3, 1, 1)), [(0, 2)], 1, 0, 0, {"xs4_33": 1, "xs5_253": 2}, {"xs4_33": [0], "xs5_253": [1]})
-        shown = seen("".join(page_of(Census(CENSUS), haul, 2)))
-        for said in ("1 soup in", "Soups are missing from this haul", "1 more has fewer than 2 objects and is left out.", "within 2 generations"):
-            self.assertIn(said, shown)
-        self.assertIn("2 more have fewer than 3 objects and are left out.", "".join(page_of(Census(CENSUS), haul, 3)))
+        self.assertEqual([row.cells[0] for row in table_of(page(haul)).rows], ["block: 2 by 2, 4 cells"] + ["can't be drawn"] * 3)
 
     def test_no_object(self) -> None:
-        self.assertIn("0 kinds", page(read_one_haul(io.BytesIO(census("take", "--count", "0")))))
+        shown = page(read_one_haul(io.BytesIO(census("take", "--count", "0"))))
+        self.assertEqual((table_of(shown).rows, data_of(shown)["objects"], data_of(shown)["soups"]), ([], [], [{}]))
 
 
 if __name__ == "__main__":

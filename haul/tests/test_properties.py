@@ -8,12 +8,10 @@ import re
 import unittest
 
 from haul.check import differences, wrong_samples
-from haul.page import page_of
 from haul.program import Census
 from haul.tests.called import CENSUS, census
 from haul.tests.drawn import any_haul
-from haul.tests.pages import page, seen
-from haul.tests.test_whole import rows_of
+from haul.tests.pages import compared, objects_of, page, table_of
 from haul.text import Haul, Job, read_one_haul
 
 
@@ -119,46 +117,43 @@ class Once(Census):
 
 class Shown(unittest.TestCase):
     def test_number_for_number(self) -> None:
-        """Each code with its numbers, the most frequent first, and all facts before the table."""
+        """Each code with its numbers, the most frequent first, in the table and in the data, and all facts before the table."""
         draw = random.Random("pages")
         rows = 0
         for _ in range(200):
             haul = any_haul(draw)
             text = page(haul, 0)
-            shown = rows_of(text).rows
+            shown, objects = table_of(text).rows, objects_of(text)
             codes = sorted(haul.totals, key=lambda code: (-haul.totals[code], code))
-            self.assertEqual([row[1] for row in shown], codes)
-            written = text.partition("<tbody ")[2].split("<tr")[1:]
-            for code, row, html in zip(codes, shown, written, strict=True):
-                total = haul.totals[code]
-                times = max(haul.soups // total, 1)
-                self.assertEqual(row[5:8], [f"{total:,}", f"{round(haul.objects() / total):,}", f"1 in {times:,} soup{'s' if times > 1 else ''} at most"])
-                self.assertEqual(re.findall("<summary>([0-9]+)</summary>", html), [str(number) for number in haul.samples[code]])
-            facts = dict(zip(["soups", "unsettled", "good", "objects", "rate", "kinds"], text.split("<dd>")[1:]))
-            found = {name: said.partition("<")[0] for name, said in facts.items()}
-            soups = f"{haul.soups:,}" + (f" of {haul.size():,}" if haul.size() > haul.soups else "")
-            self.assertEqual(found, {"soups": soups, "unsettled": f"{haul.unsettled:,}", "good": f"{haul.for_good:,}", "objects": f"{haul.objects():,}",
-                                     "rate": f"{haul.objects() / haul.soups:.2f}" if haul.soups else "none", "kinds": f"{len(codes):,}"})
+            self.assertEqual([row.cells[1].split()[-1] for row in shown], codes)
+            self.assertEqual(list(objects)[: len(codes)], codes)
+            for code, row in zip(codes, shown, strict=True):
+                total, samples = haul.totals[code], haul.samples[code]
+                self.assertEqual(row.cells[4:], [f"{total:,}", f"{max(haul.soups // total, 1):,}", " ".join(map(str, samples))])
+                self.assertEqual(objects[code]["objects"], [[total, *samples]])
+            soups = f"{haul.soups:,}" + (f" <small>of {haul.size():,}</small>" if haul.size() > haul.soups else "")
+            found = re.findall("<dt>([a-z ]*)</dt><dd>(.*?)</dd>", text)
+            self.assertEqual([pair for pair in found if pair[0] != "of these strict"], [
+                ("soups", soups), ("objects", f"{haul.objects():,}"), ("objects per soup", f"{haul.objects() / haul.soups:.2f}" if haul.soups else "–"),
+                ("distinct objects", f"{len(codes):,}"), ("unsettled soups", f"{haul.unsettled:,}"), ("settled for good", f"{haul.for_good:,}")])
             rows += len(shown)
         self.assertGreater(rows, 300)
 
     def test_least(self) -> None:
-        """Codes with as many are there, and what is left out is counted."""
+        """Codes with as many are there."""
         draw = random.Random("least")
         for _ in range(100):
             haul = any_haul(draw)
             for least in {0, 1, *list(haul.totals.values())[:3]}:
-                text = seen("".join(page_of(Census(CENSUS), haul, least, 0)))
-                shown = [row[1] for row in rows_of(text).rows]
-                self.assertEqual(sorted(shown), [code for code, total in haul.totals.items() if total >= least])
-                out = len(haul.totals) - len(shown)
-                said = f" {out} more {'has' if out == 1 else 'have'} fewer than {least:,} objects and {'is' if out == 1 else 'are'} left out." if out else ""
-                self.assertIn(f"the most frequent first.{said}</span>", text)
+                text = compared(haul, least=least)
+                shown = sorted(row.cells[1].split()[-1] for row in table_of(text).rows)
+                self.assertEqual(shown, [code for code, total in haul.totals.items() if total >= least])
+                self.assertIn(f"{len(shown):,} of {len(haul.totals):,} distinct objects, the most frequent first.", text)
 
     def test_four_thousand(self) -> None:
         codes = [f"xs4_{number:04}" for number in range(4000)]
         haul = Haul(Job("", "b3s23", (1, 1, 1, 0)), [(0, 1)], 1, 0, 0, {code: 1 + k for k, code in enumerate(codes)}, {code: [0] for code in codes})
-        self.assertEqual([row[1] for row in rows_of(page(haul, 0)).rows], codes[::-1])
+        self.assertEqual([row.cells[1].split()[-1] for row in table_of(page(haul, 0)).rows], codes[::-1])
 
 
 if __name__ == "__main__":

@@ -71,7 +71,7 @@ faults_of e v rows = or_else (repeat_fault false e.name rows) (values_kinds fals
 abbrev pub reacts : Kinds × Held → Entry → Text → Met
 reacts p e v = ((record { rows = rows_with e v p.1.rows; pending = None; skip = p.1.skip }, next idle), or_else p.0 (faults_of e v p.1.rows))
 
--- an argument with the name alone, after which values of the argument wait
+-- an argument that is only a name, and is followed by its values
 abbrev pub asks : Kinds × Held → Entry → Met
 asks p e = ((record { rows = p.1.rows; pending = Some (e.name, []); skip = p.1.skip }, next (option e.name)), p.0)
 

@@ -54,7 +54,7 @@ unfolding walked walk_fault
 turn s idle h position argument more m is = ap (goes_on s idle h position argument more) is
 turn s waiting h position argument more m is = ap (goes_on s waiting h position argument more) is
 
--- an argument that doesn't begin with `-` is no flag
+-- an argument that doesn't begin with `-` isn't a flag
 pub plain_met : (s : Shape) (waiting : Waiting) (h : Held) (position : ℕ) (argument : Text) → starts_with_minus argument ≡ false
     → met s waiting h position argument ≡ (plain_word s.rules waiting argument h, [])
 plain_met s waiting h position argument bare = grind (arith, bare)

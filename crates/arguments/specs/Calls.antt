@@ -32,7 +32,7 @@ pub record AskForTheirValues : Type 0 where
   pub work : AsksFor table.work_command (λ uses. Work (plan_given uses) (number_given table.worker uses))
   pub gather : AsksFor table.gather_command (λ uses. Gather (plan_given uses) (number_given table.workers uses))
 
--- Words of a command that ask for nothing: an argument that has to be there is missing; or after arguments that are lawful there is one
+-- Arguments of a command that ask for nothing: a required argument is missing; or after lawful arguments there is one
 -- a second time, one with a value out of its range, an unknown option, an argument such as `-x` or `-h`, or `--help`, whatever comes after it.
 pub record AskForNothing (command : Command) : Type 0 where
   pub missing : (program : Text) (uses : List Use) → AreUses command uses → lacks_some command uses ≡ true

@@ -1,4 +1,4 @@
--- What a row of the table says of an argument, and of a command.
+-- The rows of the table of commands and options.
 use Rattle.std.specs.Prelude.{List, Option, None, Some, Bool, true, false, map}
 use Rattle.std.specs.Option.{option_map}
 use Rattle.clap.specs.Words.{Text}
@@ -9,7 +9,7 @@ use Rattle.arguments.specs.declared.options.ValueKind.TheVariants as kind
 use Rattle.arguments.specs.declared.options.Place.{Place}
 use Rattle.arguments.specs.declared.options.Place.TheVariants as place
 
--- what a row of the table says of an argument, but for the texts of help
+-- the row of an argument, without the texts of help
 pub record Entry : Type 0 where
   pub name : Text
   pub is_named : Bool

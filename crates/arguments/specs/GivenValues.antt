@@ -10,7 +10,7 @@ use Rattle.arguments.specs.Entries.{Entry}
 use Rattle.arguments.specs.Table as table
 use Rattle.arguments.specs.Uses.{Use, entry_in, value_in}
 
--- the value of an argument: the one that is given, or else the default
+-- the value of an argument: the one that is given, or otherwise the default
 abbrev pub text_given : Entry → List Use → Text
 text_given entry [] = unwrap_or entry.default []
 text_given entry (u ∷ more) = if bytes_eq (entry_in u).name entry.name then value_in u else text_given entry more

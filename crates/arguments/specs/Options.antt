@@ -3,7 +3,7 @@ use Rattle.std.specs.Prelude.{◌-◌, ◌^◌, ℕ, [], codes}
 use Rattle.arguments.specs.declared.options.ValueKind.TheVariants as kind
 use Rattle.arguments.specs.Entries.{Entry, flag, option, position, required}
 
--- the most workers that a haul may have, and so the greatest number of one
+-- the most workers that a haul may have, and so the highest number of a worker
 abbrev pub most_workers : ℕ
 most_workers = 16
 

@@ -1,4 +1,4 @@
-//! The program as `clap` reads arguments by it, made from the table.
+//! The program as `clap` knows it, made from the table.
 //!
 //! ```text
 //! COMMANDS ── a row ── command ──┐
@@ -23,9 +23,9 @@ use std::alloc::Global;
 /// The program's version, as `clap` prints it.
 const VERSION: &str = "0.2.0";
 
-/// What help says of the program.
-const ABOUT: &str = "Runs patterns of Conway's Game of Life and its kin, names and draws their\n\
-         objects, makes soups, and counts what they leave";
+/// What help says about the program.
+const ABOUT: &str = "Runs soups and patterns of Conway's Game of Life and other Life-like rules,\n\
+         and names, draws and counts the objects that they leave";
 
 /// What help shows after the commands.
 const EXAMPLES: &str = "To begin with:\n  \
@@ -34,7 +34,7 @@ const EXAMPLES: &str = "To begin with:\n  \
          census show xs7_178c                   draws an object\n\n\
          Run `census help take` for details of a command.";
 
-/// The program as `clap` reads its arguments.
+/// Returns the program as `clap` knows it.
 ///
 /// # Errors
 ///
@@ -45,14 +45,15 @@ pub fn census_command<'a>(alloc: Global) -> Result<Command<'a>, OutOfMemory>
     with_commands(alloc, program(alloc), &rows())
 }
 
-/// The rows of all commands, in a function that owns no `Command`: beside one the table is dear to prove.
+/// Returns the rows of all commands. This is a function of its own because a function that also owns a `Command` is
+/// expensive to prove.
 fn rows() -> [CommandRow; 7]
     ensures { map command_of result ≡ commands }
 {
     COMMANDS
 }
 
-/// The program without its commands.
+/// Returns the program without its commands.
 fn program<'a>(alloc: Global) -> Command<'a>
     ensures { app_of result ≡ program }
 {
@@ -63,7 +64,7 @@ fn program<'a>(alloc: Global) -> Command<'a>
     needing_a_command(command)
 }
 
-/// The program where a command must be named; help is shown where no argument follows.
+/// Requires a command, and shows help if no argument follows.
 fn needing_a_command<'a>(program: Command<'a>) -> Command<'a>
     ensures { fields_of result
         ≡ record (fields_of program.entry) { subcommand_required = true; arg_required_else_help = true } }
@@ -73,7 +74,7 @@ fn needing_a_command<'a>(program: Command<'a>) -> Command<'a>
         .arg_required_else_help(true)
 }
 
-/// The program with these commands too.
+/// Adds these commands to the program.
 fn with_commands<'a>(
     alloc: Global,
     program: Command<'a>,
@@ -89,7 +90,7 @@ fn with_commands<'a>(
     Ok(program)
 }
 
-/// The program with the command of a row too.
+/// Adds the command of a row to the program.
 fn with_command<'a>(
     alloc: Global,
     program: Command<'a>,
@@ -102,7 +103,7 @@ fn with_command<'a>(
     Ok(program)
 }
 
-/// The command of a row.
+/// Returns the command of a row.
 fn command<'a>(alloc: Global, row: &CommandRow) -> Result<Command<'a>, OutOfMemory>
     ensures shape { IfOk result (λ command. shape_of command ≡ shape_in (command_of row.now)) }
     ensures local { IfOk result (λ command. (fields_of command).has_globals ≡ false) }
@@ -114,7 +115,7 @@ fn command<'a>(alloc: Global, row: &CommandRow) -> Result<Command<'a>, OutOfMemo
     with_parameters(alloc, command, row.parameters)
 }
 
-/// The command with these arguments too.
+/// Adds these arguments to the command.
 fn with_parameters<'a>(
     alloc: Global,
     command: Command<'a>,
@@ -132,7 +133,7 @@ fn with_parameters<'a>(
     Ok(command)
 }
 
-/// The command with the argument of a row too.
+/// Adds the argument of a row to the command.
 fn with_parameter<'a>(
     alloc: Global,
     command: Command<'a>,
@@ -146,7 +147,7 @@ fn with_parameter<'a>(
     Ok(command)
 }
 
-/// The argument of a row.
+/// Returns the argument of a row.
 fn parameter<'a>(alloc: Global, row: &Parameter) -> Arg<'a>
     ensures rule { rule_of result ≡ rule_in (entry_of row.now) }
     ensures local { result.global ≡ false }
@@ -167,7 +168,7 @@ fn parameter<'a>(alloc: Global, row: &Parameter) -> Arg<'a>
     }
 }
 
-/// The argument of a row that has a value, which may be any text.
+/// Returns the argument of a row that has a value, which may be any text.
 fn with_value<'a>(alloc: Global, row: &Parameter) -> Arg<'a>
     ensures rule { rule_of result ≡ placed (entry_of row.now) }
     ensures local { result.global ≡ false }
@@ -179,7 +180,7 @@ fn with_value<'a>(alloc: Global, row: &Parameter) -> Arg<'a>
     }
 }
 
-/// The argument of a row, with its name and place alone.
+/// Returns the argument of a row with only its name and place.
 fn with_place<'a>(alloc: Global, row: &Parameter) -> Arg<'a>
     ensures rule { rule_of result ≡ named (entry_of row.now) }
     ensures local { result.global ≡ false }

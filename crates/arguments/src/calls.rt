@@ -1,9 +1,9 @@
-//! From the arguments of a call to its request, or to why there is none.
+//! From the arguments of a call to its request, or to the reason why there is none.
 //!
 //! ```text
-//! arguments ──┬─ --version or -V alone ───────────────> Request::Version
-//!         └─ clap ──┬─ a command with its values ──> its request
-//!                   └─ an error ──────────────────> a text that ends with a line feed, or out of memory
+//! arguments ──┬─ only --version or -V ──────────────────> Request::Version
+//!             └─ clap ──┬─ a command with its values ──> its request
+//!                       └─ an error ──────────────────> a text that ends with a line feed, or out of memory
 //! ```
 
 ghost use Rattle.std.specs.Prelude.{◌≡◌, ◌≢◌, ◌<◌, false, None, Some, IfOk, IfErr, IfSome, IsTrue, length, map};
@@ -26,17 +26,17 @@ use memory::OutOfMemory;
 use std::alloc::Global;
 use std::convert::AsStr;
 
-/// What is said of arguments where `clap` says nothing.
+/// The text about arguments for which `clap` has none.
 const NOT_UNDERSTOOD: &str = "error: the words are not understood";
 
 /// Why arguments give no request.
 #[derive(Debug, Drop)]
 pub enum Unasked {
-    /// They are not understood, or ask for help: the text that says so, which ends with a line feed.
+    /// They weren't understood, or ask for help. The text ends with a line feed.
     Usage(String),
-    /// Memory ran out while they were read: `clap`'s own error says so.
+    /// Memory ran out while `clap` read them.
     Unread(clap::Error),
-    /// Memory ran out for the commands, or for a text.
+    /// Memory ran out for the commands or for a text.
     Memory(OutOfMemory),
 }
 
@@ -50,7 +50,7 @@ impl<E: Into<OutOfMemory>> From<E> for Unasked {
     }
 }
 
-/// What the arguments ask for, of which the first is the program's name.
+/// Returns what the arguments ask for. The first argument is the program's name.
 ///
 /// # Errors
 ///
@@ -76,32 +76,32 @@ pub fn request_of<'a, S: AsStr>(alloc: Global, arguments: &'a [S]) -> Result<Req
     }
 }
 
-/// A law of all arguments: a command asks for the values that are given, in any order, and for the defaults of the others.
+/// The law that a command asks for the values that are given, in any order, and for the defaults of the others.
 #[tactic(auto, using(crate::proofs::LawLemmas::ask_for_their_values))]
 pub fn commands_ask_for_their_values()
     ensures { AskForTheirValues }
 {}
 
-/// A law of all arguments: an argument that is missing, one a second time, a value out of its range, an unknown option and
-/// `--help` ask for nothing.
+/// The law that a missing option, an option given twice, a value out of its range, an unknown option and `--help` ask
+/// for nothing.
 #[tactic(auto, using(crate::proofs::RefuseLemmas::others_ask_for_nothing))]
 pub fn others_ask_for_nothing()
     ensures { OthersAskForNothing }
 {}
 
-/// A law of all arguments: what `--version` and `-V` ask for.
+/// The law of what `--version` and `-V` ask for.
 #[tactic(auto, using(crate::proofs::LawLemmas::asks_for_version))]
 pub fn asks_for_version()
     ensures { AsksForVersion }
 {}
 
-/// A law of all arguments: no command, an unknown one and `--help` ask for nothing.
+/// The law that no command, an unknown command and `--help` ask for nothing.
 #[tactic(auto, using(crate::proofs::RefuseLemmas::no_command_asks_for_nothing))]
 pub fn no_command_asks_for_nothing()
     ensures { NoCommandAsksForNothing }
 {}
 
-/// Whether the arguments are the program's name and `--version` or `-V` alone.
+/// Checks whether the arguments are only the program's name and `--version` or `-V`.
 pub fn asks_version<S: AsStr>(arguments: &[S]) -> bool
     ensures { result ≡ asks_version (map S.text arguments.now) }
 {
@@ -111,7 +111,7 @@ pub fn asks_version<S: AsStr>(arguments: &[S]) -> bool
     }
 }
 
-/// The command that `clap` found, with its values.
+/// Returns the command that `clap` found, with its values.
 fn request_in<'a>(matches: &ArgMatches<'a>) -> Option<Request<'a>>
     ensures request { result ≡ option_and_then request_in (subcommand_rows_of matches.now) }
     ensures ranges { IfSome result AreInTheirRanges }
@@ -120,7 +120,7 @@ fn request_in<'a>(matches: &ArgMatches<'a>) -> Option<Request<'a>>
     request_named(name, found)
 }
 
-/// The command of this name, with its values.
+/// Returns the command of this name, with its values.
 fn request_named<'a>(name: &str, found: &ArgMatches<'a>) -> Option<Request<'a>>
     ensures request { result ≡ request_in (name.now, rows_of (found_of found.now)) }
     ensures ranges { IfSome result AreInTheirRanges }
@@ -137,7 +137,7 @@ fn request_named<'a>(name: &str, found: &ArgMatches<'a>) -> Option<Request<'a>>
     }
 }
 
-/// What `clap`'s error says of arguments that name no command, or ask for help.
+/// Returns what `clap`'s error says about arguments that name no command or ask for help.
 fn unasked_by(alloc: Global, error: clap::Error) -> Unasked
     ensures usage { IsUsage result → kind_of error ≢ ErrorKind.OutOfMemory }
     ensures why { SaysWhy result }
@@ -151,7 +151,7 @@ fn unasked_by(alloc: Global, error: clap::Error) -> Unasked
     }
 }
 
-/// The usage fault with this text.
+/// Returns the usage error with this text.
 fn usage(alloc: Global, text: &str) -> Unasked
     ensures { SaysWhy result }
 {
@@ -161,7 +161,7 @@ fn usage(alloc: Global, text: &str) -> Unasked
     }
 }
 
-/// The text of `clap`'s error, as the program prints it.
+/// Returns the text of `clap`'s error, as the program prints it.
 fn text_of(alloc: Global, error: &clap::Error) -> Result<String, OutOfMemory>
     ensures { IfOk result (λ text. IsUsageText (string_bytes text)) }
 {
@@ -169,7 +169,7 @@ fn text_of(alloc: Global, error: &clap::Error) -> Result<String, OutOfMemory>
     usage_text(alloc, text.as_str())
 }
 
-/// The text, with a line feed at its end if it lacks one. A text of nothing becomes one that says something.
+/// Returns the text, with a line feed at its end if it lacks one. An empty text is replaced by another.
 fn usage_text(alloc: Global, text: &str) -> Result<String, OutOfMemory>
     ensures { IfOk result (λ text. IsUsageText (string_bytes text)) }
 {
@@ -182,7 +182,7 @@ fn usage_text(alloc: Global, text: &str) -> Result<String, OutOfMemory>
     Ok(told)
 }
 
-/// The text, or another where it is empty.
+/// Returns the text, or another if it is empty.
 fn some_text(text: &str) -> &str
     ensures { 0 < length result.now }
 {
@@ -193,7 +193,7 @@ fn some_text(text: &str) -> &str
     }
 }
 
-/// Whether a text has a line feed at its end, and something before that.
+/// Checks whether a text ends with a line feed and has something before it.
 fn is_ended(text: &[u8]) -> bool
     ensures { IsTrue result → IsUsageText text.now }
 {

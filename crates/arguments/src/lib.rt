@@ -1,25 +1,25 @@
 //! What the arguments of a call of `census` ask for, as plain values.
 //!
 //! ```text
-//! options, commands (tables)  ->  application (clap reads arguments by it)
+//! options, commands (tables)  ->  application (how clap reads arguments)
 //!         \                              |
 //!          `--------------------->  reading  ->  Request
 //! ```
 //!
-//! It knows nothing of Life: a rule, a seed or a code is a text here, and nobody has looked at its form.
+//! This crate knows nothing about Life: a rule, a seed or a code is a text here that hasn't been parsed yet.
 #![tactic(auto)]
 
-/// The commands and their arguments, as `clap` reads arguments by them.
+/// The commands and their arguments, as `clap` knows them.
 pub mod application;
 /// What the arguments of a call ask for.
 pub mod calls;
-/// The table of the commands.
+/// The table of commands.
 pub mod commands;
-/// The table of the arguments.
+/// The table of options.
 pub mod options;
-/// What is found for the arguments of a command, put together.
+/// The request of a command, from the values of its arguments.
 pub mod reading;
 /// What arguments ask for.
 pub mod request;
-/// The values that a request takes, each looked up by its row.
+/// The values of arguments, each looked up by its row.
 pub mod values;

@@ -1,54 +1,55 @@
-//! The one table of the program's arguments: a row each, and a list of rows for each command.
+//! The one table of the program's options and positional arguments: a row for each, and a list of rows for each
+//! command.
 //!
-//! What `clap` reads arguments by, what a request takes of them and the laws on arguments all come from these rows. A new
-//! option is a row more, which stands in the lists of the commands that have it.
+//! How `clap` reads arguments, what a request takes from them, and the laws about arguments all come from these rows. A
+//! new option is one more row in the lists of the commands that have it.
 
-/// What the value of an argument has to be.
+/// The kind of value that an argument has.
 #[derive(Clone, Copy)]
 pub enum ValueKind {
     /// Any text.
     Text,
-    /// There is no value: the argument is given or not.
+    /// No value: the argument is given or not.
     Flag,
-    /// A number from the first to the second of these.
+    /// A number from the first to the second number.
     Number(u32, u32),
-    /// A number from 0 to this, which may take more than 32 bits.
+    /// A number from 0 to this number, which may need more than 32 bits.
     LargeNumber(u64),
 }
 
-/// Where an argument stands in the arguments.
+/// Where an argument is expected.
 #[derive(Clone, Copy)]
 pub enum Place {
-    /// By itself, as the first that does.
+    /// By itself, the first argument that isn't an option.
     Position,
-    /// After `--` and its name, in the next argument or after `=`. Help calls its value so.
+    /// After `--` and its name, in the next argument or after `=`. Help calls its value by this word.
     Named(&'static str),
 }
 
 /// An argument of a command.
 #[derive(Clone, Copy)]
 pub struct Parameter {
-    /// The name: what stands after `--`, or what help calls an argument that stands by itself.
+    /// The name: what follows `--`, or what help calls a positional argument.
     pub name: &'static str,
-    /// Where it stands.
+    /// Where it is expected.
     pub place: Place,
-    /// What its value has to be.
+    /// The kind of its value.
     pub kind: ValueKind,
-    /// The value that is meant if it isn't given. Without one it must be given, unless it is a flag.
+    /// The value if it isn't given. Without a default it is required, unless it is a flag.
     pub default: Option<&'static str>,
-    /// The heading under which help shows it. Without one it stands with the others.
+    /// The heading under which help shows it, or `None` for the list of the other options.
     pub heading: Option<&'static str>,
-    /// What help says of it.
+    /// What help says about it.
     pub help: &'static str,
 }
 
-/// The most workers there may be, and so the greatest number of one: as many as a haul may have.
+/// The most workers, and so the highest number of a worker: as many as a haul may have.
 const MOST_WORKERS: u32 = 16;
 
-/// The greatest first number of a range. The numbers of soups are below it, so a range that begins there is empty.
+/// The highest first number of a range. Soup numbers are below it, so a range that begins there is empty.
 const MOST_FIRST: u64 = 1 << 40;
 
-/// Help shows what nearly nobody changes under a heading of its own.
+/// The heading for options that hardly anybody changes.
 const SETTLING: Option<&'static str> = Some("When a soup has settled");
 
 /// The number of generations to run.
@@ -58,7 +59,7 @@ pub const GENERATIONS: Parameter = Parameter {
     kind: ValueKind::Number(0, 100_000),
     default: None,
     heading: None,
-    help: "How many generations to run, from 0 to 100000",
+    help: "The number of generations to run, from 0 to 100000",
 };
 
 /// The code of an object.
@@ -68,7 +69,7 @@ pub const CODE: Parameter = Parameter {
     kind: ValueKind::Text,
     default: None,
     heading: None,
-    help: "An apgcode, as xs7_178c or xp2_7, or the text after its `_`. The\n\
+    help: "An apgcode, such as xs7_178c or xp2_7, or the text after its `_`. The\n\
          number in it isn't checked",
 };
 
@@ -82,16 +83,16 @@ pub const NUMBER: Parameter = Parameter {
     help: "The number of the soup, from 0 to 1099511627775",
 };
 
-/// The rule. Life is meant if none is given.
+/// The rule, Life by default.
 pub const RULE: Parameter = Parameter {
     name: "rule",
     place: Place::Named("RULE"),
     kind: ValueKind::Text,
     default: Some("b3s23"),
     heading: None,
-    help: "The rule: `b`, the numbers of live neighbours that give birth, `s`,\n\
-         the numbers on which a live cell survives. Life is b3s23, which\n\
-         others write B3/S23. `haul cells` says which rule an RLE has",
+    help: "The rule: `b` and the numbers of live neighbours that give birth, then\n\
+         `s` and the numbers on which a live cell survives. Life, which others\n\
+         write B3/S23, is b3s23. `haul cells` says which rule an RLE has",
 };
 
 /// The seed.
@@ -114,14 +115,14 @@ pub const FIRST: Parameter = Parameter {
     help: "The number of the first soup, from 0 to 1099511627776",
 };
 
-/// How many numbers the range of soups has.
+/// The number of soups in the range.
 pub const COUNT: Parameter = Parameter {
     name: "count",
     place: Place::Named("COUNT"),
     kind: ValueKind::Number(0, 16_777_216),
     default: None,
     heading: None,
-    help: "How many soups, from 0 to 16777216",
+    help: "The number of soups, from 0 to 16777216",
 };
 
 /// The list of the other ranges of soups.
@@ -131,11 +132,11 @@ pub const ALSO: Parameter = Parameter {
     kind: ValueKind::Text,
     default: Some(""),
     heading: None,
-    help: "A list of further ranges of numbers, as 100+20,500+1: the numbers\n\
-         100 to 119, and 500",
+    help: "More ranges of soup numbers, such as 100+20,500+1: the numbers 100 to\n\
+         119, and 500",
 };
 
-/// The longest period that counts.
+/// The longest period that counts, in generations.
 pub const PERIOD: Parameter = Parameter {
     name: "period",
     place: Place::Named("PERIOD"),
@@ -155,52 +156,51 @@ pub const HORIZON: Parameter = Parameter {
     help: "For how many generations objects must keep apart, from PERIOD to 4096",
 };
 
-/// How far one checkpoint is from the next.
+/// The number of generations between two checkpoints.
 pub const STRIDE: Parameter = Parameter {
     name: "stride",
     place: Place::Named("STRIDE"),
     kind: ValueKind::Number(1, 10_000),
     default: Some("101"),
     heading: SETTLING,
-    help: "Look every STRIDE generations, from 1 to 10000",
+    help: "The number of generations between two checkpoints, from 1 to 10000",
 };
 
-/// The last generation at which there may be a checkpoint.
+/// The last generation that may be a checkpoint.
 pub const LIMIT: Parameter = Parameter {
     name: "limit",
     place: Place::Named("LIMIT"),
     kind: ValueKind::Number(0, 100_000),
     default: Some("30300"),
     heading: SETTLING,
-    help: "The last generation that may be a checkpoint, from 0 to 100000.\n\
-         A pattern that explodes under its rule uses more and more memory and\n\
-         time until then",
+    help: "The last generation that may be a checkpoint, from 0 to 100000. If\n\
+         patterns explode under the rule, time and memory grow until then",
 };
 
-/// How many workers run soups.
+/// The number of workers that run soups.
 pub const WORKERS: Parameter = Parameter {
     name: "workers",
     place: Place::Named("WORKERS"),
     kind: ValueKind::Number(1, MOST_WORKERS),
     default: Some("1"),
     heading: None,
-    help: "How many workers run soups at a time, at most 16, each in a thread\n\
-         of its own. More workers than processors won't help. The haul is the\n\
-         same. Fewer work where the system starts no more threads",
+    help: "The number of workers that run soups at the same time, from 1 to 16.\n\
+         Each has a thread. More workers than processors don't help. The haul\n\
+         is the same for any number",
 };
 
-/// How many workers have reported.
+/// The number of workers that have reported.
 pub const REPORTERS: Parameter = Parameter {
     name: "workers",
     place: Place::Named("WORKERS"),
     kind: ValueKind::Number(1, MOST_WORKERS),
     default: Some("1"),
     heading: None,
-    help: "The greatest number of a worker whose lines are taken, at most 16:\n\
+    help: "The highest number of a worker whose lines are taken, from 1 to 16:\n\
          lines of worker 3 need `--workers 3`",
 };
 
-/// Which worker reports.
+/// The number of the worker that reports.
 pub const WORKER: Parameter = Parameter {
     name: "worker",
     place: Place::Named("WORKER"),
@@ -210,13 +210,13 @@ pub const WORKER: Parameter = Parameter {
     help: "The number of the worker that reports, from 1 to 16",
 };
 
-/// Whether the line of progress is asked for.
+/// Whether the progress line is asked for.
 pub const PROGRESS: Parameter = Parameter {
     name: "progress",
     place: Place::Named(""),
     kind: ValueKind::Flag,
     default: None,
     heading: None,
-    help: "Prints on standard error how many soups are run, even when it is not\n\
-         a terminal. The line is wiped at the end",
+    help: "Shows the progress on standard error, even if it isn't a terminal. The\n\
+         line is wiped at the end",
 };

@@ -1,4 +1,4 @@
-//! The request of each command, put together from the values of its arguments.
+//! The request of each command, from the values of its arguments.
 //!
 //! ```text
 //! what clap found ── a value for each row ──┬─ profile ─┐
@@ -23,7 +23,7 @@ use requests::plan::Plan;
 use requests::profile_numbers::ProfileNumbers;
 use requests::soup_set::SoupSet;
 
-/// The numbers of a profile that were found.
+/// Returns the numbers of a profile that were found.
 pub fn profile_in(found: &ArgMatches<'_>) -> Option<ProfileNumbers>
     ensures profile { result ≡ profile_in (rows_of (found_of found.now)) }
     ensures ranges { IfSome result AreProfileNumbers }
@@ -40,7 +40,7 @@ pub fn profile_in(found: &ArgMatches<'_>) -> Option<ProfileNumbers>
     })
 }
 
-/// The set of soups that was found.
+/// Returns the set of soups that was found.
 pub fn set_in<'a>(found: &ArgMatches<'a>) -> Option<SoupSet<'a>>
     ensures set { result ≡ set_in (rows_of (found_of found.now)) }
     ensures ranges { IfSome result (λ set. IsInRange first.kind set.first × IsInRange count.kind set.count) }
@@ -57,7 +57,7 @@ pub fn set_in<'a>(found: &ArgMatches<'a>) -> Option<SoupSet<'a>>
     })
 }
 
-/// Which soups are meant, and how they are run.
+/// Returns the plan that was found: the soups, the profile and the rule.
 pub fn plan_in<'a>(found: &ArgMatches<'a>) -> Option<Plan<'a>>
     ensures plan { result ≡ plan_in (rows_of (found_of found.now)) }
     ensures ranges { IfSome result ArePlanNumbers }
@@ -68,7 +68,7 @@ pub fn plan_in<'a>(found: &ArgMatches<'a>) -> Option<Plan<'a>>
     Some(Plan { set, profile, rule })
 }
 
-/// `run` with its values.
+/// Returns `run` with its values.
 pub(crate) fn run_request<'a>(found: &ArgMatches<'a>) -> Option<Request<'a>>
     ensures request { result ≡ run_request (rows_of (found_of found.now)) }
     ensures ranges { IfSome result AreInTheirRanges }
@@ -81,7 +81,7 @@ pub(crate) fn run_request<'a>(found: &ArgMatches<'a>) -> Option<Request<'a>>
     })
 }
 
-/// `name` with its values.
+/// Returns `name` with its values.
 pub(crate) fn name_request<'a>(found: &ArgMatches<'a>) -> Option<Request<'a>>
     ensures request { result ≡ name_request (rows_of (found_of found.now)) }
     ensures ranges { IfSome result AreInTheirRanges }
@@ -91,7 +91,7 @@ pub(crate) fn name_request<'a>(found: &ArgMatches<'a>) -> Option<Request<'a>>
     Some(Request::Name { profile, rule })
 }
 
-/// `show` with its value.
+/// Returns `show` with its value.
 pub(crate) fn show_request<'a>(found: &ArgMatches<'a>) -> Option<Request<'a>>
     ensures { result ≡ show_request (rows_of (found_of found.now)) }
 {
@@ -99,7 +99,7 @@ pub(crate) fn show_request<'a>(found: &ArgMatches<'a>) -> Option<Request<'a>>
     Some(Request::Show { code })
 }
 
-/// `soup` with its values.
+/// Returns `soup` with its values.
 pub(crate) fn soup_request<'a>(found: &ArgMatches<'a>) -> Option<Request<'a>>
     ensures request { result ≡ soup_request (rows_of (found_of found.now)) }
     ensures ranges { IfSome result AreInTheirRanges }
@@ -109,7 +109,7 @@ pub(crate) fn soup_request<'a>(found: &ArgMatches<'a>) -> Option<Request<'a>>
     Some(Request::Soup { seed, number })
 }
 
-/// `take` with its values.
+/// Returns `take` with its values.
 pub(crate) fn take_request<'a>(found: &ArgMatches<'a>) -> Option<Request<'a>>
     ensures request { result ≡ take_request (rows_of (found_of found.now)) }
     ensures ranges { IfSome result AreInTheirRanges }
@@ -123,7 +123,7 @@ pub(crate) fn take_request<'a>(found: &ArgMatches<'a>) -> Option<Request<'a>>
     })
 }
 
-/// `work` with its values.
+/// Returns `work` with its values.
 pub(crate) fn work_request<'a>(found: &ArgMatches<'a>) -> Option<Request<'a>>
     ensures request { result ≡ work_request (rows_of (found_of found.now)) }
     ensures ranges { IfSome result AreInTheirRanges }
@@ -136,7 +136,7 @@ pub(crate) fn work_request<'a>(found: &ArgMatches<'a>) -> Option<Request<'a>>
     })
 }
 
-/// `gather` with its values.
+/// Returns `gather` with its values.
 pub(crate) fn gather_request<'a>(found: &ArgMatches<'a>) -> Option<Request<'a>>
     ensures request { result ≡ gather_request (rows_of (found_of found.now)) }
     ensures ranges { IfSome result AreInTheirRanges }

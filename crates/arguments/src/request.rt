@@ -6,29 +6,29 @@ use requests::text::Text;
 
 /// A command with its values.
 ///
-/// If arguments ask for it, each number is in the range of its row in the table of the arguments.
+/// If arguments ask for it, each number is in the range of its row in the table of options.
 #[derive(Drop)]
 pub enum Request<'a> {
-    /// The pattern of the input so many generations later, under the rule of a text.
+    /// The pattern of the input after this number of generations, under a rule.
     Run {
         generations: u32,
         rule: Text<'a>,
     },
-    /// What the input's pattern becomes, under a profile, and under the rule of a text.
+    /// What becomes of the input's pattern, under a profile and a rule.
     Name {
         profile: ProfileNumbers,
         rule: Text<'a>,
     },
-    /// The object that a code names.
+    /// The object of a code.
     Show {
         code: Text<'a>,
     },
-    /// The soup with this number, of the seed of a text.
+    /// The soup with this number, of a seed.
     Soup {
         seed: Text<'a>,
         number: u64,
     },
-    /// The haul of all soups of a set by so many workers, and whether a line of progress is asked for.
+    /// The haul of all soups of a set, by this number of workers, and whether a progress line is asked for.
     Take {
         plan: Plan<'a>,
         workers: u8,
@@ -39,7 +39,7 @@ pub enum Request<'a> {
         plan: Plan<'a>,
         worker: u8,
     },
-    /// The haul that report lines of so many workers make over a set.
+    /// The haul of report lines from this number of workers, over a set.
     Gather {
         plan: Plan<'a>,
         workers: u8,

@@ -9,9 +9,8 @@ use crate::options::{Parameter, ValueKind};
 use clap::ArgMatches;
 use requests::text::Text;
 
-/// The number that was found for the argument of a row, in its range.
-///
-/// None if there is none, or if the row is not one of a number.
+/// Returns the number that was found for the argument of a row, in its range, or `None` if there is none or the row
+/// isn't that of a number.
 pub fn number_found(found: &ArgMatches<'_>, row: &Parameter) -> Option<u64>
     ensures number { result ≡ number_found (entry_of row.now) (rows_of (found_of found.now)) }
     ensures range { IfSome result (IsInRange row.now.kind) }
@@ -29,7 +28,7 @@ pub fn number_found(found: &ArgMatches<'_>, row: &Parameter) -> Option<u64>
     }
 }
 
-/// The number up to a limit that was found for an argument.
+/// Returns the number up to `most` that was found for an argument.
 fn number_up_to(found: &ArgMatches<'_>, id: &str, most: u64) -> Option<u64>
     ensures number { result ≡ number_up_to most id.now (rows_of (found_of found.now)) }
     ensures most { IfSome result (λ n. n ≤ most) }
@@ -37,7 +36,7 @@ fn number_up_to(found: &ArgMatches<'_>, id: &str, most: u64) -> Option<u64>
     within(most, found.get_one::<u64>(id))
 }
 
-/// The number, where it is within the limit.
+/// Returns the number, if it is at most `most`.
 fn within(most: u64, number: Option<u64>) -> Option<u64>
     ensures number { result ≡ option_and_then (within most) number }
     ensures most { IfSome result (λ n. n ≤ most) }
@@ -48,7 +47,7 @@ fn within(most: u64, number: Option<u64>) -> Option<u64>
     }
 }
 
-/// The text that was found for the argument of a row.
+/// Returns the text that was found for the argument of a row.
 pub fn text_found<'a>(found: &ArgMatches<'a>, row: &Parameter) -> Option<Text<'a>>
     ensures { result ≡ text_found (entry_of row.now) (rows_of (found_of found.now)) }
 {
@@ -56,7 +55,7 @@ pub fn text_found<'a>(found: &ArgMatches<'a>, row: &Parameter) -> Option<Text<'a
     Some(Text::new(text))
 }
 
-/// Whether the flag of a row was given.
+/// Checks whether the flag of a row was given.
 pub fn is_given(found: &ArgMatches<'_>, row: &Parameter) -> bool
     ensures { result ≡ is_given (entry_of row.now) (rows_of (found_of found.now)) }
 {

@@ -32,8 +32,8 @@ pub record HasTextAndLine (errors : Stream) (text line : List ℕ) : Type 0 wher
   pub whole : Appends errors.before so_far text
   pub last : HasLine (record { before = so_far; after = errors.after; failed = errors.failed }) line
 
--- The arguments ask for something; on this input a text is right for it, and the whole text was added to what the writer held. So many
--- soups are missing, which is none but for `gather`. Standard error has what `gather` tells of lines, and of what is missing.
+-- The arguments ask for something; on this input a text is right for it, and the whole text was added to what the writer held. `missing`
+-- soups are missing, which is 0 except for `gather`. Standard error has the diagnostics of `gather` about lines and missing soups.
 pub record IsDone (arguments : List Text) (reader before after : Option (List ℕ)) (errors : Stream) (missing : ℕ) : Type 0 where
   pub request : Request
   pub asked : asked_by arguments ≡ Some request

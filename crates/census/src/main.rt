@@ -1,8 +1,8 @@
-//! A census of random soups of Conway's Game of Life and its kin: the program.
+//! The program: a census of random soups of Conway's Game of Life and other Life-like rules.
 //!
 //! `main` calls [`run_program`](program::run_program) with the process's arguments and streams. That reads the
-//! arguments into a request by [`request_of`](arguments::calls::request_of), and hands its values to the function of the
-//! command.
+//! arguments into a request with [`request_of`](arguments::calls::request_of), and passes its values to the function of
+//! the command.
 #![tactic(auto)]
 
 mod program;
@@ -29,7 +29,7 @@ fn main(rt: HostRuntime) -> ExitCode {
     ExitCode::from(ended.code)
 }
 
-/// The arguments that the process was started with, of which the first is the program's name.
+/// Returns the arguments that the process was started with. The first is the program's name.
 fn process_arguments(rt: &HostRuntime) -> io::Result<Vec<String>> {
     let arguments = std::env::args(rt)?.collect(rt.alloc())?;
     Ok(arguments)

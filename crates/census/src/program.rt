@@ -1,4 +1,4 @@
-//! From the arguments of the process to what it leaves: its output, and the number that it ends with.
+//! From the arguments of the process to its output and its exit code.
 //!
 //! ```text
 //! arguments ── do_arguments ── buffer ── send_buffered ── standard output
@@ -37,17 +37,17 @@ use std::time::Clock;
 /// What the program leaves when it ends.
 #[derive(Drop)]
 pub struct Ended<W: Write + Drop> {
-    /// The number that the process ends with.
+    /// The exit code.
     pub code: u8,
-    /// The writer of standard output, or none if there was no memory for its buffer.
+    /// The writer of standard output, or `None` if there was no memory for its buffer.
     pub output: Option<W>,
 }
 
-/// Runs the program: does what `arguments` ask for, and returns the number that the process ends with.
+/// Runs the program: does what `arguments` ask for, and returns the exit code.
 ///
-/// `arguments` are as `std::env::args` gives them: the first is the program's name, and arguments that aren't UTF-8 are
-/// an error. `output` is written through a buffer and given back. No write to standard error may have failed. The
-/// machine's observer reports how far a haul is, to a writer of its own, and nothing else depends on it.
+/// `arguments` are those of `std::env::args`: the first is the program's name, and arguments that aren't UTF-8 are an
+/// error. `output` is written through a buffer and given back. No earlier write to standard error may have failed. The
+/// machine's observer reports progress to a writer of its own, and nothing else depends on it.
 pub fn run_program<
     T: Threads + Wait + Sync,
     R: Read,
@@ -63,7 +63,7 @@ pub fn run_program<
 ) -> Ended<W>
     requires { machine.old.errors.failed ≡ false }
 
-    // With code 0 the arguments are texts, what they ask for was done, and its whole text is with the writer.
+    // With code 0 the arguments are texts, what they ask for was done, and the writer has its whole text.
     ensures done { result.code ≡ 0 → IsOkAnd arguments (λ list. IsSomeAnd result.output (λ writer.
         IsDone (map string_bytes list.items) (R.remaining input.old) (W.contents output) (W.contents writer)
         (stream E.contents machine.old.errors machine.new.errors) 0)) }
@@ -76,7 +76,7 @@ pub fn run_program<
     // With code 2 a text on standard error says why, whatever the arguments are.
     ensures tells_usage { result.code ≡ 2 → TellsUsage (stream E.contents machine.old.errors machine.new.errors) }
 
-    // Arguments that are not texts.
+    // If the arguments aren't texts.
     ensures not_text { IfErr arguments (λ error. error_kind error ≢ ErrorKind.OutOfMemory → (result.code ≡ 2)
         × HasLine (stream E.contents machine.old.errors machine.new.errors) not_text_line) }
     ensures no_memory { IfErr arguments (λ error. error_kind error ≡ ErrorKind.OutOfMemory → (result.code ≡ 4)
@@ -103,7 +103,7 @@ pub fn run_program<
 }
 
 /// Does what `arguments` ask for, and writes to `output` through a buffer. The version, which takes no memory, is
-/// written without the buffer. Gives `output` back, or nothing if there is no memory for the buffer.
+/// written without the buffer. Returns `output`, or `None` if there is no memory for the buffer.
 fn do_buffered<T: Threads + Wait + Sync, R: Read, W: Write + Drop, E: Write, P: Write, C: Clock>(
     machine: &mut Machine<'_, T, E, ProgressLine<P, C>>,
     arguments: &[String],
@@ -134,7 +134,7 @@ fn do_buffered<T: Threads + Wait + Sync, R: Read, W: Write + Drop, E: Write, P: 
     (status, Some(writer))
 }
 
-/// Prints the version, and gives the writer back.
+/// Prints the version, and returns the writer.
 fn print_version<W: Write + Drop, E: Write>(output: W, errors: &mut Out<E>) -> (Status, W)
     requires { errors.old.failed ≡ false }
     ensures ends { (written : Stream) × (written.before ≡ W.contents output) × (written.after ≡ W.contents result.1)
@@ -147,7 +147,7 @@ fn print_version<W: Write + Drop, E: Write>(output: W, errors: &mut Out<E>) -> (
     (status, output.into_inner())
 }
 
-/// Reports that the arguments are not text, or that memory ran out over them.
+/// Reports that the arguments aren't text, or that memory ran out while they were read.
 fn tell_unread_arguments<E: Write>(error: &io::Error, errors: &mut Out<E>) -> Status
     requires { errors.old.failed ≡ false }
     ensures not_text { error_kind error.now ≢ ErrorKind.OutOfMemory → (result ≡ Status.Usage)
@@ -162,7 +162,7 @@ fn tell_unread_arguments<E: Write>(error: &io::Error, errors: &mut Out<E>) -> St
     }
 }
 
-/// Reports that the arguments are not text. A failure to write the line is not reported.
+/// Reports that the arguments aren't text. A failure to write the line is not reported.
 fn tell_not_text<E: Write>(errors: &mut Out<E>) -> Status
     requires { errors.old.failed ≡ false }
     ensures status { result ≡ Status.Usage }

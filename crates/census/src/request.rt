@@ -2,8 +2,8 @@
 //!
 //! ```text
 //! arguments ── request_of ──┬─ request ── do_request ──┬─ take, work, gather
-//!                       │                          └─ do_pattern_request ── run, name, show, soup, --version
-//!                       └─ a usage text, or out of memory
+//!                           │                          └─ do_pattern_request ── run, name, show, soup, --version
+//!                           └─ a usage text, or out of memory
 //! ```
 
 ghost use Rattle.std.specs.Prelude.{◌≡◌, ◌≢◌, false, map};
@@ -41,12 +41,12 @@ use std::time::Clock;
 
 /// Does what `arguments` ask for, and returns how that ended. The first argument is the program's name.
 ///
-/// Neither writer may have failed. Arguments that ask for nothing end with `Usage` and a text on standard error; then
-/// nothing is read or printed. The machine's observer reports how far a haul is.
+/// No earlier write to either writer may have failed. Arguments that ask for nothing end with `Usage` and a text on
+/// standard error; then nothing is read or printed. The machine's observer reports progress.
 ///
 /// # Errors
 ///
-/// As of [`do_request`], or `Memory` if there is no memory to read the arguments.
+/// As for [`do_request`], or `Memory` if there is no memory to read the arguments.
 pub fn do_arguments<
     T: Threads + Wait + Sync,
     S: AsStr,
@@ -87,14 +87,14 @@ fn tell_usage<E: Write>(text: &[u8], errors: &mut Out<E>) -> Status
     Status::Usage
 }
 
-/// Reports that memory ran out while the arguments were read, which `clap`'s error says.
+/// Reports that memory ran out while `clap` read the arguments.
 fn tell_unread<E: Write>(error: &clap::Error, errors: &mut Out<E>) -> Status
     requires unread { kind_of error.now ≡ OutOfMemory }
     requires errors { errors.old.failed ≡ false }
     ensures status { result ≡ Status.Memory }
     ensures line { HasLine (stream E.contents errors.old errors.new) (complaint_line (Complaint.Memory out_of_memory)) }
 {
-    // The error is needed in the condition alone.
+    // Only the condition needs the error.
     let _why = error;
     let _ = errors.put(b"census: out of memory\n");
     Status::Memory
@@ -102,9 +102,9 @@ fn tell_unread<E: Write>(error: &clap::Error, errors: &mut Out<E>) -> Status
 
 /// Does what a request asks for, and returns how that ended.
 ///
-/// Each number of the request must be in its range, and neither writer may have failed. Nothing of the input is read
-/// for a request that doesn't look at it, nor for one whose rule, profile, seed or set is refused. How far a haul has
-/// come is said by the machine's watch, and nothing else depends on it.
+/// Each number of the request has to be in its range, and no earlier write to either writer may have failed. Nothing of
+/// the input is read if the request doesn't need it, or if its rule, profile, seed or set is refused. The machine's
+/// observer reports progress, and nothing else depends on it.
 ///
 /// # Errors
 ///

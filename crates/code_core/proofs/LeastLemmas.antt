@@ -6,8 +6,9 @@ use Rattle.std.specs.BTreeMap.Comparable.{le_lt_trans}
 use Rattle.std.specs.Cmp.{IsTotalOrder}
 use Rattle.std.specs.Prelude.{IfSome}
 use Rattle.std.specs.Ordering.{match_ordering, ordering_reverse}
-use Rattle.code_core.specs.Names.{IsImageText, IsLeastOf, text_cmp}
-use Rattle.code_core.specs.Recurrences.{phases}
+use Rattle.code_core.specs.Names.{IsCode, IsImageText, IsLeastOf, text_cmp}
+use Rattle.code_core.specs.declared.recurrence.Recurrence.{Recurrence}
+use Rattle.code_core.specs.Recurrences.{IsCycle, phases}
 use Rattle.code_core.specs.Texts.{HasTextShape, text}
 use Rattle.std.proofs.lemmas.List.FromFn.{get_or-map-range_with_len, length-map-range_with_len}
 use Rattle.plane_core.specs.declared.plane.cell.Cell.{Cell}
@@ -15,7 +16,7 @@ use Rattle.plane_core.specs.plane.Generations.{after}
 use Rattle.plane_core.specs.plane.Orientations.{orientations, turned}
 use Rattle.plane_core.specs.plane.Rules.{Numbers}
 use Rattle.plane_core.specs.declared.plane.orientation.Orientation.TheVariants.{Same, Quarter, Half, ThreeQuarter, Mirror, Flip, Diagonal, AntiDiagonal}
-use Rattle.code_core.specs.Least.{Among, IsImage, IsImageAt, IsImageOf, earlier_text}
+use Rattle.code_core.specs.Least.{Among, IsImage, IsImageAt, IsImageOf, IsNameBy, earlier_text}
 use Rattle.code_core.proofs.TextLaw.{texts_have_their_shape}
 
 -- the order is total
@@ -145,7 +146,12 @@ image_phases rule cells n t one = (
   ),
 )
 
-phase_count : (rule : Numbers) (cells : List Cell) (n : ℕ) → length (phases rule cells n) ≡ n
+-- the phase at a place, and how many there are
+pub phase_at : (rule : Numbers) (cells : List Cell) (n g : ℕ) (d : List Cell) → g < n → get_or (phases rule cells n) g d ≡ after rule cells g
+unfolding phases
+phase_at rule cells n g d low = get_or-map-range_with_len (after rule cells) 0 n g g d low (omega arith)
+
+pub phase_count : (rule : Numbers) (cells : List Cell) (n : ℕ) → length (phases rule cells n) ≡ n
 unfolding phases
 phase_count rule cells n = length-map-range_with_len (after rule cells) 0 n
 
@@ -160,3 +166,15 @@ least_of_phases rule cells n o h =
 pub shape_of_least : (phases : List (List Cell)) (o : Option (List ℕ)) → IsLeastOf (Among (IsImageOf phases) (length phases)) o → IfSome o HasTextShape
 shape_of_least phases None h = tt
 shape_of_least phases (Some t) ((k, low, (o, is)), first) = texts_have_their_shape (turned o (get_or phases k [])) t is
+
+-- the name by the phases is that of the pattern
+pub named_by : (rule : Numbers) (cells : List Cell) (limit : ℕ) (found : List (List Cell)) (r : Recurrence) (code : List ℕ) → IsCycle rule cells limit found r
+    → IsNameBy cells found r code → IsCode rule cells limit code
+named_by rule cells limit found r code is told = record {
+  recurrence = r;
+  recurs = is.recurs;
+  least = told.least;
+  is_least = least_of_phases rule cells r.period told.least
+      (subst (λ (each : List (List Cell)). IsLeastOf (Among (IsImageOf each) (length each)) told.least) is.phases told.is_least);
+  spelled = told.spelled;
+}

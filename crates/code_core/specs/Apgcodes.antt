@@ -13,12 +13,12 @@ letter Still = codes "s"
 letter Oscillator = codes "p"
 letter Ship = codes "q"
 
--- how an apgcode begins, with a text and for an object too large for one
+-- how an apgcode begins: with `x` if the object has a text, and with `ov_` if it is too large for one
 abbrev pub opening : Option (List ℕ) → List ℕ
 opening None = codes "ov_"
 opening (Some t) = codes "x"
 
--- and how it ends
+-- how it ends
 abbrev pub ending : Option (List ℕ) → List ℕ
 ending None = []
 ending (Some t) = codes "_" ++ t
@@ -27,7 +27,7 @@ ending (Some t) = codes "_" ++ t
 unfoldable pub code_text : Kind → ℕ → Option (List ℕ) → List ℕ
 code_text kind number text = opening text ++ (letter kind ++ (decimal number ++ ending text))
 
--- an apgcode from its letter on, which stands after `x` or `ov_`
+-- an apgcode from its letter on, which comes after `x` or `ov_`
 abbrev pub from_letter : List ℕ → List ℕ
 from_letter code = if starts_with nat_eq code (codes "ov_") then drop 3 code else drop 1 code
 
@@ -43,7 +43,7 @@ kind_in code = kind_of_letter (slice_index (from_letter code) 0)
 abbrev pub is_digit : ℕ → Bool
 is_digit b = nat_le 48 b && nat_le b 57
 
--- the number of an apgcode, whose digits stand after its letter
+-- the number of an apgcode, whose digits come after its letter
 unfoldable pub number_in : List ℕ → ℕ
 number_in code = digits_value 10 (take_while is_digit (drop 1 (from_letter code)))
 
@@ -51,7 +51,7 @@ number_in code = digits_value 10 (take_while is_digit (drop 1 (from_letter code)
 abbrev pub is_code_byte : ℕ → Bool
 is_code_byte b = is_character b || b == 95
 
--- an apgcode has 1 to 400 bytes of this kind: this project's bound, for the longest text has 327, and all else needs less than 30
+-- an apgcode has 1 to 400 of these bytes: this project's bound, since the longest text has 327, and the rest needs less than 30
 pub record HasCodeShape (code : List ℕ) : Type 0 where
   pub some : 1 ≤ length code
   pub short : length code ≤ 400

@@ -1,4 +1,4 @@
--- How the least text of a pattern's images is looked for.
+-- How the least text of a pattern's images is found.
 use Rattle.std.specs.Prelude.{◌≡◌, ◌<◌, ℕ, List, [], get_or, length, Option, None, Some}
 use Rattle.std.specs.Ordering.{match_ordering}
 use Rattle.plane_core.specs.declared.plane.cell.Cell.{Cell}
@@ -10,7 +10,7 @@ use Rattle.code_core.specs.Apgcodes.{code_text}
 use Rattle.code_core.specs.Names.{IsLeastOf, kind_of, number_of, text_cmp}
 use Rattle.code_core.specs.Texts.{text}
 
--- the earlier of two texts, where there are two
+-- the earlier of two texts, or the only one
 abbrev pub earlier_text : Option (List ℕ) → Option (List ℕ) → Option (List ℕ)
 earlier_text None b = b
 earlier_text (Some a) None = Some a
@@ -32,7 +32,7 @@ IsImage cells t = (o : Orientation) × (text (turned o cells) ≡ Some t)
 abbrev pub IsImageOf : List (List Cell) → ℕ → List ℕ → Type 0
 IsImageOf phases k t = IsImage (get_or phases k []) t
 
--- the name of a pattern with these phases, which recurs so
+-- the apgcode of a pattern that recurs with these phases
 pub record IsNameBy (cells : List Cell) (phases : List (List Cell)) (r : Recurrence) (code : List ℕ) : Type 0 where
   pub least : Option (List ℕ)
   pub is_least : IsLeastOf (Among (IsImageOf phases) (length phases)) least

@@ -1,4 +1,4 @@
--- The names of patterns that recur (LifeWiki, "Apgcode").
+-- The apgcodes of patterns that recur (LifeWiki, "Apgcode").
 use Rattle.std.specs.Prelude.{◌≡◌, ◌≢◌, ◌==◌, ◌<◌, ◌^◌, ◌&&◌, ℕ, ℤ, pos, List, [], Option, None, Some, length, if◌then◌else◌}
 use Rattle.std.specs.declared.cmp.Ordering.{Ordering}
 use Rattle.std.specs.declared.cmp.Ordering.TheVariants.{Equal, Greater}
@@ -33,25 +33,25 @@ pub record IsImageText (rule : Numbers) (cells : List Cell) (period : ℕ) (t : 
   pub within : phase < period
   pub is : text (turned orientation (after rule cells phase)) ≡ Some t
 
--- the least of some texts: one of them, which none of them comes before, or `None` where there are none
+-- the least of some texts: one of them that none of them comes before, or `None` if there are none
 abbrev pub IsLeastOf : (List ℕ → Type 0) → Option (List ℕ) → Type 0
 IsLeastOf IsOne None = (t : List ℕ) → ¬ IsOne t
 IsLeastOf IsOne (Some least) = IsOne least × ((t : List ℕ) → IsOne t → text_cmp least t ≢ Greater)
 
--- a still life stays as it is, an oscillator recurs to its place, a spaceship elsewhere
+-- a still life stays as it is, an oscillator recurs in place, and a spaceship recurs elsewhere
 abbrev pub kind_of : Recurrence → Kind
 kind_of r =
     if int_eq r.dx (pos 0) && int_eq r.dy (pos 0)
     then (if r.period == 1 then Still else Oscillator)
     else Ship
 
--- the number in a name: a still life's population, and else the period
+-- the number in an apgcode: the population of a still life, and otherwise the period
 abbrev pub number_of : Kind → List Cell → Recurrence → ℕ
 number_of Still cells r = length cells
 number_of Oscillator cells r = r.period
 number_of Ship cells r = r.period
 
--- the name of a pattern that recurs within the limit: its kind, its number and the least text of its phases in all orientations
+-- the apgcode of a pattern that recurs within the limit: its kind, its number and the least text of its phases in all orientations
 pub record IsCode (rule : Numbers) (cells : List Cell) (limit : ℕ) (code : List ℕ) : Type 0 where
   pub recurrence : Recurrence
   pub recurs : Recurs rule cells limit recurrence
@@ -59,27 +59,27 @@ pub record IsCode (rule : Numbers) (cells : List Cell) (limit : ℕ) (code : Lis
   pub is_least : IsLeastOf (IsImageText rule cells recurrence.period) least
   pub spelled : code ≡ code_text (kind_of recurrence) (number_of (kind_of recurrence) cells recurrence) least
 
--- a pattern with a cell has one name
+-- a pattern that isn't empty has one apgcode
 abbrev pub CodesAreDetermined : Type 0
 CodesAreDetermined = (rule : Numbers) (cells : List Cell) (limit : ℕ) (one other : List ℕ)
     → cells ≢ [] → IsCode rule cells limit one → IsCode rule cells limit other → one ≡ other
 
--- a pattern that is moved keeps its name
+-- a pattern that is moved keeps its apgcode
 abbrev pub CodesMoved : Type 0
 CodesMoved = (dx dy : ℤ) (rule : Numbers) (cells : List Cell) (limit : ℕ) (code : List ℕ)
     → InOrder cells → IsCode rule cells limit code → IsCode rule (shifted dx dy cells) limit code
 
--- a pattern that is turned or mirrored keeps its name
+-- a pattern that is turned or mirrored keeps its apgcode
 abbrev pub CodesTurned : Type 0
 CodesTurned = (o : Orientation) (rule : Numbers) (cells : List Cell) (limit : ℕ) (code : List ℕ)
     → InOrder cells → IsCode rule cells limit code → IsCode rule (turned o cells) limit code
 
--- each later generation of a pattern has its name
+-- each later generation of a pattern has its apgcode
 abbrev pub CodesLater : Type 0
 CodesLater = (g : ℕ) (rule : Numbers) (cells : List Cell) (limit : ℕ) (code : List ℕ)
     → InOrder cells → IsCode rule cells limit code → IsCode rule (after rule cells g) limit code
 
--- a name has 1 to 400 bytes, each one of `a` to `z`, `0` to `9` and `_`, where the numbers fit 64 bits
+-- an apgcode has 1 to 400 bytes, each one of `a` to `z`, `0` to `9` and `_`, if its numbers fit in 64 bits
 abbrev pub CodesHaveTheirShape : Type 0
 CodesHaveTheirShape = (rule : Numbers) (cells : List Cell) (limit : ℕ) (code : List ℕ)
     → length cells < 2 ^ 64 → limit < 2 ^ 64 → IsCode rule cells limit code → HasCodeShape code

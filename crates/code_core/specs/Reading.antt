@@ -1,4 +1,4 @@
--- What a text says in extended Wechsler format (LifeWiki, "Apgcode").
+-- The pattern of a text in extended Wechsler format (LifeWiki, "Apgcode").
 use Rattle.std.specs.Prelude.{◌≡◌, ◌==◌, ◌+◌, ◌-◌, ℕ, not, List, [], ◌∷◌, length, Result, Ok, Err, nat_lt}
 use Rattle.std.specs.Prelude.{if◌then◌else◌}
 use Rattle.plane_core.specs.declared.plane.cell.Cell.{Cell}
@@ -24,17 +24,17 @@ single b =
     else if b == 122 then NextStrip
     else Column (character_value b)
 
--- the token of `y` and the character after it
+-- the token of `y` and the character that follows it
 abbrev pub long_gap : ℕ → Token
 long_gap c = Gap (character_value c + 4)
 
--- a token before those of the rest, or the fault of the rest
+-- a token before the others, or their fault
 abbrev pub with_token : Token → Result (List Token) WechslerFault → Result (List Token) WechslerFault
 with_token token (Ok tokens) = Ok (token ∷ tokens)
 with_token token (Err fault) = Err fault
 
--- the tokens of a text whose first byte stands at this place, or the first fault: a byte that is no character, or a `y` (121) with no
--- character after it
+-- the tokens of a text whose first byte stands at this place, or the first fault: a byte that isn't a character, or a `y` (121)
+-- that no character follows
 unfoldable pub tokens_at : ℕ → List ℕ → Result (List Token) WechslerFault
 tokens_at place [] = Ok []
 tokens_at place (b ∷ []) =
@@ -47,7 +47,7 @@ tokens_at place (b ∷ c ∷ remainder) =
     else if is_character c then with_token (long_gap c) (tokens_at (place + 2) remainder)
     else Err (ShortRun place)
 
--- a pattern has a cell
+-- a pattern has a live cell
 abbrev pub unless_empty : List Cell → Result (List Cell) WechslerFault
 unless_empty [] = Err Empty
 unless_empty (c ∷ cs) = Ok (c ∷ cs)
@@ -65,7 +65,7 @@ wechsler_pattern text = pattern_of_tokens (tokens_at 0 text)
 abbrev pub wechsler_read : List ℕ → Result (List Cell) WechslerFault
 wechsler_read text = if nat_lt 10000 (length text) then Err TooLong else wechsler_pattern text
 
--- the text says the pattern: some tokens spell it, and the pattern is theirs
+-- the text is that of the pattern: some tokens spell it, and the pattern is theirs
 pub record Says (text : List ℕ) (cells : List Cell) : Type 0 where
   pub tokens : List Token
   pub spells : Spells tokens text

@@ -1,4 +1,4 @@
--- Where a text goes wrong that says no pattern, and that the text of a pattern is read again.
+-- Where the first fault of a text is, and that the text of a pattern can be read again.
 use Rattle.std.specs.Prelude.{◌≡◌, ◌+◌, ◌<◌, ℕ, false, List, length, take, Some, Ok, slice_index}
 use Rattle.plane_core.specs.declared.plane.cell.Cell.{Cell}
 use Rattle.plane_core.specs.plane.Bounds.{at_corner}
@@ -8,14 +8,14 @@ use Rattle.code_core.specs.Texts.{text}
 use Rattle.code_core.specs.Tokens.{Spells, is_character}
 use Rattle.code_core.specs.Reading.{wechsler_read}
 
--- tokens spell the bytes before the place, and the byte there is no character
+-- tokens spell the bytes before the place, and the byte there isn't a character
 pub record IsBadByte (text : List ℕ) (place : ℕ) : Type 0 where
   pub tokens : List Token
   pub before : Spells tokens (take place text)
   pub within : place < length text
   pub bad : is_character (slice_index text place) ≡ false
 
--- tokens spell the bytes before the place, and there is a `y` (121) with no character after it
+-- tokens spell the bytes before the place, and a `y` (121) that no character follows stands there
 pub record IsShortRun (text : List ℕ) (place : ℕ) : Type 0 where
   pub tokens : List Token
   pub before : Spells tokens (take place text)

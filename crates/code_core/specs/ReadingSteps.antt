@@ -1,4 +1,4 @@
--- How a reader goes along a text, token by token (LifeWiki, "Apgcode").
+-- How a reader goes through a text, token by token (LifeWiki, "Apgcode").
 use Rattle.std.specs.Prelude.{◌≡◌, ℕ, Bool, false, true, List, [], ◌∷◌, ◌++◌, Option, None, Some, if◌then◌else◌}
 use Rattle.code_core.specs.declared.token.Token.{Token}
 use Rattle.code_core.specs.declared.token.Token.TheVariants.{Column, Gap, NextStrip}
@@ -16,17 +16,17 @@ abbrev pub has_character : List ℕ → Bool
 has_character [] = false
 has_character (c ∷ remainder) = is_character c
 
--- no token begins the text: a character at its front is a `y` (121) with none after it
+-- no token begins the text: if a character does, it is a `y` (121) that no character follows
 abbrev pub IsStuck : List ℕ → Type 0
 IsStuck [] = Unit {0}
 IsStuck (b ∷ remainder) = is_character b ≡ true → (b ≡ 121) × (has_character remainder ≡ false)
 
--- the fault at this place, where no token begins
+-- the fault at this place, if no token begins there
 abbrev pub fault_without_token : ℕ → List ℕ → Option WechslerFault
 fault_without_token place [] = None
 fault_without_token place (b ∷ remainder) = Some (if is_character b then ShortRun place else BadByte place)
 
--- the token is a column, which has a live cell
+-- the token is a column with a live cell
 abbrev pub is_column : Token → Bool
 is_column (Column value) = true
 is_column (Gap n) = false

@@ -1,4 +1,4 @@
--- When a pattern recurs, where it was or elsewhere (LifeWiki, "Oscillator" and "Spaceship").
+-- When a pattern recurs, in place or elsewhere (LifeWiki, "Oscillator" and "Spaceship").
 use Rattle.std.specs.Prelude.{◌≡◌, ◌≢◌, ◌+◌, ◌<◌, ◌≤◌, ℕ, ℤ, true, false, List, Option, Result, Err, IfNone, IfOk, IfSome, IsErrOf, OnOk, map}
 use Rattle.std.specs.List.{range_with_len}
 use Rattle.plane_core.specs.declared.plane.cell.Cell.{Cell}
@@ -10,23 +10,25 @@ use Rattle.plane_core.specs.plane.Generations.{NeverRecurs, after, lies_within, 
 use Rattle.plane_core.specs.plane.Rules.{Numbers}
 use Rattle.code_core.specs.declared.recurrence.Recurrence.{Recurrence}
 
--- the pattern recurs: after the period it is itself, moved by (dx, dy), and after no earlier generation; the period is 1 to the limit
+-- the pattern recurs: after the period it is itself, moved by (dx, dy), and not after any earlier generation; the period is from 1
+-- to the limit
 pub record Recurs (rule : Numbers) (cells : List Cell) (limit : ℕ) (r : Recurrence) : Type 0 where
   pub some : 1 ≤ r.period
   pub within : r.period ≤ limit
   pub back : after rule cells r.period ≡ shifted r.dx r.dy cells
   pub least : (p : ℕ) (dx dy : ℤ) → 1 ≤ p → p < r.period → after rule cells p ≢ shifted dx dy cells
 
--- a generation below the limit, up to which the pattern isn't itself again, touches the edge of the plane
+-- a generation below the limit, up to which the pattern hasn't recurred, touches the edge of the plane
 abbrev pub MeetsEdge : Numbers → List Cell → ℕ → Type 0
 MeetsEdge rule cells limit = (g : ℕ) × (g < limit) × NeverRecurs rule cells g × (touches_edge (after rule cells g) ≡ true)
 
--- no such generation does
+-- no such generation touches the edge
 abbrev pub StaysInside : Numbers → List Cell → ℕ → Type 0
 StaysInside rule cells limit = (g : ℕ) → g < limit → NeverRecurs rule cells g → touches_edge (after rule cells g) ≡ false
 
--- How a search for the first generation that is the pattern again ends. The edge comes before memory where the pattern lies on
--- it, and never where the pattern lies too far in, since none gets there faster than a cell a generation.
+-- How a search for the first generation that is the pattern again ends. If the pattern itself lies on the edge, the edge is
+-- reported before memory is asked for. If the pattern lies far enough inside, the edge is never reported, since no pattern moves
+-- faster than one cell per generation.
 pub record SearchEnds {X : Type 0} (IsFound : X → Type 0) (rule : Numbers) (cells : List Cell) (limit : ℕ)
     (result : Result (Option X) StepError) : Type 0 where
   pub found : IfOk result (λ o. IfSome o IsFound)
@@ -36,7 +38,7 @@ pub record SearchEnds {X : Type 0} (IsFound : X → Type 0) (rule : Numbers) (ce
   pub edge_first : touches_edge cells ≡ true → result ≡ Err Edge
   pub never_edge : (reach : ℕ) → lies_within reach cells ≡ true → reach + limit ≤ plane_bound → result ≢ Err Edge
 
--- the first n generations, from the pattern itself on
+-- the first n generations, beginning with the pattern itself
 unfoldable pub phases : Numbers → List Cell → ℕ → List (List Cell)
 phases rule cells n = map (after rule cells) (range_with_len 0 n)
 
@@ -47,7 +49,7 @@ pub record Follows (rule : Numbers) (cells : List Cell) (n : ℕ) (before : List
   pub new : NeverRecurs rule cells n
   pub inside : (g : ℕ) → g < n → touches_edge (after rule cells g) ≡ false
 
--- the phases of a pattern that recurs, and how it does
+-- the phases of a pattern that recurs, and its recurrence
 pub record IsCycle (rule : Numbers) (cells : List Cell) (limit : ℕ) (found : List (List Cell)) (r : Recurrence) : Type 0 where
   pub recurs : Recurs rule cells limit r
   pub phases : found ≡ phases rule cells r.period

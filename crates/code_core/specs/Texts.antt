@@ -11,7 +11,8 @@ use Rattle.code_core.specs.declared.token.Token.TheVariants.{Column, Gap, NextSt
 use Rattle.code_core.specs.Columns.{token_cells, column}
 use Rattle.code_core.specs.Tokens.{Spells, is_character, spelling}
 
--- a column before the tokens of a strip: an empty one is left out at the strip's end, and else it lengthens the gap that follows or makes one
+-- a column before the tokens of a strip: an empty one is left out at the strip's end, and otherwise lengthens the gap that follows
+-- or makes a new one
 abbrev pub before : ℕ → List Token → List Token
 before zero [] = []
 before zero (Gap n ∷ tokens) = Gap (n + 1) ∷ tokens
@@ -23,7 +24,7 @@ unfoldable pub strip_tokens : List ℕ → List Token
 strip_tokens [] = []
 strip_tokens (value ∷ values) = before value (strip_tokens values)
 
--- the columns of strip k from the left, as many as the box is wide
+-- the columns of strip k from the left, as many as the box has
 abbrev pub strip : List Cell → ℕ → ℕ → List ℕ
 strip cells width k = map (column cells k) (range_with_len 0 width)
 
@@ -33,7 +34,7 @@ joined_strips [] = []
 joined_strips (tokens ∷ []) = tokens
 joined_strips (tokens ∷ more ∷ strips) = tokens ++ NextStrip ∷ joined_strips (more ∷ strips)
 
--- the tokens of a pattern that lies at the corner and whose cells have columns up to right and rows up to bottom: a strip for each five rows
+-- the tokens of a pattern at the corner whose columns go up to right and whose rows go up to bottom: one strip for every five rows
 unfoldable pub tokens_of : List Cell → ℕ → ℕ → List Token
 tokens_of cells right bottom = joined_strips (map (λ k. strip_tokens (strip cells (right + 1) k)) (range_with_len 0 (bottom / 5 + 1)))
 
@@ -49,7 +50,7 @@ boxed_text cells (Some b) =
     then Some (flat_map spelling (tokens_of (at_corner cells) (distance b.left b.right) (distance b.top b.bottom)))
     else None
 
--- the text of a pattern moved to the corner; there is none where it is empty or its box is over 40 by 40
+-- the text of a pattern moved to the corner; `None` if it is empty or its box is larger than 40 by 40
 unfoldable pub text : List Cell → Option (List ℕ)
 text cells = boxed_text cells (box_of cells)
 
@@ -60,7 +61,7 @@ BeginsWithColumn (Gap n ∷ tokens) = ⊥
 BeginsWithColumn (Column value ∷ tokens) = Unit {0}
 BeginsWithColumn (NextStrip ∷ tokens) = ⊥
 
--- such a column stands after each gap: no run of empty columns is in pieces, and none ends a strip
+-- a column with a live cell follows every gap: no run of empty columns is in two pieces, and none ends a strip
 abbrev pub GapsAreWhole : List Token → Type 0
 GapsAreWhole [] = Unit {0}
 GapsAreWhole (Gap n ∷ tokens) = BeginsWithColumn tokens × GapsAreWhole tokens
@@ -72,7 +73,8 @@ abbrev pub TextsSpellPatterns : Type 0
 TextsSpellPatterns = (cells : List Cell) (t : List ℕ) → InOrder cells → text cells ≡ Some t
     → (tokens : List Token) × Spells tokens t × GapsAreWhole tokens × (token_cells tokens ≡ at_corner cells)
 
--- a text has at most 327 bytes, which is 40 for each of eight strips and a `z` between each two, and all are `0` to `9` and `a` to `z`
+-- a text has at most 327 bytes, which is 40 for each of eight strips and a `z` between each two, and all are `0` to `9` or `a` to
+-- `z`
 pub record HasTextShape (t : List ℕ) : Type 0 where
   pub short : length t ≤ 327
   pub characters : list_all is_character t ≡ true

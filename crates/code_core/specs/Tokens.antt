@@ -12,7 +12,7 @@ is_character b = is_ascii_digit b || is_ascii_lowercase b
 unfoldable pub character : ℕ → ℕ
 character value = if nat_lt value 10 then 48 + value else 87 + value
 
--- a run of empty columns by its length: `0`, `w` and `x` for 1 to 3, and then `y` with the character of the length minus 4
+-- a run of empty columns of this length: `0`, `w` and `x` for 1 to 3, and then `y` with the character of the length minus 4
 unfoldable pub gap_text : ℕ → List ℕ
 gap_text n =
     if n == 1 then codes "0"
@@ -20,7 +20,7 @@ gap_text n =
     else if n == 3 then codes "x"
     else codes "y" ++ character (n - 4) ∷ []
 
--- the character with which such a run begins: `0` (48), `w` (119), `x` (120) or `y` (121)
+-- the character that begins such a run: `0` (48), `w` (119), `x` (120) or `y` (121)
 abbrev pub gap_start : ℕ → ℕ
 gap_start n = if n == 1 then 48 else if n == 2 then 119 else if n == 3 then 120 else 121
 

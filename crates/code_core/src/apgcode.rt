@@ -1,4 +1,4 @@
-//! Names of patterns that recur, as Catagolue's: apgcodes.
+//! Apgcodes: Catagolue's names of patterns that recur.
 //!
 //! ```text
 //! xs 4 _ 33       a still life of 4 cells, whose text is 33
@@ -32,14 +32,14 @@ use std::marker::Model;
 pub enum Kind {
     /// A still life: the next generation is the pattern itself.
     Still,
-    /// An oscillator: it recurs in its place, after two generations or more.
+    /// An oscillator: it recurs in place, after two or more generations.
     Oscillator,
     /// A spaceship: it recurs elsewhere.
     Ship,
 }
 
 impl Kind {
-    /// The letter that stands for the kind in a name.
+    /// Returns the letter that stands for the kind in an apgcode.
     fn letter(self) -> &'static str
         ensures { result.now ≡ letter self }
     {
@@ -51,13 +51,13 @@ impl Kind {
     }
 }
 
-/// The name of a pattern that recurs (LifeWiki, "Apgcode").
+/// The apgcode of a pattern that recurs (LifeWiki, "Apgcode").
 ///
 /// It is `xs` and the population for a still life, `xp` or `xq` and the period for an oscillator or a spaceship, then
 /// `_` and the least extended Wechsler text of the pattern's generations in all orientations. An object that is too
 /// large for a text has `ov_s`, `ov_p` or `ov_q` and the number. Three examples: `xs4_33`, `xq4_153`, `ov_s56`.
 ///
-/// Names are compared as their texts, byte by byte, and hashed as their texts. Contracts see a name as its text.
+/// Apgcodes are compared by their texts, byte by byte, and hashed by them. Contracts see an apgcode as its text.
 #[derive(Drop)]
 pub struct Apgcode {
     text: String,
@@ -79,7 +79,7 @@ impl Model for Apgcode {
 }
 
 impl Apgcode {
-    /// The name with this kind, number and text.
+    /// Makes the apgcode with this kind, number and text.
     pub(crate) fn make(
         alloc: Global,
         kind: Kind,
@@ -96,7 +96,7 @@ impl Apgcode {
         })
     }
 
-    /// The whole name, as `xs4_33`: 1 to 400 bytes, each one of `a` to `z`, `0` to `9` and `_`.
+    /// Returns the whole apgcode, such as `xs4_33`: 1 to 400 bytes, each one of `a` to `z`, `0` to `9` and `_`.
     pub fn text(&self) -> &str
         ensures text { result.now ≡ self.now }
         ensures shape { HasCodeShape self.now }
@@ -104,21 +104,21 @@ impl Apgcode {
         self.text.as_str()
     }
 
-    /// The kind of the object.
+    /// Returns the kind of the object.
     pub fn kind(&self) -> Kind
         ensures { result ≡ kind_in self.now }
     {
         self.kind
     }
 
-    /// The population of a still life, or the period of an oscillator or a spaceship.
+    /// Returns the number of live cells of a still life, or the period of an oscillator or a spaceship in generations.
     pub fn number(&self) -> u64
         ensures { result ≡ number_in self.now }
     {
         self.number
     }
 
-    /// An equal name.
+    /// Returns an equal apgcode.
     ///
     /// # Errors
     ///
@@ -134,8 +134,7 @@ impl Apgcode {
     }
 }
 
-/// The laws that the kind and the number can be read off a name's text: the kind always, and the number if it fits 64
-/// bits.
+/// The laws that the text of an apgcode determines its kind, and its number if that fits in 64 bits.
 #[tactic(auto, using(crate::proofs::ApgcodeLemmas::kind_of_name, crate::proofs::ApgcodeLemmas::number_of_name))]
 pub fn readings()
     ensures kind { (kind : Kind) (number : ℕ) (text : Option (List ℕ)) → kind_in (code_text kind number text) ≡ kind }
@@ -143,7 +142,7 @@ pub fn readings()
         → number_in (code_text kind number text) ≡ number }
 {}
 
-/// The text of a name.
+/// Returns the text of an apgcode.
 #[tactic(auto, unfolding(crate::specs::Apgcodes::code_text))]
 fn spelled(
     alloc: Global,
@@ -208,7 +207,7 @@ impl Hash for Apgcode {
     }
 }
 
-/// Shows the text.
+/// Writes the text.
 impl fmt::Display for Apgcode {
     ghost output = { λ code. Some code };
 
@@ -217,7 +216,7 @@ impl fmt::Display for Apgcode {
     }
 }
 
-/// Shows the text, as `Display` does.
+/// Writes the text, as `Display` does.
 impl fmt::Debug for Apgcode {
     fn fmt<W: fmt::Write>(&self, f: &mut fmt::Formatter<W>) -> fmt::Result {
         f.write_str(self.text())

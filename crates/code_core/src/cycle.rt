@@ -1,4 +1,4 @@
-//! A pattern that recurs is followed until it recurs, and its phases are kept:
+//! Follows a pattern until it recurs, and keeps its phases:
 //!
 //! ```text
 //! phase 0  ->  phase 1  ->  ..  ->  phase p - 1  ->  phase 0 again, moved by (dx, dy)
@@ -14,19 +14,19 @@ use plane_core::plane::rule::Rule;
 use std::alloc::Global;
 
 impl Recurrence {
-    /// How the pattern recurs under the rule, or `None` if none of the generations 1 to `limit` is the pattern
-    /// again, moved or not.
+    /// Returns how `pattern` recurs under `rule`, or `None` if none of the generations 1 to `limit` is the pattern
+    /// again, moved or not. The generations are made in order until one is.
     ///
-    /// The pattern must not be empty, and the limit must be 1 to 64.
+    /// `pattern` must not be empty, and `limit` must be from 1 to 64.
     ///
     /// # Errors
     ///
-    /// - [`StepError::Edge`] if a generation that has to be stepped on has a cell with a coordinate of 1,000,000 in
-    ///   size. It never comes if every cell starts at least `limit` cells inside that bound, and it comes before any
-    ///   memory is asked for if the pattern itself has such a cell.
+    /// - [`StepError::Edge`] if a generation that has to be stepped from has a cell with a coordinate of -1,000,000 or
+    ///   1,000,000. This can't happen if every cell starts at least `limit` cells inside that bound. If `pattern`
+    ///   itself has such a cell, no memory is asked for before.
     /// - [`StepError::Memory`] if memory runs out.
     ///
-    /// Generations are made in order until one is the pattern again, and the first error ends the search.
+    /// The first error ends the search.
     pub fn find(
         alloc: Global,
         pattern: &Pattern,
@@ -38,22 +38,22 @@ impl Recurrence {
         requires most { limit ≤ 64 }
         ensures { SearchEnds (Recurs rule.now pattern.now limit) rule.now pattern.now limit result }
     {
-        match follow(alloc, pattern, rule, limit)? {
+        match follow_or_reject(alloc, pattern, rule, limit)? {
             Some(cycle) => Ok(Some(cycle.recurrence)),
             None => Ok(None),
         }
     }
 }
 
-/// A pattern that recurs: its phases, from the pattern itself on, and how it recurs.
+/// A pattern that recurs: its phases, beginning with the pattern itself, and how it recurs.
 #[derive(Drop)]
-pub(crate) struct Cycle {
-    pub(crate) phases: Vec<Pattern>,
-    pub(crate) recurrence: Recurrence,
+pub struct Cycle {
+    pub phases: Vec<Pattern>,
+    pub recurrence: Recurrence,
 }
 
-/// Follows the pattern until it recurs, if it does so within the limit. Each phase is made once.
-pub(crate) fn follow(
+/// Follows the pattern as [`follow`] does, unless a quick test shows that it doesn't recur within `limit` generations.
+pub(crate) fn follow_or_reject(
     alloc: Global,
     pattern: &Pattern,
     rule: &Rule,
@@ -67,9 +67,34 @@ pub(crate) fn follow(
     if pattern.touches_edge() {
         return Err(StepError::Edge);
     }
-    // Most patterns that don't recur are small, and seen not to at a fraction of what their phases cost.
+    // Most patterns that don't recur are small, and the test finds that out much faster than their phases are made.
     if pattern.surely_changes(rule, limit) {
         return Ok(None);
+    }
+    follow(alloc, pattern, rule, limit)
+}
+
+/// Follows the pattern until it recurs, and returns its phases, each of which is made once. `None` if none of the
+/// generations 1 to `limit` is the pattern again, moved or not.
+///
+/// `pattern` must not be empty, and `limit` must be at least 1.
+///
+/// # Errors
+///
+/// Those of [`Recurrence::find`].
+pub fn follow(
+    alloc: Global,
+    pattern: &Pattern,
+    rule: &Rule,
+    limit: u32,
+) -> Result<Option<Cycle>, StepError>
+    requires pattern { pattern.now ≢ [] }
+    requires least { 1 ≤ limit }
+    ensures { SearchEnds (λ cycle. IsCycle rule.now pattern.now limit cycle.phases.items cycle.recurrence)
+        rule.now pattern.now limit result }
+{
+    if pattern.touches_edge() {
+        return Err(StepError::Edge);
     }
     let mut phases = Vec::new(alloc);
     let mut latest = pattern.copy(alloc)?;
@@ -85,7 +110,7 @@ pub(crate) fn follow(
     Ok(None)
 }
 
-/// The recurrence whose period is one more than this number of generations.
+/// Returns the recurrence by (dx, dy) with a period of `age` + 1 generations.
 fn recurrence_at(age: u32, dx: i32, dy: i32) -> Recurrence
     requires { age < u32.MAX }
     ensures { result ≡ record { period = suc age; dx = dx; dy = dy } }

@@ -1,4 +1,4 @@
-//! A number written in decimal after a text.
+//! Writes a text followed by a number in decimal.
 ghost use Rattle.std.specs.Prelude.{◌≡◌, ◌++◌, false};
 ghost use Rattle.plane_core.specs.Outputs.{Writes};
 
@@ -6,7 +6,7 @@ use itoa::{Buffer, Integer};
 use plane_core::output::{Out, WriteError};
 use std::io::Write;
 
-/// Writes a text and a number in decimal right after it, to a writer that hasn't failed. It takes no memory.
+/// Writes `before` and then `number` in decimal to a writer that hasn't failed. It takes no memory.
 ///
 /// # Errors
 ///

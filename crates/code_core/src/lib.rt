@@ -3,7 +3,8 @@
 
 /// Apgcodes as values: their texts, kinds and numbers.
 pub mod apgcode;
-mod cycle;
+/// A pattern that is followed until it recurs.
+pub mod cycle;
 /// Numbers in decimal.
 pub mod decimal;
 /// The name of a pattern that recurs.

@@ -1,11 +1,11 @@
-//! A name is found in two steps. First the pattern is followed until it recurs, which gives its kind, its number
-//! and its phases. Then the texts of all phases in the eight orientations are compared, and the least one ends the
-//! name: the shorter comes first, and of two that are equally long the first in ASCII order.
+//! Names a pattern, in two steps. First the pattern is followed until it recurs, which gives its kind, its number and
+//! its phases. Then the texts of all phases in the eight orientations are compared, and the least one ends the apgcode:
+//! a shorter text comes first, and of two that are equally long the first in ASCII order.
 //!
 //! ```text
 //! generation 0    generation 1    generation 2
 //!     ...             .O.             ...
-//!     OOO             .O.             OOO       it recurs in its place after 2 generations: xp2
+//!     OOO             .O.             OOO       it recurs in place after 2 generations: xp2
 //!     ...             .O.             ...
 //!
 //! lying: 111      upright: 7                    two texts, of which 7 is the shorter one: xp2_7
@@ -13,18 +13,19 @@
 //!
 //! Each phase is made once and kept, and no text is made of a pattern that doesn't recur.
 
-ghost use Rattle.std.specs.Prelude.{Option, ◌≡◌, ◌≢◌, ◌<◌, ◌≤◌, [], Some, Err, length, option_map};
+ghost use Rattle.std.specs.Prelude.{Option, ℕ, ◌≡◌, ◌≢◌, ◌<◌, ◌≤◌, [], Some, Err, length, option_map};
 ghost use Rattle.std.specs.Prelude.{string_bytes, IfOk};
 ghost use Rattle.std.specs.Cmp.{IsTotalOrder};
 ghost use Rattle.plane_core.specs.plane.Orientations.{turned};
+ghost use Rattle.plane_core.specs.plane.Rules.{Numbers};
 ghost use Rattle.code_core.specs.Names.{CodesAreDetermined, CodesHaveTheirShape, CodesLater, CodesMoved, CodesTurned};
 ghost use Rattle.code_core.specs.Names.{IsCode, OnlyEqualTextsTie, IsLeastOf, kind_of, number_of, text_cmp};
 ghost use Rattle.code_core.specs.Least.{Among, IsImageAt, IsImageOf, IsNameBy, earlier_text};
-ghost use Rattle.code_core.specs.Recurrences.{SearchEnds};
+ghost use Rattle.code_core.specs.Recurrences.{IsCycle, SearchEnds};
 ghost use Rattle.code_core.specs.Texts.{text};
 
 use crate::apgcode::{Apgcode, Kind};
-use crate::cycle::{Cycle, follow};
+use crate::cycle::{Cycle, follow_or_reject};
 use crate::recurrence::Recurrence;
 use crate::wechsler::wechsler;
 use memory::OutOfMemory;
@@ -36,20 +37,24 @@ use plane_core::plane::transform::PlaceError;
 use std::alloc::Global;
 use std::cmp::Ordering;
 
-/// The name of the pattern under the rule (LifeWiki, "Apgcode"), or `None` if none of the generations 1 to `limit` is
-/// the pattern again, moved or not. A name is the same for each generation of the pattern, wherever it lies and
+/// Returns the apgcode of `pattern` under `rule` (LifeWiki, "Apgcode"), or `None` if none of the generations 1 to
+/// `limit` is the pattern again, moved or not. All generations of a pattern have the same apgcode, wherever it lies and
 /// however it is turned.
 ///
-/// The pattern must not be empty, and the limit must be 1 to 64.
+/// `pattern` must not be empty, and `limit` must be from 1 to 64.
 ///
 /// # Errors
 ///
-/// - [`StepError::Edge`] if a generation that has to be stepped on has a cell with a coordinate of 1,000,000 in size.
-///   It never comes if every cell starts at least `limit` cells inside that bound, and it comes before any memory is
-///   asked for if the pattern itself has such a cell.
+/// - [`StepError::Edge`] if a generation that has to be stepped from has a cell with a coordinate of -1,000,000 or
+///   1,000,000. This can't happen if every cell starts at least `limit` cells inside that bound. If `pattern` itself
+///   has such a cell, no memory is asked for before.
 /// - [`StepError::Memory`] if memory runs out.
 ///
-/// Generations are made in order until one is the pattern again, and the first error ends the search.
+/// The generations are made in order until one is the pattern again, and the first error ends the search.
+///
+/// # Examples
+///
+/// `crates/tour_tests/src/patterns.rt` names a glider.
 pub fn name(
     alloc: Global,
     pattern: &Pattern,
@@ -61,30 +66,30 @@ pub fn name(
     requires most { limit ≤ 64 }
     ensures { SearchEnds (IsCode rule.now pattern.now limit) rule.now pattern.now limit result }
 {
-    match follow(alloc, pattern, rule, limit)? {
+    match follow_or_reject(alloc, pattern, rule, limit)? {
         Some(cycle) => Ok(Some(name_of(alloc, pattern, &cycle)?)),
         None => Ok(None),
     }
 }
 
-/// The laws of the order in which the least text is found, shorter texts first and then in ASCII order: it is total,
-/// and only equal texts tie.
+/// The laws of the order by which the least text is found (shorter texts first, then ASCII order): it is total, and
+/// only equal texts tie.
 pub fn text_order_is_total()
     ensures total { IsTotalOrder text_cmp }
     ensures ties { OnlyEqualTextsTie }
 {}
 
-/// The law that a pattern with a cell has at most one name under a rule.
+/// The law that a pattern that isn't empty has at most one apgcode under a rule.
 pub fn codes_are_determined()
     ensures { CodesAreDetermined }
 {}
 
-/// The law that a name has 1 to 400 bytes, each one of `a` to `z`, `0` to `9` and `_`.
+/// The law that an apgcode has 1 to 400 bytes, each one of `a` to `z`, `0` to `9` and `_`.
 pub fn codes_have_their_shape()
     ensures { CodesHaveTheirShape }
 {}
 
-/// The laws that a pattern keeps its name when it is moved, when it is turned or mirrored, and in each later
+/// The laws that a pattern keeps its apgcode when it is moved, when it is turned or mirrored, and in each later
 /// generation.
 pub fn codes_are_of_objects()
     ensures moved { CodesMoved }
@@ -92,8 +97,20 @@ pub fn codes_are_of_objects()
     ensures later { CodesLater }
 {}
 
-/// The name of a pattern whose phases are known.
-fn name_of(alloc: Global, pattern: &Pattern, cycle: &Cycle) -> Result<Apgcode, OutOfMemory>
+/// Returns the apgcode of a pattern whose phases are known. It is the one that [`name`] finds.
+///
+/// # Errors
+///
+/// [`OutOfMemory`] if memory runs out.
+pub fn name_of(alloc: Global, pattern: &Pattern, cycle: &Cycle) -> Result<Apgcode, OutOfMemory>
+    ensures { IfOk result (λ code. (rule : Numbers) (limit : ℕ)
+        → IsCycle rule pattern.now limit cycle.now.phases.items cycle.now.recurrence → IsCode rule pattern.now limit code) }
+{
+    name_by(alloc, pattern, cycle)
+}
+
+/// Returns the apgcode that a pattern with these phases has.
+fn name_by(alloc: Global, pattern: &Pattern, cycle: &Cycle) -> Result<Apgcode, OutOfMemory>
     ensures { IfOk result (IsNameBy pattern.now cycle.now.phases.items cycle.now.recurrence) }
 {
     let least = least_text(alloc, cycle.phases.as_slice())?;
@@ -102,7 +119,7 @@ fn name_of(alloc: Global, pattern: &Pattern, cycle: &Cycle) -> Result<Apgcode, O
     Apgcode::make(alloc, kind, number, least.as_deref())
 }
 
-/// The number in a name: the population of a still life, and the period of any other object.
+/// Returns the number in an apgcode: the population of a still life, and the period of any other object.
 fn number_of(kind: Kind, pattern: &Pattern, recurrence: Recurrence) -> u64
     ensures { result ≡ number_of kind pattern.now recurrence }
 {
@@ -112,7 +129,7 @@ fn number_of(kind: Kind, pattern: &Pattern, recurrence: Recurrence) -> u64
     }
 }
 
-/// The kind of a pattern with this recurrence.
+/// Returns the kind of a pattern with this recurrence.
 fn kind_of(recurrence: Recurrence) -> Kind
     ensures { result ≡ kind_of recurrence }
 {
@@ -123,7 +140,7 @@ fn kind_of(recurrence: Recurrence) -> Kind
     }
 }
 
-/// The least text of the phases in all orientations.
+/// Returns the least text of the phases in all orientations.
 fn least_text(alloc: Global, phases: &[Pattern]) -> Result<Option<String>, OutOfMemory>
     ensures { IfOk result
         (λ found. IsLeastOf (Among (IsImageOf phases.now) (length phases.now)) (option_map string_bytes found)) }
@@ -136,7 +153,7 @@ fn least_text(alloc: Global, phases: &[Pattern]) -> Result<Option<String>, OutOf
     Ok(least)
 }
 
-/// The least text of a pattern in these orientations.
+/// Returns the least text of a pattern in these orientations.
 fn least_image(
     alloc: Global,
     pattern: &Pattern,
@@ -154,8 +171,8 @@ fn least_image(
     Ok(least)
 }
 
-/// The text of a pattern in an orientation, if it has one. An image that doesn't fit the plane is far too large for
-/// one.
+/// Returns the text of a pattern in an orientation, if it has one. An image that doesn't fit on the plane is far too
+/// large for one.
 fn image_text(
     alloc: Global,
     pattern: &Pattern,
@@ -170,7 +187,7 @@ fn image_text(
     }
 }
 
-/// The earlier of two texts, where there are two.
+/// Returns the earlier of two texts, or the only one.
 fn earlier(one: Option<String>, other: Option<String>) -> Option<String>
     ensures { option_map string_bytes result
         ≡ earlier_text (option_map string_bytes one) (option_map string_bytes other) }
@@ -187,7 +204,7 @@ fn earlier(one: Option<String>, other: Option<String>) -> Option<String>
     }
 }
 
-/// How two texts compare: the shorter one comes first, and of two that are equally long the first in ASCII order.
+/// Compares two texts: a shorter one comes first, and of two that are equally long the first in ASCII order.
 fn text_order(one: &str, other: &str) -> Ordering
     ensures { result ≡ text_cmp one.now other.now }
 {

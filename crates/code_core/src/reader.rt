@@ -1,4 +1,4 @@
-//! Texts in extended Wechsler format (LifeWiki, "Apgcode") read back to patterns.
+//! Reads texts in extended Wechsler format (LifeWiki, "Apgcode") back to patterns.
 //!
 //! ```text
 //! 0ccz11   ->   strip 0: columns 0, c, c      Each column of a strip has five cells, the top one counting 1.
@@ -29,18 +29,18 @@ use std::alloc::Global;
 use std::fmt;
 use thiserror::Error;
 
-/// The most bytes that a text may have to be read. The cells of such a text lie on the plane, since a byte goes at most
-/// 39 columns on or begins a strip of five rows.
+/// The longest text that is read, in bytes. The cells of such a text fit on the plane, since a byte moves at most 39
+/// columns to the right or begins a strip of five rows.
 pub const TEXT_LIMIT: usize = 10_000;
 
-/// What is wrong with a text. Places count bytes from 0.
+/// What is wrong with a text. `place` counts bytes from 0.
 #[derive(Clone, Copy, PartialEq, Eq, Error)]
 pub enum WechslerFault {
     /// The text is longer than 10,000 bytes.
     TooLong,
-    /// A byte that isn't one of `0` to `9` and `a` to `z`.
+    /// The byte at `place` isn't one of `0` to `9` and `a` to `z`.
     BadByte { place: usize },
-    /// A `y` that begins a run and isn't followed by one of `0` to `9` and `a` to `z`.
+    /// The `y` at `place` begins a run and isn't followed by one of `0` to `9` and `a` to `z`.
     ShortRun { place: usize },
     /// No column has a live cell.
     Empty,
@@ -57,7 +57,7 @@ impl fmt::Display for WechslerFault {
     }
 }
 
-/// Shows the message, as `Display` does.
+/// Writes the message, as `Display` does.
 impl fmt::Debug for WechslerFault {
     fn fmt<W: fmt::Write>(&self, f: &mut fmt::Formatter<W>) -> fmt::Result {
         fmt::Display::fmt(self, f)
@@ -67,7 +67,7 @@ impl fmt::Debug for WechslerFault {
 /// Why no pattern was read.
 #[derive(Clone, Copy, PartialEq, Eq, Error)]
 pub enum WechslerError {
-    /// The text says no pattern.
+    /// The text isn't that of a pattern.
     Fault(WechslerFault),
     /// Memory ran out.
     Memory(OutOfMemory),
@@ -82,7 +82,7 @@ impl fmt::Display for WechslerError {
     }
 }
 
-/// Shows the message, as `Display` does.
+/// Writes the message, as `Display` does.
 impl fmt::Debug for WechslerError {
     fn fmt<W: fmt::Write>(&self, f: &mut fmt::Formatter<W>) -> fmt::Result {
         fmt::Display::fmt(self, f)
@@ -97,32 +97,32 @@ impl<E: Into<OutOfMemory>> From<E> for WechslerError {
     }
 }
 
-/// The pattern of a text in extended Wechsler format (LifeWiki, "Apgcode"), whose first strip has its top left cell at
-/// (0, 0).
+/// Returns the pattern of a text in extended Wechsler format (LifeWiki, "Apgcode"), with the top left cell of its first
+/// strip at (0, 0).
 ///
-/// The text has at most 10,000 bytes. It is cut at each `z` into strips of five rows, from the top. In a strip, `0` to
-/// `9` and `a` to `v` are the next column from the left, whose live cells add up to 0 to 31 where the top cell counts 1
+/// The text has at most 10,000 bytes. Each `z` divides it into strips of five rows, from the top. In a strip, `0` to
+/// `9` and `a` to `v` are the next column from the left, with the sum of its live cells, 0 to 31: the top cell counts 1
 /// and those below it 2, 4, 8 and 16. `w` and `x` are two and three empty columns, and `y` with one of `0` to `9` and
 /// `a` to `z` is 4 to 39. Texts that are never written are read too: with zeros at a strip's end, with one run of empty
 /// columns after another, and with empty strips at the end.
 ///
 /// # Errors
 ///
-/// - [`WechslerError::Fault`] if the text is not that of a pattern with a cell, whether there is memory or not. It is
-///   `TooLong` for over 10,000 bytes, else the first `BadByte` or `ShortRun` from the left, and `Empty` if there is
-///   neither but also no live cell.
+/// - [`WechslerError::Fault`] if the text isn't that of a pattern with a live cell, whether there is memory or not:
+///   `TooLong` for more than 10,000 bytes, otherwise the first `BadByte` or `ShortRun` from the left, and `Empty` if
+///   there is none of them and no live cell.
 /// - [`WechslerError::Memory`] if memory runs out.
 pub fn read_wechsler(alloc: Global, text: &str) -> Result<Pattern, WechslerError>
     ensures pattern { IfOk result (λ read. wechsler_read text.now ≡ Ok read) }
     ensures fault { (fault : WechslerFault) →
         IsErrOf result (WechslerError.Fault fault) ↔ (wechsler_read text.now ≡ Err fault) }
 
-    // What is read is what the text says, and each pattern that a text says is read.
+    // What is read is the text's pattern, and every text of a pattern is read.
     ensures says { IfOk result (Says text.now) }
     ensures complete { (cells : List Cell) → Says text.now cells → cells ≢ [] → length text.now ≤ 10000
         → MatchResult result (λ read. read ≡ cells) (λ error. error ≡ Memory out_of_memory) }
 
-    // Which fault it is.
+    // When each fault occurs.
     ensures too_long { IsErrOf result (WechslerError.Fault TooLong) ↔ (10000 < length text.now) }
     ensures bad_byte { (place : ℕ) → length text.now ≤ 10000 →
         (IsErrOf result (WechslerError.Fault (BadByte place)) ↔ IsBadByte text.now place) }
@@ -140,7 +140,7 @@ pub fn texts_are_read()
     ensures { TextsAreRead }
 {}
 
-/// The pattern of a text.
+/// Returns the pattern of a text.
 fn read(alloc: Global, text: &[u8]) -> Result<Pattern, WechslerError>
     ensures pattern { IfOk result (λ read. wechsler_read text.now ≡ Ok read) }
     ensures fault { (fault : WechslerFault) →
@@ -155,7 +155,7 @@ fn read(alloc: Global, text: &[u8]) -> Result<Pattern, WechslerError>
     pattern_in(alloc, text)
 }
 
-/// What is wrong with a text that isn't too long, if anything is.
+/// Returns what is wrong with a text that isn't too long, if anything is.
 #[tactic(auto, using(crate::proofs::TokenReading::shorter, crate::proofs::ReaderLoops::Passed_none, crate::proofs::ReaderLoops::Passed_more))]
 fn fault_in(text: &[u8]) -> Option<WechslerFault>
     ensures { result ≡ result_err (wechsler_pattern text.now) }
@@ -176,7 +176,7 @@ fn fault_in(text: &[u8]) -> Option<WechslerFault>
     }
 }
 
-/// What is wrong at this place of a text, where the rest doesn't begin with a token.
+/// Returns what is wrong at this place of a text, if the rest doesn't begin with a token.
 fn fault_at(place: usize, remainder: &[u8]) -> Option<WechslerFault>
     ensures { result ≡ fault_without_token place remainder.now }
 {
@@ -190,11 +190,11 @@ fn fault_at(place: usize, remainder: &[u8]) -> Option<WechslerFault>
     }
 }
 
-/// The pattern of a text that has no fault, whose cells are found column by column.
+/// Returns the pattern of a text that has no fault, column by column.
 ///
 /// # Errors
 ///
-/// `Memory` alone.
+/// Only `Memory`.
 #[tactic(auto, using(crate::proofs::TokenReading::shorter))]
 fn pattern_in(alloc: Global, text: &[u8]) -> Result<Pattern, WechslerError>
     requires short { length text.now ≤ TEXT_LIMIT }
@@ -223,7 +223,7 @@ struct Head {
     x: u32,
 }
 
-/// Adds the cells of a token. The answer is where the next column stands.
+/// Adds the cells of a token, and returns where the next column stands.
 fn push_token(cells: &mut Vec<Cell>, head: Head, token: Token) -> Result<Head, OutOfMemory>
     requires strip { head.strip ≤ TEXT_LIMIT }
     requires column { head.x ≤ 39 * TEXT_LIMIT }
@@ -267,7 +267,7 @@ fn push_column(cells: &mut Vec<Cell>, head: Head, value: u8) -> Result<(), OutOf
     Ok(())
 }
 
-/// The cell in row i of the strip.
+/// Returns the cell in row i of the strip.
 fn cell_of(head: Head, i: u32) -> Cell
     requires strip { head.strip ≤ TEXT_LIMIT }
     requires column { head.x ≤ 39 * TEXT_LIMIT }
@@ -280,7 +280,7 @@ fn cell_of(head: Head, i: u32) -> Cell
     }
 }
 
-/// Whether the cell of a column that counts 2 to the power i is alive.
+/// Checks whether the cell that counts 2 to the power i is alive in a column with this value.
 fn is_lit(value: u8, i: u32) -> bool
     requires { i < 5 }
     ensures { result ≡ is_lit value i }
@@ -288,7 +288,7 @@ fn is_lit(value: u8, i: u32) -> bool
     (value >> i) % 2 == 1
 }
 
-/// The first token of a text, and the rest of the text. There is none if the text is empty or begins with a fault.
+/// Returns the first token of a text, and the rest of the text. `None` if the text is empty or begins with a fault.
 fn first_token(text: &[u8]) -> Option<(Token, &[u8])>
     ensures token { IfSome result (λ first. Begins text.now first.0 first.1.now) }
     ensures none { IfNone result (IsStuck text.now) }
@@ -311,7 +311,7 @@ fn first_token(text: &[u8]) -> Option<(Token, &[u8])>
     Some((Token::Gap(character_value(*length) + 4), remainder))
 }
 
-/// Whether a token is a column with a live cell.
+/// Checks whether a token is a column with a live cell.
 fn is_column(token: Token) -> bool
     ensures { result ≡ is_column token }
 {
@@ -333,7 +333,7 @@ const MANY_EMPTY: u8 = b'y';
 /// The end of a strip.
 const STRIP_END: u8 = b'z';
 
-/// The token of a character other than `y`.
+/// Returns the token of a character other than `y`.
 #[tactic(auto, unfolding(crate::specs::Reading::single))]
 fn single(byte: u8) -> Token
     requires { is_character byte ≡ true }
@@ -348,7 +348,7 @@ fn single(byte: u8) -> Token
     }
 }
 
-/// Whether a byte is one of `0` to `9` and `a` to `z`.
+/// Checks whether a byte is one of `0` to `9` and `a` to `z`.
 #[tactic(auto, unfolding(crate::specs::Tokens::is_character))]
 fn is_character(byte: u8) -> bool
     ensures { result ≡ is_character byte }
@@ -356,7 +356,7 @@ fn is_character(byte: u8) -> bool
     byte.is_ascii_digit() || byte.is_ascii_lowercase()
 }
 
-/// The value of a character, 0 to 35.
+/// Returns the value of a character, 0 to 35.
 #[tactic(auto, unfolding(crate::specs::Tokens::is_character, crate::specs::Reading::character_value))]
 fn character_value(byte: u8) -> u8
     requires { is_character byte ≡ true }

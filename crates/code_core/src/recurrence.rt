@@ -5,8 +5,8 @@
 pub struct Recurrence {
     /// The least number of generations, at least 1.
     pub period: u32,
-    /// By how many cells it recurs further right, or further left where this is negative.
+    /// How many cells the pattern has moved right after a period, or left if this is negative.
     pub dx: i32,
-    /// By how many cells it recurs further down, or further up where this is negative.
+    /// How many cells the pattern has moved down after a period, or up if this is negative.
     pub dy: i32,
 }

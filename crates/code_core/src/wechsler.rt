@@ -1,5 +1,5 @@
-//! A pattern becomes a text strip by strip from the top, and in a strip column by column from the left. Each cell of a
-//! column has a weight, and the sum of the weights of the live cells is the column's value.
+//! Writes a pattern as a text, strip by strip from the top, and in a strip column by column from the left. Each cell of
+//! a column has a weight, and the sum of the weights of the live cells is the column's value.
 //!
 //! ```text
 //! weight
@@ -13,34 +13,37 @@
 //! ```
 //!
 //! So this pattern's text is `3x1zw1`. A column with a live cell is written together with the run of empty columns
-//! before it, and so nothing is written of a run that ends a strip.
+//! before it, so the run at a strip's end is never written.
 
 ghost use Rattle.std.specs.Prelude.{◌≡◌, ◌+◌, ◌<◌, ◌≤◌, ◌++◌, ◌∷◌, [], pos, Some, IfOk, OnOk, flat_map, option_map};
-ghost use Rattle.std.specs.Prelude.{codes, replicate, if◌then◌else◌, ◌==◌};
+ghost use Rattle.std.specs.Prelude.{List, codes, replicate, true, if◌then◌else◌, ◌==◌};
 ghost use Rattle.std.specs.String.{string_bytes};
 ghost use Rattle.plane_core.specs.plane.Bounds.{at_corner, box_of};
+ghost use Rattle.plane_core.specs.declared.plane.cell.Cell.{Cell};
 ghost use Rattle.plane_core.specs.plane.Cells.{cell_at, distance, has};
-ghost use Rattle.code_core.specs.Columns.{column};
+ghost use Rattle.plane_core.specs.windows.LonePatterns.{IsInWindow};
+ghost use Rattle.plane_core.specs.windows.Rows.{ShowsInAllRows};
+ghost use Rattle.code_core.specs.Columns.{IsBoxed, column};
 ghost use Rattle.code_core.specs.Texts.{TextsHaveTheirShape, TextsSpellPatterns, fits_forty_square, strip};
 ghost use Rattle.code_core.specs.Texts.{strip_tokens, text, tokens_of};
 ghost use Rattle.code_core.specs.Tokens.{character, gap_start, gap_text, spelling};
 
 use memory::OutOfMemory;
 use plane_core::plane::bounds::Bounds;
-use plane_core::plane::coordinate::along;
+use plane_core::plane::cell::Cell;
 use plane_core::plane::pattern::Pattern;
 use std::alloc::Global;
 
 /// The most columns, and the most rows, that the box of a pattern with a text may have.
 pub const CODE_SIDE_LIMIT: u32 = 40;
 
-/// How many rows a strip has.
+/// The number of rows of a strip.
 const STRIP: u32 = 5;
 
-/// The text of a pattern in extended Wechsler format (LifeWiki, "Apgcode"), or `None` if the pattern is empty or its
-/// least box has over 40 columns or over 40 rows. Where the pattern lies makes no difference.
+/// Returns the text of a pattern in extended Wechsler format (LifeWiki, "Apgcode"), or `None` if the pattern is empty
+/// or its bounding box has more than 40 columns or more than 40 rows. Where the pattern lies makes no difference.
 ///
-/// The box is cut from the top into strips of five rows, and `z` stands between the texts of two strips. A strip is
+/// The box is divided from the top into strips of five rows, and `z` stands between the texts of two strips. A strip is
 /// written column by column from the left. A column with a live cell is one character, `1` to `9` or `a` to `v`, for
 /// its value 1 to 31, to which the top cell adds 1 and those below it 2, 4, 8 and 16. A run of empty columns is left
 /// out at a strip's end. Elsewhere it is `0`, `w` or `x` for 1, 2 or 3 columns, and for more `y` and then `0` to `9`
@@ -63,35 +66,35 @@ pub fn wechsler(alloc: Global, pattern: &Pattern) -> Result<Option<String>, OutO
 }
 
 /// The laws of the texts of all patterns: each is spelled by tokens whose cells are the pattern, moved to the corner,
-/// with each run of empty columns in one piece and none at a strip's end; and it has at most 327 bytes, each one of `0`
-/// to `9` and `a` to `z`.
+/// with each run of empty columns in one piece and none at a strip's end. It has at most 327 bytes, each one of `0` to
+/// `9` and `a` to `z`.
 pub fn texts_spell_patterns()
     ensures spell { TextsSpellPatterns }
     ensures shape { TextsHaveTheirShape }
 {}
 
-/// The number of the box's last column, counted from 0.
+/// Returns the number of the box's last column, counted from 0.
 fn last_column(bounds: Bounds) -> u32
     ensures { result ≡ distance bounds.left bounds.right }
 {
     bounds.left.abs_diff(bounds.right)
 }
 
-/// The number of the box's last row, counted from 0.
+/// Returns the number of the box's last row, counted from 0.
 fn last_row(bounds: Bounds) -> u32
     ensures { result ≡ distance bounds.top bounds.bottom }
 {
     bounds.top.abs_diff(bounds.bottom)
 }
 
-/// Whether the box is small enough for a text.
+/// Checks whether the box is small enough for a text.
 fn fits_forty_square(bounds: Bounds) -> bool
     ensures { result ≡ fits_forty_square bounds }
 {
     last_column(bounds) < CODE_SIDE_LIMIT && last_row(bounds) < CODE_SIDE_LIMIT
 }
 
-/// The text of a pattern with this box.
+/// Returns the text of a pattern with this box.
 fn text_in(alloc: Global, pattern: &Pattern, bounds: Bounds) -> Result<String, OutOfMemory>
     requires bounds { box_of pattern.now ≡ Some bounds }
     requires width { distance bounds.left bounds.right < CODE_SIDE_LIMIT }
@@ -99,33 +102,49 @@ fn text_in(alloc: Global, pattern: &Pattern, bounds: Bounds) -> Result<String, O
     ensures { IfOk result (λ found. string_bytes found ≡ flat_map spelling (
         tokens_of (at_corner pattern.now) (distance bounds.left bounds.right) (distance bounds.top bounds.bottom))) }
 {
+    let rows = rows_of(pattern.cells(), bounds);
     let mut text = String::new(alloc);
     for k in 0..last_row(bounds) / STRIP + 1 {
-        push_strip(&mut text, pattern, bounds, k)?;
+        push_strip(&mut text, &rows, bounds, k)?;
     }
     Ok(text)
 }
 
-/// Adds the text of strip k, of which there are at most eight, of a pattern with this box. A `z` parts it from the
-/// strip before it.
+/// Returns the rows of a pattern, beginning with the first row of this box. Bit i of each is the cell in column i of
+/// the box.
+fn rows_of(cells: &[Cell], bounds: Bounds) -> [u64; 64]
+    requires { (c : Cell) → has cells.now c ≡ true → IsInWindow 16 bounds.left bounds.top c }
+    ensures { ShowsInAllRows bounds.left bounds.top result cells.now }
+{
+    let mut rows = [0; 64];
+    for cell in cells {
+        let across = (cell.x - bounds.left) as usize;
+        let down = (cell.y - bounds.top) as usize;
+        rows[down] |= 1 << across;
+    }
+    rows
+}
+
+/// Appends the text of strip k, of which there are at most eight, of any pattern with this box and these rows. A `z`
+/// separates it from the strip before it.
 fn push_strip(
     text: &mut String,
-    pattern: &Pattern,
+    rows: &[u64; 64],
     bounds: Bounds,
     k: u32,
 ) -> Result<(), OutOfMemory>
-    requires bounds { box_of pattern.now ≡ Some bounds }
     requires width { distance bounds.left bounds.right < CODE_SIDE_LIMIT }
     requires strip { k < 8 }
-    ensures { OnOk result (string_bytes text.new ≡ (string_bytes text.old ++ (if k == 0 then [] else codes "z"))
-        ++ flat_map spelling (strip_tokens (strip (at_corner pattern.now) (distance bounds.left bounds.right + 1) k))) }
+    ensures { OnOk result ((cells : List Cell) → IsBoxed bounds rows.now cells
+        → string_bytes text.new ≡ (string_bytes text.old ++ (if k == 0 then [] else codes "z"))
+        ++ flat_map spelling (strip_tokens (strip (at_corner cells) (distance bounds.left bounds.right + 1) k))) }
 {
     if k > 0 {
         text.push('z')?;
     }
     let mut gap = 0;
     for x in 0..last_column(bounds) + 1 {
-        let value = column(pattern, bounds, k, x);
+        let value = column(rows, bounds, k, x);
         if value == 0 {
             gap += 1;
         } else {
@@ -136,7 +155,7 @@ fn push_strip(
     Ok(())
 }
 
-/// Adds a run of so many empty columns and then a column with a live cell.
+/// Appends a run of `gap` empty columns and then a column with a live cell.
 fn push_column(text: &mut String, gap: u8, value: u8) -> Result<(), OutOfMemory>
     requires gap { gap ≤ 39 }
     requires least { 1 ≤ value }
@@ -148,7 +167,7 @@ fn push_column(text: &mut String, gap: u8, value: u8) -> Result<(), OutOfMemory>
     push_character(text, value)
 }
 
-/// Adds a run of empty columns, if there is one.
+/// Appends a run of empty columns, if there is one.
 #[tactic(auto, unfolding(crate::specs::Tokens::gap_text))]
 fn push_gap(text: &mut String, gap: u8) -> Result<(), OutOfMemory>
     requires { gap ≤ 39 }
@@ -164,7 +183,7 @@ fn push_gap(text: &mut String, gap: u8) -> Result<(), OutOfMemory>
     push_character(text, gap - 4)
 }
 
-/// The character with which a run of empty columns begins.
+/// Returns the character that begins a run of empty columns.
 fn gap_start(gap: u8) -> char
     ensures { result ≡ gap_start gap }
 {
@@ -176,7 +195,7 @@ fn gap_start(gap: u8) -> char
     }
 }
 
-/// Adds the character of a value.
+/// Appends the character of a value.
 fn push_character(text: &mut String, value: u8) -> Result<(), OutOfMemory>
     requires { value ≤ 35 }
     ensures { OnOk result (string_bytes text.new ≡ string_bytes text.old ++ character value ∷ []) }
@@ -184,7 +203,7 @@ fn push_character(text: &mut String, value: u8) -> Result<(), OutOfMemory>
     Ok(text.push(char::from(character(value)))?)
 }
 
-/// `0` to `9` for 0 to 9, and `a` to `z` for 10 to 35.
+/// Returns `0` to `9` for 0 to 9, and `a` to `z` for 10 to 35.
 #[tactic(auto, unfolding(crate::specs::Tokens::character))]
 fn character(value: u8) -> u8
     requires { value ≤ 35 }
@@ -198,32 +217,29 @@ fn character(value: u8) -> u8
     }
 }
 
-/// The value of column x of strip k, at the corner, of a pattern with this box.
-#[tactic(auto, unfolding(crate::specs::Columns::column))]
-fn column(pattern: &Pattern, bounds: Bounds, k: u32, x: u32) -> u8
-    requires bounds { box_of pattern.now ≡ Some bounds }
+/// Returns the value of column x of strip k, counted from the corner, of any pattern with this box and these rows.
+fn column(rows: &[u64; 64], bounds: Bounds, k: u32, x: u32) -> u8
     requires width { x < CODE_SIDE_LIMIT }
     requires strip { k < 8 }
-    ensures value { result ≡ column (at_corner pattern.now) k x }
+    ensures value { (cells : List Cell) → IsBoxed bounds rows.now cells → result ≡ column (at_corner cells) k x }
     ensures bound { result ≤ 31 }
 {
     let y = STRIP * k;
-    one_at(pattern, bounds, x, y)
-        + 2 * one_at(pattern, bounds, x, y + 1)
-        + 4 * one_at(pattern, bounds, x, y + 2)
-        + 8 * one_at(pattern, bounds, x, y + 3)
-        + 16 * one_at(pattern, bounds, x, y + 4)
+    one_at(rows, bounds, x, y)
+        + 2 * one_at(rows, bounds, x, y + 1)
+        + 4 * one_at(rows, bounds, x, y + 2)
+        + 8 * one_at(rows, bounds, x, y + 3)
+        + 16 * one_at(rows, bounds, x, y + 4)
 }
 
-/// 1 where the cell (x, y) from the box's corner is alive, and else 0.
-fn one_at(pattern: &Pattern, bounds: Bounds, x: u32, y: u32) -> u8
-    requires bounds { box_of pattern.now ≡ Some bounds }
+/// Returns 1 if the cell (x, y), counted from the box's corner, is alive, and 0 otherwise.
+#[inline(always)]
+fn one_at(rows: &[u64; 64], bounds: Bounds, x: u32, y: u32) -> u8
     requires column { x < CODE_SIDE_LIMIT }
     requires row { y < CODE_SIDE_LIMIT }
-    ensures value { result ≡ (if has (at_corner pattern.now) (cell_at (pos x) (pos y)) then 1 else 0) }
+    ensures value { (cells : List Cell) → IsBoxed bounds rows.now cells
+        → result ≡ (if has (at_corner cells) (cell_at (pos x) (pos y)) then 1 else 0) }
     ensures bound { result ≤ 1 }
 {
-    // So the pattern and its box lie on the plane.
-    pattern.recall_order();
-    u8::from(pattern.has(along(bounds.left, x), along(bounds.top, y)))
+    (rows[y as usize] >> x & 1) as u8
 }

@@ -37,7 +37,7 @@ fn tell(line: &mut impl ProgressObserver) {
     tell_by(line, 16);
 }
 
-/// The same if so many of sixteen workers were started.
+/// Tells the same, after `started` of sixteen workers were started.
 fn tell_by(line: &mut impl ProgressObserver, started: u8) {
     line.begin(12, 16);
     line.started(started);

@@ -126,7 +126,7 @@ impl Write for Unflushed {
     }
 }
 
-// The status is told by a line, and is the same if the line can't be written.
+// A line reports the failure. The status is the same if the line can't be written.
 #[test]
 fn tells_a_failed_flush(rt: HostRuntime) -> Result<(), Fail> {
     let mut buffered = BufWriter::new(rt.alloc(), Unflushed)?;

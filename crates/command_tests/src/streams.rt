@@ -4,7 +4,7 @@ use plane_core::output::Out;
 use std::alloc::Global;
 use std::io::{self, ErrorKind, Read, Write};
 
-/// Gives a text, so many bytes at most in a read. Its read number `bad` is an error of this kind.
+/// A reader of a text that returns at most `most` bytes per read. Read number `bad` fails with an error of this kind.
 #[derive(Drop)]
 pub(crate) struct FaultyReader<'a> {
     text: &'a [u8],
@@ -19,7 +19,7 @@ pub(crate) fn reader(text: &[u8], bad: usize, kind: ErrorKind) -> FaultyReader<'
     reader_by(text, 1, bad, kind)
 }
 
-/// The same, with so many bytes in a read.
+/// Returns such a reader, with at most `most` bytes per read.
 pub(crate) fn reader_by(text: &[u8], most: usize, bad: usize, kind: ErrorKind) -> FaultyReader<'_> {
     FaultyReader {
         text,
@@ -44,7 +44,7 @@ impl Read for FaultyReader<'_> {
     }
 }
 
-/// Takes so many bytes at most in a write. Its write number `bad` is an error of this kind.
+/// A writer that takes at most `most` bytes per write. Write number `bad` fails with an error of this kind.
 #[derive(Drop)]
 pub(crate) struct FaultyWriter {
     pub(crate) taken: Vec<u8>,

@@ -46,7 +46,7 @@ const THREE_OF_EIGHT: &[u8] = b"@VERSION 2\n\
     \n\
     @SAMPLE_SOUPIDS\n";
 
-/// Takes so many soups by so many workers, under a gate and a watch.
+/// Takes `count` soups with `workers` workers, a gate and an observer.
 fn left_by<G: Gate + Sync, R: AllocGlobal + Threads + Wait + Sync, H: ProgressObserver + Drop>(
     rt: &R,
     count: u64,

@@ -447,21 +447,16 @@ prints_right plan text before after right grown = go (job_named plan) refl right
   where
     go : (named : Result Job Complaint) → job_named plan ≡ named
         → IsRightGiven named (λ job. IsRightForSet plan.set (TellsAll job)) (Ok text) → PrintsCensus plan before after
-    go (Ok job) is diagnostics =
-        let tells = diagnostics.is_text in record {
-          job = job;
-          job_is = is;
-          ranges = diagnostics.ranges;
-          named = diagnostics.named;
-          numbers = tells.numbers;
-          all = tells.all;
-          normal = tells.normal;
-          form = tells.form;
-          census = tells.census;
-          counted = tells.counted;
-          grown = subst (Appends before after) tells.text_is grown;
-        }
-    go (Err complaint) is diagnostics = cc
+    go (Ok job) is right_for = record {
+      job = job;
+      job_is = is;
+      ranges = right_for.ranges;
+      named = right_for.named;
+      text = text;
+      tells = right_for.is_text;
+      grown = grown;
+    }
+    go (Err complaint) is right_for = cc
 
 -- no complaint has the status of a command that was done
 not_done : (complaint : Complaint) → status_of complaint ≡ statuses.Done → ⊥

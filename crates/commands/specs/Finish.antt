@@ -14,7 +14,7 @@ use Rattle.pattern_commands.specs.Streams.{Stream, Has, HasPrefix}
 abbrev pub IsCensusOf : Held → Census → Type 0
 IsCensusOf held census = IsCensus held.terms.job held.terms.ranges (numbers_in held.taken) census
 
--- the haul text was written, and so many soups are missing
+-- the haul text was written, and this many soups are missing
 pub record IsFinished (held : Held) (missing : ℕ) (output : Stream) : Type 0 where
   pub census : Census
   pub counted : IsCensusOf held census
@@ -22,14 +22,14 @@ pub record IsFinished (held : Held) (missing : ℕ) (output : Stream) : Type 0 w
   pub text : Has output (haul_text census)
   pub fine : output.failed ≡ false
 
--- a prefix of it was, and the output failed
+-- a prefix of the haul text was written, and the output failed
 pub record IsHalfFinished (held : Held) (output : Stream) : Type 0 where
   pub census : Census
   pub counted : IsCensusOf held census
   pub prefix : HasPrefix output (haul_text census)
   pub cut : output.failed ≡ true
 
--- what became of the haul text; nothing of it was written if memory ran out
+-- what became of the haul text; if memory ran out, nothing of it was written
 abbrev pub Finishes : Held → Outcome → Stream → Type 0
 Finishes held (Ok missing) output = IsFinished held missing output
 Finishes held (Err (Memory error)) output = Has output []

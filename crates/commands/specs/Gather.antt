@@ -12,17 +12,17 @@ use Rattle.commands.specs.Lines.{IsSpent}
 use Rattle.commands.specs.LinesSoFar.{AreAllEnded, HasBegun, HasBegunUpTo}
 use Rattle.commands.specs.SoupSets.{job_named}
 
--- the input is looked at, if the job is one
+-- the input is read if the job is valid
 abbrev pub gather_reads : Plan → Bool
 gather_reads plan = is_ok (job_named plan)
 
--- a haul was opened, and standard error has the diagnostics on the first lines
+-- a haul was opened, and standard error has the diagnostics about the first lines
 pub record BeginsHaul (opens : Hauls) (reader before after : Option (List ℕ)) : Type 0 where
   pub terms : Terms
   pub opened : opens terms
   pub begun : HasBegun terms reader before after
 
--- to gather report lines over a set: there are diagnostics on lines only if a haul was opened
+-- to gather report lines over a set; there are diagnostics about lines only if a haul was opened
 abbrev pub gather_behaviour : Plan → ℕ → Behaviour
 gather_behaviour plan workers = record {
   right = gather_right plan workers;
@@ -47,8 +47,8 @@ haul_behaviour terms = record {
   may_tell = Unit {0};
 }
 
--- Gathering gave up at a place of its input, with a haul open: all lines before that place, but perhaps the last, have come to the haul,
--- and standard error has the diagnostics on them. What the reader has given beyond it is ahead, at most so many bytes.
+-- Gathering gave up at a place of its input, with an open haul. All lines before that place, except perhaps the last, have come to
+-- the haul, and standard error has the diagnostics about them. At most `most` bytes were read beyond the place.
 pub record GivesUpAt (opens : Hauls) (most : ℕ) (reader left : Option (List ℕ)) (errors : Stream) : Type 0 where
   pub terms : Terms
   pub opened : opens terms
@@ -56,8 +56,8 @@ pub record GivesUpAt (opens : Hauls) (most : ℕ) (reader left : Option (List �
   pub few : length ahead ≤ most
   pub begun : HasBegunUpTo terms reader (prepend_known ahead left) errors.before errors.after
 
--- How far the input was read: to its end if all lines were gathered. After a failed read nothing is ahead, and all lines have come that
--- a line feed ends. If memory ran out before a haul was opened, nothing was read.
+-- How far the input was read: to its end if all lines were gathered. After a failed read, nothing was read beyond the place, and
+-- all lines that end with a line feed have come. If memory ran out before a haul was opened, nothing was read.
 abbrev pub HasReadUpTo : {R : Type 0} → Hauls → (remaining : R → Option (List ℕ)) → (old new : R) → Stream → Outcome → Type 0
 HasReadUpTo opens remaining old new errors (Ok missing) = IsSpent (remaining old) (remaining new)
 HasReadUpTo opens remaining old new errors (Err (Memory error)) =

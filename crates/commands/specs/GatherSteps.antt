@@ -1,4 +1,4 @@
--- How report lines are gathered, a line at a time.
+-- How report lines are gathered, one line at a time.
 use Rattle.std.specs.Prelude.{◌≡◌, ◌<◌, ◌≤◌, ◌^◌, ℕ, true, false, IfSome, List, Option, length}
 use Rattle.std.specs.Io.KnownBytes.{Consumes, prepend_known}
 use Rattle.plane_core.specs.Outputs.{Output}
@@ -12,8 +12,8 @@ use Rattle.commands.specs.declared.lines.LineEnd.TheVariants.{Feed, Input}
 use Rattle.commands.specs.Lines.{input_lines}
 use Rattle.commands.specs.LinesSoFar.{AreAllEnded, AreEnded, HasBegunUpTo, HasCome, most_ahead}
 
--- How far gathering is: the input at its start and what is left of it, standard error from the start on, and how many
--- lines and bytes were read.
+-- How far gathering is: the input at the start and what is left of it, standard error since the start, and how many lines and bytes
+-- were read.
 pub record Passage : Type 0 where
   pub reader : Option (List ℕ)
   pub left : Option (List ℕ)
@@ -21,7 +21,7 @@ pub record Passage : Type 0 where
   pub count : ℕ
   pub size : ℕ
 
--- The lines that were read have come to the haul, and standard error has the diagnostics on them.
+-- The lines that were read have come to the haul, and standard error has the diagnostics about them.
 pub record HasGatheredLines (passage : Passage) (held : Held) : Type 0 where
   pub read : List ℕ
   pub lines : List (List ℕ)
@@ -33,7 +33,7 @@ pub record HasGatheredLines (passage : Passage) (held : Held) : Type 0 where
   pub come : HasCome lines held diagnostics
   pub written : Has passage.errors diagnostics
 
--- All lines of an input of so many bytes have come to the haul, and standard error has the diagnostics on them.
+-- All lines of an input with this many bytes have come to the haul, and standard error has the diagnostics about them.
 pub record HasGatheredAll (reader left : Option (List ℕ)) (errors : Stream) (size : ℕ) (held : Held) : Type 0 where
   pub bytes : List ℕ
   pub input : IsInput reader bytes
@@ -43,12 +43,12 @@ pub record HasGatheredAll (reader left : Option (List ℕ)) (errors : Stream) (s
   pub come : HasCome (input_lines bytes) held diagnostics
   pub written : Has errors diagnostics
 
--- the lines up to here have come: after a line feed there may be more, and at the end of the input all have
+-- the lines up to here have come; after a line feed there may be more, and at the end of the input there are none
 abbrev pub HasGatheredTo : Passage → Held → LineEnd → Type 0
 HasGatheredTo passage held Feed = HasGatheredLines passage held
 HasGatheredTo passage held Input = HasGatheredAll passage.reader passage.left passage.errors passage.size held
 
--- all lines of an input that isn't too long have come; what is ahead was read and not used
+-- all lines of an input that isn't too long have come; some bytes were read and not used
 pub record HasGatheredShort (reader left : Option (List ℕ)) (errors : Stream) (held : Held) : Type 0 where
   pub size : ℕ
   pub short : size ≤ 2 ^ 32
@@ -56,11 +56,11 @@ pub record HasGatheredShort (reader left : Option (List ℕ)) (errors : Stream) 
   pub few : length ahead ≤ 2 ^ 16
   pub all : HasGatheredAll reader (prepend_known ahead left) errors size held
 
--- the input has over 2^32 bytes, if they are known
+-- the input has more than 2^32 bytes, if they are known
 abbrev pub IsTooLong : Option (List ℕ) → Type 0
 IsTooLong reader = IfSome reader (λ bytes. 2 ^ 32 < length bytes)
 
--- What standard error has where a complaint ends the lines of an input of which this is left: the diagnostics on all lines before.
+-- Standard error if a complaint ends the lines of an input of which this is left: the diagnostics about all lines before.
 abbrev pub EndsLines : Terms → (reader left : Option (List ℕ)) → Stream → Complaint → Type 0
 EndsLines terms reader left errors (Memory error) =
     HasBegunUpTo terms reader left errors.before errors.after × (errors.failed ≡ false)
@@ -71,13 +71,13 @@ EndsLines terms reader left errors TooLong =
 EndsLines terms reader left errors (WriteFailed error) = errors.failed ≡ true
 EndsLines terms reader left errors (Refused refusal) = ⊥
 
--- the same of a reader that has given some bytes more
+-- the same for a reader that has already provided more bytes
 pub record EndsLinesAt (terms : Terms) (reader left : Option (List ℕ)) (errors : Stream) (complaint : Complaint) : Type 0 where
   pub ahead : List ℕ
   pub few : length ahead ≤ most_ahead complaint
   pub ends : EndsLines terms reader (prepend_known ahead left) errors complaint
 
--- a complaint over one line that was read: nothing was written, or a write failed
+-- a complaint over a line that was read: nothing was written, or a write failed
 abbrev pub EndsLine : {V : Type 0} → Output V → Output V → Complaint → Type 0
 EndsLine old new (Memory error) = new ≡ old
 EndsLine old new (ReadFailed error) = ⊥
@@ -85,7 +85,7 @@ EndsLine old new TooLong = ⊥
 EndsLine old new (WriteFailed error) = new.failed ≡ true
 EndsLine old new (Refused refusal) = ⊥
 
--- a complaint over the next line: the same, or a read failed, or what was left of the input is too long
+-- a complaint over the next line: the same, or a read failed, or what is left of the input is too long
 abbrev pub EndsNext : {V : Type 0} → Option (List ℕ) → Output V → Output V → Complaint → Type 0
 EndsNext left old new (ReadFailed error) = new ≡ old
 EndsNext left old new TooLong = (new ≡ old) × IsTooLong left

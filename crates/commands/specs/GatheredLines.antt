@@ -17,16 +17,16 @@ use Rattle.haul_core.specs.Reports.{Reported}
 use Rattle.commands.specs.declared.line_fault.LineFault.{LineFault}
 use Rattle.commands.specs.declared.line_fault.LineFault.TheVariants.{BadLine, OtherJob, Disagrees, UnknownWorker, OutOfRange, Double}
 
--- a line says what this lawful claim says
+-- the line of this lawful claim
 pub record Claims (line : List ℕ) (claim : Claimed) : Type 0 where
   pub lawful : IsClaim claim
   pub spelled : claim_line claim ≡ line
 
--- a claim is wrong: it agrees with no finding of its soup
+-- the claim is wrong: it agrees with no finding of its soup
 abbrev pub IsWrong : Claimed → Type 0
 IsWrong claim = (finding : Finding) → IsFoundFor claim finding → ¬ Agrees claim finding
 
--- A line is a report of the job, or there is a fault: it is no claim's line, its claim is of another job, or it is wrong.
+-- A line is a report of the job, or it has a fault: it is no claim's line, its claim is of another job, or its claim is wrong.
 abbrev pub IsChecked : Job → List ℕ → Result Reported LineFault → Type 0
 IsChecked job line (Ok report) = (claim : Claimed) × Claims line claim × IsConfirmed claim job report
 IsChecked job line (Err (BadLine place)) = IsFirstFaultOf line place
@@ -34,24 +34,24 @@ IsChecked job line (Err OtherJob) = (claim : Claimed) × Claims line claim × (s
 IsChecked job line (Err Disagrees) = (claim : Claimed) × Claims line claim × (same_job claim.job job ≡ true) × IsWrong claim
 IsChecked job line (Err _) = ⊥
 
--- a line that is longer than this front of it is bad at the front's first fault, or where its 2^24 bytes end if they
--- are a claim's line
+-- A line that is longer than this prefix is bad at the first fault of the prefix, or after its 2^24 bytes if they are a claim's
+-- line.
 abbrev pub IsPrefixFault : List ℕ → ℕ → Type 0
 IsPrefixFault prefix place = IsFirstFaultOf prefix place ⊎ ((claim : Claimed) × Claims prefix claim × (place ≡ 2 ^ 24))
 
--- A line of up to 2^24 bytes is looked at whole. A longer one is bad, and only its first 2^24 bytes are looked at.
+-- A line of up to 2^24 bytes is read completely. A longer one is bad, and only its first 2^24 bytes are read.
 pub data IsLookedAt (job : Job) (line : List ℕ) : Result Reported LineFault → Type 0 where
   Whole : {outcome : Result Reported LineFault} → length line ≤ 2 ^ 24 → IsChecked job line outcome → IsLookedAt job line outcome
   Front : (place : ℕ) → 2 ^ 24 < length line → IsPrefixFault (take (2 ^ 24) line) place → IsLookedAt job line (Err (BadLine place))
 
--- the fault of a line whose report a haul refuses; a haul that is open refuses no report of its job in other ways
+-- the fault of a line whose report a haul refuses; an open haul refuses a report of its job for no other reason
 abbrev pub offer_fault : Reported → Option OfferError → Option LineFault
 offer_fault report (Some offer_error.UnknownWorker) = Some (UnknownWorker report.worker)
 offer_fault report (Some offer_error.OutOfRange) = Some (OutOfRange report.number)
 offer_fault report (Some (offer_error.Double worker)) = Some (Double report.number worker)
 offer_fault report _ = None
 
--- What becomes of a line after some arrivals: what arrives by it, and the fault that is reported of it, if there is one.
+-- What becomes of a line after these arrivals: what arrives by it, and the fault that is reported about it, if there is one.
 pub data ComesOf (terms : Terms) (before : List Arrival) (line : List ℕ) : List Arrival → Option LineFault → Type 0 where
   Faulty : (fault : LineFault) → IsLookedAt terms.job line (Err fault) → ComesOf terms before line [] (Some fault)
   Offered : (report : Reported) → IsLookedAt terms.job line (Ok report)
@@ -66,7 +66,7 @@ fault_text (UnknownWorker worker) = codes "unknown worker " ++ decimal worker
 fault_text (OutOfRange number) = codes "out of range " ++ decimal number
 fault_text (Double number worker) = codes "double of " ++ decimal number ++ (codes " by " ++ decimal worker)
 
--- the diagnostic on line `number`, counted from 1
+-- the diagnostic about line `number`, counted from 1
 abbrev pub fault_line : ℕ → LineFault → List ℕ
 fault_line number fault = codes "line " ++ decimal number ++ (codes ": " ++ (fault_text fault ++ codes "\n"))
 
@@ -74,7 +74,7 @@ abbrev pub told_fault : ℕ → Option LineFault → List ℕ
 told_fault number None = []
 told_fault number (Some fault) = fault_line number fault
 
--- Lines one after another, at a haul to which nothing has come: what arrives, and the diagnostics on them.
+-- Lines one after another, at an empty haul: what arrives, and the diagnostics about them.
 pub data Gathered (terms : Terms) : List (List ℕ) → List Arrival → List ℕ → Type 0 where
   Start : Gathered terms [] [] []
   Next : (lines : List (List ℕ)) (before : List Arrival) (diagnostics : List ℕ) (line : List ℕ) (arrived : List Arrival) (fault : Option LineFault)

@@ -1,4 +1,4 @@
--- What is right to gather from the report lines of an input.
+-- What may be gathered from the report lines of an input.
 use Rattle.std.specs.Prelude.{◌≡◌, ◌<◌, ◌≤◌, ◌^◌, ◌++◌, ◌∷◌, ℕ, List, [], Ok, Err, IsOkAnd, MatchResult, length}
 use Rattle.haul_core.specs.declared.book.arrival.Arrival.{Arrival}
 use Rattle.haul_core.specs.declared.book.arrival.Arrival.TheVariants.{Closing}
@@ -19,7 +19,7 @@ use Rattle.commands.specs.GatheredLines.{Gathered}
 use Rattle.commands.specs.Lines.{input_lines}
 use Rattle.commands.specs.SoupSets.{AreRangesOf, IsRefused, job_named}
 
--- a haul over a set for a job and so many workers: the set's ranges are fine, and those of the haul are their normal form
+-- a haul over a set for a job and this many workers; the set's ranges are valid, and the haul has their normal form
 pub record IsHaulOver (set : SoupSet) (workers : ℕ) (job : Job) (terms : Terms) : Type 0 where
   pub ranges : List Range
   pub named : AreRangesOf set ranges
@@ -33,11 +33,11 @@ pub record IsHaulOver (set : SoupSet) (workers : ℕ) (job : Job) (terms : Terms
 abbrev pub Hauls : Type 1
 Hauls = Terms → Type 0
 
--- which hauls may be opened for a set
+-- the hauls that may be opened for a set
 abbrev pub gather_opens : Plan → ℕ → Hauls
 gather_opens plan workers terms = IsOkAnd (job_named plan) (λ job. IsHaulOver plan.set workers job terms)
 
--- The lines of an input of at most 2^32 bytes come, in their order, to a haul, and then it is closed. The haul text is that of the
+-- The lines of an input of at most 2^32 bytes come to a haul in their order, and then it is closed. The haul text is that of the
 -- soups that it has taken.
 pub record IsGathered (terms : Terms) (bytes : List ℕ) (gathering : Made) : Type 0 where
   pub short : length bytes ≤ 2 ^ 32
@@ -56,7 +56,7 @@ pub record IsGathering (opens : Hauls) (bytes : List ℕ) (gathering : Made) : T
   pub opened : opens terms
   pub is : IsGathered terms bytes gathering
 
--- which gathering, or which complaint, is right for a set; what makes up its job is looked at first
+-- which gathering, or which complaint, is right for a set; first the parts of its job are checked
 abbrev pub gather_right : Plan → ℕ → List ℕ → Makes
 gather_right plan workers bytes (Ok gathering) = IsGathering (gather_opens plan workers) bytes gathering
 gather_right plan workers bytes (Err (Refused refusal)) =
@@ -64,7 +64,7 @@ gather_right plan workers bytes (Err (Refused refusal)) =
 gather_right plan workers bytes (Err TooLong) = (terms : Terms) × gather_opens plan workers terms × (2 ^ 32 < length bytes)
 gather_right plan workers bytes (Err _) = ⊥
 
--- what is right for a haul that is open: what is gathered in it, or that its input is too long
+-- what is right for an open haul: what is gathered in it, or that its input is too long
 abbrev pub gathered_right : Terms → List ℕ → Makes
 gathered_right terms bytes (Ok gathering) = IsGathered terms bytes gathering
 gathered_right terms bytes (Err TooLong) = 2 ^ 32 < length bytes

@@ -8,7 +8,7 @@ use Rattle.commands.specs.declared.lines.LineEnd.TheVariants.{Feed, Input}
 use Rattle.commands.specs.declared.lines.LineRead.{LineRead}
 use Rattle.commands.specs.declared.lines.Piece.{Piece}
 
--- a byte at the prefix of the first of some lines
+-- a byte at the beginning of the first of these lines
 abbrev pub begun_with : ℕ → List (List ℕ) → List (List ℕ)
 begun_with byte [] = (byte ∷ []) ∷ []
 begun_with byte (line ∷ more) = (byte ∷ line) ∷ more
@@ -27,7 +27,7 @@ abbrev pub end_bytes : LineEnd → List ℕ
 end_bytes Feed = 10 ∷ []
 end_bytes Input = []
 
--- the bytes that a line takes, with what ends it
+-- the bytes of a line, including what ends it
 abbrev pub with_end : LineEnd → List ℕ → List ℕ
 with_end end line = line ++ end_bytes end
 
@@ -35,7 +35,7 @@ with_end end line = line ++ end_bytes end
 abbrev pub IsSpent : Option (List ℕ) → Option (List ℕ) → Type 0
 IsSpent old new = IfSome old (λ _. IsAtEnd new)
 
--- A line of at most 2^32 bytes was read, of which the first 2^24 + 1 are kept. If no line feed ends it, the input is at its end.
+-- A line of at most 2^32 bytes was read, and its first 2^24 + 1 bytes are kept. If no line feed ends it, the input is at its end.
 pub record HasReadLine (old new : Option (List ℕ)) (kept : List ℕ) (read : LineRead) : Type 0 where
   pub line : List ℕ
   pub kept_is : kept ≡ take (2 ^ 24 + 1) line
@@ -50,7 +50,7 @@ abbrev pub piece_end : Option LineEnd → List ℕ
 piece_end None = []
 piece_end (Some end) = end_bytes end
 
--- what some bytes have of a line: all up to their first line feed
+-- the part of a line that these bytes have: all up to their first line feed
 pub record IsPieceOf (bytes : List ℕ) (read : Piece) : Type 0 where
   pub within : read.length ≤ length bytes
   pub bound : read.size ≤ length bytes
@@ -59,19 +59,19 @@ pub record IsPieceOf (bytes : List ℕ) (read : Piece) : Type 0 where
   pub last : read.end ≡ Some Input → bytes ≡ []
   pub whole : read.end ≡ None → read.size ≡ length bytes
 
--- this piece of a line was read of an input, with the line feed that ends the line, if it ends there
+-- this part of a line was read, with the line feed if the line ends there
 pub record HasPiece (old new : Option (List ℕ)) (piece : List ℕ) (read : Piece) : Type 0 where
   pub one : IsOneLine piece
   pub consumed : Consumes old new (piece ++ piece_end read.end)
   pub size_is : read.size ≡ length (piece ++ piece_end read.end)
   pub last : read.end ≡ Some Input → IsSpent old new
 
--- a read that failed ends no line
+-- a failed read ends no line
 abbrev pub MayEnd : Complaint → Option LineEnd → Type 0
 MayEnd (ReadFailed error) end = end ≡ None
 MayEnd _ end = Unit {0}
 
--- no more than one line was read of an input before a complaint, or a part of it
+-- at most one line of an input, or a part of one, was read before a complaint
 pub record HasReadPart (old new : Option (List ℕ)) (complaint : Complaint) : Type 0 where
   pub line : List ℕ
   pub end : Option LineEnd

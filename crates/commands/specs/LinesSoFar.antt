@@ -15,7 +15,7 @@ pub record AreEnded (bytes : List ℕ) (lines : List (List ℕ)) : Type 0 where
   pub spelled : bytes ≡ flat_map (with_end Feed) lines
   pub whole : All IsOneLine lines
 
--- these are all lines of the bytes that a line feed ends
+-- these are all lines of the bytes that end with a line feed
 pub record AreAllEnded (bytes : List ℕ) (lines : List (List ℕ)) : Type 0 where
   pub prefix : List ℕ
   pub part : List ℕ
@@ -23,7 +23,7 @@ pub record AreAllEnded (bytes : List ℕ) (lines : List (List ℕ)) : Type 0 whe
   pub ended : AreEnded prefix lines
   pub one : IsOneLine part
 
--- the lines have come to the haul, with these diagnostics on them
+-- the lines have come to the haul, with these diagnostics
 pub record HasCome (lines : List (List ℕ)) (held : Held) (diagnostics : List ℕ) : Type 0 where
   pub arrivals : List Arrival
   pub gathered : Gathered held.terms lines arrivals diagnostics
@@ -35,8 +35,8 @@ pub record HasComeBy (lines : List (List ℕ)) (held : Held) (diagnostics : List
   pub come : HasCome lines held (diagnostics ++ more)
   pub written : Has errors more
 
--- An input was read up to here, and its first lines have come to a haul: all of what was read, but perhaps the last, at which it
--- ended. Standard error has the diagnostics on those that have come.
+-- An input was read up to here, and its first lines have come to a haul: all of them, except perhaps the last, at which gathering
+-- ended. Standard error has the diagnostics about those that have come.
 pub record HasBegunUpTo (terms : Terms) (reader left before after : Option (List ℕ)) : Type 0 where
   pub read : List ℕ
   pub consumed : Consumes reader left read
@@ -54,7 +54,7 @@ pub record HasBegunUpTo (terms : Terms) (reader left before after : Option (List
 abbrev pub HasBegun : Terms → (reader before after : Option (List ℕ)) → Type 0
 HasBegun terms reader before after = (left : Option (List ℕ)) × HasBegunUpTo terms reader left before after
 
--- how many bytes at most a reader has given beyond the place where a complaint ends the lines: none after a failed read
+-- the most bytes that were read beyond the place where a complaint ends the lines: none after a failed read
 abbrev pub most_ahead : Complaint → ℕ
 most_ahead (ReadFailed error) = 0
 most_ahead _ = 2 ^ 16

@@ -1,4 +1,4 @@
--- The soups that commands are asked for.
+-- The sets of soups of commands.
 use Rattle.std.specs.Prelude.{◌≡◌, ◌++◌, ℕ, List, [], ◌∷◌, Result, Ok, Err}
 use Rattle.survey_core.specs.declared.job.Job.{Job}
 use Rattle.ranges.specs.declared.range.Range.{Range}
@@ -16,30 +16,30 @@ use Rattle.pattern_commands.specs.Inputs.{rule_named}
 use Rattle.pattern_commands.specs.Profiles.{profile_named}
 use Rattle.pattern_commands.specs.Soup.{seed_named}
 
--- the job of a set under a profile and a rule; the seed is looked at first, then the profile and then the rule
+-- the job of a plan; first the seed is checked, then the profile and then the rule
 abbrev pub job_named : Plan → Result Job Complaint
 job_named plan =
     given (seed_named plan.set.seed) (λ seed. given (profile_named plan.profile) (λ profile. given (rule_named plan.rule) (λ rule.
     Ok (record { seed = seed; profile = profile; rule = rule }))))
 
--- the range that the first number and the count of a set give
+-- the range of the first number and the count of a set
 abbrev pub own_range : SoupSet → Range
 own_range set = record { first = set.first; count = set.count }
 
--- the ranges of a set: those of its list, and the one that its first number and its count give
+-- the ranges of a set: those of its list, and the one of its first number and its count
 pub record AreRangesOf (set : SoupSet) (ranges : List Range) : Type 0 where
   pub listed : List Range
   pub fit : FitU64 listed
   pub spelled : list_text listed ≡ set.also
   pub all : ranges ≡ listed ++ own_range set ∷ []
 
--- What is refused of a set: its list first, then ranges that are too large for a haul, and then ranges that share a number.
+-- Why a set is refused: first its list, then ranges that are too large for a haul, and then ranges that share a number.
 pub data IsRefused (set : SoupSet) (refusal : Refusal) : Type 0 where
   Bad_list : ¬ IsListText set.also → (place : ℕ) → IsFirstListFault set.also place → refusal ≡ BadList place → IsRefused set refusal
   Too_large : (ranges : List Range) → AreRangesOf set ranges → ¬ AreSmall ranges → refusal ≡ RangeTooLarge → IsRefused set refusal
   Overlapping : (ranges : List Range) → AreRangesOf set ranges → AreSmall ranges → Overlap ranges → refusal ≡ RangesOverlap → IsRefused set refusal
 
--- the ranges of a set are fine, and the text says of them what it should
+-- the ranges of a set are valid, and the text says about them what it should
 pub record IsTextOf (set : SoupSet) (tells : List Range → List ℕ → Type 0) (text : List ℕ) : Type 0 where
   pub ranges : List Range
   pub named : AreRangesOf set ranges
@@ -47,7 +47,7 @@ pub record IsTextOf (set : SoupSet) (tells : List Range → List ℕ → Type 0)
   pub apart : ¬ Overlap ranges
   pub is_text : tells ranges text
 
--- which answer is right for a set, of whose ranges the text should say this
+-- which answer is right for a set, given what the text should say about its ranges
 abbrev pub IsRightForSet : SoupSet → (List Range → List ℕ → Type 0) → Right
 IsRightForSet set tells (Ok text) = IsTextOf set tells text
 IsRightForSet set tells (Err (Refused refusal)) = IsRefused set refusal

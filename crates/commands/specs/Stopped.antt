@@ -1,4 +1,4 @@
--- What `take` makes if a gate may stop its workers before the haul is complete.
+-- What `take` produces if a gate may stop its workers before the haul is complete.
 use Rattle.std.specs.Prelude.{◌≡◌, ℕ, zero, suc, true, false, All, List, [], Ok, Err, length, nat_eq}
 use Rattle.std.specs.List.{IsDistinct}
 use Rattle.survey_core.specs.declared.job.Job.{Job}
@@ -19,7 +19,7 @@ use Rattle.pattern_commands.specs.Behaviours.{Makes, Behaviour, silent_behaviour
 abbrev pub MayStop : (ℕ → ℕ → Type 0) → List Range → Type 0
 MayStop may_stop ranges = (worker : ℕ) × (n : ℕ) × (is_in ranges n ≡ true) × may_stop worker n
 
--- a text that tells the census of a job over what was taken of a set, each number once, with so many numbers missing
+-- a text with the census of a job over what was taken of a set, each number once, when this many numbers are missing
 pub record TellsTaken (job : Job) (ranges : List Range) (missing : ℕ) (text : List ℕ) : Type 0 where
   pub normal : List Range
   pub form : IsNormalForm ranges normal
@@ -32,24 +32,24 @@ pub record TellsTaken (job : Job) (ranges : List Range) (missing : ℕ) (text : 
   pub counted : IsCensus job normal (numbers_in taken) census
   pub text_is : text ≡ haul_text census
 
--- The census of a haul of which so many numbers are missing, where the gate may have stopped a worker. What makes up its
--- job is looked at first.
+-- The census of a haul with this many numbers missing, where the gate may have stopped a worker. First the parts of its job are
+-- checked.
 abbrev pub stopped_right : (ℕ → ℕ → Type 0) → Plan → ℕ → Right
 stopped_right may_stop plan missing =
     IsRightGiven (job_named plan) (λ job. IsRightForSet plan.set (λ ranges text.
     MayStop may_stop ranges × TellsTaken job ranges missing text))
 
--- what is right if all was taken, or if so many numbers are missing
+-- what is right if all was taken, or if this many numbers are missing
 abbrev pub right_if : Right → (ℕ → Right) → ℕ → Right
 right_if whole stopped zero = whole
 right_if whole stopped (suc n) = stopped (suc n)
 
--- what `take` makes under a gate: the haul text, with nothing missing or with what the gate may have to do with
+-- what `take` produces with a gate: the haul text, with nothing missing or because the gate may have stopped a worker
 abbrev pub taken_right : (ℕ → ℕ → Type 0) → Plan → Makes
 taken_right may_stop plan (Ok made) =
     right_if (take_right plan) (stopped_right may_stop plan) made.missing (Ok made.text) × (made.diagnostics ≡ [])
 taken_right may_stop plan (Err complaint) = take_right plan (Err complaint)
 
--- to take a set under a gate
+-- to take a set with a gate
 abbrev pub gated_behaviour : (ℕ → ℕ → Type 0) → Plan → Behaviour
 gated_behaviour may_stop plan = silent_behaviour false true (λ bytes. taken_right may_stop plan)

@@ -13,7 +13,7 @@ use Rattle.pattern_commands.specs.Answers.{Right, IsRightGiven}
 use Rattle.commands.specs.SoupSets.{AreRangesOf, job_named, IsRightForSet}
 use Rattle.pattern_commands.specs.Behaviours.{Behaviour, text_behaviour}
 
--- a text that tells the census of a job over all soups of a set, with the set's ranges in normal form
+-- a text with the census of a job over all soups of a set, with the set's ranges in normal form
 pub record TellsAll (job : Job) (ranges : List Range) (text : List ℕ) : Type 0 where
   pub numbers : List ℕ
   pub all : AreAll ranges numbers
@@ -23,7 +23,7 @@ pub record TellsAll (job : Job) (ranges : List Range) (text : List ℕ) : Type 0
   pub counted : IsCensus job normal numbers census
   pub text_is : text ≡ haul_text census
 
--- the census of the complete haul; what makes up its job is looked at first
+-- the census of the complete haul; first the parts of its job are checked
 abbrev pub take_right : Plan → Right
 take_right plan = IsRightGiven (job_named plan) (λ job. IsRightForSet plan.set (TellsAll job))
 
@@ -31,17 +31,12 @@ take_right plan = IsRightGiven (job_named plan) (λ job. IsRightForSet plan.set 
 abbrev pub take_behaviour : Plan → Behaviour
 take_behaviour plan = text_behaviour false true (λ bytes. take_right plan)
 
--- The bytes with a writer grew by the haul text of the census of a plan: that of its job, over all soups of its set, with the
--- set's ranges in normal form.
+-- the bytes with a writer grew by a text that tells the census of a plan: that of its job, over its set
 pub record PrintsCensus (plan : Plan) (before after : Option (List ℕ)) : Type 0 where
   pub job : Job
   pub job_is : job_named plan ≡ Ok job
   pub ranges : List Range
   pub named : AreRangesOf plan.set ranges
-  pub numbers : List ℕ
-  pub all : AreAll ranges numbers
-  pub normal : List Range
-  pub form : IsNormalForm ranges normal
-  pub census : Census
-  pub counted : IsCensus job normal numbers census
-  pub grown : Appends before after (haul_text census)
+  pub text : List ℕ
+  pub tells : TellsAll job ranges text
+  pub grown : Appends before after text

@@ -17,7 +17,7 @@ use Rattle.requests.specs.declared.soup_set.SoupSet.{SoupSet}
 use Rattle.pattern_commands.specs.Answers.{NeedsMemory, Right}
 use Rattle.commands.specs.SoupSets.{AreRangesOf, IsRefused, job_named}
 
--- a complaint that ends a command before it writes: a refusal if that is right, or memory that ran out
+-- a complaint that ends a command before it writes: a refusal if that is right, or out of memory
 abbrev pub Stops : Right → Complaint → Type 0
 Stops right (Refused refusal) = right (Err (Refused refusal))
 Stops right (Memory error) = (complaint : Complaint) → right (Err complaint) → NeedsMemory complaint
@@ -25,8 +25,8 @@ Stops right (ReadFailed error) = ⊥
 Stops right TooLong = ⊥
 Stops right (WriteFailed error) = ⊥
 
--- a complaint over a set that ends a command before it writes: a refusal if that is right, or memory that ran out over what is
--- a range list
+-- a complaint about a set that ends a command before it writes: a refusal if that is right, or out of memory over a valid list of
+-- ranges
 abbrev pub StopsSet : SoupSet → Complaint → Type 0
 StopsSet set (Refused refusal) = IsRefused set refusal
 StopsSet set (Memory error) = IsListText set.also
@@ -34,7 +34,7 @@ StopsSet set (ReadFailed error) = ⊥
 StopsSet set TooLong = ⊥
 StopsSet set (WriteFailed error) = ⊥
 
--- a haul of a job over the ranges of a set, for so many workers, to which nothing has come
+-- an empty haul of a job over the ranges of a set, for this many workers
 pub record IsOpened (job : Job) (set : SoupSet) (workers : ℕ) (held : Held) : Type 0 where
   pub ranges : List Range
   pub named : AreRangesOf set ranges
@@ -46,18 +46,18 @@ pub record IsOpened (job : Job) (set : SoupSet) (workers : ℕ) (held : Held) : 
   pub workers_are : held.terms.workers ≡ workers
   pub stands : StandsFor [] held
 
--- a haul over a set, for so many workers and the job that is named, to which nothing has come
+-- an empty haul over the set of a plan, for this many workers and the plan's job
 pub record IsOpenedFor (plan : Plan) (workers : ℕ) (held : Held) : Type 0 where
   pub job : Job
   pub named : job_named plan ≡ Ok job
   pub opened : IsOpened job plan.set workers held
 
--- A complaint that ends a command before its haul is open: the seed, the profile or the rule is refused, or it is over the set.
+-- A complaint that ends a command before its haul is open: the seed, the profile or the rule is refused, or the set is.
 abbrev pub StopsOpening : Plan → Complaint → Type 0
 StopsOpening plan complaint = (job_named plan ≡ Err complaint)
     ⊎ ((job : Job) × (job_named plan ≡ Ok job) × StopsSet plan.set complaint)
 
--- what became of a haul by a crew: all was taken, or else the gate stopped a worker
+-- what became of a haul: all was taken, or the gate stopped a worker
 abbrev pub EndsCrew : (ℕ → ℕ → Type 0) → Held → Held → Type 0
 EndsCrew may_stop old new = (IsComplete new.terms.ranges new.taken × AreAll new.terms.ranges (numbers_in new.taken))
     ⊎ ((¬ IsComplete new.terms.ranges new.taken) × (worker : ℕ) × StopsAt may_stop (was_missing old) worker)

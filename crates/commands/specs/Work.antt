@@ -25,7 +25,7 @@ AreReportsOn job worker [] (r ∷ reports) = ⊥
 AreReportsOn job worker (n ∷ numbers) [] = ⊥
 AreReportsOn job worker (n ∷ numbers) (r ∷ reports) = IsReportOn job worker n r × AreReportsOn job worker numbers reports
 
--- a text that tells a worker's reports on all soups of a set, a line each, ascending by their numbers
+-- a text with a worker's report lines on all soups of a set, ascending by their numbers
 pub record TellsReports (job : Job) (worker : ℕ) (ranges : List Range) (text : List ℕ) : Type 0 where
   pub normal : List Range
   pub form : IsNormalForm ranges normal
@@ -33,7 +33,7 @@ pub record TellsReports (job : Job) (worker : ℕ) (ranges : List Range) (text :
   pub each : AreReportsOn job worker (numbers_of normal) reports
   pub text_is : text ≡ flat_map report_text reports
 
--- the reports of the worker on the whole set; what makes up its job is looked at first
+-- the reports of the worker on the whole set; first the parts of its job are checked
 abbrev pub work_right : Plan → ℕ → Right
 work_right plan worker = IsRightGiven (job_named plan) (λ job. IsRightForSet plan.set (TellsReports job worker))
 

@@ -13,7 +13,7 @@ use Rattle.requests.specs.declared.plan.Plan.{Plan}
 use Rattle.commands.specs.SoupSets.{AreRangesOf, job_named}
 use Rattle.commands.specs.Work.{AreReportsOn}
 
--- Which reports are wanted: those of a worker, for a job, on the soups with these numbers.
+-- the reports that are wanted: those of a worker, for a job, on the soups with these numbers
 pub record WantedReports : Type 0 where
   pub job : Job
   pub worker : ℕ
@@ -22,7 +22,7 @@ pub record WantedReports : Type 0 where
 abbrev pub reports_on : Job → ℕ → List ℕ → WantedReports
 reports_on job worker numbers = record { job = job; worker = worker; numbers = numbers }
 
--- the first of the reports that are wanted were made, and this was done with their lines
+-- the first of the wanted reports were made, and this was done with their lines
 pub record IsBegun (wanted : WantedReports) (written : List ℕ → Type 0) : Type 0 where
   pub done : List ℕ
   pub more : List ℕ
@@ -31,7 +31,7 @@ pub record IsBegun (wanted : WantedReports) (written : List ℕ → Type 0) : Ty
   pub each : AreReportsOn wanted.job wanted.worker done reports
   pub is_written : written (flat_map report_text reports)
 
--- the first of a worker's reports on the soups of a plan were made, and their lines written, each whole
+-- the first of a worker's reports on the soups of a plan were made, and their lines were written completely
 pub record HasWholeLines (plan : Plan) (worker : ℕ) (output : Stream) : Type 0 where
   pub job : Job
   pub job_is : job_named plan ≡ Ok job
@@ -45,15 +45,15 @@ pub record HasWholeLines (plan : Plan) (worker : ℕ) (output : Stream) : Type 0
 abbrev pub EndsAtLine : Plan → ℕ → Stream → Type 0
 EndsAtLine plan worker output = Has output [] ⊎ HasWholeLines plan worker output
 
--- all of them were made, and their lines written
+-- all wanted reports were made, and their lines written
 pub record IsPut (wanted : WantedReports) (output : Stream) : Type 0 where
   pub reports : List Reported
   pub each : AreReportsOn wanted.job wanted.worker wanted.numbers reports
   pub is_written : Has output (flat_map report_text reports)
   pub fine : output.failed ≡ false
 
--- What became of the reports that are wanted: their lines were written; or memory ran out over one, and the lines of
--- those before it were; or a write failed, and a prefix of the lines so far was.
+-- What became of the wanted reports: their lines were written; or memory ran out over one, and the lines of those before it were
+-- written; or a write failed, and a prefix of the lines so far was written.
 abbrev pub Puts : WantedReports → TextOutcome → Stream → Type 0
 Puts wanted (Ok _) output = IsPut wanted output
 Puts wanted (Err (Memory error)) output = IsBegun wanted (Has output)

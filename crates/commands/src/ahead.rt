@@ -1,4 +1,4 @@
-//! What was read of an input, and isn't used yet.
+//! Input that was read and isn't used yet.
 //!
 //! ```text
 //! buffer   used ── unread ── room
@@ -6,7 +6,7 @@
 //!             start      end
 //! ```
 //!
-//! Of a reader that is lent to std's `BufReader` nothing is known after a call. Here it is lent for a read alone.
+//! Nothing is known after a call about a reader that was lent to std's `BufReader`. Here it is lent only for a read.
 
 ghost use Rattle.std.specs.Prelude.{◌≡◌, ◌<◌, ◌≤◌, ◌^◌, [], IfOk, OnErr, OnOk, drop, length, take, vec_len};
 ghost use Rattle.std.specs.Io.KnownBytes.{Consumes, IsAtEnd, Keeps, prepend_known};
@@ -16,10 +16,10 @@ use std::alloc::Global;
 use std::io::{self, Read};
 use std::marker::Model;
 
-/// How many bytes a read asks for.
+/// The number of bytes that a read asks for.
 const READ_LENGTH: usize = 65_536;
 
-/// What was read of an input, and isn't used yet.
+/// Input that was read and isn't used yet.
 #[derive(Drop)]
 pub(crate) struct Ahead {
     buffer: Vec<u8>,
@@ -38,7 +38,7 @@ impl Model for Ahead {
 }
 
 impl Ahead {
-    /// Nothing was read.
+    /// Returns an empty buffer.
     pub(crate) fn new(alloc: Global) -> Result<Ahead, OutOfMemory>
         ensures { IfOk result (λ ahead. ahead ≡ []) }
     {
@@ -50,14 +50,14 @@ impl Ahead {
         })
     }
 
-    /// The bytes that aren't used yet.
+    /// Returns the bytes that aren't used yet.
     pub(crate) fn unread(&self) -> &[u8]
         ensures { result.now ≡ self.now }
     {
         &self.buffer.as_slice()[self.start..self.end]
     }
 
-    /// Reads once, if there are none.
+    /// Reads once, if there are no unused bytes.
     pub(crate) fn fill<R: Read>(&mut self, input: &mut R) -> io::Result<()>
         ensures bytes { Keeps (prepend_known self.old (R.remaining input.old))
             (prepend_known self.new (R.remaining input.new)) }
@@ -74,7 +74,7 @@ impl Ahead {
         Ok(())
     }
 
-    /// Uses so many of the bytes.
+    /// Marks `amount` bytes as used.
     pub(crate) fn consume(&mut self, amount: usize)
         requires { amount ≤ length self.old }
         ensures { self.new ≡ drop amount self.old }
@@ -83,7 +83,7 @@ impl Ahead {
     }
 }
 
-/// Reads once, over the prefix of a buffer.
+/// Reads once, into the beginning of a buffer.
 fn read_over<R: Read>(input: &mut R, buffer: &mut Vec<u8>) -> io::Result<usize>
     ensures len { vec_len buffer.new ≡ vec_len buffer.old }
     ensures bound { IfOk result (λ n. n ≤ vec_len buffer.new) }

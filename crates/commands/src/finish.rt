@@ -1,4 +1,4 @@
-//! How a haul is finished: closed, counted and printed.
+//! Finishes a haul: closes, counts and prints it.
 
 ghost use Rattle.std.specs.Prelude.{◌≡◌, ◌≢◌, ◌↔◌, ◌++◌, ◌∷◌, [], IfErr, List, false, length};
 ghost use Rattle.memory.specs.Witness.{out_of_memory};
@@ -17,7 +17,7 @@ use pattern_commands::status::Status;
 use plane_core::output::Out;
 use std::io::Write;
 
-/// Closes a haul, writes its haul text, and says how many soups are missing.
+/// Closes a haul, writes its haul text, and returns how many soups are missing.
 pub(crate) fn finish<W: Write>(haul: &mut Haul, output: &mut Out<W>) -> Result<u64, Complaint>
     requires { output.old.failed ≡ false }
     ensures finishes { Finishes haul.old result (stream W.contents output.old output.new) }
@@ -34,7 +34,7 @@ pub(crate) fn finish<W: Write>(haul: &mut Haul, output: &mut Out<W>) -> Result<u
     let _ = haul.close();
     let census = haul.census()?;
     write_haul(&census, output)?;
-    // So that a line on what is missing says that the text was printed.
+    // Flushed first, so that a line about missing soups says that the text was printed.
     output.flush()?;
     Ok(missing)
 }

@@ -1,4 +1,4 @@
-//! A haul of report lines.
+//! `gather`: the haul of report lines.
 //!
 //! ```text
 //! input ── line ── claim ── report ── haul ── census ── haul text
@@ -52,25 +52,25 @@ use survey_core::finding::findings_are_determined;
 use survey_core::job::Job;
 use survey_core::surveyor::Surveyor;
 
-/// Reads report lines, checks each and offers it to a haul over the soups of a plan, and writes the haul text of what
-/// was taken.
+/// Reads report lines, checks each, offers it to a haul over the soups of a plan, and writes the haul text of what was
+/// taken.
 ///
-/// A line is ended by a line feed, which the last may lack. A line that is not taken is reported on `errors`, by its
-/// number from 1 on, and reading continues. Of a line only the first 2^24 bytes are looked at: a longer one is bad
-/// at the first fault of these, or at 2^24. Each of the profile's numbers is in its range, there are 1 to 16 workers,
-/// and neither writer may have failed. What is refused is looked for in the order of [`do_take`](crate::take::do_take),
-/// before anything is read. One line is kept at a time, and the haul. A read that a signal interrupts is tried again.
-/// `census gather` is this call over the standard streams.
+/// A line ends with a line feed, which the last line may lack. If a line isn't taken, its number, counted from 1, and
+/// its fault are written to `errors`, and reading continues. Only the first 2^24 bytes of a line are read: a longer
+/// line is bad at the first fault in these bytes, or at 2^24. Each number of the profile has to be in its range, there
+/// are 1 to 16 workers, and no earlier write to either writer may have failed. Refusals are tested in the order of
+/// [`do_take`](crate::take::do_take), before anything is read. Only one line and the haul are kept in memory. A read
+/// that a signal interrupts is tried again. `census gather` is this call with the standard streams.
 ///
 /// # Errors
 ///
-/// The status is `Incomplete` if soups are missing: then the haul was written, and a line on `errors` says how many. It
-/// is `Refused` as of `do_take`; `Memory`; or `Failed` if the input can't be read or is over 2^32 bytes long, or if the
-/// output, or a line on `errors`, can't be written. With `Refused` and `Memory`, and after a failed read, nothing
-/// was written to the output. A failure to write the last line on `errors` is not reported.
+/// The status is `Incomplete` if soups are missing. Then the haul was written, and a line on `errors` says how many. It
+/// is `Refused` as for `do_take`; `Memory` if memory runs out; and `Failed` if the input can't be read or has more than
+/// 2^32 bytes, or if the output or a line on `errors` can't be written. With `Refused` and `Memory`, and after a failed
+/// read, nothing was written to the output. A failure to write the last line on `errors` is not reported.
 ///
-/// Where memory, a read or the limit ends it, all lines before a place of the input were taken, but perhaps the last.
-/// At most 2^16 bytes are read beyond that place, and after a failed read none.
+/// If memory, a read or the limit ends it, all lines before some place of the input were processed, except perhaps the
+/// last. At most 2^16 bytes were read beyond that place, and none after a failed read.
 pub fn do_gather<R: Read, W: Write, E: Write>(
     alloc: Global,
     plan: &Plan<'_>,
@@ -95,7 +95,7 @@ pub fn do_gather<R: Read, W: Write, E: Write>(
     tell_end(outcome, errors)
 }
 
-/// Opens the haul, gathers the lines, writes the haul text, and says how many soups are missing.
+/// Opens the haul, gathers the lines, writes the haul text, and returns how many soups are missing.
 fn gather<R: Read, W: Write, E: Write>(
     alloc: Global,
     plan: &Plan<'_>,
@@ -123,7 +123,7 @@ fn gather<R: Read, W: Write, E: Write>(
     gather_into(alloc, &mut haul, input, output, errors)
 }
 
-/// Gathers the lines in a haul to which nothing has come, writes the haul text, and says how many soups are missing.
+/// Gathers the lines in an empty haul, writes the haul text, and returns how many soups are missing.
 fn gather_into<R: Read, W: Write, E: Write>(
     alloc: Global,
     haul: &mut Haul,
@@ -147,8 +147,8 @@ fn gather_into<R: Read, W: Write, E: Write>(
     finish(haul, output)
 }
 
-/// Reads the input line by line, checks each line and offers its report to a haul to which nothing has come. The fault
-/// of a line is written to `errors`.
+/// Reads the input line by line, checks each line, and offers its report to an empty haul. The fault of a line is
+/// written to `errors`.
 fn gather_lines<R: Read, E: Write>(
     alloc: Global,
     input: &mut R,
@@ -190,8 +190,7 @@ fn gather_lines<R: Read, E: Write>(
     Err(Complaint::TooLong)
 }
 
-/// Reads the line after so many others, checks it, offers its report and tells what is wrong with it. Says what was
-/// read.
+/// Reads the next line, number `before` + 1, checks it, offers its report, and reports its fault. Returns what was read.
 fn next_line<R: Read, E: Write>(
     alloc: Global,
     input: &mut R,
@@ -235,8 +234,8 @@ fn next_line<R: Read, E: Write>(
     Ok(read)
 }
 
-/// Offers the report of the line after so many others, and tells what is wrong with the line. The slice has the line's
-/// first 2^24 + 1 bytes.
+/// Offers the report of the next line, number `before` + 1, and reports the line's fault. The slice has the line's first
+/// 2^24 + 1 bytes.
 fn take_line<E: Write>(
     alloc: Global,
     kept: &[u8],
@@ -260,8 +259,8 @@ fn take_line<E: Write>(
     Ok(())
 }
 
-/// Offers the report of a line, of which the slice has the first 2^24 + 1 bytes. Returns the fault of the line, if it
-/// has one that is reported.
+/// Offers the report of a line, of which the slice has the first 2^24 + 1 bytes. Returns the line's fault, if it has
+/// one that is reported.
 fn offer_line(
     alloc: Global,
     kept: &[u8],
@@ -286,7 +285,7 @@ fn offer_line(
     }
 }
 
-/// The report that a line stands for, or why there is none. The slice has the line's first 2^24 + 1 bytes.
+/// Returns the report of a line, or why there is none. The slice has the line's first 2^24 + 1 bytes.
 fn report_of(
     alloc: Global,
     kept: &[u8],
@@ -302,7 +301,7 @@ fn report_of(
     checked_report(alloc, kept, job, surveyor)
 }
 
-/// Where a line is bad that begins with these 2^24 bytes, and is longer.
+/// Returns where a line is bad that begins with these 2^24 bytes and is longer.
 fn prefix_fault(alloc: Global, prefix: &[u8]) -> Result<usize, OutOfMemory>
     ensures { IfOk result (IsPrefixFault prefix.now) }
 {
@@ -313,7 +312,7 @@ fn prefix_fault(alloc: Global, prefix: &[u8]) -> Result<usize, OutOfMemory>
     }
 }
 
-/// The report that a line stands for, or why there is none.
+/// Returns the report of a line, or why there is none.
 fn checked_report(
     alloc: Global,
     line: &[u8],
@@ -339,7 +338,7 @@ fn checked_report(
     }
 }
 
-/// The fault of a line whose report a haul refused.
+/// Returns the fault of a line whose report a haul refused.
 fn fault_of(reason: OfferError, worker: u8, number: u64) -> Result<Option<LineFault>, OutOfMemory>
     ensures fault { (report : Reported) → report.worker ≡ worker → report.number ≡ number
         → IfOk result (λ fault. fault ≡ offer_fault report (Some reason)) }

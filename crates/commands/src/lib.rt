@@ -1,24 +1,25 @@
-//! What the commands over sets of soups do, over values, readers and writers: `take`, `work` and `gather`.
+//! The commands over sets of soups: `take`, `work` and `gather`.
 //!
-//! Each command is a function of plain values, as [`do_take`](take::do_take). The program reads them from its words,
-//! and lends the process's streams. How a command ends is said in `pattern_commands`, which has the other commands.
+//! Each command is a function of plain values, such as [`do_take`](take::do_take). The program reads the values from
+//! its arguments, and lends the streams of the process. `pattern_commands` has the other commands, and defines how a
+//! command ends.
 #![tactic(auto)]
 
-/// What was read of an input, and isn't used yet.
+/// Input that was read and isn't used yet.
 mod ahead;
-/// How a haul is finished.
+/// How a haul is closed and printed.
 mod finish;
 /// `gather`: the haul of report lines.
 pub mod gather;
 /// Why a report line was not taken.
 pub mod line_fault;
-/// Inputs, read line by line.
+/// Inputs that are read line by line.
 mod lines;
-/// What a command is lent of the machine.
+/// What the machine lends to `take`.
 pub mod machine;
-/// How a haul is opened over the soups of a plan.
+/// Opening a haul over the soups of a plan.
 mod opening;
-/// The line that says how far a haul has come.
+/// The progress line.
 pub mod progress_line;
 /// `take`: the haul of a set of soups.
 pub mod take;

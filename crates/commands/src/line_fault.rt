@@ -1,4 +1,4 @@
-//! Why a report line is not taken, and the line on standard error that says so.
+//! Why a report line isn't taken, and the line on standard error that says so.
 
 ghost use Rattle.std.specs.Prelude.{◌≡◌, ◌++◌, codes, decimal, false};
 ghost use Rattle.plane_core.specs.Outputs.{Writes};
@@ -12,22 +12,22 @@ use std::io::Write;
 /// Why a report line was not taken.
 #[derive(Clone, Copy)]
 pub enum LineFault {
-    /// It is the line of no claim. The place is the offset, in bytes from 0, of the first field that can't stand there.
+    /// It isn't the line of a claim. `place` is the offset of the first wrong field, in bytes from 0.
     BadLine { place: usize },
-    /// It speaks of another job.
+    /// It is about another job.
     OtherJob,
-    /// Its finding is not that of its soup.
+    /// Its finding isn't that of its soup.
     Disagrees,
-    /// The haul has fewer workers.
+    /// The haul has fewer workers than the line's number.
     UnknownWorker { worker: u8 },
-    /// The number of its soup is not in the haul's set.
+    /// The number of its soup isn't in the haul's set.
     OutOfRange { number: u64 },
-    /// The soup was taken before, from this worker.
+    /// The soup was taken before, from worker `worker`.
     Double { number: u64, worker: u8 },
 }
 
 impl LineFault {
-    /// Writes at once the line that reports the fault of a line, which is counted from 1. It takes no memory.
+    /// Writes the line about the fault of line `number`, counted from 1, in one write. This takes no memory.
     ///
     /// # Errors
     ///

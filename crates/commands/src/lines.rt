@@ -6,8 +6,8 @@
 //! end     Feed         Feed               Input
 //! ```
 //!
-//! No more of a line is kept than its first 2^24 bytes and the byte after them, so an input without a line feed takes
-//! no more memory than that.
+//! Only the first 2^24 bytes of a line and the byte after them are kept, so an input without a line feed takes no more
+//! memory than that.
 
 ghost use Rattle.std.specs.Prelude.{◌≡◌, ◌≢◌, ◌≤◌, ◌+◌, ◌^◌, ◌++◌, ℕ, [], Err, List, None};
 ghost use Rattle.std.specs.Prelude.{IfErr, IfOk, OnErr, length, take};
@@ -25,10 +25,10 @@ use pattern_commands::input::InputError;
 use pattern_commands::read_error::ReadError;
 use std::io::{Error, ErrorKind, Read};
 
-/// How many bytes of a line are looked at: 2^24, far more than a report line of a census has.
+/// The most bytes of a line that are examined: 2^24, far more than a report line of a census has.
 pub(crate) const LINE_LIMIT: usize = 16_777_216;
 
-/// How many bytes of report lines are read at most, and so how many a line has: 2^32.
+/// The most bytes of report lines that are read: 2^32. A line has no more than that.
 pub(crate) const GATHER_LIMIT: u64 = 4_294_967_296;
 
 /// What ends a line.
@@ -40,33 +40,33 @@ pub(crate) enum LineEnd {
     Input,
 }
 
-/// What was read of an input for a line.
+/// What was read for a line.
 #[derive(Clone, Copy)]
 pub(crate) struct LineRead {
-    /// How many bytes, with the line feed.
+    /// The number of bytes, including the line feed.
     pub(crate) size: u64,
     /// What ends the line.
     pub(crate) end: LineEnd,
 }
 
-/// What was at hand of a line.
+/// The part of a line that is available without another read.
 #[derive(Clone, Copy)]
 struct Piece {
-    /// How many bytes of the line.
+    /// The number of bytes of the line.
     length: usize,
-    /// How many bytes, with the line feed.
+    /// The number of bytes, including the line feed.
     size: usize,
-    /// What ends the line, if it ends there.
+    /// What ends the line, if it ends here.
     end: Option<LineEnd>,
 }
 
 /// Reads the next line of the input, and puts its first 2^24 + 1 bytes, without the line feed that ends it, into
-/// `line`. A read that a signal interrupts is tried again. Where the input is at its end, nothing is read, and the line
-/// is empty.
+/// `line`. A read that a signal interrupts is tried again. At the end of the input, nothing is read and the line is
+/// empty.
 ///
 /// # Errors
 ///
-/// `Unreadable` if a read fails, `TooLong` if the line has over 2^32 bytes, and `Memory`.
+/// `Unreadable` if a read fails, `TooLong` if the line has more than 2^32 bytes, and `Memory` if memory runs out.
 pub(crate) fn read_line<R: Read>(
     input: &mut R,
     ahead: &mut Ahead,
@@ -97,8 +97,8 @@ pub(crate) fn read_line<R: Read>(
     Err(InputError::Unreadable(ReadError::after(reads)))
 }
 
-/// Puts what is at hand of a line at the end of `line`, of which no more than 2^24 + 1 bytes are kept. Where nothing is
-/// at hand it reads once.
+/// Appends the available part of a line to `line`, which keeps at most 2^24 + 1 bytes. If nothing is available, it
+/// reads once.
 fn read_piece<R: Read>(
     input: &mut R,
     ahead: &mut Ahead,
@@ -128,7 +128,7 @@ fn read_piece<R: Read>(
     Ok(piece)
 }
 
-/// Nothing, after a read that a signal interrupted: it is tried again.
+/// Returns an empty part after a read that a signal interrupted, which is tried again, and otherwise the error.
 fn after_error(error: &Error) -> Result<Piece, InputError>
     ensures short { result ≢ Err TooLong }
     ensures again { IfOk result (λ piece. piece ≡ record { length = 0; size = 0; end = None }) }
@@ -144,7 +144,7 @@ fn after_error(error: &Error) -> Result<Piece, InputError>
     }
 }
 
-/// What these bytes have of a line. None at all are the end of the input.
+/// Returns the part of a line that these bytes have. No bytes are the end of the input.
 fn first_piece(bytes: &[u8]) -> Piece
     ensures { IsPieceOf bytes.now result }
 {

@@ -1,21 +1,20 @@
-//! What `take` is lent of the machine.
+//! What the machine lends to `take`.
 
 use plane_core::output::Out;
 use std::alloc::Global;
 use std::io::Write;
 
-/// What `take` is lent of the machine that it runs on.
+/// What the machine lends to `take`.
 ///
-/// The other commands start no threads and say nothing of how far they are: they are lent memory and standard error
-/// alone.
+/// The other commands start no threads and report no progress, so they only need memory and standard error.
 #[derive(Drop)]
 pub struct Machine<'a, T, E: Write, H> {
-    /// Where memory comes from.
+    /// The allocator.
     pub alloc: Global,
-    /// What starts threads, and waits for them.
+    /// Starts threads, and waits for them.
     pub threads: &'a T,
     /// Standard error.
     pub errors: Out<E>,
-    /// Who hears how far a haul has come.
+    /// Is told how many soups were taken.
     pub observer: H,
 }

@@ -1,4 +1,4 @@
-//! How a haul is opened over the soups of a plan.
+//! Opens a haul over the soups of a plan.
 //!
 //! ```text
 //! plan ──┬─ seed, profile, rule ── job ──┬─ haul
@@ -24,8 +24,8 @@ use std::alloc::Global;
 use survey_core::job::Job;
 use survey_core::seed::Seed;
 
-/// A haul over the soups of a plan, for so many workers, 1 to 16. What makes up its job is looked at first: the seed,
-/// then the profile, then the rule.
+/// Opens a haul over the soups of a plan, for `workers` workers, 1 to 16. The parts of the job are checked first: the
+/// seed, then the profile, then the rule.
 pub(crate) fn open_haul(alloc: Global, plan: &Plan<'_>, workers: u8) -> Result<Haul, Complaint>
     requires workers { IsWorker workers }
     requires profile { AreInRange plan.now.profile }
@@ -36,7 +36,7 @@ pub(crate) fn open_haul(alloc: Global, plan: &Plan<'_>, workers: u8) -> Result<H
     haul_for(alloc, job, &plan.set, workers)
 }
 
-/// The job that the texts and numbers of a plan make.
+/// Returns the job of a plan.
 fn job(plan: &Plan<'_>) -> Result<Job, Complaint>
     requires { AreInRange plan.now.profile }
     ensures { result ≡ job_named plan.now }
@@ -51,7 +51,7 @@ fn job(plan: &Plan<'_>) -> Result<Job, Complaint>
     })
 }
 
-/// A haul over the ranges of a set, for a job and so many workers.
+/// Opens a haul over the ranges of a set, for a job and `workers` workers.
 fn haul_for(alloc: Global, job: Job, set: &SoupSet<'_>, workers: u8) -> Result<Haul, Complaint>
     requires { IsWorker workers }
     ensures opened { IfOk result (IsOpened job set.now workers) }
@@ -67,7 +67,7 @@ fn haul_for(alloc: Global, job: Job, set: &SoupSet<'_>, workers: u8) -> Result<H
     }
 }
 
-/// The ranges of a set.
+/// Returns the ranges of a set.
 fn ranges_of(alloc: Global, set: &SoupSet<'_>) -> Result<Vec<Range>, Complaint>
     ensures named { IfOk result (λ ranges. AreRangesOf set.now ranges.items) }
     ensures only { IfOk result (λ ranges. (others : List Range) → AreRangesOf set.now others → others ≡ ranges.items) }
@@ -82,7 +82,7 @@ fn ranges_of(alloc: Global, set: &SoupSet<'_>) -> Result<Vec<Range>, Complaint>
     Ok(ranges)
 }
 
-/// Puts a range after the others.
+/// Appends a range.
 fn add_range(ranges: &mut Vec<Range>, range: Range) -> Result<(), OutOfMemory>
     ensures { OnOk result (ranges.new.items ≡ ranges.old.items ++ range ∷ []) }
 {

@@ -1,4 +1,4 @@
-//! The progress line: a line on a terminal that says how many soups have been taken.
+//! The progress line on a terminal, which shows how many soups have been taken.
 //!
 //! ```text
 //! begin     \r0 of 40 soups
@@ -15,15 +15,15 @@ use std::alloc::Global;
 use std::io::Write;
 use std::time::{Clock, Instant};
 
-/// How long a line stands at least before it is written anew, in milliseconds.
+/// The shortest time between two writes of the line, in milliseconds.
 const PAUSE: u128 = 200;
 
-/// A line on a terminal that says how many soups of a haul are taken, and how many a second; and how many workers there
-/// are, where the system started fewer than were asked for.
+/// A line on a terminal that shows how many soups of a haul have been taken and how many are taken per second. If the
+/// system started fewer workers than were asked for, it also shows how many there are.
 ///
-/// It is written when the haul is begun, then now and then, each time over the line before, and is wiped at the end. A
-/// line for which there is no memory is left out. After a write that fails nothing more is written, and nothing at all
-/// if the clock can't be read at the beginning.
+/// The line is written when the haul is begun, and then from time to time, each time over the line before. At the end
+/// it is wiped. A line for which there is no memory is left out. After a failed write, or if the clock can't be read at
+/// the beginning, nothing is written.
 #[derive(Drop)]
 pub struct ProgressLine<W: Write, C: Clock> {
     alloc: Global,
@@ -39,7 +39,7 @@ pub struct ProgressLine<W: Write, C: Clock> {
 }
 
 impl<W: Write, C: Clock> ProgressLine<W, C> {
-    /// The line of this writer, of which nothing is written yet. If it isn't to be shown, nothing ever is.
+    /// Returns the progress line of a writer. Nothing has been written yet, and nothing will be if `is_shown` is false.
     pub fn new(alloc: Global, writer: W, clock: C, is_shown: bool) -> Self
         ensures unbegun { result.latest ≡ None }
         ensures shown { result.is_shown ≡ is_shown }
@@ -58,14 +58,14 @@ impl<W: Write, C: Clock> ProgressLine<W, C> {
         }
     }
 
-    /// From now on the line is shown if it is asked for, and else only if it was to be shown anyway.
+    /// Shows the line from now on if `is_asked`, and otherwise only if it was shown before.
     pub fn ask(&mut self, is_asked: bool)
         ensures hidden { self.old.is_shown ≡ false → is_asked ≡ false → self.new ≡ self.old }
     {
         self.is_shown |= is_asked;
     }
 
-    /// Writes the line of so many soups over the line before.
+    /// Writes the line for `count` soups over the line before.
     fn show(&mut self, count: u64, now: Instant) {
         self.latest = Some(now);
         if let Ok(line) = self.line(count, now) {
@@ -74,8 +74,7 @@ impl<W: Write, C: Clock> ProgressLine<W, C> {
         }
     }
 
-    /// Writes these characters from the screen's left edge, blanks as far as a line has come so far, and what is to
-    /// follow.
+    /// Writes `line` from the left edge of the screen, blanks over the rest of the line before, and then `after`.
     fn put(&mut self, line: &str, after: &str) {
         let width = self.width;
         let Ok(text) = format!(in self.alloc; "\r{line:<width$}{after}") else {
@@ -86,7 +85,7 @@ impl<W: Write, C: Clock> ProgressLine<W, C> {
         }
     }
 
-    /// What the line says.
+    /// Returns the text of the line.
     fn line(&self, count: u64, now: Instant) -> Result<String, OutOfMemory> {
         let whole = self.whole;
         let crew = self.crew()?;
@@ -99,7 +98,7 @@ impl<W: Write, C: Clock> ProgressLine<W, C> {
         Ok(line)
     }
 
-    /// What the line says of the workers: nothing if all were started.
+    /// Returns what the line says about the workers: nothing if all were started.
     fn crew(&self) -> Result<String, OutOfMemory> {
         if self.at_work == self.workers {
             return Ok(String::new(self.alloc));
@@ -108,7 +107,7 @@ impl<W: Write, C: Clock> ProgressLine<W, C> {
         Ok(crew)
     }
 
-    /// How many of so many soups were taken a second. None at the very beginning.
+    /// Returns how many soups were taken per second, or `None` at the very beginning.
     fn rate(&self, count: u64, now: Instant) -> Option<u128> {
         let passed = now.duration_since(self.started?).as_millis();
         u128::from(count).saturating_mul(1000).checked_div(passed)

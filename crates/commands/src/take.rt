@@ -1,9 +1,9 @@
-//! The complete haul of a set of soups.
+//! `take`: the complete haul of a set of soups.
 //!
 //! ```text
 //! plan ── open_haul ── haul ── complete_by_crew ── haul ── finish ── haul text
 //!             │                     │                        │
-//!          refused           out of memory          so many are missing, if a gate stopped a worker
+//!          refused           out of memory          missing soups, if a gate stopped a worker
 //! ```
 
 ghost use Rattle.std.specs.Prelude.{◌≡◌, ◌≢◌, ◌≤◌, ◌↔◌, [], ℕ, Err, List, Option, IfErr, IfOk, false, length};
@@ -37,20 +37,20 @@ use std::io::Write;
 use std::sync::Wait;
 use std::thread::Threads;
 
-/// Surveys all soups of a plan by so many workers, 1 to 16, and writes the haul text of what they left.
+/// Surveys all soups of a plan with `workers` workers, 1 to 16, and writes the haul text of what they left.
 ///
-/// Each worker has a thread of its own, and what is written is the same for any number of them. Each of the profile's
-/// numbers is in its range, and neither writer may have failed. The seed is looked at first, then the profile, the
-/// rule, the range list, how large the ranges are, and last whether two of them share a number. Nothing is written
-/// before the haul is complete. The machine's watch hears how many soups are taken, and nothing else depends on it.
-/// `census take` is this call over the standard streams.
+/// Each worker has a thread of its own. What is written is the same for any number of workers. Each number of the
+/// profile has to be in its range, and no earlier write to either writer may have failed. The seed is checked first,
+/// then the profile, the rule, the list of ranges, the size of the ranges, and last whether two of them share a number.
+/// Nothing is written before the haul is complete. The machine's observer is told how many soups were taken, and
+/// nothing else depends on it. `census take` is this call with the standard streams.
 ///
 /// # Errors
 ///
-/// The status is `Refused` for a text that is not a seed, a horizon below the period, a text that is not a rule or a
-/// range list, ranges that go past 2^40 or have over 2^24 numbers together, or ranges that share a number; `Memory`,
-/// also if a thread could not be started; or `Failed` if the output can't be written. Then one line stands on standard
-/// error; a failure to write that line is not reported.
+/// The status is `Refused` for a text that isn't a seed, a horizon below the period, a text that isn't a rule or a list
+/// of ranges, ranges that end past 2^40 or have more than 2^24 numbers together, or ranges that share a number;
+/// `Memory` if memory runs out or a thread can't be started; and `Failed` if the output can't be written. In these
+/// cases, a line is written to standard error. A failure to write that line is not reported.
 pub fn do_take<W: Write, E: Write, T: Threads + Wait + Sync, H: ProgressObserver>(
     machine: &mut Machine<'_, T, E, H>,
     plan: &Plan<'_>,
@@ -72,12 +72,12 @@ pub fn do_take<W: Write, E: Write, T: Threads + Wait + Sync, H: ProgressObserver
     do_take_with(machine, plan, workers, &OpenGate, output)
 }
 
-/// [`do_take`] under a gate, which may stop workers.
+/// Does what [`do_take`] does, with a gate that may stop workers.
 ///
 /// # Errors
 ///
-/// As of `do_take`, and `Incomplete` if the gate stopped a worker and soups are missing: then the haul text of what was
-/// taken was written, and a line on standard error says how many are missing.
+/// As for `do_take`, and `Incomplete` if the gate stopped a worker and soups are missing. Then the haul text of what
+/// was taken was written, and a line on standard error says how many soups are missing.
 pub fn do_take_with<
     W: Write,
     E: Write,
@@ -105,7 +105,7 @@ pub fn do_take_with<
     tell_end(outcome, &mut machine.errors)
 }
 
-/// Opens a haul, completes it as far as the gate lets it, prints it, and says how many soups are missing.
+/// Opens a haul, completes it as far as the gate allows, prints it, and returns how many soups are missing.
 fn print_haul<W: Write, E: Write, G: Gate + Sync, T: Threads + Wait + Sync, H: ProgressObserver>(
     machine: &mut Machine<'_, T, E, H>,
     plan: &Plan<'_>,
@@ -129,8 +129,8 @@ fn print_haul<W: Write, E: Write, G: Gate + Sync, T: Threads + Wait + Sync, H: P
     print_taken(&mut haul, taken, output)
 }
 
-/// Lets a crew of workers take what is missing in an open haul, and gives it back. Unless memory ran out it is complete
-/// then, or the gate stopped one of them.
+/// Lets a crew take what is missing in an open haul, and returns the haul. Unless memory ran out, it is complete or the
+/// gate stopped a worker.
 fn complete_by_crew<E: Write, G: Gate + Sync, T: Threads + Wait + Sync, H: ProgressObserver>(
     machine: &mut Machine<'_, T, E, H>,
     haul: Haul,
@@ -162,8 +162,8 @@ fn complete_by_crew<E: Write, G: Gate + Sync, T: Threads + Wait + Sync, H: Progr
     }
 }
 
-/// Finishes a haul of which a crew has taken what it could, unless memory ran out. A function of its own: the end of
-/// the one that owns the haul is dear to prove.
+/// Finishes a haul of which a crew has taken what it could, unless memory ran out. This is a function of its own
+/// because the end of the function that owns the haul is expensive to prove.
 fn print_taken<W: Write>(
     haul: &mut Haul,
     taken: Result<(), OutOfMemory>,

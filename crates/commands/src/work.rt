@@ -1,4 +1,4 @@
-//! The report lines of a set of soups, by one worker.
+//! `work`: the report lines of a set of soups, from one worker.
 //!
 //! ```text
 //! plan ── open_haul ── ranges ── soup by soup: report ── line ── sent on
@@ -37,17 +37,18 @@ use survey_core::finding::findings_are_determined;
 use survey_core::job::Job;
 use survey_core::surveyor::Surveyor;
 
-/// Surveys all soups of a plan for a worker, 1 to 16, and writes a report line for each, ascending by the soups'
-/// numbers.
+/// Surveys all soups of a plan for worker `worker`, 1 to 16, and writes a report line for each, in ascending order of
+/// the soups' numbers.
 ///
-/// Each line is sent on as soon as it is whole. Each of the profile's numbers is in its range, and neither writer may
-/// have failed. What is refused is looked for in the order of [`do_take`](crate::take::do_take). `census work` is this
-/// call over the standard streams.
+/// Each line is flushed as soon as it is complete. Each number of the profile has to be in its range, and no earlier
+/// write to either writer may have failed. Refusals are tested in the order of [`do_take`](crate::take::do_take).
+/// `census work` is this call with the standard streams.
 ///
 /// # Errors
 ///
-/// The status is `Refused` as of `do_take`; `Memory`, and then the lines before stand whole; or `Failed` if the output
-/// can't be written. Then one line stands on `errors`; a failure to write that line is not reported.
+/// The status is `Refused` as for `do_take`; `Memory` if memory runs out, and then the lines before were written
+/// completely; and `Failed` if the output can't be written. In these cases, a line is written to `errors`. A failure to
+/// write that line is not reported.
 pub fn do_work<W: Write, E: Write>(
     alloc: Global,
     plan: &Plan<'_>,
@@ -86,7 +87,7 @@ fn work<W: Write>(
     ensures whole_lines { IfErr result (λ complaint. complaint ≡ Complaint.Memory out_of_memory
         → EndsAtLine plan.now worker (stream W.contents output.old output.new)) }
 {
-    // No report is offered to this haul: it has the ranges in normal form.
+    // No report is offered to this haul. It only has the ranges in normal form.
     let haul = open_haul(alloc, plan, worker)?;
     // For the prover: there is one right text, and each line that is written is one of its lines.
     findings_are_determined();
@@ -117,7 +118,7 @@ fn put_all<W: Write>(
     )
 }
 
-/// Writes the reports on the soups of some ranges.
+/// Writes the reports on the soups of these ranges.
 fn put_reports<W: Write>(
     alloc: Global,
     job: &Job,
@@ -182,7 +183,7 @@ fn put_report<W: Write>(
     Ok(())
 }
 
-/// Writes the line of a report and sends it on, so that no line waits for the next one.
+/// Writes the line of a report and flushes it, so that no line waits for the next one.
 fn put_line<W: Write>(report: &Report, output: &mut Out<W>) -> Result<(), WriteError>
     requires { output.old.failed ≡ false }
     ensures { Writes W.contents output.old output.new result (report_text report.now) }

@@ -1,4 +1,4 @@
--- How a crew is run: one worker more is started at a time, and at the end all are back.
+-- How a crew is run: one more worker is started at a time, and at the end all are back.
 use Rattle.std.specs.Prelude.{◌≡◌, ◌≤◌, ◌+◌, ◌++◌, ◌∷◌, [], ℕ, All, Bool, List, None, Option, Some, false, if◌then◌else◌, length, map, true, vec_capacity}
 use Rattle.memory.specs.declared.OutOfMemory.{OutOfMemory}
 use Rattle.haul_core.specs.Reports.{IsWorker}
@@ -15,41 +15,42 @@ use Rattle.crew.specs.declared.take.Crew.{Crew}
 use Rattle.crew.specs.declared.take.CrewError.{CrewError}
 use Rattle.crew.specs.declared.take.CrewError.TheVariants.{Memory, Stopped}
 
--- the collector of a crew that waits for so many workers
+-- the collector of a crew that waits for this many workers
 abbrev pub collector_of : ℕ → Crew → Collector
 collector_of awaited crew = collector_with awaited crew.receiver crew.haul
 
--- the last post was removed
+-- the last pair of endpoints was removed
 pub record IsTakenOut (endpoint : Drawn × Presented Note) (old new : Endpoints) : Type 0 where
   pub passes : old.passes.items ≡ new.passes.items ++ endpoint.0 ∷ []
   pub senders : old.senders.items ≡ new.senders.items ++ endpoint.1 ∷ []
 
--- no post, and room for those of so many workers
+-- no endpoints, and room for those of this many workers
 pub record HaveRoom (workers : ℕ) (endpoints : Endpoints) : Type 0 where
   pub no_passes : endpoints.passes.items ≡ []
   pub no_senders : endpoints.senders.items ≡ []
   pub for_passes : workers ≤ vec_capacity endpoints.passes
   pub for_senders : workers ≤ vec_capacity endpoints.senders
 
--- a pass and a sender were put after the others, and there is as much room as before
+-- a pass and a sender were appended, and there is as much room as before
 pub record HasAddedEndpoint (pass : Drawn) (sender : Presented Note) (old new : Endpoints) : Type 0 where
   pub passes : new.passes.items ≡ old.passes.items ++ pass ∷ []
   pub senders : new.senders.items ≡ old.senders.items ++ sender ∷ []
   pub for_passes : vec_capacity new.passes ≡ vec_capacity old.passes
   pub for_senders : vec_capacity new.senders ≡ vec_capacity old.senders
 
--- the first worker that was stopped, once this one is back too
+-- the first worker that was stopped, after this one is back too
 abbrev pub stopped_with : Option ℕ → ℕ → End → Option ℕ
 stopped_with (Some first) worker ended = Some first
 stopped_with None worker ended = if was_stopped ended then Some worker else None
 
--- what kept workers from some soups, if anything did: a gate stopped one, or else memory was refused
+-- what kept workers from some soups, if anything did: a gate stopped one, or otherwise memory was refused
 abbrev pub cause_of : Option ℕ → Option OutOfMemory → Option CrewError
 cause_of (Some worker) lacking = Some (Stopped worker)
 cause_of None (Some error) = Some (Memory error)
 cause_of None None = None
 
--- a worker can be started with each post: none was used yet, each is a worker's, nobody is back, there is room for all, and a byte counts them
+-- a worker can be started with each pair of endpoints: none was used yet, each is a worker's, nobody is back, there is room for
+-- all, and a byte counts them
 pub record MayRun (shared : Shared) (crew : Crew) : Type 0 where
   pub passes : All (λ p. p ≡ fresh shared.tickets) crew.endpoints.passes.items
   pub senders : All (λ s. s ≡ silent shared.belt.name s.number) crew.endpoints.senders.items
@@ -60,8 +61,8 @@ pub record MayRun (shared : Shared) (crew : Crew) : Type 0 where
   pub back : HaveRoom (length crew.endpoints.senders.items) crew.back
   pub stopped : crew.stopped ≡ None
 
--- All workers of the posts are back, in their order, with what they leave. The collector has waited for those that were started, and
--- for those that were away before.
+-- All workers of these endpoints are back, in their order, with their results. The collector has waited for those that were
+-- started, and for those that were away before.
 pub record HasRunAll (may_stop lets : ℕ → ℕ → Type 0) (shared : Shared) (old new : Crew) : Type 0 where
   pub results : List WorkerResult
   pub left : All (λ s. Leaves may_stop lets shared s.sender.number s) results

@@ -1,4 +1,4 @@
--- A crew: what its workers say, and what becomes of it.
+-- A crew: what its workers report, and what becomes of the haul.
 use Rattle.std.specs.Prelude.{◌≡◌, ◌<◌, ◌≤◌, ◌+◌, ◌++◌, ◌⊎◌, ℕ, Bool, true, false, All, List, [], ◌∷◌, None, count_by, flat_map, map}
 use Rattle.haul_core.specs.Books.{Held, StandsFor, entry, is_lawful}
 use Rattle.haul_core.specs.Missing.{is_taken}
@@ -31,18 +31,20 @@ dones got = count_by (λ m. is_done m.1) got
 abbrev pub EndsDone : List (ℕ × Note) → Type 0
 EndsDone got = (got ≡ []) ⊎ ((prefix : List (ℕ × Note)) × (sender : ℕ) × (worker : ℕ) × (got ≡ prefix ++ (sender, Done worker) ∷ []))
 
--- A haul has taken these reports, in this order. Whatever arrivals stood for it, they and then offers of these reports stand for it.
+-- A haul has taken these reports, in this order. If some arrivals led to the old state, then they and offers of these reports lead
+-- to the new one.
 pub record HasAdded (reports : List Reported) (old new : Held) : Type 0 where
   pub terms : new.terms ≡ old.terms
   pub closed : new.closed ≡ old.closed
   pub taken : new.taken ≡ old.taken ++ map entry reports
   pub stands : (arrivals : List Arrival) → StandsFor arrivals old → StandsFor (arrivals ++ map Offer reports) new
 
--- Whatever arrivals stood for the haul, they and then offers of all these reports stand for it now.
+-- If some arrivals led to the old state, then they and offers of all these reports lead to the new one.
 abbrev pub HasComeAll : List Reported → Held → Held → Type 0
 HasComeAll reports old new = (arrivals : List Arrival) → StandsFor arrivals old → StandsFor (arrivals ++ map Offer reports) new
 
--- Of these reports a haul has taken a part, and one that came among them was lost, which the book takes after those taken before it.
+-- A haul has taken a part of these reports. One report among them was lost, although the book would take it after those taken
+-- before it.
 pub record HasLost (reports part : List Reported) (old : Held) : Type 0 where
   pub before : List Reported
   pub report : Reported
@@ -51,11 +53,11 @@ pub record HasLost (reports part : List Reported) (old : Held) : Type 0 where
   pub some : IsSubsequence (before ++ report ∷ later) reports
   pub eligible : (arrivals : List Arrival) → StandsFor arrivals old → refusal_of old.terms (arrivals ++ map Offer before) report ≡ None
 
--- if the haul is open and the report is lawful, its soup was taken: from this report or from another
+-- if the haul is open and the report is lawful, its soup was taken, from this report or from another
 abbrev pub HasSoupOf : Held → Reported → Type 0
 HasSoupOf held report = held.closed ≡ false → is_lawful held.terms report ≡ true → is_taken held.taken report.number ≡ true
 
--- where a collector stands: how many workers it waits for that are not done, what it has received, and its haul
+-- the state of a collector: how many workers it still waits for, what it has received, and its haul
 pub record Collector : Type 0 where
   pub awaited : ℕ
   pub receiver : Received Note
@@ -64,9 +66,9 @@ pub record Collector : Type 0 where
 abbrev pub collector_with : ℕ → Received Note → Held → Collector
 collector_with awaited receiver haul = record { awaited = awaited; receiver = receiver; haul = haul }
 
--- Notes were received from the workers, and so many fewer are awaited as say that they are done; if none is awaited any more, the
--- last note says so. Of the reports among the notes the haul has taken some: all that the book takes if `answered`, so that it has
--- their soups, and else one was lost.
+-- Notes were received from the workers, and each note "done" reduces the number of awaited workers by one. If none is awaited any
+-- more, the last note was such a note. The haul has taken some of the reports among the notes: if `answered`, all that the book
+-- takes, so that it has their soups; otherwise one was lost.
 pub record Collected (before after : Collector) (answered : Bool) : Type 0 where
   pub notes : List (ℕ × Note)
   pub belt : after.receiver.belt ≡ before.receiver.belt

@@ -11,13 +11,13 @@ use Rattle.crew.specs.Crews.{HasAdded}
 abbrev pub was_missing : Held → List ℕ
 was_missing held = missing_of held.terms.ranges held.taken
 
--- the numbers beside one worker, in order
+-- the numbers taken from one worker, in order
 abbrev pub taken_by : ℕ → List (ℕ × ℕ) → List ℕ
 taken_by worker taken = map (λ t. t.1) (filter (λ t. nat_eq worker t.0) taken)
 
--- The haul has taken reports of the crew's workers for its job, on missing numbers that the gate let them survey, each once, and of each
--- worker in the order in which it drew them, which ascends. What is taken of them is their workers and numbers, and whatever arrivals
--- stood for the haul, they and then offers of these reports stand for it.
+-- The haul has taken reports of the crew's workers for its job. They are on missing numbers that the gate let these workers survey,
+-- each once, and the numbers of each worker ascend. If some arrivals led to the old state, then they and offers of these reports
+-- lead to the new one.
 pub record HasTaken (lets : ℕ → ℕ → Type 0) (workers : ℕ) (old new : Held) : Type 0 where
   pub offers : List Reported
   pub added : HasAdded offers old new

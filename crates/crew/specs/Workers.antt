@@ -1,4 +1,4 @@
--- What a worker of the crew reports, and what it leaves.
+-- What a worker of the crew reports, and its result.
 use Rattle.std.specs.Prelude.{◌≡◌, ◌<◌, ◌++◌, ◌∷◌, ◌⊎◌, [], ℕ, All, AllPairs, Bool, Contains, List, Option, count_by}
 use Rattle.std.specs.Prelude.{false, flat_map, length, map, option_map, slice_index, true}
 use Rattle.std.specs.List.{find}
@@ -22,7 +22,7 @@ reported notes = flat_map report_in notes
 abbrev pub IsOwnReport : (ℕ → ℕ → Type 0) → Job → ℕ → Reported → Type 0
 IsOwnReport lets job worker r = (r.worker ≡ worker) × (r.job ≡ job) × lets worker r.number
 
--- The worker has reported its own surveys of the missing numbers at these places, in this order, which ascend
+-- The worker has reported its own surveys of the missing numbers at these places, in this order. The places ascend.
 pub record HasReported (lets : ℕ → ℕ → Type 0) (shared : Shared) (places : List ℕ) (sender : Presented Note) : Type 0 where
   pub belt : sender.belt ≡ shared.belt.name
   pub ascending : AllPairs (λ x y. x < y) places
@@ -38,20 +38,20 @@ sender_numbers passes = map (λ s. s.number) passes
 abbrev pub AreNotDone : List Note → Type 0
 AreNotDone notes = All (λ note. is_done note ≡ false) notes
 
--- the worker's last note says that it is done, and no other
+-- the worker's last note says that it is done, and no other note does
 abbrev pub EndsByDone : ℕ → List Note → Type 0
 EndsByDone worker notes = (prefix : List Note) × AreNotDone prefix × (notes ≡ prefix ++ Done worker ∷ [])
 
--- the gate may stop the worker at a number that is missing
+-- the gate may stop the worker at some number that is missing
 abbrev pub StopsAt : (ℕ → ℕ → Type 0) → List ℕ → ℕ → Type 0
 StopsAt may_stop missing worker = (n : ℕ) × Contains missing n × may_stop worker n
 
--- these places are all that were drawn, or all but the last
+-- these places are all that were drawn, or all except the last
 abbrev pub AreAllButLast : List ℕ → List ℕ → Type 0
 AreAllButLast places drawn = (drawn ≡ places) ⊎ ((n : ℕ) × (drawn ≡ places ++ n ∷ []))
 
--- What the worker with this number has done when its surveys end so. It has reported at each place that it drew, but for the last one
--- at most; at each, if none was left.
+-- What the worker with this number has done when its surveys end in this way. It has reported at each place that it drew, except
+-- perhaps the last one, and at each if no number was left.
 pub record HasWorked (may_stop lets : ℕ → ℕ → Type 0) (shared : Shared) (worker : ℕ) (ended : End) (pass : Drawn) (sender : Presented Note)
     : Type 0 where
   pub number : sender.number ≡ worker
@@ -84,8 +84,8 @@ lacks_memory (Memory error) = true
 lacks_memory (Unstarted error) = true
 lacks_memory _ = false
 
--- What the worker with this number leaves. Once it has begun to work it ends by saying that it is done; if it was called off it has
--- said nothing.
+-- The result of the worker with this number. If it has begun to work, its last note says that it is done. If it was called off, it
+-- has sent nothing.
 pub record Leaves (may_stop lets : ℕ → ℕ → Type 0) (shared : Shared) (worker : ℕ) (worker_result : WorkerResult) : Type 0 where
   pub worked : HasWorked may_stop lets shared worker worker_result.end worker_result.pass worker_result.sender
   pub done : has_begun worker_result.end ≡ true → EndsByDone worker worker_result.sender.notes
@@ -96,7 +96,7 @@ pub record Returns (may_stop lets : ℕ → ℕ → Type 0) (shared : Shared) (w
   pub left : Leaves may_stop lets shared worker worker_result
   pub started : was_started worker_result.end ≡ true
 
--- for how many workers a thread was started
+-- how many of the workers had a thread
 abbrev pub how_many_started : List WorkerResult → ℕ
 how_many_started results = count_by (λ s. was_started s.end) results
 

@@ -19,14 +19,14 @@ use haul_core::report::Report;
 use memory::OutOfMemory;
 use std::sync::Wait;
 
-/// Receives notes until `started` workers have said that they are done, and offers each report to the haul. A report that
-/// the haul refuses is dropped. The observer is told before each note, and at the end, how many soups of the haul have
-/// been taken.
+/// Receives notes until `started` workers have said that they are done, and offers each report to the haul. A report
+/// that the haul refuses is dropped. Before each note and at the end, the observer is told how many soups of the haul
+/// have been taken.
 ///
 /// # Errors
 ///
 /// [`OutOfMemory`] if memory ran out for a report that the haul would have taken. All other reports have been offered
-/// then too.
+/// nevertheless.
 pub fn collect<R: Wait, H: ProgressObserver>(
     rt: &R,
     belt: &Belt<Note>,
@@ -57,7 +57,7 @@ pub fn collect<R: Wait, H: ProgressObserver>(
     answered
 }
 
-/// Offers a report. An error if there was no memory to answer it.
+/// Offers a report. Returns an error if memory ran out for it.
 fn offer(haul: &mut Haul, report: Report) -> Result<(), OutOfMemory>
     ensures added { (haul.new ≡ haul.old) ⊎ HasAdded (report ∷ []) haul.old haul.new }
     ensures stands { OnOk result (HasComeAll (report ∷ []) haul.old haul.new) }

@@ -1,4 +1,4 @@
-//! What a crew starts with: what its workers share, and the endpoints of each.
+//! What a crew starts with: what its workers share, and the endpoints of each worker.
 ghost use Rattle.std.specs.Prelude.{◌≡◌, ◌≤◌, All, IfOk, false, length, map};
 ghost use Rattle.std.specs.List.{range_with_len};
 ghost use Rattle.std.specs.List.Sorted.{IsStrictlyIncreasing};
@@ -17,7 +17,7 @@ use memory::OutOfMemory;
 use std::alloc::Global;
 use std::sync::atomic::AtomicU64;
 
-/// How many notes there is room for on the belt: some for each of sixteen workers, so that none waits for the collector.
+/// The most notes on the belt: four for each of sixteen workers, so that a worker rarely waits for the collector.
 const ROOM: usize = 64;
 
 /// What a crew starts with.
@@ -31,7 +31,7 @@ pub(crate) struct CrewSetup {
 }
 
 impl CrewSetup {
-    /// Returns all that `workers` workers need to survey what is missing in a haul.
+    /// Returns everything that `workers` workers need to survey what is missing in a haul.
     pub(crate) fn new(alloc: Global, haul: &Haul, workers: u8) -> Result<CrewSetup, OutOfMemory>
         requires some { 1 ≤ workers }
         requires few { workers ≤ haul.now.terms.workers }

@@ -13,7 +13,7 @@ use handover::tickets::Pass;
 use memory::OutOfMemory;
 use std::alloc::Global;
 
-/// A pass and a sender for each of some workers.
+/// A pass and a sender for each of several workers.
 #[derive(Drop)]
 pub(crate) struct Endpoints {
     pub(crate) passes: Vec<Pass>,
@@ -21,7 +21,7 @@ pub(crate) struct Endpoints {
 }
 
 impl Endpoints {
-    /// Returns no endpoints, and room for those of `workers` workers.
+    /// Returns an empty list, with room for the endpoints of `workers` workers.
     pub(crate) fn with_room(alloc: Global, workers: u8) -> Result<Endpoints, OutOfMemory>
         ensures { IfOk result (HaveRoom workers) }
     {
@@ -30,7 +30,7 @@ impl Endpoints {
         Ok(Endpoints { passes, senders })
     }
 
-    /// Puts a worker's endpoints after the others. There is room for them.
+    /// Appends a worker's endpoints, for which there is room.
     pub(crate) fn add(&mut self, pass: Pass, sender: SenderPass<Note>)
         requires passes { length self.old.passes.items < vec_capacity self.old.passes }
         requires senders { length self.old.senders.items < vec_capacity self.old.senders }

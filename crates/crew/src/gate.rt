@@ -6,19 +6,19 @@
 //! ```
 ghost use Rattle.std.specs.Prelude.{ℕ, OnErr, OnOk};
 
-/// The gate stops the worker.
+/// The answer of a gate that stops the worker.
 #[derive(Clone, Copy, Debug, PartialEq, Eq, Drop)]
 pub struct Stop;
 
-/// What a worker asks before each survey. Several threads ask at the same time.
+/// Decides before each survey whether the worker may go on. Several threads ask at the same time.
 pub trait Gate {
-    /// Where the gate may stop which worker: of a worker and the number of a soup.
+    /// The property of a worker and a soup's number that the gate may stop the worker there.
     ghost may_stop: { Self → ℕ → ℕ → Type 0 };
 
-    /// Which worker it may let survey which soup: of a worker and the number of a soup.
+    /// The property of a worker and a soup's number that the gate may let the worker survey the soup.
     ghost lets: { Self → ℕ → ℕ → Type 0 };
 
-    /// Whether the worker may survey the soup with this number. If not, it surveys nothing more.
+    /// Decides whether `worker` may survey the soup with this number. If not, it surveys nothing more.
     fn before(&self, worker: u8, number: u64) -> Result<(), Stop>
         ensures lets { OnOk result (lets self.now worker number) }
         ensures stops { OnErr result (may_stop self.now worker number) };

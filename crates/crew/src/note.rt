@@ -1,11 +1,11 @@
-//! What the workers put on the belt.
+//! The notes that workers put on the belt.
 use haul_core::report::Report;
 
-/// What a worker says to the collector.
+/// A message from a worker to the collector.
 #[derive(Debug, Drop)]
 pub enum Note {
-    /// A soup has been surveyed.
+    /// A soup was surveyed.
     Report(Report),
-    /// The worker says nothing more.
+    /// The worker sends nothing more.
     Done { worker: u8 },
 }

@@ -14,9 +14,9 @@ pub(crate) struct Shared {
     pub(crate) job: Job,
     pub(crate) tickets: Tickets,
     pub(crate) belt: Belt<Note>,
-    /// The numbers to be surveyed. A ticket is an index into this list.
+    /// The numbers to survey. A ticket is an index into this list.
     pub(crate) missing: Vec<u64>,
-    /// The worker that was not started, if there is one.
+    /// The worker that wasn't started, if there is one.
     pub(crate) called_off: AtomicU64,
     ghost listed: { tickets.count ≡ vec_len missing },
     ghost below: { All (λ n. n < number_bound) missing.items },

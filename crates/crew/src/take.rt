@@ -42,12 +42,12 @@ use std::thread::{Promise, PromisedHandle, Scope, Threads};
 use std::{fmt, thread};
 use thiserror::Error;
 
-/// Why a crew did not complete a haul.
+/// Why a crew didn't complete a haul.
 #[derive(Clone, Copy, PartialEq, Eq, Error)]
 pub enum CrewError {
     /// The haul is closed.
     Closed,
-    /// The gate stopped a worker: of those that it stopped, this is the one with the least number.
+    /// The gate stopped a worker. If it stopped several, this is the one with the lowest number.
     Stopped { worker: u8 },
     /// Memory ran out, or there was none for a thread.
     Memory(OutOfMemory),
@@ -70,21 +70,27 @@ impl fmt::Debug for CrewError {
     }
 }
 
-/// Has `workers` workers survey what is missing in a haul, each in a thread of its own, and offers what they report.
+/// Completes a haul: `workers` workers survey the missing soups, each in a thread of its own, and their reports are
+/// offered to the haul.
 ///
 /// There are at least one and at most as many workers as the haul has. A worker asks the gate before each survey, and
-/// surveys nothing more once the gate stops it. The haul stays open. The observer is told how many soups of the haul have
-/// been taken, in the thread of the call.
+/// surveys nothing more once the gate stops it. The haul stays open. In the thread of the call, the observer is told
+/// how many soups of the haul have been taken.
 ///
 /// # Errors
 ///
 /// The haul, with what was taken, and the first of these that holds. There is no other case:
 ///
-/// - [`CrewError::Closed`] if the haul is closed. It comes back as it was.
-/// - [`CrewError::Stopped`] if the gate stopped a worker and the haul is not complete.
-/// - [`CrewError::Memory`] if memory ran out, or a thread could not be started, and the haul is not complete.
+/// - [`CrewError::Closed`] if the haul is closed. It comes back unchanged.
+/// - [`CrewError::Stopped`] if the gate stopped a worker and the haul isn't complete.
+/// - [`CrewError::Memory`] if memory ran out, or a thread could not be started, and the haul isn't complete.
 ///
-/// To call it again goes on with what is missing.
+/// Another call goes on with what is missing. It is proved that `Stopped` names a worker that the gate may stop. That
+/// this is the lowest one, and that `Stopped` comes before `Memory`, follows from private contracts, and is tested.
+///
+/// # Examples
+///
+/// `crates/tour_tests/src/threads.rt` completes a haul with two workers.
 pub fn take<G: Gate + Sync, R: Threads + Wait + Sync, H: ProgressObserver>(
     alloc: Global,
     rt: &R,
@@ -123,7 +129,8 @@ pub fn take<G: Gate + Sync, R: Threads + Wait + Sync, H: ProgressObserver>(
     Err((haul, cause))
 }
 
-/// Lets workers survey what is missing in a haul. With it comes what kept them from some soups, if anything did.
+/// Runs workers that survey what is missing in a haul. Returns the haul, and what kept the workers from some soups, if
+/// anything did.
 #[tactic(auto, using(crate::proofs::TakeLemmas::taken_none))]
 fn complete_haul<G: Gate + Sync, R: Threads + Wait + Sync, H: ProgressObserver>(
     alloc: Global,
@@ -196,7 +203,7 @@ fn run_in_scope<G: Gate + Sync, R: Threads + Wait + Sync, H: ProgressObserver>(
     )
 }
 
-/// What a crew leaves, once all workers are back: its haul, and what kept workers from some soups.
+/// Returns what a crew leaves when all workers are back: its haul, and what kept the workers from some soups.
 fn end_crew(shared: Shared, crew: Crew) -> (Haul, Option<CrewError>)
     requires passes { All (λ p. p.series ≡ shared.tickets) crew.back.passes.items }
     requires senders { All (λ s. s.belt ≡ shared.belt.name) crew.back.senders.items }
@@ -219,16 +226,16 @@ fn end_crew(shared: Shared, crew: Crew) -> (Haul, Option<CrewError>)
         ..
     } = crew;
     let Shared { tickets, belt, .. } = shared;
-    // All numbers were drawn, if all passes are back and one of them has heard that none is left.
+    // If all passes are back and one of them got `None`, all numbers were drawn.
     tickets.gather(passes);
-    // What was received of a worker is a prefix of what it presented.
+    // What was received from a worker is a prefix of what it presented.
     drop(belt.gather(senders, receiver));
     haul.recall_taken_is_subset();
     haul.recall_complete_if_none_missing();
     (haul, cause(stopped, lacking))
 }
 
-/// What kept workers from some soups: a gate stopped one, or else memory was refused.
+/// Returns what kept workers from some soups: a gate that stopped one, or otherwise memory that was refused.
 fn cause(stopped: Option<u8>, lacking: Option<OutOfMemory>) -> Option<CrewError>
     ensures { result ≡ cause_of stopped lacking }
 {
@@ -251,26 +258,26 @@ impl<'s, G: Gate> Promise<WorkerResult> for Duty<'s, G> {
     ghost kept_by = { λ d worker_result. Returns (G.may_stop d.gate.now) (G.lets d.gate.now) d.shared.now d.worker worker_result };
 }
 
-/// A crew while it is run.
+/// The state of a crew while it runs.
 #[derive(Drop)]
 struct Crew {
-    /// The endpoints of the workers that are still to be started.
+    /// The endpoints of the workers that aren't started yet.
     endpoints: Endpoints,
     haul: Haul,
-    /// What its collector receives with.
+    /// The collector's pass.
     receiver: ReceiverPass<Note>,
     /// The endpoints of the workers that have ended.
     back: Endpoints,
-    /// How many workers have been started and are not back.
+    /// The number of workers that were started and aren't back.
     away: u8,
-    /// The least worker that came back stopped.
+    /// The lowest worker that came back stopped.
     stopped: Option<u8>,
-    /// What was refused: room for a thread, for a survey or for a report.
+    /// The memory that was refused, for a thread, a survey or a report.
     lacking: Option<OutOfMemory>,
 }
 
-/// Starts a worker for each pair of endpoints, from the last on, collects what they report, and waits for them. The first worker
-/// comes back first.
+/// Starts a worker for each pair of endpoints, beginning with the last, collects their reports, and waits for them. The
+/// first worker comes back first.
 fn run_crew<'s, E, G: Gate + Sync, R: Threads + Wait + Sync, H: ProgressObserver>(
     alloc: Global,
     rt: &'s R,
@@ -307,7 +314,7 @@ fn run_crew<'s, E, G: Gate + Sync, R: Threads + Wait + Sync, H: ProgressObserver
     );
 }
 
-/// Collects what the workers report that have been started, until the last of them is done.
+/// Collects the reports of the workers that were started, until the last of them is done.
 fn receive_all<R: Wait, H: ProgressObserver>(
     rt: &R,
     shared: &Shared,
@@ -334,7 +341,7 @@ fn receive_all<R: Wait, H: ProgressObserver>(
     crew.lacking = collected.err();
 }
 
-/// Starts a worker in a thread of its own. If no thread can be started, the worker is called off, and ends here.
+/// Starts a worker in a thread of its own. If no thread can be started, the worker is called off and ends here.
 fn start_worker<'s, E, G: Gate + Sync, R: Threads + Wait + Sync>(
     alloc: Global,
     rt: &'s R,
@@ -395,7 +402,7 @@ fn join_worker<'s, G: Gate, R: Threads>(
     }
 }
 
-/// Notes the result of one worker more.
+/// Notes the result of one more worker.
 fn note_result(crew: &mut Crew, worker_result: WorkerResult)
     requires passes { length crew.old.back.passes.items < vec_capacity crew.old.back.passes }
     requires senders { length crew.old.back.senders.items < vec_capacity crew.old.back.senders }
@@ -413,7 +420,7 @@ fn note_result(crew: &mut Crew, worker_result: WorkerResult)
     crew.back.add(pass, sender);
 }
 
-/// The first worker that was stopped, once this one is back too.
+/// Returns the first worker that was stopped, after this one is back too.
 fn first_stopped(stopped: Option<u8>, worker: u8, end: End) -> Option<u8>
     ensures { result ≡ stopped_with stopped worker end }
 {
@@ -423,7 +430,7 @@ fn first_stopped(stopped: Option<u8>, worker: u8, end: End) -> Option<u8>
     }
 }
 
-/// Returns the memory that was refused so far, if any, once this worker has ended too.
+/// Returns the memory that was refused, if any, after this worker has ended too.
 fn any_lack(lacking: Option<OutOfMemory>, end: End) -> Option<OutOfMemory>
     ensures before { result ≡ None → lacking ≡ None }
     ensures here { result ≡ None → lacks_memory end ≡ false }

@@ -1,4 +1,4 @@
-//! A worker's loop: draw a number, ask the gate, survey, report, until no number is left or the worker has to stop.
+//! A worker's loop: draw a number, ask the gate, survey, report, until no number is left or the worker is stopped.
 //!
 //! ```text
 //! tickets ── place ──> number ── gate ──> survey ── report ──> belt
@@ -46,7 +46,7 @@ pub(crate) struct WorkerResult {
     pub(crate) end: End,
 }
 
-/// Runs a worker from its first number to its last. It ends with the note `Done`, unless the worker was called off.
+/// Runs a worker until it ends. Its last note is `Done`, unless the worker was called off.
 pub(crate) fn run_worker<G: Gate, R: Wait>(
     alloc: Global,
     rt: &R,

@@ -61,7 +61,7 @@ pub(crate) fn go_on<G: Gate + Sync, R: AllocGlobal + Threads + Wait + Sync, H: P
     }
 }
 
-/// Lets so many workers take the first soups of a job under a gate, and then go on without it.
+/// Lets `workers` workers take the first soups of a job with a gate, and then go on without it.
 pub(crate) fn left_by<G: Gate + Sync, R: AllocGlobal + Threads + Wait + Sync>(
     rt: &R,
     job: Job,

@@ -28,7 +28,7 @@ impl ProgressObserver for Roll {
     fn taken(&mut self, _count: u64) {}
 }
 
-/// What the watch hears where so many workers take soups. It hears of none if the haul isn't complete.
+/// Returns what an observer is told while `workers` workers take soups. It is told of none if the haul isn't complete.
 fn heard_by<R: AllocGlobal + Threads + Wait + Sync>(rt: &R, workers: u8) -> Result<Roll, Fail>
     requires some { 1 ≤ workers }
     requires few { workers ≤ 16 }

@@ -14,7 +14,7 @@ use std::test::Fail;
 use std::thread::Threads;
 use survey_core::job::Job;
 
-/// Lets workers take so many soups. If there was no memory, the haul is open, and is completed by another call.
+/// Lets workers take `count` soups. If there was no memory, the haul is open, and another call completes it.
 fn assert_taken<R: Abort + AllocGlobal + Threads + Wait + Sync>(
     rt: &R,
     job: Job,

@@ -17,22 +17,22 @@ module _ {N : Type 0} where
   abbrev pub spent_share : Share N
   spent_share = share [] false 0 []
 
-  -- the receiver after it made a sender more, and that sender
+  -- the receiver after it made one more sender, and that sender
   abbrev pub with_sender : Share N → Share N
   with_sender v = share v.senders v.receives (v.made + 1) v.got
 
   abbrev pub new_sender : Share N → Share N
   new_sender v = share ((v.made + 1, []) ∷ []) false 0 []
 
-  -- a pass that took another in
+  -- a pass that absorbed another
   abbrev pub both_shares : Share N → Share N → Share N
   both_shares v w = share (w.senders ++ v.senders) v.receives v.made v.got
 
-  -- number and notes of a sender's pass
+  -- the number and the notes of a sender's pass
   abbrev pub notes_entry : Presented N → ℕ × List N
   notes_entry pass = (pass.number, pass.notes)
 
-  -- the receiver that took in these passes
+  -- the receiver after it absorbed these passes
   abbrev pub with_senders : List (Presented N) → Share N → Share N
   with_senders passes v = share (map notes_entry passes ++ v.senders) v.receives v.made v.got
 
@@ -50,37 +50,38 @@ module _ {N : Type 0} where
   abbrev pub receives : Share N → ℕ
   receives v = cond v.receives 1 0
 
-  -- Each sender of a pass has presented what was got of it and what the queue holds of it. The receiver has got what was got, and the senders that it
-  -- has not made have presented nothing
+  -- Each sender of a pass has presented what was received from it and what the queue holds of it. The receiver has received what
+  -- was received, and the senders that it hasn't made have presented nothing.
   pub record KnowsItsNotes (all got : List (ℕ × N)) (owned : ℕ → ℕ) (v : Share N) : Type 0 where
     pub senders : All (λ e. e.1 ≡ notes_of e.0 all) v.senders
     pub got_is : v.receives ≡ true → v.got ≡ got
     pub unmade : v.receives ≡ true → (p : ℕ) → (p ≡ 0) ⊎ (v.made < p) → (notes_of p all ≡ []) × (owned p ≡ 0)
 
-  -- what was presented is what was got and what the queue holds; each sender's part, and the receiver's, is in one pass
+  -- what was presented is what was received and what the queue holds; each sender's part, and the receiver's, is in exactly one
+  -- pass
   pub record Delivers (items : List (ℕ × N)) (views : List (Share N)) : Type 0 where
     pub got : List (ℕ × N)
     pub one_sender : (p : ℕ) → owners views p ≤ 1
     pub one_receiver : sum_by receives views ≤ 1
     pub holds : (seat : ℕ) (v : Share N) → get_elem? views seat ≡ some v → KnowsItsNotes (got ++ items) got (owners views) v
 
-  -- a note presented
+  -- a note is presented
   abbrev pub PutsNote : Share N → ℕ × N → Share N → Type 0
   PutsNote v x w = w ≡ share ((x.0, first_notes v.senders ++ x.1 ∷ []) ∷ []) v.receives v.made v.got
 
   abbrev pub IsPrefix : List N → List N → Type 0
   IsPrefix prefix whole = (remainder : List N) × (whole ≡ prefix ++ remainder)
 
-  -- a note got
+  -- a note is received
   pub record GetsNote (v : Share N) (x : ℕ × N) (w : Share N) : Type 0 where
     pub got : w ≡ share v.senders v.receives v.made (v.got ++ x ∷ [])
     pub made : (1 ≤ x.0) × (x.0 ≤ v.made)
     pub prefixes : All (λ e. IsPrefix (notes_of e.0 (v.got ++ x ∷ [])) e.1) v.senders
 
-  -- what is left of an entry once these were got
+  -- what is left of an entry after these were received
   abbrev pub left_over : List (ℕ × N) → ℕ × List N → ℕ × List N
   left_over got e = (e.0, drop (length (notes_of e.0 got)) e.1)
 
-  -- what the queue holds is what was presented and not got
+  -- what the queue holds is what was presented and not received
   abbrev pub TellsWhatIsLeft : Share N → List (ℕ × N) → Type 0
   TellsWhatIsLeft v items = All (λ e. e.1 ≡ notes_of e.0 (v.got ++ items)) v.senders

@@ -2,27 +2,27 @@
 use Rattle.std.specs.Prelude.{◌≡◌, ◌≤◌, ℕ, All, List, [], ◌∷◌, ◌++◌, drop, filter, length, map, nat_eq, if◌then◌else◌}
 use Rattle.atomic_table.specs.Seated.{TableId}
 
--- a belt: what tells it from any other, and how many senders were made for it
+-- a belt: its identity, and the number of its senders
 pub record BeltId : Type 0 where
   pub name : TableId
   pub workers : ℕ
 
--- for how many notes a belt has room: there is a slot for each
+-- the number of notes for which a belt has room
 abbrev pub room_of : BeltId → ℕ
 room_of belt = belt.name.slots
 
--- what a sender's pass is seen as: its belt, its number, and the notes that it presented, in order
+-- what contracts see of a sender's pass: its belt, its number, and the notes that it presented, in order
 pub record Presented (N : Type 0) : Type 0 where
   pub belt : TableId
   pub number : ℕ
   pub notes : List N
 
--- what the receiver's pass is seen as: its belt, and the notes that it got, each with its sender's number, in order
+-- what contracts see of the receiver's pass: its belt, and the notes that it received, in order, each with its sender's number
 pub record Received (N : Type 0) : Type 0 where
   pub belt : BeltId
   pub got : List (ℕ × N)
 
--- what is left on a belt: how many senders were made for it, and of each whose pass was handed back its number and its notes
+-- what is left on a belt: the number of its senders, and for each sender whose pass was handed back its number and its notes
 pub record Left (N : Type 0) : Type 0 where
   pub workers : ℕ
   pub lists : List (ℕ × List N)
@@ -36,7 +36,7 @@ module _ {N : Type 0} where
   abbrev pub silent : TableId → ℕ → Presented N
   silent name number = record { belt = name; number = number; notes = [] }
 
-  -- the receiver's pass that has got nothing
+  -- the receiver's pass that has received nothing
   abbrev pub deaf : BeltId → Received N
   deaf belt = record { belt = belt; got = [] }
 
@@ -44,18 +44,18 @@ module _ {N : Type 0} where
   abbrev pub with_note : N → Presented N → Presented N
   with_note note pass = record { belt = pass.belt; number = pass.number; notes = pass.notes ++ note ∷ [] }
 
-  -- the receiver's pass after it got a note, which some sender presented
+  -- the receiver's pass after it received a note under the number of one of the belt's senders
   pub record GotOne (old new : Received N) (note : N) : Type 0 where
     pub sender : ℕ
     pub some_worker : (1 ≤ sender) × (sender ≤ old.belt.workers)
     pub belt : new.belt ≡ old.belt
     pub got : new.got ≡ old.got ++ (sender, note) ∷ []
 
-  -- what is left of a sender's notes once these were got: the sender's number, and the notes
+  -- what is left of a sender's notes after these were received: the sender's number, and the notes
   abbrev pub left_of : List (ℕ × N) → Presented N → ℕ × List N
   left_of got pass = (pass.number, drop (length (notes_of pass.number got)) pass.notes)
 
-  -- the notes that were got of the sender, and those that are left of it, are the notes that it presented, in its order
+  -- the notes that were received from the sender, followed by those that are left, are the notes that it presented, in its order
   abbrev pub IsWhole : List (ℕ × N) → Presented N → Type 0
   IsWhole got pass = notes_of pass.number got ++ drop (length (notes_of pass.number got)) pass.notes ≡ pass.notes
 
@@ -63,7 +63,7 @@ module _ {N : Type 0} where
   abbrev pub with_first : ℕ → N → ℕ × List N → ℕ × List N
   with_first sender note e = (e.0, if nat_eq e.0 sender then note ∷ e.1 else e.1)
 
-  -- the note was the first that was left of some sender. If the sender's pass was not handed back, no list has changed
+  -- The note was the first that was left of some sender. If the sender's pass was not handed back, no list has changed.
   pub record TookFirst (old new : Left N) (note : N) : Type 0 where
     pub sender : ℕ
     pub some_worker : (1 ≤ sender) × (sender ≤ old.workers)

@@ -20,7 +20,7 @@ series_of name issue = record { name = name; count = issue.count; passes = issue
 abbrev pub first_holding : Issue → Holding
 first_holding issue = holding issue issue.passes 0 []
 
--- what is left to a pass that was joined to another
+-- the pass that is left after it was joined to another
 abbrev pub spent_holding : Holding
 spent_holding = holding (record { count = 0; passes = 0 }) 0 0 []
 
@@ -41,7 +41,8 @@ pub record Fits (issue : Issue) (counter : ℕ) (v : Holding) : Type 0 where
   pub drained : 0 < v.marks → issue.count ≤ counter
   pub spent : v.shares ≡ 0 → v.numbers ≡ []
 
--- The numbers below the counter, and below the count, stand in the passes, each once. The counter is past the count by at most the marks
+-- Each number below the counter and below the count is in exactly one pass. The counter is past the count by at most the number of
+-- marks.
 pub record IsLawful (issue : Issue) (s : State (Unit {0}) Holding) : Type 0 where
   pub counter : ℕ
   pub kept : s.words ≡ counter ∷ []
@@ -52,7 +53,7 @@ pub record IsLawful (issue : Issue) (s : State (Unit {0}) Holding) : Type 0 wher
   pub fits : (seat : ℕ) (v : Holding) → get_elem? s.views seat ≡ some v → Fits issue counter v
   pub past : counter ≤ issue.count + sum_by (λ v. v.marks) s.views
 
--- the pass with the number n, and with a mark
+-- the pass with one more number n, or with one more mark
 abbrev pub holding_with : ℕ → Holding → Holding
 holding_with n v = holding v.issue v.shares v.marks (v.numbers ++ n ∷ [])
 
@@ -66,20 +67,20 @@ pub record Draws (s : Step (Unit {0})) (me : Me (Unit {0}) Holding) (n : ℕ) (a
   pub none : me.0.issue.count ≤ n → after.0 ≡ holding_marked me.0
   pub slots : after.1 ≡ me.1
 
--- the kept pass, after these passes, popped off the list `all`, of which `left` are left, were joined to it
+-- the kept pass, after these passes, taken from the end of the list `all`, of which `left` remain, were joined to it
 pub record Joining (all left : List Drawn) (before after : Holding) : Type 0 where
   pub issue : after.issue ≡ before.issue
   pub shares : after.shares + length left ≡ before.shares + length all
   pub marks : after.marks + how_many_heard left ≡ before.marks + how_many_heard all
   pub numbers : drawn_by_all left ++ after.numbers ≡ drawn_by_all all ++ before.numbers
 
--- what the kept pass knows at the end, where m numbers were drawn
+-- what the kept pass knows at the end, when m numbers were drawn
 pub record KnowsAtEnd (issue : Issue) (v : Holding) (m : ℕ) : Type 0 where
   pub once : (n : ℕ) → count_by (nat_eq n) v.numbers ≤ once_below m n
   pub all : v.shares ≡ issue.passes → (n : ℕ) → count_by (nat_eq n) v.numbers ≡ once_below m n
   pub drained : 0 < v.marks → m ≡ issue.count
 
--- the same of all passes that were handed back
+-- the same for all passes that were handed back
 pub record Gathers (series : Series) (passes : List Drawn) (m : ℕ) : Type 0 where
   pub once : AreSomeBelow m (drawn_by_all passes)
   pub all : length passes ≡ series.passes → AreAllBelow m (drawn_by_all passes)

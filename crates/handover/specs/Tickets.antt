@@ -2,13 +2,13 @@
 use Rattle.std.specs.Prelude.{◌≡◌, ◌≤◌, ℕ, Bool, true, false, List, [], ◌∷◌, ◌++◌, count_by, flat_map, nat_eq, nat_lt, if◌then◌else◌}
 use Rattle.atomic_table.specs.Seated.{TableId}
 
--- a series of tickets: what tells it from any other, how many numbers it has, and how many passes were made for it
+-- a series of tickets: its identity, how many numbers it has, and how many passes
 pub record Series : Type 0 where
   pub name : TableId
   pub count : ℕ
   pub passes : ℕ
 
--- what a pass is seen as: its series, the numbers that it drew, in order, and whether it heard that none is left
+-- what contracts see of a pass: its series, the numbers that it drew, in order, and whether a draw returned `None`
 pub record Drawn : Type 0 where
   pub series : Series
   pub numbers : List ℕ
@@ -22,7 +22,7 @@ fresh series = record { series = series; numbers = []; heard_none = false }
 abbrev pub with_drawn : ℕ → Drawn → Drawn
 with_drawn n pass = record { series = pass.series; numbers = pass.numbers ++ n ∷ []; heard_none = pass.heard_none }
 
--- the pass after it heard that none is left
+-- the pass after a draw returned `None`
 abbrev pub with_none : Drawn → Drawn
 with_none pass = record { series = pass.series; numbers = pass.numbers; heard_none = true }
 
@@ -30,7 +30,7 @@ with_none pass = record { series = pass.series; numbers = pass.numbers; heard_no
 abbrev pub drawn_by_all : List Drawn → List ℕ
 drawn_by_all passes = flat_map (λ p. p.numbers) passes
 
--- how many of the passes heard that none is left
+-- for how many of the passes a draw returned `None`
 abbrev pub how_many_heard : List Drawn → ℕ
 how_many_heard passes = count_by (λ p. p.heard_none) passes
 

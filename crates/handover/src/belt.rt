@@ -22,7 +22,7 @@ use std::collections::LinkedList;
 use std::marker::Model;
 use std::sync::Wait;
 
-/// What a pass knows. No value of it is made.
+/// What a pass knows. No value of this type is made.
 struct Share<N> {
     senders: LinkedList<(u8, LinkedList<N>)>,
     receives: bool,
@@ -89,9 +89,9 @@ type Queue<N> = RuledArrayQueue<(u8, N), Share<N>, InOrder>;
 pub struct Belt<N: Drop> {
     queue: Queue<N>,
     workers: u8,
-    /// Rings after each note that is presented.
+    /// Is notified after each note that is presented.
     arrived: EventCount,
-    /// Rings after each note that is received.
+    /// Is notified after each note that is received.
     left: EventCount,
 }
 
@@ -103,7 +103,7 @@ impl<N: Drop> Model for Belt<N> {
     ghost view = { λ b. record { name = b.queue.table.shared.table_id; workers = b.workers } };
 }
 
-/// What a sender presents notes with. Contracts see the notes that it presented, in order.
+/// The right of a sender to present notes. Contracts see the notes that it presented, in order.
 #[derive(Drop)]
 pub struct SenderPass<N> {
     pass: Pass<(u8, N), Share<N>>,
@@ -125,7 +125,7 @@ impl<N> Model for SenderPass<N> {
 }
 
 impl<N> SenderPass<N> {
-    /// The sender's number.
+    /// Returns the sender's number, from 1 on.
     pub fn number(&self) -> u8
         ensures { result ≡ self.now.number }
     {
@@ -133,7 +133,7 @@ impl<N> SenderPass<N> {
     }
 }
 
-/// What the receiver receives notes with. Contracts see the notes that it got, each with its sender's number, in order.
+/// The right to receive notes. Contracts see the notes that were received, in order, each with its sender's number.
 #[derive(Drop)]
 pub struct ReceiverPass<N> {
     pass: Pass<(u8, N), Share<N>>,
@@ -152,8 +152,8 @@ impl<N> Model for ReceiverPass<N> {
         × (r.pass.me.1 ≡ []) };
 }
 
-/// What is left on a belt. Contracts see how many senders were made, and one list for each sender's pass that was
-/// handed back: its number, and the notes of it that are left, in order.
+/// The notes that are left on a belt. Contracts see how many senders there were, and a list for each sender's pass that
+/// was handed back: the sender's number, and its notes that are left, in order.
 #[derive(Drop)]
 pub struct Remainder<N: Drop> {
     queue: Queue<N>,
@@ -178,11 +178,16 @@ impl<N: Drop> Model for Remainder<N> {
 }
 
 impl<N: Drop> Belt<N> {
-    /// A belt with room for so many notes, and the passes: one for each sender, numbered from 1 on, and the receiver's.
+    /// Opens a belt with room for `room` notes. Returns it with a pass for each sender, numbered from 1 on, and the
+    /// receiver's pass.
     ///
     /// # Errors
     ///
     /// [`OutOfMemory`] if memory runs out.
+    ///
+    /// # Examples
+    ///
+    /// `crates/tour_tests/src/threads.rt` sends a note.
     pub fn open(
         alloc: Global,
         room: usize,
@@ -206,7 +211,7 @@ impl<N: Drop> Belt<N> {
         Ok((belt, senders, ReceiverPass { pass }))
     }
 
-    /// Presents a note. It sleeps while the queue is full.
+    /// Presents a note. Sleeps while the queue is full.
     pub fn present<R: Wait>(&self, rt: &R, pass: &mut SenderPass<N>, note: N)
         requires { pass.old.belt ≡ self.now.name }
         ensures { pass.new ≡ with_note note pass.old }
@@ -226,7 +231,7 @@ impl<N: Drop> Belt<N> {
         unreachable!()
     }
 
-    /// Receives a note. It sleeps while the queue is empty.
+    /// Receives a note. Sleeps while the queue is empty.
     pub fn receive<R: Wait>(&self, rt: &R, pass: &mut ReceiverPass<N>) -> N
         requires { pass.old.belt ≡ self.now }
         ensures { GotOne pass.old pass.new result }
@@ -242,7 +247,7 @@ impl<N: Drop> Belt<N> {
         unreachable!()
     }
 
-    /// Ends the belt: what is left on it of the senders whose passes are handed back.
+    /// Closes the belt. Returns the notes that are left of the senders whose passes are handed back.
     pub fn gather(self, senders: Vec<SenderPass<N>>, receiver: ReceiverPass<N>) -> Remainder<N>
         requires senders { All (λ s. s.belt ≡ self.name) senders.items }
         requires receiver { receiver.belt ≡ self }
@@ -284,7 +289,7 @@ impl<N: Drop> Belt<N> {
 }
 
 impl<N: Drop> Remainder<N> {
-    /// Takes out a note, which is the first that is left of its sender. `None` if nothing is left of the senders whose
+    /// Removes a note, the first that is left of its sender. Returns `None` if nothing is left of the senders whose
     /// passes were handed back.
     pub fn next<R: Wait>(&mut self, rt: &R) -> Option<N>
         ensures taken { IfSome result (TookFirst self.old self.new) }
@@ -296,7 +301,7 @@ impl<N: Drop> Remainder<N> {
     }
 }
 
-/// Makes the senders of a new queue. There is room for them.
+/// Makes the senders of a new queue, for which there is room.
 #[tactic(auto, using(crate::proofs::BeltLemmas::senders_more))]
 fn make_senders<N: Drop>(
     queue: &Queue<N>,
@@ -319,7 +324,7 @@ fn make_senders<N: Drop>(
     }
 }
 
-/// Makes one sender more.
+/// Makes one more sender.
 fn make_sender<N: Drop>(
     queue: &Queue<N>,
     pass: &mut Pass<(u8, N), Share<N>>,

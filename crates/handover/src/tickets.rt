@@ -29,18 +29,18 @@ use std::fmt;
 use std::marker::Model;
 use thiserror::Error;
 
-/// How many numbers there may be: as many as a haul may have.
+/// The most numbers: as many as a haul may have.
 const MOST_NUMBERS: u64 = 1 << 24;
 
-/// How many passes there may be: as many as a haul may have workers.
+/// The most passes: as many as a haul may have workers.
 const MOST_PASSES: u8 = 16;
 
 /// Why no tickets were opened.
 #[derive(Clone, Copy, PartialEq, Eq, Error)]
 pub enum TicketsError {
-    /// There are over 2^24 numbers.
+    /// There are more than 2^24 numbers.
     BadCount,
-    /// There are not 1 to 16 passes.
+    /// The number of passes isn't from 1 to 16.
     BadPasses,
     /// Memory ran out.
     Memory(OutOfMemory),
@@ -71,14 +71,14 @@ impl<E: Into<OutOfMemory>> From<E> for TicketsError {
     }
 }
 
-/// What tickets are opened for.
+/// The terms of tickets: how many numbers and passes there are.
 #[derive(Clone, Copy)]
 struct Issue {
     count: u64,
     passes: u64,
 }
 
-/// What a pass knows of its own draws. No value of it is made.
+/// What a pass knows of its own draws. No value of this type is made.
 struct Holding {
     issue: Issue,
     shares: u64,
@@ -124,7 +124,7 @@ impl Join<Holding> for TakeIn {
     ghost spent = { spent_holding };
 }
 
-/// The numbers from 0 to below a count, of which threads draw the next one with a [`Pass`] each.
+/// The numbers from 0 up to a count. Threads draw them with a [`Pass`] each.
 #[derive(Drop)]
 pub struct Tickets {
     table: Table<(), Holding, Issue, Law, Global>,
@@ -144,7 +144,7 @@ impl Model for Tickets {
         × (t.table.shared.table_id.slots ≡ 0) × (0 < t.table.shared.key.passes) };
 }
 
-/// What a thread draws with. Contracts see the numbers that it drew, in order, and whether it heard that none is left.
+/// The right of a thread to draw numbers. Contracts see the numbers that it drew, in order, and whether it got `None`.
 #[derive(Drop)]
 pub struct Pass {
     seat: Seat<(), Holding>,
@@ -172,18 +172,22 @@ impl Model for Pass {
 }
 
 impl Tickets {
-    /// Tickets for the numbers from 0 to below `count`, and the passes to draw them.
+    /// Opens tickets for the numbers from 0 to below `count`, and `passes` passes to draw them.
     ///
     /// # Errors
     ///
     /// The first of these that holds:
     ///
-    /// - [`TicketsError::BadCount`] if there are over 2^24 numbers.
-    /// - [`TicketsError::BadPasses`] if there are not 1 to 16 passes.
+    /// - [`TicketsError::BadCount`] if there are more than 2^24 numbers.
+    /// - [`TicketsError::BadPasses`] if the number of passes isn't from 1 to 16.
     /// - [`TicketsError::Memory`] if memory runs out.
+    ///
+    /// # Examples
+    ///
+    /// `crates/tour_tests/src/threads.rt` draws three numbers.
     #[tactic(auto, using(crate::proofs::TicketLemmas::begins))]
     pub fn open(alloc: Global, count: u64, passes: u8) -> Result<(Tickets, Vec<Pass>), TicketsError>
-        // As many numbers as were asked for, and as many passes, which have drawn nothing.
+        // As many numbers and passes as were asked for. The passes have drawn nothing.
         ensures count { IfOk result (λ made. made.0.count ≡ count) }
         ensures passes { IfOk result (λ made. made.0.passes ≡ passes) }
         ensures many { IfOk result (λ made. length made.1.items ≡ passes) }
@@ -209,8 +213,8 @@ impl Tickets {
         Ok((Tickets { table, count }, made))
     }
 
-    /// Draws the next number, which is below the count and greater than each number that this pass drew before. `None`
-    /// once none is left.
+    /// Draws the next number. It is below the count, and higher than all numbers that this pass drew before. Returns
+    /// `None` if no number is left.
     #[tactic(auto, using(crate::proofs::TicketLemmas::draws))]
     pub fn draw(&self, pass: &mut Pass) -> Option<u64>
         requires { pass.old.series ≡ self.now }
@@ -233,7 +237,7 @@ impl Tickets {
         }
     }
 
-    /// Ends the drawing: how many numbers were drawn.
+    /// Closes the tickets. Returns how many numbers were drawn.
     pub fn gather(self, passes: Vec<Pass>) -> u64
         requires { All (λ p. p.series ≡ self) passes.items }
         ensures most { result ≤ self.count }
@@ -255,7 +259,7 @@ impl Tickets {
     }
 }
 
-/// Ends the drawing with one pass and others.
+/// Closes the tickets, given one pass and the others.
 fn gather_with(tickets: Tickets, first: Pass, passes: Vec<Pass>) -> u64
     requires first { first.series ≡ tickets }
     requires passes { All (λ p. p.series ≡ tickets) passes.items }
@@ -271,7 +275,7 @@ fn gather_with(tickets: Tickets, first: Pass, passes: Vec<Pass>) -> u64
     counter.min(count)
 }
 
-/// Cuts a seat with some shares into as many passes. There is room for them.
+/// Cuts a seat with shares into as many passes, for which there is room.
 #[tactic(auto, using(crate::proofs::TicketLemmas::cuts))]
 fn cut_up(
     shared: &Shared<(), Holding, Issue, Law>,

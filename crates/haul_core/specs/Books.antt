@@ -1,4 +1,4 @@
--- The book: which reports a haul takes, of whatever arrives in whatever order, and what it replies.
+-- The book: which reports a haul takes, whatever arrives and in whatever order, and what it replies.
 use Rattle.std.specs.Prelude.{◌≡◌, ◌==◌, ◌&&◌, ℕ, Bool, true, false, not, List, [], ◌∷◌, filter, map, nat_le}
 use Rattle.std.specs.List.{list_any}
 use Rattle.survey_core.specs.declared.job.Job.{Job}
@@ -9,7 +9,7 @@ use Rattle.survey_core.specs.Jobs.{same_job}
 use Rattle.ranges.specs.Ranges.{is_in}
 use Rattle.haul_core.specs.Reports.{Reported}
 
--- what a haul is opened for: a job, the set of its soup numbers, and how many workers there are
+-- what a haul is opened for: a job, the set of its soup numbers, and the number of workers
 pub record Terms : Type 0 where
   pub job : Job
   pub ranges : List Range
@@ -28,37 +28,39 @@ offered [] = []
 offered (Offer report ∷ more) = report ∷ offered more
 offered (Closing ∷ more) = []
 
--- the job is the haul's, the worker one of its workers, and the number one of its set
+-- the report is of the haul's job, of one of its workers, and of a number in its set
 abbrev pub is_lawful : Terms → Reported → Bool
 is_lawful terms r = same_job terms.job r.job && (nat_le r.worker terms.workers && is_in terms.ranges r.number)
 
--- An offer is eligible if no closing stands before it and it is lawful.
+-- An offer is eligible if there is no closing before it and it is lawful.
 abbrev pub eligible : Terms → List Arrival → List Reported
 eligible terms arrivals = filter (is_lawful terms) (offered arrivals)
 
 abbrev pub has_number : ℕ → Reported → Bool
 has_number n r = n == r.number
 
--- of each number the first report
+-- the first report of each number
 abbrev pub first_of_each : List Reported → List Reported
 first_of_each [] = []
 first_of_each (r ∷ more) = r ∷ filter (λ s. not (has_number r.number s)) (first_of_each more)
 
--- worker and number of a report
+-- the worker and the number of a report
 abbrev pub entry : Reported → ℕ × ℕ
 entry r = (r.worker, r.number)
 
--- An offer is taken if it is eligible and no earlier eligible offer has its number. These are worker and number of each, in order.
+-- An offer is taken if it is eligible and no earlier eligible offer has its number. This lists the worker and the number of each,
+-- in order.
 abbrev pub taken_of : Terms → List Arrival → List (ℕ × ℕ)
 taken_of terms arrivals = map entry (first_of_each (eligible terms arrivals))
 
--- what a haul shows: what it was opened for, whether it is closed, and worker and number of each taken report, in order
+-- what contracts see of a haul: what it was opened for, whether it is closed, and the worker and number of each report taken, in
+-- order
 pub record Held : Type 0 where
   pub terms : Terms
   pub closed : Bool
   pub taken : List (ℕ × ℕ)
 
--- the arrivals stand for the haul: it has taken what the book takes, and is closed if a closing is among them
+-- the arrivals lead to this haul: it has taken what the book takes, and is closed if there is a closing among them
 pub record StandsFor (arrivals : List Arrival) (held : Held) : Type 0 where
   pub taken : held.taken ≡ taken_of held.terms arrivals
   pub closed : held.closed ≡ has_closing arrivals

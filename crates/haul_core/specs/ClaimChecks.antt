@@ -1,4 +1,4 @@
--- What becomes of a claim that is checked: it is compared with the finding that its soup has by definition.
+-- Checking a claim: it is compared with the finding that the definition gives for its soup.
 use Rattle.std.specs.Prelude.{◌≡◌, IfErr, IfOk, MatchResult, Result, true, false}
 use Rattle.memory.specs.Witness.{out_of_memory}
 use Rattle.std.specs.List.{All}
@@ -15,7 +15,7 @@ use Rattle.haul_core.specs.ReportLines.{claim_of, said_of}
 use Rattle.haul_core.specs.LawfulClaims.{Claimed}
 use Rattle.haul_core.specs.Reports.{IsReport, Reported}
 
--- the claim says of the soup what the finding does, in the words of the claim's version: version 1 has no mark
+-- the claim says about the soup what the finding says, in the form of the claim's version: version 1 has no mark
 abbrev pub Agrees : Claimed → Finding → Type 0
 Agrees claim finding = said_of claim.version finding ≡ claim.found
 
@@ -23,20 +23,20 @@ Agrees claim finding = said_of claim.version finding ≡ claim.found
 abbrev pub IsFoundFor : Claimed → Finding → Type 0
 IsFoundFor claim finding = IsFinding claim.job.rule claim.job.profile (soup claim.job.seed claim.number) finding
 
--- the report of a claim of this job that is right
+-- the report of a correct claim of this job
 pub record IsConfirmed (claim : Claimed) (job : Job) (report : Reported) : Type 0 where
   pub same : same_job claim.job job ≡ true
   pub lawful : IsReport report
   pub same_claim : claim_of claim.version report ≡ claim
 
--- when each fault comes
+-- when each error is returned
 abbrev pub Fails : Claimed → Job → CheckError → Type 0
 Fails claim job OtherJob = same_job claim.job job ≡ false
 Fails claim job (Disagrees found) = (same_job claim.job job ≡ true) × (IsFoundFor claim found × ¬ Agrees claim found)
 Fails claim job (Memory error) = same_job claim.job job ≡ true
 
--- What comes of checking a claim for this job. A claim that is right becomes its report, unless memory runs out; every other claim comes
--- back as it was, with the reason.
+-- The result of checking a claim for this job. A correct claim becomes its report, unless memory runs out. Every other claim comes
+-- back unchanged, with the reason.
 pub record IsCheckedClaim (claim : Claimed) (job : Job) (result : Result Reported (Claimed × CheckError)) : Type 0 where
   pub report : IfOk result (IsConfirmed claim job)
   pub complete : (report : Reported) → IsConfirmed claim job report
@@ -44,7 +44,7 @@ pub record IsCheckedClaim (claim : Claimed) (job : Job) (result : Result Reporte
   pub fails : IfErr result (λ refused. Fails claim job refused.1)
   pub kept : IfErr result (λ refused. refused.0 ≡ claim)
 
--- each code of a finding has the shape of one
+-- each code of a finding has the shape of an apgcode
 abbrev pub HaveShape : Finding → Type 0
 HaveShape (Settled checkpoint objects for_good) = All (λ object. HasCodeShape object.0) objects
 HaveShape Unsettled = Unit {0}

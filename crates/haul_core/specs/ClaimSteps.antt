@@ -1,4 +1,4 @@
--- How the line of a claim is read: the head, what the line says of the soup, and then the counts.
+-- How the line of a claim is read: the head, what the line says about the soup, and then the counts.
 use Rattle.std.specs.Prelude.{◌≡◌, ◌≢◌, ◌+◌, ◌++◌, ℕ, List, [], ◌∷◌, Option, None, Some, codes, get_or, take}
 use Rattle.std.specs.Cmp.Lexicographic.{slice_cmp}
 use Rattle.std.specs.Ordering.{nat_cmp}
@@ -18,7 +18,7 @@ abbrev pub said_with : Option WhenSettled → List (List ℕ × ℕ) → Option 
 said_with None counts = None
 said_with (Some at_rest) counts = Some (record { checkpoint = at_rest.checkpoint; for_good = at_rest.for_good; counts = counts })
 
--- what a line with this start and these counts says
+-- the claim of a line with this start and these counts
 abbrev pub claimed : LineStart → List (List ℕ × ℕ) → Claimed
 claimed start counts = record {
   version = start.version;
@@ -37,7 +37,7 @@ abbrev pub FollowsFields : List ℕ → List (List ℕ) → Option (List ℕ) �
 FollowsFields line fields None = IsLineOf fields line
 FollowsFields line fields (Some remainder) = line ≡ followed fields ++ remainder
 
--- the head with what the field at this place says: the fields before it stay
+-- the head with what the field at this place says, and the fields before it unchanged
 pub record HasFilled (place : ℕ) (head more : LineStart) (field : List ℕ) : Type 0 where
   pub lawful : IsClaim (claimed more [])
   pub none : more.settled ≡ None
@@ -53,12 +53,12 @@ pub record IsHead (head : LineStart) : Type 0 where
   pub lawful : IsClaim (claimed head [])
   pub none : head.settled ≡ None
 
--- so many fields of the head have been read
+-- the first `place` fields of the head have been read
 pub record HasHead (line : List ℕ) (place : ℕ) (start : LineStart) (remainder : Option (List ℕ)) : Type 0 where
   pub head : IsHead start
   pub follows : FollowsFields line (take place (head_of (claimed start []))) remainder
 
--- all before the counts has been read; only a soup that settled has counts
+-- everything before the counts has been read; only a soup that settled has counts
 pub record HasReadStart (line : List ℕ) (start : LineStart) (remainder : Option (List ℕ)) : Type 0 where
   pub lawful : IsClaim (claimed start [])
   pub follows : FollowsFields line (fields_of (claimed start [])) remainder
@@ -75,11 +75,11 @@ abbrev pub IsAfter : Option (List ℕ) → List ℕ → Type 0
 IsAfter None code = Unit {0}
 IsAfter (Some last) code = slice_cmp nat_cmp last code ≡ Less
 
--- a count that may stand after this code
+-- a count that may follow this code
 abbrev pub MayFollow : Option (List ℕ) → (List ℕ × ℕ) → Type 0
 MayFollow last object = IsCount object × IsAfter last object.0
 
--- these counts have been read, after all that stands before them
+-- these counts have been read, after everything before them
 pub record HasCounts (line : List ℕ) (start : LineStart) (counts : List (List ℕ × ℕ)) (last remainder : Option (List ℕ)) : Type 0 where
   pub lawful : IsClaim (claimed start counts)
   pub follows : FollowsFields line (fields_of (claimed start counts)) remainder

@@ -1,4 +1,4 @@
--- Which lines are those of claims, and where the first fault of any other line is.
+-- Which lines are lines of claims, and where the first fault of any other line is.
 use Rattle.std.specs.Prelude.{◌≡◌, ◌⊎◌, ◌++◌, ℕ, List, [], ◌∷◌, codes, flat_map, length}
 use Rattle.haul_core.specs.FieldSteps.{Lacks}
 use Rattle.haul_core.specs.HaulTexts.{line_of}
@@ -27,7 +27,8 @@ pub record BeginClaim (fields : List (List ℕ)) : Type 0 where
 abbrev pub followed : List (List ℕ) → List ℕ
 followed fields = flat_map (λ field. field ++ codes " ") fields
 
--- A field begins at the place, and ends at the next space (32) or with the line. Those before it begin a claim, and with it they don't.
+-- A field begins at the place, and ends at the next space (32) or with the line. The fields before it begin a claim, and together
+-- with it they don't.
 pub record IsBadField (line : List ℕ) (place : ℕ) : Type 0 where
   pub before : List (List ℕ)
   pub field : List ℕ
@@ -38,7 +39,7 @@ pub record IsBadField (line : List ℕ) (place : ℕ) : Type 0 where
   pub there : ¬ BeginClaim (before ++ field ∷ [])
   pub is : place ≡ length (followed before)
 
--- The fields of the whole line begin a claim, and a field is missing after them: the place is the line's length.
+-- All fields of the line begin a claim, and a field is missing after them. The place is the line's length.
 pub record LacksField (line : List ℕ) (place : ℕ) : Type 0 where
   pub first : List ℕ
   pub more : List (List ℕ)
@@ -47,15 +48,15 @@ pub record LacksField (line : List ℕ) (place : ℕ) : Type 0 where
   pub short : ¬ IsClaimLine line
   pub is : place ≡ length line
 
--- the first fault of a line from the left
+-- the leftmost fault of a line
 abbrev pub IsFirstFaultOf : List ℕ → ℕ → Type 0
 IsFirstFaultOf line place = IsBadField line place ⊎ LacksField line place
 
--- a line is that of one claim
+-- a line is the line of at most one claim
 abbrev pub LinesHaveOneClaim : Type 0
 LinesHaveOneClaim = (one other : Claimed) → IsClaim one → IsClaim other → claim_line one ≡ claim_line other → one ≡ other
 
--- a line with a fault is that of no lawful claim
+-- a line with a fault is the line of no lawful claim
 abbrev pub FaultyLinesHaveNoClaim : Type 0
 FaultyLinesHaveNoClaim = (line : List ℕ) (place : ℕ) → IsFirstFaultOf line place → ¬ IsClaimLine line
 

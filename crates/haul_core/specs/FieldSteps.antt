@@ -6,12 +6,12 @@ use Rattle.survey_core.specs.Profiles.{Settling}
 abbrev pub Lacks : ℕ → List ℕ → Type 0
 Lacks byte text = list_any (λ b. b == byte) text ≡ false
 
--- a text up to the first such byte, and the text after the byte, if there is one
+-- a text up to the first byte of this value, and the text after that byte, if there is one
 abbrev pub Cuts : ℕ → List ℕ → List ℕ → Option (List ℕ) → Type 0
 Cuts byte text prefix None = (text ≡ prefix) × Lacks byte prefix
 Cuts byte text prefix (Some remainder) = (text ≡ prefix ++ byte ∷ remainder) × Lacks byte prefix
 
--- what a field tells, of those things that may be told; if it tells nothing, it is the field of none of them
+-- the field says this thing; or it is the field of none of the things that are allowed
 abbrev pub Tells : {A : Type 0} → (A → Type 0) → (A → List ℕ) → List ℕ → Option A → Type 0
 Tells MayBe text field None = (a : _) → MayBe a → field ≢ text a
 Tells MayBe text field (Some a) = MayBe a × (field ≡ text a)
@@ -22,15 +22,15 @@ IsNumber n = n < 2 ^ 64
 abbrev pub IsVersion : ℕ → Type 0
 IsVersion n = (n ≡ 1) ⊎ (n ≡ 2)
 
--- both marks may be told
+-- both marks are allowed
 abbrev pub IsAnyMark : Bool → Type 0
 IsAnyMark for_good = Unit {0}
 
--- the numbers that a profile and a checkpoint are made of
+-- the numbers of profiles and checkpoints
 abbrev pub IsSmall : ℕ → Type 0
 IsSmall n = n ≤ 100000
 
--- a number with a `,` (44) after it begins the text; or no such number does
+-- a number and then a `,` (44) begin the text; or no such number does
 abbrev pub BeginsNumber : List ℕ → Option (ℕ × List ℕ) → Type 0
 BeginsNumber text None = (n : ℕ) (remainder : List ℕ) → IsSmall n → text ≢ decimal n ++ 44 ∷ remainder
 BeginsNumber text (Some first) = IsSmall first.0 × (text ≡ decimal first.0 ++ 44 ∷ first.1)
@@ -39,7 +39,7 @@ BeginsNumber text (Some first) = IsSmall first.0 × (text ≡ decimal first.0 ++
 abbrev pub numbers_text : Settling → List ℕ
 numbers_text p = decimal p.period ++ 44 ∷ (decimal p.horizon ++ 44 ∷ (decimal p.stride ++ 44 ∷ decimal p.limit))
 
--- what a line says of a soup after `soup=`: that it didn't settle, or when it did
+-- what a line says about a soup after `soup=`: that it didn't settle, or when it did
 abbrev pub state_field : Option ℕ → List ℕ
 state_field None = codes "unsettled"
 state_field (Some checkpoint) = codes "at=" ++ decimal checkpoint

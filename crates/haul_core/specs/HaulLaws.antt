@@ -1,4 +1,4 @@
--- Laws of censuses: their texts don't depend on the order in which the soups came, and joined hauls add up.
+-- Laws of censuses: their texts don't depend on the order in which the soups arrived, and joined hauls add up.
 use Rattle.std.specs.Prelude.{◌≡◌, ◌+◌, ◌++◌, ℕ, List, [], count_by, nat_eq, option_map, unwrap_or}
 use Rattle.std.specs.List.{find}
 use Rattle.survey_core.specs.shapes.Objects.{is_code}
@@ -12,7 +12,7 @@ use Rattle.haul_core.specs.Missing.{AreAll}
 use Rattle.haul_core.specs.Samples.{AreLeastThree}
 use Rattle.ranges.specs.Ranges.{AreNormal, is_in}
 
--- the ranges give one set
+-- both lists of ranges give the same set
 abbrev pub GiveOneSet : List Range → List Range → Type 0
 GiveOneSet ranges others = (n : ℕ) → is_in ranges n ≡ is_in others n
 
@@ -20,27 +20,27 @@ GiveOneSet ranges others = (n : ℕ) → is_in ranges n ≡ is_in others n
 abbrev pub AreSameNumbers : List ℕ → List ℕ → Type 0
 AreSameNumbers numbers others = (n : ℕ) → count_by (nat_eq n) numbers ≡ count_by (nat_eq n) others
 
--- censuses of one job and set, over the same soups in any order, have one text
+-- censuses of one job and set, over the same soups in any order, have the same text
 abbrev pub SameSoupsPrintTheSame : Type 0
 SameSoupsPrintTheSame = (job : Job) (ranges others : List Range) (numbers more : List ℕ) (one other : Census)
     → AreNormal ranges → AreNormal others → GiveOneSet ranges others → AreSameNumbers numbers more
     → IsCensus job ranges numbers one → IsCensus job others more other → haul_text one ≡ haul_text other
 
--- and so have those over all soups of one job and set
+-- so do censuses over all soups of one job and set
 abbrev pub CompleteHaulsPrintTheSame : Type 0
 CompleteHaulsPrintTheSame = (job : Job) (ranges others : List Range) (numbers more : List ℕ) (one other : Census)
     → AreNormal ranges → AreNormal others → GiveOneSet ranges others → AreAll ranges numbers → AreAll others more
     → IsCensus job ranges numbers one → IsCensus job others more other → haul_text one ≡ haul_text other
 
--- the total in the row of a code: 0 where there is no row
+-- the total in the row of a code: 0 if there is no row
 abbrev pub total_in : List Row → List ℕ → ℕ
 total_in rows code = unwrap_or (option_map (λ row. row.total) (find (λ row. is_code code row.code) rows)) 0
 
--- the samples in the row of a code: none where there is no row
+-- the samples in the row of a code: none if there is no row
 abbrev pub samples_in : List Row → List ℕ → List ℕ
 samples_in rows code = unwrap_or (option_map (λ row. row.samples) (find (λ row. is_code code row.code) rows)) []
 
--- each sum of a census is what two others have together, and its samples are the least three of theirs
+-- each sum of a census is the sum of those of two others, and its samples are the three lowest of theirs
 pub record AddUp (one other both : Census) : Type 0 where
   pub soups : both.soups ≡ one.soups + other.soups
   pub unsettled : both.unsettled ≡ one.unsettled + other.unsettled
@@ -49,7 +49,7 @@ pub record AddUp (one other both : Census) : Type 0 where
   pub totals : (code : List ℕ) → total_in both.rows code ≡ total_in one.rows code + total_in other.rows code
   pub samples : (code : List ℕ) → AreLeastThree (samples_in one.rows code ++ samples_in other.rows code) (samples_in both.rows code)
 
--- the census of a joined haul, over the soups of two of one job, has the sums of theirs
+-- the census of a joined haul, over the soups of two hauls of one job, has their sums
 abbrev pub JoinedHaulsAddUp : Type 0
 JoinedHaulsAddUp = (job : Job) (ranges others all : List Range) (numbers more : List ℕ) (one other both : Census)
     → IsCensus job ranges numbers one → IsCensus job others more other → IsCensus job all (numbers ++ more) both → AddUp one other both

@@ -1,4 +1,4 @@
--- The haul text: what a census says, line by line.
+-- The haul text: a census, line by line.
 use Rattle.std.specs.Prelude.{◌++◌, ℕ, List, [], ◌∷◌, codes, decimal, flat_map, map}
 use Rattle.plane_core.specs.plane.Rules.{rule_text}
 use Rattle.survey_core.specs.Profiles.{Settling}
@@ -23,7 +23,7 @@ line_of_numbers name numbers = line_of name (map decimal numbers)
 abbrev pub profile_line : Settling → List ℕ
 profile_line p = line_of_numbers (codes "@PROFILE") (p.period ∷ p.horizon ∷ p.stride ∷ p.limit ∷ [])
 
--- what was surveyed, and how
+-- the job, and how it is surveyed
 unfoldable pub head_lines : Job → List (List ℕ)
 head_lines job =
     codes "@VERSION 2"
@@ -37,7 +37,7 @@ head_lines job =
 abbrev pub range_line : Range → List ℕ
 range_line range = line_of_numbers (codes "@RANGE") (range.first ∷ range.count ∷ [])
 
--- a line for each range; if there is none, that of an empty range alone
+-- a line for each range; if there are no ranges, the line of an empty range
 abbrev pub range_lines : List Range → List (List ℕ)
 range_lines [] = range_line (record { first = 0; count = 0 }) ∷ []
 range_lines (range ∷ more) = map range_line (range ∷ more)
@@ -51,11 +51,11 @@ sum_lines census =
     ∷ line_of_numbers (codes "@NUM_OBJECTS") (census.objects ∷ [])
     ∷ []
 
--- a code and how many objects have it
+-- a code and the number of objects that have it
 abbrev pub total_line : Row → List ℕ
 total_line row = line_of_numbers row.code (row.total ∷ [])
 
--- a code and the least numbers of soups that left one
+-- a code and the lowest numbers of soups that left one
 abbrev pub sample_line : Row → List ℕ
 sample_line row = line_of_numbers row.code row.samples
 

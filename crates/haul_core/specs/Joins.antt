@@ -13,20 +13,20 @@ pub record AreClosed (a b : Held) : Type 0 where
   pub first : a.closed ≡ true
   pub second : b.closed ≡ true
 
--- nothing but memory can keep the two from being joined
+-- nothing except memory can keep the two from being joined
 pub record CanJoin (a b : Held) : Type 0 where
   pub closed : AreClosed a b
   pub job : same_job a.terms.job b.terms.job ≡ true
   pub apart : ¬ ShareNumber a.terms.ranges b.terms.ranges
 
--- when each fault comes: the first that fits
+-- when each error is returned: the first that fits
 abbrev pub Hinders : Held → Held → JoinError → Type 0
 Hinders a b Open = ¬ AreClosed a b
 Hinders a b OtherJob = AreClosed a b × (same_job a.terms.job b.terms.job ≡ false)
 Hinders a b Overlap = AreClosed a b × (same_job a.terms.job b.terms.job ≡ true) × ShareNumber a.terms.ranges b.terms.ranges
 Hinders a b (Memory error) = CanJoin a b
 
--- the two as one: of the same job and of both sets, closed, with what the first has taken and then what the second has
+-- the two as one: of the same job and of both sets, closed, with what the first has taken and then what the second has taken
 pub record IsJoined (a b joined : Held) : Type 0 where
   pub job : joined.terms.job ≡ a.terms.job
   pub set : IsNormalForm (a.terms.ranges ++ b.terms.ranges) joined.terms.ranges
@@ -34,10 +34,10 @@ pub record IsJoined (a b joined : Held) : Type 0 where
   pub closed : joined.closed ≡ true
   pub taken : joined.taken ≡ a.taken ++ b.taken
 
--- the taken offers of some arrivals
+-- the taken offers among these arrivals
 abbrev pub taken_offers : Terms → List Arrival → List Arrival
 taken_offers terms arrivals = map (λ r. Offer r) (first_of_each (eligible terms arrivals))
 
--- what stands for a joined haul: the taken offers of the first, then those of the second, then a closing
+-- the arrivals of a joined haul: the taken offers of the first, those of the second, and a closing
 abbrev pub joined_arrivals : Terms → List Arrival → Terms → List Arrival → List Arrival
 joined_arrivals a first b second = taken_offers a first ++ (taken_offers b second ++ Closing ∷ [])

@@ -1,4 +1,4 @@
--- What a haul keeps, beside what it shows: the totals over the soups that it has taken.
+-- What a haul keeps, besides what contracts see: the totals over the soups that it has taken.
 use Rattle.std.specs.Prelude.{◌≡◌, ◌<◌, ◌≤◌, ◌^◌, ℕ, All, List, false, map, nat_eq, true}
 use Rattle.std.specs.List.{IsDistinct}
 use Rattle.survey_core.specs.Findings.{objects_in}
@@ -14,11 +14,11 @@ use Rattle.haul_core.specs.Totals.{AreSurveys, Survey, for_good, numbers_with, t
 abbrev pub numbers_in : List (ℕ × ℕ) → List ℕ
 numbers_in taken = map (λ t. t.1) taken
 
--- the least three numbers of soups that left an object with this code
+-- the three lowest numbers of soups that left an object with this code
 abbrev pub samples : List Survey → List ℕ → List ℕ
 samples surveys code = least_three (numbers_with surveys code)
 
--- what the score of a code has to be
+-- the score that a code must have
 abbrev pub score_of : List Survey → List ℕ → Score
 score_of surveys code = record { total = total surveys code; samples = samples surveys code }
 
@@ -28,15 +28,15 @@ pub record Sums : Type 0 where
   pub unsettled : ℕ
   pub for_good : ℕ
 
--- they are those of the surveys
+-- the sums are those of the surveys
 pub record AreSums (surveys : List Survey) (sums : Sums) : Type 0 where
   pub scores : (code : List ℕ) → score_in sums.scores code ≡ score_of surveys code
   pub unsettled_sum : sums.unsettled ≡ unsettled surveys
   pub for_good_sum : sums.for_good ≡ for_good surveys
   pub few : All (λ s. objects_in s.finding < 2 ^ 64) surveys
 
--- what holds of a haul: what it shows, how many numbers its set has, the worker of each number, and its sums; a joined one is closed,
--- and may have more numbers
+-- the invariant of a haul: what contracts see, the size of its set, the worker of each number, and its sums; a joined haul is
+-- closed, and may have more numbers
 pub record KeepsBook (held : Held) (count : ℕ) (workers : List (ℕ × ℕ)) (sums : Sums) : Type 0 where
   pub normal : AreNormal held.terms.ranges
   pub below : AreBelow number_bound held.terms.ranges

@@ -1,4 +1,4 @@
--- What a claim says of a soup, and which claims a report may make.
+-- What a claim says about a soup, and which claims a report may make.
 use Rattle.std.specs.Prelude.{◌≡◌, ◌<◌, ◌≤◌, ◌^◌, ◌⊎◌, ℕ, Bool, List, Option, None, Some}
 use Rattle.std.specs.Cmp.Lexicographic.{slice_cmp}
 use Rattle.std.specs.List.{All}
@@ -12,13 +12,13 @@ use Rattle.survey_core.specs.Seeds.{IsSeed}
 use Rattle.survey_core.specs.declared.job.Job.{Job}
 use Rattle.haul_core.specs.Reports.{IsWorker}
 
--- what a line says of a soup that settled: when, whether for good, if it says so, and how many objects there are of each code
+-- what a line says about a soup that settled: when, whether for good if it says so, and how many objects there are of each code
 pub record SaidOfSoup : Type 0 where
   pub checkpoint : ℕ
   pub for_good : Option Bool
   pub counts : List (List ℕ × ℕ)
 
--- who says what of which soup of a job, and the version of the line that says it; `None` stands for an unsettled soup
+-- who says what about which soup of a job, and the version of the line; `None` means an unsettled soup
 pub record Claimed : Type 0 where
   pub version : ℕ
   pub job : Job
@@ -32,12 +32,12 @@ pub record IsCount (object : List ℕ × ℕ) : Type 0 where
   pub some : 1 ≤ object.1
   pub fits : object.1 < 2 ^ 64
 
--- the mark stands in version 2, and not in version 1
+-- version 2 has the mark, and version 1 doesn't
 abbrev pub IsMark : ℕ → Option Bool → Type 0
 IsMark version None = version ≡ 1
 IsMark version (Some for_good) = version ≡ 2
 
--- what a line may say of a soup that settled; codes stand in ASCII order, each once
+-- what a line may say about a soup that settled; codes are in ASCII order, each once
 pub record IsSaid (version : ℕ) (said : SaidOfSoup) : Type 0 where
   pub checkpoint : said.checkpoint ≤ 100000
   pub mark : IsMark version said.for_good

@@ -5,11 +5,11 @@ use Rattle.ranges.specs.declared.range.Range.{Range}
 use Rattle.haul_core.specs.Keeping.{numbers_in}
 use Rattle.ranges.specs.Ranges.{is_in}
 
--- the numbers of a range: so many, from the first on
+-- the numbers of a range
 abbrev pub numbers_of_range : Range → List ℕ
 numbers_of_range range = range_with_len range.first range.count
 
--- the numbers of the set, range by range: they ascend if the ranges do
+-- the numbers of the set, range by range; they ascend if the ranges do
 abbrev pub numbers_of : List Range → List ℕ
 numbers_of ranges = flat_map numbers_of_range ranges
 
@@ -25,6 +25,6 @@ missing_of ranges taken = filter (λ n. not (is_taken taken n)) (numbers_of rang
 abbrev pub IsComplete : List Range → List (ℕ × ℕ) → Type 0
 IsComplete ranges taken = (n : ℕ) → is_in ranges n ≡ true → is_taken taken n ≡ true
 
--- the numbers are those of the set, each once, in any order
+-- the numbers of the set, each once, in any order
 abbrev pub AreAll : List Range → List ℕ → Type 0
 AreAll ranges numbers = (n : ℕ) → count_by (nat_eq n) numbers ≡ (if is_in ranges n then 1 else 0)

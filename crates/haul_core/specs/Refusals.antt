@@ -21,7 +21,7 @@ abbrev pub double : Option ℕ → Option OfferError
 double None = None
 double (Some worker) = Some (Double worker)
 
--- why an offer that comes after these arrivals is refused, if it is: the first that fits
+-- why an offer after these arrivals is refused, if it is: the first reason that fits
 abbrev pub refusal_of : Terms → List Arrival → Reported → Option OfferError
 refusal_of terms before r =
     if has_closing before then Some Closed
@@ -30,7 +30,7 @@ refusal_of terms before r =
     else if not (is_in terms.ranges r.number) then Some OutOfRange
     else double (first_worker r.number (eligible terms before))
 
--- the reply to an arrival that comes after these
+-- the reply to an arrival after these
 abbrev pub reply_for : Option OfferError → Reply
 reply_for None = Taken
 reply_for (Some reason) = Refused reason
@@ -39,11 +39,11 @@ abbrev pub reply_to : Terms → List Arrival → Arrival → Reply
 reply_to terms before (Offer report) = reply_for (refusal_of terms before report)
 reply_to terms before Closing = if has_closing before then AlreadyClosed else NowClosed
 
--- the replies to some arrivals in order, after those before
+-- the replies to these arrivals in order, after those before
 abbrev pub replies_to : Terms → List Arrival → List Arrival → List Reply
 replies_to terms before [] = []
 replies_to terms before (a ∷ more) = reply_to terms before a ∷ replies_to terms (before ++ a ∷ []) more
 
--- a reply is the book's; or there was no memory for an offer that the book takes
+-- the reply of the book; or there was no memory for an offer that the book takes
 abbrev pub IsReply : Option OfferError → Option OfferError → Type 0
 IsReply given wanted = (given ≡ wanted) ⊎ ((given ≡ Some (Memory out_of_memory)) × (wanted ≡ None))

@@ -1,4 +1,4 @@
--- What a haul answers to an offer, and where a list of arrivals stops because memory ran out.
+-- What a haul answers to an offer, and where a list of arrivals stops if memory runs out.
 use Rattle.std.specs.Prelude.{◌≡◌, ◌≢◌, ◌++◌, ◌⊎◌, ℕ, List, [], ◌∷◌, Option, None, Some, Result, Ok, Err, map, not, nat_eq, nat_lt, if◌then◌else◌}
 use Rattle.std.specs.Map.{lookup}
 use Rattle.memory.specs.Witness.{out_of_memory}
@@ -13,7 +13,7 @@ use Rattle.survey_core.specs.Jobs.{same_job}
 use Rattle.ranges.specs.Ranges.{is_in}
 use Rattle.haul_core.specs.Reports.{Reported}
 
--- the reply that an answer gives
+-- the reply that a result stands for
 abbrev pub reply_of : Result (Unit {0}) Refused → Option OfferError
 reply_of (Ok u) = None
 reply_of (Err refused) = Some refused.reason
@@ -22,7 +22,7 @@ reply_of (Err refused) = Some refused.reason
 abbrev pub IsAnswered : Option OfferError → Type 0
 IsAnswered reply = reply ≢ Some (Memory out_of_memory)
 
--- the worker of whom the number was taken
+-- the worker from whom the number was taken
 abbrev pub worker_in : ℕ → List (ℕ × ℕ) → Option ℕ
 worker_in n taken = lookup (nat_eq n) (map (λ t. (t.1, t.0)) taken)
 
@@ -41,7 +41,7 @@ IsTakenNext terms before [] = ⊥
 IsTakenNext terms before (Offer report ∷ more) = refusal_of terms before report ≡ None
 IsTakenNext terms before (Closing ∷ more) = ⊥
 
--- memory ran out before any arrival came, or for an offer that the book takes: the arrivals before it have come, and no other
+-- memory ran out before any arrival, or for an offer that the book takes: the arrivals before it have arrived, and no others
 pub record StandsForPrefix (before arrivals : List Arrival) (held : Held) : Type 0 where
   pub prefix : List Arrival
   pub remainder : List Arrival

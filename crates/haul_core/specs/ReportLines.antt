@@ -1,4 +1,4 @@
--- Report lines: what a worker says of a soup, in fields with one space between each two.
+-- Report lines: what a worker says about a soup, in fields with one space between each two.
 use Rattle.std.specs.Prelude.{◌==◌, ◌++◌, ℕ, Bool, false, true, List, [], ◌∷◌, Option, None, Some, codes, decimal, map}
 use Rattle.std.specs.Prelude.{if◌then◌else◌}
 use Rattle.plane_core.specs.plane.Rules.{rule_text}
@@ -35,7 +35,7 @@ unfoldable pub mark_fields : Option Bool → List (List ℕ)
 mark_fields None = []
 mark_fields (Some for_good) = mark_field for_good ∷ []
 
--- a code and how many objects have it
+-- a code and the number of objects that have it
 abbrev pub count_field : (List ℕ × ℕ) → List ℕ
 count_field object = object.0 ++ (codes "*" ++ decimal object.1)
 
@@ -48,13 +48,13 @@ found_fields (Some said) = (codes "at=" ++ decimal said.checkpoint) ∷ (mark_fi
 unfoldable pub claim_line : Claimed → List ℕ
 claim_line claim = line_of (codes "report") (head_fields claim ++ found_fields claim.found)
 
--- what a line of a version says of a finding
+-- what a line of a version says about a finding
 abbrev pub said_of : ℕ → Finding → Option SaidOfSoup
 said_of version (Settled checkpoint objects for_good) =
     Some (record { checkpoint = checkpoint; for_good = if version == 1 then None else Some for_good; counts = objects })
 said_of version Unsettled = None
 
--- a report, as a line of a version says it
+-- the claim that a report makes in a line of a version
 abbrev pub claim_of : ℕ → Reported → Claimed
 claim_of version report = record {
   version = version;

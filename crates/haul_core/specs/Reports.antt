@@ -1,4 +1,4 @@
--- Reports: what a worker says of a soup.
+-- Reports: what a worker says about a soup.
 use Rattle.std.specs.Prelude.{◌≡◌, ◌<◌, ◌≤◌, ◌^◌, ℕ}
 use Rattle.survey_core.specs.Findings.{IsFinding, objects_in}
 use Rattle.survey_core.specs.Soups.{soup}
@@ -6,19 +6,19 @@ use Rattle.survey_core.specs.declared.finding.Finding.{Finding}
 use Rattle.survey_core.specs.declared.job.Job.{Job}
 use Rattle.ranges.specs.Ranges.{number_bound}
 
--- who surveyed which soup of a job, and what was found
+-- who surveyed which soup of a job, and the finding
 pub record Reported : Type 0 where
   pub job : Job
   pub worker : ℕ
   pub number : ℕ
   pub finding : Finding
 
--- workers are numbered from 1 to 16: this project's choice
+-- workers are numbered from 1 to 16, which is this project's choice
 pub record IsWorker (worker : ℕ) : Type 0 where
   pub least : 1 ≤ worker
   pub most : worker ≤ 16
 
--- what is reported is the finding of the soup
+-- the finding in a report is that of the soup
 pub record IsReport (report : Reported) : Type 0 where
   pub worker : IsWorker report.worker
   pub number : report.number < number_bound

@@ -12,17 +12,17 @@ use Rattle.haul_core.specs.Totals.{Survey, numbers_with, total}
 abbrev pub codes_of : List Row → List (List ℕ)
 codes_of rows = map (λ row. row.code) rows
 
--- the codes of the rows stand in ASCII order, each once
+-- the codes of the rows are in ASCII order, each once
 abbrev pub AreInOrder : List Row → Type 0
 AreInOrder rows = IsStrictlySortedBy (slice_cmp nat_cmp) (codes_of rows)
 
--- the row says of its code what the surveys do, with the least three soups that have it, and the soups left at least one object with it
+-- the row has the total of its code over the surveys, at least 1, and the three lowest soups that have it
 pub record IsRowOf (surveys : List Survey) (row : Row) : Type 0 where
   pub some : 1 ≤ row.total
   pub total_is : row.total ≡ total surveys row.code
   pub samples_are : AreLeastThree (numbers_with surveys row.code) row.samples
 
--- in ASCII order, a row for each code that the soups left, and no other
+-- in ASCII order, a row for each code that the soups left, and no others
 pub record AreRowsOf (surveys : List Survey) (rows : List Row) : Type 0 where
   pub in_order : AreInOrder rows
   pub each : All (IsRowOf surveys) rows

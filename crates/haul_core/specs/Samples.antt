@@ -1,13 +1,14 @@
--- Samples: the least numbers of a list.
+-- Samples: the lowest numbers of a list.
 use Rattle.std.specs.Prelude.{◌≡◌, ◌≤◌, ◌⊎◌, ◌++◌, ℕ, List, [], ◌∷◌, All, count_by, length, nat_eq}
 
--- no number is less than the one before
+-- no number is lower than the one before
 abbrev pub IsAscending : List ℕ → Type 0
 IsAscending [] = Unit {0}
 IsAscending (x ∷ []) = Unit {0}
 IsAscending (x ∷ y ∷ more) = (x ≤ y) × IsAscending (y ∷ more)
 
--- The least three of some numbers, ascending, or all if there are fewer: with the others, none of which is less, they are these numbers.
+-- The three lowest of these numbers, ascending, or all if there are fewer: together with the others, none of which is lower, they
+-- are the numbers.
 pub record AreLeastThree (numbers least : List ℕ) : Type 0 where
   pub others : List ℕ
   pub all : (n : ℕ) → count_by (nat_eq n) (least ++ others) ≡ count_by (nat_eq n) numbers
@@ -16,6 +17,6 @@ pub record AreLeastThree (numbers least : List ℕ) : Type 0 where
   pub few : length least ≤ 3
   pub three : (length least ≡ 3) ⊎ (others ≡ [])
 
--- some numbers have one list of their least three
+-- a list of numbers has one list of its three lowest
 abbrev pub LeastThreeAreDetermined : Type 0
 LeastThreeAreDetermined = (numbers one other : List ℕ) → AreLeastThree numbers one → AreLeastThree numbers other → one ≡ other

@@ -1,4 +1,4 @@
--- How totals are kept: a score for each code, in the order in which codes came.
+-- How totals are kept: a score for each code, in the order in which the codes came.
 use Rattle.std.specs.Prelude.{◌≡◌, ◌+◌, ◌++◌, ℕ, All, IsSome, List, [], Option, None, Some, nat_eq, take, unwrap_or}
 use Rattle.std.specs.Cmp.Lexicographic.{pointwise}
 use Rattle.std.specs.Map.{lookup}
@@ -11,7 +11,7 @@ use Rattle.haul_core.specs.SampleSteps.{with_each, with_number}
 abbrev pub no_score : Score
 no_score = record { total = 0; samples = [] }
 
--- the score of a code, and what it has: nothing where there is no score
+-- the score of a code, or nothing if it has none
 abbrev pub found_score : List (List ℕ × Score) → List ℕ → Option Score
 found_score scores code = lookup (pointwise nat_eq code) scores
 
@@ -21,7 +21,7 @@ HasScore scores code = IsSome (found_score scores code)
 abbrev pub score_in : List (List ℕ × Score) → List ℕ → Score
 score_in scores code = unwrap_or (found_score scores code) no_score
 
--- a score after a soup with so many objects
+-- a score after one more soup that left this many objects
 abbrev pub added : Option ℕ → ℕ → Score → Score
 added None number score = score
 added (Some count) number score = record { total = score.total + count; samples = take 3 (with_number number score.samples) }
@@ -30,13 +30,13 @@ added (Some count) number score = record { total = score.total + count; samples 
 abbrev pub together : Score → Score → Score
 together t u = record { total = t.total + u.total; samples = with_each t.samples u.samples }
 
--- some scores have come, with nothing in them
+-- scores were added that have nothing in them
 pub record Extends (old new : List (List ℕ × Score)) : Type 0 where
   pub more : List (List ℕ × Score)
   pub is : new ≡ old ++ more
   pub blank : All (λ score. score.1 ≡ no_score) more
 
--- how many objects a finding has of a code, if it has any
+-- how many objects of a code a finding has, if it has any
 abbrev pub found_in : List ℕ → Finding → Option ℕ
 found_in code (Settled checkpoint objects for_good) = lookup (is_code code) objects
 found_in code Unsettled = None

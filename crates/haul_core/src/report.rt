@@ -1,5 +1,5 @@
-//! A report on a soup, and the line that tells it. A line that is read may say anything within its limits: it is a
-//! claim, and a report only once the soup was run again.
+//! Reports on soups, and their lines. A line that is read may say anything within its limits. It is a claim, and
+//! becomes a report only when the soup was run again.
 //!
 //! ```text
 //!           write                  read                check
@@ -21,24 +21,39 @@ pub mod write;
 
 use memory::OutOfMemory;
 use std::alloc::Global;
+use std::fmt;
 use std::marker::Model;
 use survey_core::finding::Finding;
 use survey_core::job::Job;
 use survey_core::surveyor::Surveyor;
 use thiserror::Error;
 
-/// The most workers that a haul may have: as many threads as most machines run at a time. They are numbered from 1.
+/// The most workers of a haul: as many threads as most machines run at a time. Workers are numbered from 1.
 pub(crate) const MOST_WORKERS: u8 = 16;
 
 /// Why no report was made.
-#[derive(Clone, Copy, Debug, PartialEq, Eq, Error)]
+#[derive(Clone, Copy, PartialEq, Eq, Error)]
 pub enum ReportError {
-    /// The worker is not 1 to 16.
-    #[error("bad worker")]
+    /// The worker isn't from 1 to 16.
     BadWorker,
     /// Memory ran out.
-    #[error("out of memory")]
     Memory(OutOfMemory),
+}
+
+impl fmt::Display for ReportError {
+    fn fmt<W: fmt::Write>(&self, f: &mut fmt::Formatter<W>) -> fmt::Result {
+        f.write_str(match self {
+            ReportError::BadWorker => "bad worker",
+            ReportError::Memory(_) => "out of memory",
+        })
+    }
+}
+
+/// Shows the message, as `Display` does.
+impl fmt::Debug for ReportError {
+    fn fmt<W: fmt::Write>(&self, f: &mut fmt::Formatter<W>) -> fmt::Result {
+        fmt::Display::fmt(self, f)
+    }
 }
 
 impl<E: Into<OutOfMemory>> From<E> for ReportError {
@@ -49,9 +64,9 @@ impl<E: Into<OutOfMemory>> From<E> for ReportError {
     }
 }
 
-/// What a worker reports of a soup: the job, the worker, the soup's number, and its finding.
+/// What a worker reports about a soup: the job, the worker, the soup's number, and its finding.
 ///
-/// Whatever made a report, its finding is the one that its job and number have by definition.
+/// However a report was made, its finding is the one that the definition gives for its job and number.
 #[derive(Debug, Drop)]
 pub struct Report {
     job: Job,
@@ -72,11 +87,11 @@ impl Model for Report {
 }
 
 impl Report {
-    /// Surveys soup `number` of the job, for this worker. The number is below 2^40.
+    /// Surveys soup `number` of the job, for this worker. The number has to be below 2^40.
     ///
     /// # Errors
     ///
-    /// - [`ReportError::BadWorker`] if the worker is not 1 to 16.
+    /// - [`ReportError::BadWorker`] if the worker isn't from 1 to 16.
     /// - [`ReportError::Memory`] if memory runs out.
     pub fn make(alloc: Global, job: &Job, worker: u8, number: u64) -> Result<Report, ReportError>
         requires { number < number_bound }
@@ -87,7 +102,8 @@ impl Report {
         Report::make_by(alloc, &mut surveyor, job, worker, number)
     }
 
-    /// Makes the report that [`make`](Report::make) makes, by a surveyor that may have seen other soups. It is faster.
+    /// Makes the report that [`make`](Report::make) makes, with a surveyor that may have surveyed other soups. This is
+    /// faster.
     ///
     /// # Errors
     ///
@@ -115,14 +131,14 @@ impl Report {
         })
     }
 
-    /// The job.
+    /// Returns the job.
     pub fn job(&self) -> Job
         ensures { result ≡ self.now.job }
     {
         self.job
     }
 
-    /// The worker, 1 to 16.
+    /// Returns the worker, 1 to 16.
     pub fn worker(&self) -> u8
         ensures worker { result ≡ self.now.worker }
         ensures report { IsReport self.now }
@@ -130,7 +146,7 @@ impl Report {
         self.worker
     }
 
-    /// The number of the soup, below 2^40.
+    /// Returns the number of the soup, below 2^40.
     pub fn number(&self) -> u64
         ensures number { result ≡ self.now.number }
         ensures report { IsReport self.now }
@@ -138,7 +154,7 @@ impl Report {
         self.number
     }
 
-    /// The finding of the soup.
+    /// Returns the finding of the soup.
     pub fn finding(&self) -> &Finding
         ensures finding { result.now ≡ self.now.finding }
         ensures report { IsReport self.now }
@@ -146,7 +162,7 @@ impl Report {
         &self.finding
     }
 
-    /// Gives the finding up.
+    /// Returns the finding, and drops the rest.
     pub(crate) fn into_finding(self) -> Finding
         ensures { result ≡ self.finding }
     {
@@ -154,7 +170,7 @@ impl Report {
     }
 }
 
-/// Whether a worker may have this number.
+/// Checks whether a worker may have this number.
 pub(crate) fn is_worker(worker: u8) -> bool
     ensures { IsTrue result ↔ IsWorker worker }
 {

@@ -81,7 +81,7 @@ fn offers(alloc: Global, job: &Job, count: u32) -> Result<Vec<Arrival>, Fail> {
     Ok(offers)
 }
 
-/// A haul of this job and of so many soups, all of which were offered in one call.
+/// Returns a haul of this job and of `count` soups, all of which were offered in one call.
 pub(crate) fn whole_haul(alloc: Global, job: Job, count: u32) -> Result<Haul, Fail> {
     let offers = offers(alloc, &job, count)?;
     let mut haul = Haul::open(alloc, job, &[range(0, u64::from(count))], 1)?;

@@ -25,7 +25,7 @@ fn haul_of(alloc: Global, job: &Job, number: u32) -> Result<Haul, OpenError> {
     Ok(closed(haul))
 }
 
-// What the two leave was found by a program in another language, written from the definitions alone.
+// What the two leave was computed by a program in another language that was written only from the definitions.
 #[test]
 fn joins_hauls_that_have_objects(rt: HostRuntime) -> Result<(), Fail> {
     let job = standard_job()?;

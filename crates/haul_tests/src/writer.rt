@@ -14,7 +14,7 @@ use std::io;
 use std::io::{ErrorKind, Write};
 use std::test::Fail;
 
-// It takes so many bytes, and then fails.
+// A writer that takes a number of bytes, and then fails.
 #[derive(Drop)]
 struct Short {
     taken: Vec<u8>,
@@ -44,7 +44,7 @@ fn out_with_room(alloc: Global, room: usize) -> Out<Short>
     Out::new(Short { taken, room })
 }
 
-/// Whether so many bytes of the text were taken, and no other.
+/// Checks whether exactly the first `room` bytes of the text were taken.
 fn has_prefix(out: Out<Short>, room: usize, text: &[u8]) -> bool {
     let taken = out.into_inner().taken;
     taken.len() == room && text.starts_with(taken.as_slice())
@@ -76,7 +76,7 @@ fn two_of_four(alloc: Global) -> Result<Census, Fail> {
     Ok(census?)
 }
 
-/// Whether the haul text of a census stops after so many bytes.
+/// Checks whether the haul text of a census stops after `room` bytes.
 fn haul_stops(alloc: Global, census: &Census, room: usize) -> bool {
     let mut out = out_with_room(alloc, room);
     let stopped = write_haul(census, &mut out).is_err();
@@ -94,7 +94,7 @@ fn a_haul_text_stops_where_the_writer_does(rt: HostRuntime) -> Result<(), Fail> 
 
 const UNSETTLED: &[u8] = b"report 2 rule=b3s23 profile=1,1,1,0 seed= worker=2 soup=0 unsettled\n";
 
-/// Whether the line of a report stops after so many bytes.
+/// Checks whether the line of a report stops after `room` bytes.
 fn line_stops(alloc: Global, report: &Report, room: usize) -> bool {
     let mut out = out_with_room(alloc, room);
     let stopped = write_report_line(report, &mut out).is_err();

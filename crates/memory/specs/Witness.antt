@@ -1,7 +1,7 @@
--- Evidence that memory was refused.
+-- The witness that memory was refused.
 use Rattle.std.specs.Prelude.{alloc_error}
 use Rattle.memory.specs.declared.OutOfMemory.{OutOfMemory}
 
--- memory was refused: all a witness of it is equal
+-- memory was refused: all witnesses of it are equal
 pub out_of_memory : OutOfMemory
 out_of_memory = record { refused = alloc_error }

@@ -1,7 +1,8 @@
 //! Out of memory, as a witness.
 //!
-//! No contract refuses a body that gives up with 'out of memory' while there is some. So an [`OutOfMemory`] can't be made
-//! by hand: its one field is private, and each call here that makes one takes what the library gave when it refused.
+//! No contract refuses a body that reports "out of memory" while there is some. So no code here makes an
+//! [`OutOfMemory`] by itself: its one field is private, and each call that makes one takes the error that the library
+//! returned when it refused memory.
 #![tactic(auto)]
 
 ghost use Rattle.std.specs.Prelude.{◌≡◌};
@@ -10,15 +11,27 @@ ghost use Rattle.std.specs.declared.io.ErrorKind.TheVariants as ErrorKind;
 ghost use Rattle.memory.specs.Witness.{out_of_memory};
 
 use std::alloc::{AllocError, AllocFailed};
-use std::io;
 use std::thread::SpawnError;
+use std::{fmt, io};
 use thiserror::Error;
 
-/// Memory was refused. Who holds one got it from a call that was refused memory.
-#[derive(Clone, Copy, Debug, PartialEq, Eq, Error)]
-#[error("out of memory")]
+/// The witness that a call was refused memory.
+#[derive(Clone, Copy, PartialEq, Eq, Error)]
 pub struct OutOfMemory {
     refused: AllocError,
+}
+
+impl fmt::Display for OutOfMemory {
+    fn fmt<W: fmt::Write>(&self, f: &mut fmt::Formatter<W>) -> fmt::Result {
+        f.write_str("out of memory")
+    }
+}
+
+/// Shows the message, as `Display` does.
+impl fmt::Debug for OutOfMemory {
+    fn fmt<W: fmt::Write>(&self, f: &mut fmt::Formatter<W>) -> fmt::Result {
+        fmt::Display::fmt(self, f)
+    }
 }
 
 impl From<AllocError> for OutOfMemory {
@@ -29,7 +42,7 @@ impl From<AllocError> for OutOfMemory {
     }
 }
 
-/// For a value that found no room. It is dropped.
+/// Takes the witness from a value that found no room. The value is dropped.
 impl<T: Drop> From<AllocFailed<T>> for OutOfMemory {
     ghost from_gives = { λ _ e. e ≡ out_of_memory };
 
@@ -52,7 +65,7 @@ impl OutOfMemory {
         }
     }
 
-    /// Returns the closure for which no thread could be started, and the witness that there was no room for one.
+    /// Returns the closure for which no thread could be started, and the witness that there was no memory for one.
     pub fn of_start<F>(failed: SpawnError<F>) -> (F, OutOfMemory)
         ensures closure { result.0 ≡ failed.value }
         ensures witness { result.1 ≡ out_of_memory }

@@ -27,11 +27,11 @@ refusal_line (BadList place) = codes "census: bad range list at " ++ decimal pla
 refusal_line RangeTooLarge = codes "census: range too large\n"
 refusal_line RangesOverlap = codes "census: ranges overlap\n"
 
--- the line of a write that failed
+-- the line of a failed write
 abbrev pub write_failed_line : List ℕ
 write_failed_line = codes "census: write failed\n"
 
--- the line of a complaint: an input that is too long is reported as a read that failed
+-- the line of a complaint: an input that is too long is reported as a failed read
 abbrev pub complaint_line : Complaint → List ℕ
 complaint_line (Refused refusal) = refusal_line refusal
 complaint_line (Memory error) = codes "census: out of memory\n"
@@ -39,7 +39,7 @@ complaint_line (ReadFailed error) = codes "census: read failed\n"
 complaint_line TooLong = codes "census: read failed\n"
 complaint_line (WriteFailed error) = write_failed_line
 
--- the line of how many soups are missing
+-- the line about the number of missing soups
 abbrev pub missing_line : ℕ → List ℕ
 missing_line missing = codes "census: incomplete, " ++ decimal missing ++ codes " missing\n"
 

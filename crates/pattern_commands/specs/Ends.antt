@@ -1,4 +1,4 @@
--- How a command ends: every one by the same rule.
+-- How a command ends: all commands end by the same rule.
 pub use Rattle.pattern_commands.specs.Reached.{Outcome, Reaches}
 use Rattle.std.specs.Prelude.{◌≡◌, ℕ, zero, suc, true, false, List, [], Option, Ok, Err}
 use Rattle.pattern_commands.specs.declared.status.Status.{Status}
@@ -7,7 +7,7 @@ use Rattle.pattern_commands.specs.Complaints.{complaint_line, missing_line, stat
 use Rattle.pattern_commands.specs.Streams.{Stream, Has, HasLine}
 use Rattle.pattern_commands.specs.Behaviours.{Behaviour}
 
--- the last line of standard error: how many soups are missing, or the complaint; and none if all was done
+-- the last line of standard error: the number of missing soups, or the complaint, or nothing if all was done
 abbrev pub last_line : Outcome → List ℕ
 last_line (Ok zero) = []
 last_line (Ok (suc n)) = missing_line (suc n)
@@ -18,13 +18,13 @@ status_after (Ok zero) = statuses.Done
 status_after (Ok (suc n)) = statuses.Incomplete
 status_after (Err complaint) = status_of complaint
 
--- the last line was added to standard error, or a prefix of it where a write failed
+-- the last line was added to standard error, or a prefix of it if a write failed
 abbrev pub HasLast : Outcome → Stream → Type 0
 HasLast (Ok zero) errors = Has errors [] × (errors.failed ≡ false)
 HasLast (Ok (suc n)) errors = HasLine errors (missing_line (suc n))
 HasLast (Err complaint) errors = HasLine errors (complaint_line complaint)
 
--- How a command of this behaviour ends on an input: `so_far` is standard error before its last line.
+-- How a command of this behaviour ends on an input. `so_far` is standard error before the last line.
 pub record Ends (behaviour : Behaviour) (reader : Option (List ℕ)) (bytes : List ℕ) (status : Status) (output errors : Stream) : Type 0 where
   pub outcome : Outcome
   pub so_far : Stream

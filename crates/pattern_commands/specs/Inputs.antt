@@ -1,4 +1,4 @@
--- What the rule texts and the inputs of commands stand for, and the complaints about them.
+-- What the rule texts and inputs of commands mean, and the complaints about them.
 use Rattle.std.specs.Prelude.{◌≡◌, ℕ, ◌^◌, true, List, length, nat_le, Result, Ok, Err, if◌then◌else◌}
 use Rattle.std.specs.Result.{result_map_both}
 use Rattle.plane_core.specs.declared.plane.cell.Cell.{Cell}
@@ -46,21 +46,22 @@ input_complaint (input_error.Unreadable failed) = ReadFailed failed
 input_complaint input_error.TooLong = TooLong
 input_complaint (input_error.Memory refused) = Memory refused
 
--- the rule that a text names
+-- the rule with this text
 abbrev pub rule_named : List ℕ → Result Numbers Complaint
 rule_named text = result_map_both (λ rule. rule) rule_complaint (rule_read text)
 
--- the pattern of an input, which is not looked at where it is longer than 2^24 bytes
+-- the pattern of an input, which is refused if it is longer than 2^24 bytes
 abbrev pub pattern_of : List ℕ → Result (List Cell) Complaint
 pattern_of bytes = if nat_le (length bytes) (2 ^ 24)
     then result_map_both (λ cells. cells) pattern_complaint (pattern bytes)
     else Err TooLong
 
--- the cells lie in the 999 columns and rows on each side of the origin, as do all that are read
+-- the cells are within 999 columns and rows of the origin, as in all patterns that are read
 abbrev pub LiesWithin999 : List Cell → Type 0
 LiesWithin999 cells = lies_within 999 cells ≡ true
 
--- a call that reads a value gives it, refuses its text or says that it is too long, or ends because memory runs out or a read fails
+-- a call that reads a value returns it, refuses its text or says that it is too long, or ends because memory runs out or a read
+-- fails
 abbrev pub Reads : {A : Type 0} → Result A Complaint → Result A Complaint → Type 0
 Reads answer (Ok x) = answer ≡ Ok x
 Reads answer (Err (Refused refusal)) = answer ≡ Err (Refused refusal)

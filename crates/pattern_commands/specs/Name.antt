@@ -12,25 +12,25 @@ use Rattle.pattern_commands.specs.Inputs.{pattern_of, rule_named}
 use Rattle.pattern_commands.specs.Profiles.{profile_named}
 use Rattle.pattern_commands.specs.Behaviours.{Behaviour, text_behaviour}
 
--- a code and how many objects have it, as a line
+-- a code and the number of objects that have it, as a line
 abbrev pub object_line : List ℕ × ℕ → List ℕ
 object_line object = object.0 ++ (codes " " ++ decimal object.1 ++ codes "\n")
 
--- a finding in lines: the generation of the checkpoint, and a line for each code
+-- the lines of a finding: the checkpoint, and a line for each code
 abbrev pub finding_text : Finding → List ℕ
 finding_text (Settled checkpoint objects for_good) = codes "settled " ++ decimal checkpoint ++ codes "\n" ++ flat_map object_line objects
 finding_text Unsettled = codes "unsettled\n"
 
--- an answer that tells the finding of a pattern
+-- an answer that states the finding of a pattern
 abbrev pub TellsFinding : Numbers → Settling → List Cell → Right
 TellsFinding rule profile cells answer = (finding : Finding) × IsFinding rule profile cells finding × only (Ok (finding_text finding)) answer
 
--- the finding of the pattern; the profile is looked at first, then the rule and then the input
+-- the finding of the pattern; first the profile is checked, then the rule and then the input
 abbrev pub name_right : ProfileNumbers → List ℕ → List ℕ → Right
 name_right numbers rule_text bytes =
     IsRightGiven (profile_named numbers) (λ profile. IsRightGiven (rule_named rule_text) (λ rule. IsRightGiven (pattern_of bytes) (TellsFinding rule profile)))
 
--- to write the finding of the input's pattern; the input is looked at if the profile and the rule are fine
+-- to write the finding of the input's pattern; the input is read if the profile and the rule are valid
 abbrev pub name_behaviour : ProfileNumbers → List ℕ → Behaviour
 name_behaviour numbers rule_text =
     text_behaviour (is_ok (profile_named numbers) && is_ok (rule_named rule_text)) true (λ bytes. name_right numbers rule_text bytes)

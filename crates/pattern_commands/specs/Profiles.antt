@@ -18,6 +18,6 @@ pub record AreInRange (numbers : ProfileNumbers) : Type 0 where
 abbrev pub settling : ProfileNumbers → Settling
 settling n = record { period = n.period; horizon = n.horizon; stride = n.stride; limit = n.limit }
 
--- the profile that four numbers name: what can be wrong with numbers in range is a horizon below the period
+-- the profile with these four numbers; if they are in range, only a horizon below the period is wrong
 abbrev pub profile_named : ProfileNumbers → Result Settling Complaint
 profile_named numbers = if nat_le numbers.period numbers.horizon then Ok (settling numbers) else Err (Refused HorizonBelowPeriod)

@@ -5,11 +5,11 @@ use Rattle.pattern_commands.specs.declared.complaint.Complaint.TheVariants.{Refu
 use Rattle.pattern_commands.specs.Streams.{Stream, Has, HasPrefix}
 use Rattle.pattern_commands.specs.Behaviours.{Made, Makes, NeedsMemoryAlone, Behaviour, text_made}
 
--- how many soups are missing after a command, or its complaint
+-- the number of missing soups after a command, or its complaint
 abbrev pub Outcome : Type 0
 Outcome = Result ℕ Complaint
 
--- what was made was written to both streams, whole; so many soups are missing
+-- what was produced was written to both streams completely, and this many soups are missing
 pub record IsPrinted (right : Makes) (missing : ℕ) (output errors : Stream) : Type 0 where
   pub made : Made
   pub is : right (Ok made)
@@ -25,28 +25,28 @@ pub record IsSilent (output errors : Stream) : Type 0 where
   pub silent : Has errors []
   pub fine : errors.failed ≡ false
 
--- The input was cut off: nothing was written to standard output, and standard error has the diagnostics on its beginning.
+-- The input ended early: nothing was written to standard output, and standard error has the diagnostics about its beginning.
 pub record IsCutOff (behaviour : Behaviour) (reader : Option (List ℕ)) (output errors : Stream) : Type 0 where
   pub reads : behaviour.reads ≡ true
   pub begun : behaviour.begins reader errors.before errors.after
   pub nothing : Has output []
   pub fine : errors.failed ≡ false
 
--- what stands on standard output if memory ran out: nothing of a text that is whole before it is written, and else a prefix of each
--- right one
+-- standard output if memory ran out: nothing of a text that is complete before it is written, and otherwise a prefix of each right
+-- text
 abbrev pub LeavesPart : Bool → Makes → Stream → Type 0
 LeavesPart true right output = Has output []
 LeavesPart false right output = (answer : Result Made Complaint) → right answer → HasPrefix output (text_made answer)
 
--- memory ran out: over the input, or before it was looked at
+-- memory ran out, over the input or before it was read
 pub record HasRunOutOfMemory (behaviour : Behaviour) (reader : Option (List ℕ)) (bytes : List ℕ) (output errors : Stream) : Type 0 where
   pub hides : behaviour.refuses ≡ false → NeedsMemoryAlone (behaviour.right bytes)
   pub left : LeavesPart behaviour.whole (behaviour.right bytes) output
   pub diagnostics : Has errors [] ⊎ behaviour.begins reader errors.before errors.after
   pub fine : errors.failed ≡ false
 
--- What was written if a write of the text failed. Of a text that was whole before that: a front, and all diagnostics. One that is
--- written as it is made isn't known to its end: then a prefix of each right text, and no complaint is right.
+-- What was written if a write of the text failed. If the text was complete before: a prefix of it, and all diagnostics. If it is
+-- written as it is made, its end isn't known: a prefix of each right text, and no complaint is right.
 abbrev pub WritesBeginning : Bool → Makes → Stream → Stream → Type 0
 WritesBeginning true right output errors = (made : Made) × right (Ok made) × HasPrefix output made.text × Has errors made.diagnostics
 WritesBeginning false right output errors = ((complaint : Complaint) → right (Err complaint) → ⊥)
@@ -58,14 +58,13 @@ pub record IsCutShort (behaviour : Behaviour) (bytes : List ℕ) (output errors 
   pub cut : output.failed ≡ true
   pub fine : errors.failed ≡ false
 
--- the diagnostics on the input were not written whole
+-- the diagnostics about the input were not written completely
 pub record IsUntold (behaviour : Behaviour) (output errors : Stream) : Type 0 where
   pub tells : behaviour.may_tell
   pub nothing : Has output []
   pub cut : errors.failed ≡ true
 
--- What stands on the streams before the last line of standard error. A refusal is a right answer, and so is an input that is
--- too long.
+-- The streams before the last line of standard error. A refusal is a right answer, and so is that the input is too long.
 abbrev pub Reaches : Behaviour → Option (List ℕ) → List ℕ → Outcome → Stream → Stream → Type 0
 Reaches behaviour reader bytes (Ok missing) output errors = IsPrinted (behaviour.right bytes) missing output errors
 Reaches behaviour reader bytes (Err (Refused refusal)) output errors = behaviour.right bytes (Err (Refused refusal)) × IsSilent output errors

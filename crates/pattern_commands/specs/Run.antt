@@ -6,11 +6,11 @@ use Rattle.pattern_commands.specs.Answers.{Answer, given, only}
 use Rattle.pattern_commands.specs.Inputs.{rule_named, pattern_of}
 use Rattle.pattern_commands.specs.Behaviours.{Behaviour, text_behaviour}
 
--- the plaintext of the pattern after n generations; the rule is looked at first, and then the input
+-- the plaintext of the pattern after n generations; first the rule is checked, and then the input
 abbrev pub run_answer : List ℕ → ℕ → List ℕ → Answer
 run_answer rule_text n bytes =
     given (rule_named rule_text) (λ rule. given (pattern_of bytes) (λ cells. Ok (plain (after rule cells n))))
 
--- to run the pattern of the input for n generations; the input is looked at if the rule is one
+-- to run the pattern of the input for n generations; the input is read if the rule is valid
 abbrev pub run_behaviour : List ℕ → ℕ → Behaviour
 run_behaviour rule_text n = text_behaviour (is_ok (rule_named rule_text)) true (λ bytes. only (run_answer rule_text n bytes))

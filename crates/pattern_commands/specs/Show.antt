@@ -30,7 +30,7 @@ parted code = if nat_lt (position_or_len is_separator code) (length code)
 abbrev pub is_kind : ℕ → Bool
 is_kind b = b == 115 || (b == 112 || b == 113)
 
--- one digit at least, and nothing but digits
+-- only digits, and at least one
 abbrev pub is_number : List ℕ → Bool
 is_number digits = not (length digits == 0) && list_all is_ascii_digit digits
 
@@ -40,11 +40,11 @@ is_prefix [] = false
 is_prefix (x ∷ []) = false
 is_prefix (x ∷ kind ∷ number) = x == 120 && (is_kind kind && is_number number)
 
--- the text after a right prefix
+-- the text after a valid prefix
 abbrev pub after_prefix : List ℕ × List ℕ → Result (List ℕ) Complaint
 after_prefix (prefix, text) = if is_prefix prefix then Ok text else Err (Refused NotACode)
 
--- a code that has no `_` is a text itself
+-- a code without `_` is a text itself
 abbrev pub text_or_part : List ℕ → Option (List ℕ × List ℕ) → Result (List ℕ) Complaint
 text_or_part code None = Ok code
 text_or_part code (Some parts) = after_prefix parts
@@ -69,10 +69,10 @@ reader_complaint (error.Memory refused) = Memory refused
 abbrev pub shown : List ℕ → Result (List Cell) Complaint
 shown text = result_map_both (λ cells. cells) wechsler_complaint (wechsler_read text)
 
--- the plaintext of the object that the code names
+-- the plaintext of the object of a code
 abbrev pub show_answer : List ℕ → Answer
 show_answer code = given (text_in code) (λ text. given (shown text) (λ cells. Ok (plain cells)))
 
--- to write the object that a code names
+-- to write the object of a code
 abbrev pub show_behaviour : List ℕ → Behaviour
 show_behaviour code = text_behaviour false true (λ bytes. only (show_answer code))

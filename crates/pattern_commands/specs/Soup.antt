@@ -17,7 +17,7 @@ abbrev pub seed_complaint : SeedFault → Complaint
 seed_complaint error.TooLong = Refused SeedTooLong
 seed_complaint (error.BadByte place) = Refused (SeedBadByte place)
 
--- the seed that a text names
+-- the seed with this text
 abbrev pub seed_named : List ℕ → Result (List ℕ) Complaint
 seed_named text = result_map_both (λ seed. seed) seed_complaint (seed_read text)
 

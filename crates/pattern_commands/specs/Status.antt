@@ -1,9 +1,9 @@
--- The numbers that the process ends with.
+-- The exit codes.
 use Rattle.std.specs.Prelude.{ℕ, Bool, true, false}
 use Rattle.pattern_commands.specs.declared.status.Status.{Status}
 use Rattle.pattern_commands.specs.declared.status.Status.TheVariants.{Done, Usage, Refused, Memory, Failed, Incomplete}
 
--- the process's number for a status
+-- the exit code of a status
 abbrev pub exit_code : Status → ℕ
 exit_code Done = 0
 exit_code Usage = 2
@@ -12,7 +12,7 @@ exit_code Memory = 4
 exit_code Failed = 5
 exit_code Incomplete = 6
 
--- a command with this status printed its whole text: it was done, maybe but for soups that are missing
+-- a command with this status has printed its whole text: it was done, perhaps with soups missing
 abbrev pub has_printed : Status → Bool
 has_printed Done = true
 has_printed Incomplete = true

@@ -1,4 +1,4 @@
--- How commands that give a text alone get there.
+-- Steps of the commands that print only a text.
 use Rattle.std.specs.Prelude.{◌≡◌, Bool, true, false, ℕ, List, [], Result, Ok, Err}
 use Rattle.pattern_commands.specs.declared.complaint.Complaint.{Complaint}
 use Rattle.pattern_commands.specs.declared.complaint.Complaint.TheVariants.{Refused, Memory, ReadFailed, TooLong, WriteFailed}
@@ -10,7 +10,7 @@ use Rattle.pattern_commands.specs.Streams.{Stream, Has, HasPrefix}
 abbrev pub TextOutcome : Type 0
 TextOutcome = Result (Unit {0}) Complaint
 
--- a text leaves no soup missing
+-- no soup is missing after a text
 abbrev pub none_missing : TextOutcome → Outcome
 none_missing (Ok _) = Ok 0
 none_missing (Err complaint) = Err complaint
@@ -23,7 +23,7 @@ HasRight right output = (text : List ℕ) × right (Ok text) × Has output text
 abbrev pub HasPrefixOfRight : Right → Stream → Type 0
 HasPrefixOfRight right output = (text : List ℕ) × right (Ok text) × HasPrefix output text
 
--- what is there of a text when a write failed, by whether the text was whole before it was written
+-- how much of a text was written when a write failed, depending on whether the text was complete before
 abbrev pub LeavesTextPrefix : Bool → Right → Stream → Type 0
 LeavesTextPrefix true right output = HasPrefixOfRight right output
 LeavesTextPrefix false right output =
@@ -34,7 +34,7 @@ abbrev pub LeavesTextPart : Bool → Right → Stream → Type 0
 LeavesTextPart true right output = Has output []
 LeavesTextPart false right output = (answer : Answer) → right answer → HasPrefix output (output_text answer)
 
--- what stands on standard output after the text of a right answer was to be written to it
+-- standard output after the text of a right answer was to be written to it
 abbrev pub ReachesText : Bool → Bool → Right → TextOutcome → Stream → Type 0
 ReachesText reads whole right (Ok _) output = HasRight right output × (output.failed ≡ false)
 ReachesText reads whole right (Err (Memory error)) output =

@@ -1,4 +1,4 @@
-//! Why a command did not do all that was asked, and the line and the status that say so.
+//! Why a command didn't do all that was asked, and the line and the status that say so.
 
 ghost use Rattle.std.specs.Prelude.{◌≡◌, false};
 ghost use Rattle.plane_core.specs.Outputs.{Writes};
@@ -20,7 +20,7 @@ use ranges::range_list::ListError;
 use std::io::Write;
 use survey_core::seed::SeedFault;
 
-/// Why a command did not do all that was asked: the one line that it leaves on standard error, and its status.
+/// Why a command didn't do all that was asked. It determines the line on standard error and the status.
 #[derive(Clone, Copy)]
 pub enum Complaint {
     /// A text was refused.
@@ -29,14 +29,14 @@ pub enum Complaint {
     Memory(OutOfMemory),
     /// A read failed.
     ReadFailed(ReadError),
-    /// The input is longer than a command reads. It is reported as a read that failed.
+    /// The input is longer than a command reads. It is reported as a failed read.
     TooLong,
     /// A write to standard output failed.
     WriteFailed(WriteError),
 }
 
 impl Complaint {
-    /// The status of a command that ends with this complaint.
+    /// Returns the status of a command that ends with this complaint.
     pub fn status(self) -> Status
         ensures { result ≡ status_of self }
     {
@@ -49,7 +49,7 @@ impl Complaint {
         }
     }
 
-    /// Writes the line at once, to a writer that hasn't failed. It takes no memory.
+    /// Writes the line in one write. No earlier write to `errors` may have failed. This takes no memory.
     ///
     /// # Errors
     ///
@@ -89,7 +89,7 @@ impl Complaint {
     }
 }
 
-/// Writes at once how many soups are missing, to a writer that hasn't failed.
+/// Writes the line that says how many soups are missing, in one write. No earlier write to `errors` may have failed.
 ///
 /// # Errors
 ///

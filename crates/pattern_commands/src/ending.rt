@@ -1,4 +1,4 @@
-//! How a command ends: with its last line on standard error, if it has one, and with its status.
+//! How a command ends: its last line on standard error, if there is one, and its status.
 
 ghost use Rattle.std.specs.Prelude.{◌≡◌, OnOk, false, true};
 ghost use Rattle.pattern_commands.specs.Complaints.{complaint_line, status_of};
@@ -11,9 +11,9 @@ use crate::status::Status;
 use plane_core::output::Out;
 use std::io::Write;
 
-/// Ends a command that left so many soups missing, or a complaint: writes the last line of standard error, if there is
-/// one, and returns the status. After a write that failed nothing more is written. A failure to write the line is not
-/// reported.
+/// Ends a command with `outcome`: the number of soups that are missing, or a complaint. Writes the last line of
+/// standard error, if there is one, and returns the status. After a write that failed, nothing more is written. A
+/// failure to write the line is not reported.
 pub fn tell_end<E: Write>(outcome: Result<u64, Complaint>, errors: &mut Out<E>) -> Status
     requires { OnOk outcome (errors.old.failed ≡ false) }
     ensures status { result ≡ status_after outcome }
@@ -30,8 +30,8 @@ pub fn tell_end<E: Write>(outcome: Result<u64, Complaint>, errors: &mut Out<E>) 
     }
 }
 
-/// [`tell_end`] for a command that gives a text alone, of which no soup can be missing. No write to `errors` may have
-/// failed.
+/// Ends a command that prints a text of which no soup can be missing, as [`tell_end`] does. No earlier write to
+/// `errors` may have failed.
 pub fn tell_end_of_text<E: Write>(outcome: Result<(), Complaint>, errors: &mut Out<E>) -> Status
     requires { errors.old.failed ≡ false }
     ensures status { result ≡ status_after (none_missing outcome) }

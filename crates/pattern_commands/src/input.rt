@@ -1,4 +1,4 @@
-//! Inputs that are read whole, up to a limit.
+//! Inputs that are read completely, up to a limit.
 
 ghost use Rattle.std.specs.Prelude.{◌≡◌, ◌≢◌, ◌<◌, ◌≤◌, ◌^◌, ℕ, Err, List, IfOk, IfSome, length, vec_len};
 ghost use Rattle.memory.specs.Witness.{out_of_memory};
@@ -13,7 +13,7 @@ use plane_core::plane::pattern::Pattern;
 use std::alloc::Global;
 use std::io::{self, ErrorKind, Read};
 
-/// How many bytes a command reads of a pattern at most: 2^24.
+/// The most bytes that a command reads of a pattern: 2^24.
 pub const INPUT_LIMIT: usize = 16_777_216;
 
 /// Why an input was not read to its end.
@@ -23,12 +23,12 @@ pub enum InputError {
     Unreadable(ReadError),
     /// There is more than the limit.
     TooLong,
-    /// There is no memory for what was read.
+    /// Memory ran out for what was read.
     Memory(OutOfMemory),
 }
 
 impl InputError {
-    /// What a failed read says.
+    /// Returns the error that a failed read stands for.
     pub fn of_stream(error: &io::Error) -> InputError
         ensures { result ≢ TooLong }
     {
@@ -49,12 +49,12 @@ impl<E: Into<OutOfMemory>> From<E> for InputError {
     }
 }
 
-/// All that the reader has left, whatever the bytes are. A read that a signal interrupts is tried again.
+/// Reads all that the reader has left. A read that a signal interrupts is tried again.
 ///
 /// # Errors
 ///
-/// `Unreadable` if a read fails, `TooLong` if there are more than [`INPUT_LIMIT`] bytes, and `Memory`. How much of the
-/// input was read by then is left open.
+/// `Unreadable` if a read fails, `TooLong` if there are more than [`INPUT_LIMIT`] bytes, and `Memory` if memory runs
+/// out. How much of the input was read by then isn't specified.
 pub fn read_input<R: Read>(alloc: Global, input: &mut R) -> Result<Vec<u8>, InputError>
     ensures whole { IfOk result (λ bytes. IfSome (R.remaining input.old) (λ reader. bytes.items ≡ reader)) }
     ensures short { IfOk result (λ bytes. vec_len bytes ≤ 2 ^ 24) }
@@ -69,12 +69,12 @@ pub fn read_input<R: Read>(alloc: Global, input: &mut R) -> Result<Vec<u8>, Inpu
     }
 }
 
-/// The pattern that the reader's bytes stand for, as plaintext. The input is read to its end before it is looked at.
+/// Reads a plaintext pattern. The input is read to its end before it is parsed.
 ///
 /// # Errors
 ///
-/// `ReadFailed` if a read fails, `TooLong` if there are more than [`INPUT_LIMIT`] bytes, else `BadByte` or
-/// `PatternTooLarge` if the bytes are not a pattern, and `Memory`.
+/// `ReadFailed` if a read fails, `TooLong` if there are more than [`INPUT_LIMIT`] bytes, `BadByte` or `PatternTooLarge`
+/// if the bytes aren't a pattern, and `Memory` if memory runs out.
 pub fn read_pattern<R: Read>(alloc: Global, input: &mut R) -> Result<Pattern, Complaint>
     ensures read { (bytes : List ℕ) × IsInput (R.remaining input.old) bytes × Reads (pattern_of bytes) result }
     ensures small { IfOk result LiesWithin999 }

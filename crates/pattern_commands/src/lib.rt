@@ -1,29 +1,29 @@
-//! What the commands over a single pattern do, and how every command of the census program ends.
+//! The commands over a single pattern, and how every command of the program ends.
 //!
-//! Each command is a function of plain values, a reader and writers, as [`do_run`](run::do_run). The program reads the
-//! values from its words, and lends the process's streams. The commands over sets of soups are a crate above this one,
-//! which shares the complaints, the statuses and the endings.
+//! Each command is a function of plain values, a reader and writers, such as [`do_run`](run::do_run). The program reads
+//! the values from its arguments, and lends the streams of the process. The commands over sets of soups are in the
+//! crate `commands` above, which shares the complaints, the statuses and the endings.
 #![tactic(auto)]
 
-/// Why a command did not do all that was asked, and the line on standard error that says so.
+/// Why a command didn't do all that was asked.
 pub mod complaint;
 /// How a command ends: its last line on standard error, and its status.
 pub mod ending;
-/// Inputs, read whole.
+/// Inputs that are read completely.
 pub mod input;
-/// `name`: what becomes of a pattern, and of which objects it then consists.
+/// `name`: when a pattern settles, and of which objects it then consists.
 pub mod name;
 /// Output that is buffered until a command has ended.
 pub mod output;
-/// Profiles, by their numbers.
+/// The profile with four given numbers.
 pub mod profile;
-/// A read that failed.
+/// A failed read.
 pub mod read_error;
 /// Why a text was refused, and its line.
 pub mod refusal;
-/// `run`: a pattern some generations later.
+/// `run`: a pattern after a number of generations.
 pub mod run;
-/// `show`: the object that a code names.
+/// `show`: the object of a code.
 pub mod show;
 /// `soup`: a random start pattern.
 pub mod soup;

@@ -1,4 +1,4 @@
-//! `name`: when the pattern of the input has settled, and into which objects.
+//! `name`: when the pattern of the input settles, and into which objects.
 //!
 //! ```text
 //! profile ── rule ── input ── pattern ── survey ── finding ── a line for each code
@@ -33,18 +33,18 @@ use std::alloc::Global;
 use std::io::{Read, Write};
 use survey_core::finding::{Finding, survey_pattern};
 
-/// Reads a plaintext pattern and writes its finding: the generation of the first checkpoint at which it is at rest, and then
-/// a line for each code, in ASCII order, with how many objects have it; or that it doesn't settle.
+/// Reads a plaintext pattern and writes its finding: the first checkpoint at which it is at rest, and then a line for
+/// each code, in ASCII order, with the number of objects that have it; or that it doesn't settle.
 ///
-/// Each of the profile's numbers is in its range, and neither writer may have failed. The profile is looked at first,
-/// and then the rule: if one of them is refused, nothing of the input is read. `census name` is this call over the
-/// standard streams.
+/// Each number of the profile has to be in its range, and no earlier write to either writer may have failed. First the
+/// profile is checked, and then the rule. If one of them is refused, nothing of the input is read. `census name` is
+/// this call with the standard streams.
 ///
 /// # Errors
 ///
-/// The status is `Refused` if the horizon is below the period, or for a text that is not a rule or an input that is not
-/// a pattern, `Memory`, or `Failed` if the input can't be read or the output can't be written. Then one line stands on
-/// `errors`; a failure to write that line is not reported.
+/// The status is `Refused` if the horizon is below the period, or for a text that isn't a rule or an input that isn't a
+/// pattern; `Memory` if memory runs out; and `Failed` if the input can't be read or the output can't be written. In
+/// these cases, a line is written to `errors`. A failure to write that line is not reported.
 pub fn do_name<R: Read, W: Write, E: Write>(
     alloc: Global,
     profile: ProfileNumbers,
@@ -96,7 +96,7 @@ fn name<R: Read, W: Write>(
     Ok(())
 }
 
-/// Writes a finding in lines. It takes no memory.
+/// Writes a finding. This takes no memory.
 fn put_finding<W: Write>(output: &mut Out<W>, finding: &Finding) -> Result<(), WriteError>
     requires { output.old.failed ≡ false }
     ensures { Writes W.contents output.old output.new result (finding_text finding.now) }
@@ -114,7 +114,7 @@ fn put_finding<W: Write>(output: &mut Out<W>, finding: &Finding) -> Result<(), W
     }
 }
 
-/// Writes the line on the checkpoint.
+/// Writes the line about the checkpoint.
 fn put_settled<W: Write>(output: &mut Out<W>, checkpoint: u32) -> Result<(), WriteError>
     requires { output.old.failed ≡ false }
     ensures { Writes W.contents output.old output.new result (codes "settled " ++ decimal checkpoint ++ codes "\n") }
@@ -134,7 +134,7 @@ fn put_objects<W: Write>(output: &mut Out<W>, objects: &[(Apgcode, u64)]) -> Res
     Ok(())
 }
 
-/// Writes the line of an object: its code and how many there are.
+/// Writes the line of an object: its code, and how many objects have it.
 fn put_object<W: Write>(output: &mut Out<W>, object: &(Apgcode, u64)) -> Result<(), WriteError>
     requires { output.old.failed ≡ false }
     ensures { Writes W.contents output.old output.new result (object_line object.now) }

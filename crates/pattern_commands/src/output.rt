@@ -1,4 +1,4 @@
-//! What is buffered: the output of a command until it has ended, and a line of standard error until it is whole.
+//! Buffers: for the output of a command until it has ended, and for a line of standard error until it is complete.
 
 ghost use Rattle.std.specs.Prelude.{◌≡◌, ◌≢◌, true, false, []};
 ghost use Rattle.std.specs.Io.Buffered.{writer_buffer, writer_contents};
@@ -14,16 +14,15 @@ use plane_core::output::{Out, WriteError};
 use std::alloc::Global;
 use std::io::{BufWriter, Write};
 
-/// Room for a line of standard error, so that it is written at once and lines of other programs don't come in between.
-/// Each line that is written is shorter: one that weren't would be written piece by piece.
+/// A buffer for a line of standard error, so that the line is one write and isn't mixed with lines of other programs.
+/// Each line is shorter than the buffer. A longer one would be written in pieces.
 pub type LineBuffer = ArrayVec<u8, 128>;
 
-/// Sends on what a command has left in the buffer, and returns the status that the process ends with: that of the
-/// command, or `Failed` if the command printed its text and not all of it could be sent on.
+/// Sends on what a command has left in the buffer, and returns the status that the process ends with. It is the
+/// command's, or `Failed` if the command printed its text and not all of it could be sent on.
 ///
-/// A text is printed by a command that was done, or was done but for soups that are missing. After any other nothing
-/// more is written: then the buffer is not touched. The line of a failure goes to `errors`; a failure to write that
-/// line is not reported.
+/// If the command ended with another status than `Done` or `Incomplete`, nothing more is written, and the buffer isn't
+/// touched. The line about a failure goes to `errors`. A failure to write that line is not reported.
 pub fn send_buffered<W: Write + Drop, E: Write>(
     status: Status,
     buffered: &mut BufWriter<W, Global>,
@@ -53,7 +52,7 @@ pub fn send_buffered<W: Write + Drop, E: Write>(
     Complaint::WriteFailed(error).tell(errors)
 }
 
-/// Whether a command with this status printed its whole text.
+/// Checks whether a command with this status has printed its whole text.
 fn has_printed(status: Status) -> bool
     ensures { result ≡ has_printed status }
 {

@@ -1,4 +1,4 @@
-//! The profile that four numbers name.
+//! The profile with four given numbers.
 
 ghost use Rattle.std.specs.Prelude.{◌≡◌};
 ghost use Rattle.pattern_commands.specs.Profiles.{AreInRange, profile_named};
@@ -8,7 +8,7 @@ use crate::refusal::Refusal;
 use requests::profile_numbers::ProfileNumbers;
 use survey_core::profile::{Profile, ProfileError};
 
-/// The profile with these numbers, each of which is in its range.
+/// Returns the profile with these numbers, each of which has to be in its range.
 ///
 /// # Errors
 ///

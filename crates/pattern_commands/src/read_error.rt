@@ -1,4 +1,4 @@
-//! A read that failed.
+//! A failed read.
 
 ghost use Rattle.std.specs.Prelude.{◌≡◌, ◌≢◌, ◌^◌, ◌+◌};
 ghost use Rattle.std.specs.IoError.{error_kind};
@@ -6,15 +6,15 @@ ghost use Rattle.std.specs.declared.io.ErrorKind.TheVariants.{OutOfMemory};
 
 use std::io::{self, ErrorKind};
 
-/// A read failed. Who holds one got it from a stream, or has read more often than a number can count.
+/// The witness of a failed read. It comes from a stream, or from more reads than a number can count.
 #[derive(Clone, Copy, Debug, PartialEq, Eq)]
 pub struct ReadError {
-    /// What the stream failed with. `None` if it doesn't end.
+    /// The stream's kind of error, or `None` if the stream doesn't end.
     kind: Option<ErrorKind>,
 }
 
 impl ReadError {
-    /// What a stream's error says, unless that is that memory was refused.
+    /// Returns the witness that a stream's error carries, unless that error is out of memory.
     pub fn of_stream(error: &io::Error) -> ReadError
         requires { error_kind error.now ≢ OutOfMemory }
     {
@@ -23,11 +23,11 @@ impl ReadError {
         }
     }
 
-    /// So many reads, and no end.
+    /// Returns the witness of `reads` reads without an end.
     pub fn after(reads: u64) -> ReadError
         requires { reads + 1 ≡ 2 ^ 64 }
     {
-        // The number is needed in the condition alone.
+        // Only the condition needs the number.
         let _reads = reads;
         ReadError { kind: None }
     }

@@ -8,43 +8,44 @@ use code_core::decimal::put_number;
 use plane_core::output::{Out, WriteError};
 use std::io::Write;
 
-/// Why a text was refused: it is not of its form, or what it says goes past a limit or doesn't go together.
+/// Why a text was refused: it isn't of its form, goes past a limit, or has parts that don't fit together.
 #[derive(Clone, Copy)]
 pub enum Refusal {
-    /// A byte of a plaintext pattern that stands for no cell. Lines and columns count from 1.
+    /// A byte of a plaintext pattern that isn't allowed there. Lines and columns count from 1.
     BadByte { line: usize, column: usize },
-    /// A plaintext pattern of more than 1,000 columns or rows.
+    /// A plaintext pattern with more than 1,000 columns or rows.
     PatternTooLarge,
-    /// A rule text whose byte at this place, counted from 0, can't stand there, or that ends there too early.
+    /// A rule whose byte at `place` isn't allowed there, or that ends there too early. Places count bytes from 0.
     BadRule { place: usize },
-    /// A rule text in which cells are born on zero neighbours.
+    /// A rule with birth on zero neighbours.
     BirthZero,
-    /// A code with a `_` that has no right prefix before it.
+    /// A code whose part before the `_` isn't a valid prefix.
     NotACode,
-    /// A text of a code that has over 10,000 bytes.
+    /// A code whose text has more than 10,000 bytes.
     CodeTooLong,
-    /// A byte of a code's text that can't stand there. Places count from 0, from the text's first byte on.
+    /// A byte of a code's text that isn't allowed there. Places count bytes of the text from 0.
     CodeBadByte { place: usize },
-    /// A `y` of a code's text without the length of its run.
+    /// A `y` in a code's text without the length of its run.
     CodeShortRun { place: usize },
-    /// A text of a code without a live cell.
+    /// A code whose text has no live cell.
     CodeEmpty,
-    /// A seed of over 64 bytes.
+    /// A seed of more than 64 bytes.
     SeedTooLong,
-    /// A byte of a seed that isn't a visible ASCII character. Places count from 0.
+    /// A byte of a seed that isn't a visible ASCII character. Places count bytes from 0.
     SeedBadByte { place: usize },
     /// A profile whose horizon is below its period.
     HorizonBelowPeriod,
-    /// A range list whose byte at this place, counted from 0, can't stand there, or that ends there too early.
+    /// A list of ranges whose byte at `place` isn't allowed there, or that ends there too early. Places count bytes
+    /// from 0.
     BadList { place: usize },
-    /// Ranges of which one goes past 2^40, or that have over 2^24 numbers together.
+    /// Ranges of which one ends past 2^40, or that have more than 2^24 numbers together.
     RangeTooLarge,
     /// Ranges of which two share a number.
     RangesOverlap,
 }
 
 impl Refusal {
-    /// Writes the line of the refusal piece by piece, to a writer that hasn't failed. It takes no memory.
+    /// Writes the line of the refusal piece by piece. No earlier write may have failed. This takes no memory.
     ///
     /// # Errors
     ///

@@ -1,4 +1,4 @@
-//! `run`: the pattern of the input some generations later, as plaintext.
+//! `run`: the pattern of the input after a number of generations, as plaintext.
 //!
 //! ```text
 //! rule ── input ── pattern ── run ── plaintext
@@ -28,18 +28,18 @@ use plane_core::plane::rule::Rule;
 use std::alloc::Global;
 use std::io::{Read, Write};
 
-/// Reads a plaintext pattern, runs it for some generations of a rule and writes it as plaintext.
+/// Reads a plaintext pattern, runs it for `generations` generations of a rule, and writes the result as plaintext.
 ///
-/// The number of generations is at most 100,000: far fewer than the million that a pattern of at most 1,000 by 1,000
-/// cells takes to reach the edge of the plane, as its box grows by at most one cell a side in each. Neither writer may
-/// have failed. The rule is read first: if it is refused, nothing of the input is read. `census run N --rule RULE` is
-/// this call over the standard streams.
+/// `generations` is at most 100,000. A pattern of at most 1,000 by 1,000 cells takes far longer to reach the edge of
+/// the plane, because its box grows by at most one cell per side and generation. No earlier write to either writer may
+/// have failed. The rule is read first. If it is refused, nothing of the input is read. `census run N --rule RULE` is
+/// this call with the standard streams.
 ///
 /// # Errors
 ///
-/// The status is `Refused` for a text that is not a rule or an input that is not a pattern, `Memory`, or `Failed` if
-/// the input can't be read or the output can't be written. Then one line stands on `errors`; a failure to write that
-/// line is not reported.
+/// The status is `Refused` for a text that isn't a rule or an input that isn't a pattern; `Memory` if memory runs out;
+/// and `Failed` if the input can't be read or the output can't be written. In these cases, a line is written to
+/// `errors`. A failure to write that line is not reported.
 pub fn do_run<R: Read, W: Write, E: Write>(
     alloc: Global,
     generations: u32,
@@ -86,8 +86,8 @@ fn run<R: Read, W: Write>(
     Ok(())
 }
 
-/// The pattern some generations later. It fails only if memory runs out: a pattern that was read lies too near the
-/// origin for any of these generations to reach the edge of the plane.
+/// Returns the pattern after `generations` generations. This fails only if memory runs out, because a pattern that was
+/// read is too near the origin to reach the edge of the plane in that time.
 fn generation_after(
     alloc: Global,
     pattern: &Pattern,

@@ -1,7 +1,7 @@
-//! `show`: the object that a code names, as plaintext.
+//! `show`: the object of a code, as plaintext.
 //!
 //! ```text
-//! xp2_7 ── cut at the first _ ──┬─ xp2    a kind and a number, or it is no code
+//! xp2_7 ── cut at the first _ ──┬─ xp2    a kind and a number, or the code is refused
 //!                               └─ 7 ── read_wechsler ── pattern ── plaintext
 //! ```
 
@@ -25,16 +25,17 @@ use plane_core::output::Out;
 use std::alloc::Global;
 use std::io::Write;
 
-/// Writes the object that a code names as plaintext.
+/// Writes the object of a code as plaintext.
 ///
-/// A code is a text in extended Wechsler format, with or without a prefix: `xs`, `xp` or `xq`, a number and `_`. The
-/// number isn't checked. Neither writer may have failed. `census show CODE` is this call over the standard streams.
+/// A code is a text in extended Wechsler format, with or without a prefix. A prefix is `xs`, `xp` or `xq`, a number and
+/// `_`. The number isn't checked. No earlier write to either writer may have failed. `census show CODE` is this call
+/// with the standard streams.
 ///
 /// # Errors
 ///
-/// The status is `Refused` if what stands before the first `_` is not such a prefix, or the text is not of its form;
-/// `Memory`; or `Failed` if the output can't be written. Then one line stands on `errors`; a failure to write that line
-/// is not reported.
+/// The status is `Refused` if the part before the first `_` isn't such a prefix, or the text isn't of its form;
+/// `Memory` if memory runs out; and `Failed` if the output can't be written. In these cases, a line is written to
+/// `errors`. A failure to write that line is not reported.
 pub fn do_show<W: Write, E: Write>(
     alloc: Global,
     code: &str,
@@ -65,7 +66,7 @@ fn show<W: Write>(alloc: Global, code: &str, output: &mut Out<W>) -> Result<(), 
     Ok(())
 }
 
-/// The text of a code.
+/// Returns the text of a code, without its prefix.
 fn text_in(code: &str) -> Result<&str, Complaint>
     ensures ok { IfOk result (λ text. text_in code.now ≡ Ok text.now) }
     ensures err { IfErr result (λ complaint. text_in code.now ≡ Err complaint) }
@@ -80,14 +81,14 @@ fn text_in(code: &str) -> Result<&str, Complaint>
     }
 }
 
-/// The parts of a code before and after its first `_`.
+/// Returns the parts of a code before and after its first `_`.
 fn parted(code: &str) -> Option<(&str, &str)>
     ensures { option_map (λ parts. (parts.0.now, parts.1.now)) result ≡ parted code.now }
 {
     code.split_once('_')
 }
 
-/// Whether this may stand before the `_` of a code.
+/// Checks whether this part may precede the `_` of a code.
 #[tactic(auto, unfolding(crate::specs::Show::is_prefix))]
 fn is_prefix(prefix: &[u8]) -> bool
     ensures { result ≡ is_prefix prefix.now }
@@ -98,14 +99,14 @@ fn is_prefix(prefix: &[u8]) -> bool
     }
 }
 
-/// Whether this is the letter of a kind.
+/// Checks whether this is the letter of a kind.
 fn is_kind(byte: u8) -> bool
     ensures { result ≡ is_kind byte }
 {
     matches!(byte, b's' | b'p' | b'q')
 }
 
-/// Whether these are digits, at least one.
+/// Checks whether these are digits, at least one.
 fn is_number(bytes: &[u8]) -> bool
     ensures { result ≡ is_number bytes.now }
 {

@@ -1,4 +1,4 @@
-//! `soup`: a random start pattern, as plaintext.
+//! `soup`: a random soup, as plaintext.
 
 ghost use Rattle.std.specs.Prelude.{◌≡◌, ◌<◌, ◌^◌, ℕ, List, Option, IfErr, false, true};
 ghost use Rattle.memory.specs.Witness.{out_of_memory};
@@ -21,15 +21,15 @@ use survey_core::profile::Profile;
 use survey_core::seed::Seed;
 use survey_core::soup::soup;
 
-/// Writes the soup with this number, which is below 2^40, as plaintext.
+/// Writes soup `number`, which has to be below 2^40, as plaintext.
 ///
-/// The cells are the 256 bits of the SHA-256 digest of the seed's bytes and then the number in decimal. Neither writer
-/// may have failed. `census soup [--seed SEED] N` is this call over the standard streams.
+/// The cells are the 256 bits of the SHA-256 digest of the seed's bytes, followed by the number in decimal. No earlier
+/// write to either writer may have failed. `census soup [--seed SEED] N` is this call with the standard streams.
 ///
 /// # Errors
 ///
-/// The status is `Refused` if the text is not a seed, `Memory`, or `Failed` if the output can't be written. Then one
-/// line stands on `errors`; a failure to write that line is not reported.
+/// The status is `Refused` if the text isn't a seed, `Memory` if memory runs out, and `Failed` if the output can't be
+/// written. In these cases, a line is written to `errors`. A failure to write that line is not reported.
 pub fn do_soup<W: Write, E: Write>(
     alloc: Global,
     seed_text: &str,

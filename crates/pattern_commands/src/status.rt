@@ -6,11 +6,11 @@ ghost use Rattle.pattern_commands.specs.Status.{exit_code};
 /// How a command ended, as a shell sees it.
 #[derive(Clone, Copy, Debug, PartialEq, Eq)]
 pub enum Status {
-    /// All was done.
+    /// The command did what was asked.
     Done,
-    /// The words after the program's name were not understood, or asked for help.
+    /// The arguments were not understood, or asked for help.
     Usage,
-    /// A text or an input was refused: a pattern, rule, code, seed, profile or set of soups that isn't as it has to be.
+    /// A text or an input was refused: a pattern, rule, code, seed, profile or set of soups that isn't valid.
     Refused,
     /// Memory ran out.
     Memory,
@@ -21,7 +21,7 @@ pub enum Status {
 }
 
 impl Status {
-    /// The number that the process ends with.
+    /// Returns the number that the process ends with.
     pub fn exit_code(self) -> u8
         ensures { result ≡ exit_code self }
     {

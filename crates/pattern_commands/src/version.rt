@@ -16,12 +16,12 @@ use std::io::Write;
 
 /// Writes the program's name and version, as a line.
 ///
-/// Both writers must not have failed. It takes no memory.
+/// No earlier write to either writer may have failed. This takes no memory.
 ///
 /// # Errors
 ///
-/// The status is `Failed` if the output can't be written. Then a line stands on `errors`; a failure to write that line
-/// is not reported.
+/// The status is `Failed` if the output can't be written. Then a line is written to `errors`. A failure to write that
+/// line is not reported.
 pub fn do_version<W: Write, E: Write>(output: &mut Out<W>, errors: &mut Out<E>) -> Status
     requires output { output.old.failed ≡ false }
     requires errors { errors.old.failed ≡ false }

@@ -1,4 +1,4 @@
--- What a call that writes a text has done, if a writer may fail in mid-text.
+-- What a call that writes a text has done if the writer may fail in the middle.
 use Rattle.std.specs.Prelude.{◌≡◌, Bool, List, ℕ, ◌++◌, Option, Result, is_err, OnOk, OnErr}
 use Rattle.std.specs.Io.KnownBytes.{Appends}
 

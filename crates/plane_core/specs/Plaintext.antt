@@ -1,4 +1,4 @@
--- What a plaintext pattern file says, and the one that is written for a pattern (LifeWiki, "Plaintext").
+-- The pattern of a plaintext file, and the file that is written for a pattern (LifeWiki, "Plaintext").
 use Rattle.std.specs.Prelude.{◌==◌, ℕ, zero, suc, ℤ, pos, ◌+◌, ◌+ℤ◌, ◌<◌, Bool, not, ◌&&◌, ◌||◌, List, [], ◌∷◌}
 use Rattle.std.specs.Prelude.{◌++◌, Option, None, Some, Result, Ok, Err, map, filter, nat_lt, if◌then◌else◌}
 use Rattle.std.specs.List.{slice_get, filter_map, flat_map}
@@ -18,7 +18,7 @@ is_live b = b == letter_o || b == star
 abbrev pub is_cell : ℕ → Bool
 is_cell b = b == dot || is_live b
 
--- what is wrong at a place: a byte that is no cell, or else a row or a column past the last
+-- what is wrong at a place: a byte that isn't a cell, or otherwise a row or a column past the last
 unfoldable pub fault_at : Place → Option PlaintextFault
 fault_at p = if not (is_cell p.byte) then Some (BadByte p.line (p.x + 1))
     else (if nat_lt p.x side_limit && nat_lt p.y side_limit then None else Some TooLarge)
@@ -31,7 +31,7 @@ first_fault ps = slice_get (filter_map fault_at ps) 0
 unfoldable pub live_cells : List Place → List Cell
 live_cells ps = map (λ p. cell_at (pos p.x) (pos p.y)) (filter (λ p. is_live p.byte) ps)
 
--- a fault, or else the cells
+-- the fault, or the cells if there is none
 abbrev pub cells_unless : Option PlaintextFault → List Cell → Result (List Cell) PlaintextFault
 cells_unless None cells = Ok cells
 cells_unless (Some fault) cells = Err fault

@@ -13,7 +13,7 @@ letter_o = 79
 abbrev pub star : ℕ
 star = 42
 
--- `!` at the prefix of a comment, and the end of a line
+-- `!` at the start of a comment, and the end of a line
 abbrev pub exclamation_mark : ℕ
 exclamation_mark = 33
 
@@ -24,7 +24,7 @@ line_feed = 10
 abbrev pub side_limit : ℕ
 side_limit = 1000
 
--- the lines of a text, each without a carriage return at its end; one of no byte follows the last line feed
+-- the lines of a text, each without a carriage return at its end; an empty one follows the last line feed
 unfoldable pub lines_of : List ℕ → List (List ℕ)
 lines_of text = map strip_carriage_return (slice_split (λ b. b == line_feed) text)
 
@@ -33,7 +33,7 @@ abbrev pub is_comment : List ℕ → Bool
 is_comment [] = false
 is_comment (b ∷ bs) = b == exclamation_mark
 
--- each line with its number, counted from 1, and of those the rows: the lines that are no comments
+-- the rows: the lines that aren't comments, each with its line number, counted from 1
 unfoldable pub rows_of : List ℕ → List (ℕ × List ℕ)
 rows_of text = filter (λ line. not (is_comment line.1)) (enumerate_from 1 (lines_of text))
 

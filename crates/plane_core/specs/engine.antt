@@ -3,11 +3,12 @@ pub mod Boards
 pub mod Covers
 pub mod Directions
 pub mod Frames
+pub mod LeapWindows
 pub mod Leaps
 pub mod Listing
+pub mod NextListing
 pub mod LoneWindows
 pub mod OnBoard
 pub mod RowSpans
 pub mod WindowDifferences
 pub mod WindowIo
-pub mod WindowOrigins

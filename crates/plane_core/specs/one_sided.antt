@@ -1,2 +1,4 @@
+pub mod Crops
 pub mod Floods
+pub mod FollowedPatterns
 pub mod RestlessClusters

@@ -1,12 +1,12 @@
-//! How a pattern falls into clusters: each tree of its [forest](crate::clusters::union_find) is one.
+//! Divides a pattern into clusters: each tree of its [forest](crate::clusters::union_find) is one.
 //!
 //!      O . O . . . O          place    0  1  2  3  4
 //!      . . . . . . O          leads to 0  0  2  2  0
 //!      . . . O . . .          cluster  0  0  1  1  0
 //!
-//! The places are gone through in order. A root begins the next cluster; any other place goes into the cluster of the
-//! place to which it leads, which stands earlier. That place has its cluster's number by then, in place of where it
-//! led. So the clusters come in the order of their first cells, and the cells of each in their own.
+//! The places are visited in order. A root begins the next cluster. Any other place belongs to the cluster of the
+//! earlier place to which it leads, which by then has the number of its cluster instead. So the clusters are in the
+//! order of their first cells, and the cells of each cluster are in order.
 ghost use Rattle.std.specs.Prelude.{◌+◌, ◌<◌, length, All, IfOk, OnOk};
 ghost use Rattle.plane_core.specs.plane.Cells.{IsPattern};
 ghost use Rattle.plane_core.specs.clusters.Clusters.{AreClusters};
@@ -22,17 +22,21 @@ use crate::plane::pattern::Pattern;
 use memory::OutOfMemory;
 use std::alloc::Global;
 
-/// For how many cells a new cluster has room. Of the clusters that a soup leaves, few have more.
+/// The number of cells for which a new cluster has room. Few clusters of a soup have more.
 const COMMON_SIZE: usize = 8;
 
 impl Pattern {
-    /// The clusters, ordered by their first cells.
+    /// Returns the clusters, ordered by their first cells.
     ///
     /// Two cells share a cluster if steps over live cells, each at most two cells in any direction, join them.
     ///
     /// # Errors
     ///
     /// `OutOfMemory` if memory runs out.
+    ///
+    /// # Examples
+    ///
+    /// `crates/tour_tests/src/patterns.rt` finds the clusters of two gliders.
     pub fn clusters(&self, alloc: Global) -> Result<Vec<Pattern>, OutOfMemory>
         ensures clusters { IfOk result (λ clusters. AreClusters self.now clusters.items) }
         ensures patterns { IfOk result (λ clusters. All IsPattern clusters.items) }
@@ -45,34 +49,34 @@ impl Pattern {
     }
 }
 
-/// A law of all patterns: to be linked is an equivalence of their cells.
+/// The law that linked cells are an equivalence.
 #[tactic(auto, using(crate::proofs::lemmas::clusters::ClusterLaws::linked_law))]
 pub fn linked_is_an_equivalence()
     ensures { LinkedIsAnEquivalence }
 {}
 
-/// A law of all patterns: no two clusters share a cell, and together they are the pattern.
+/// The law that no two clusters share a cell, and together they are the pattern.
 pub fn clusters_partition()
     ensures { ClustersPartition }
 {}
 
-/// A law of all patterns: cells of two clusters are at king distance 3 or more.
+/// The law that cells of two clusters are at king distance 3 or more.
 pub fn clusters_lie_apart()
     ensures { ClustersLieApart }
 {}
 
-/// A law of all patterns: they have one list of clusters.
+/// The law that a pattern has one list of clusters.
 pub fn clusters_are_determined()
     ensures { ClustersAreDetermined }
 {}
 
-/// A law of all patterns: if a pattern is moved, its clusters move along.
+/// The law that the clusters of a moved pattern are the moved clusters.
 pub fn clusters_move_along()
     ensures { ClustersMoveAlong }
 {}
 
-/// The trees of a forest, each as the pattern of its cells. The forest is used up: each place gets the number of its
-/// cluster, in place of where it led.
+/// Returns each tree of a forest as the pattern of its cells. The forest is used up: each place gets the number of its
+/// cluster.
 fn gathered(
     alloc: Global,
     cells: &[Cell],
@@ -91,8 +95,8 @@ fn gathered(
     Ok(clusters)
 }
 
-/// Puts the cell at a place into the cluster of the place to which it leads, and gives the place the number of that
-/// cluster. A root begins a cluster.
+/// Puts the cell at a place into the cluster of the place to which it leads, and replaces the place by the number of
+/// that cluster. A root begins a cluster.
 fn gather(
     alloc: Global,
     cells: &[Cell],

@@ -13,6 +13,7 @@ pub(crate) mod direction;
 pub(crate) mod first_boxes;
 pub(crate) mod frame;
 pub(crate) mod leap;
+pub(crate) mod leap_window;
 pub(crate) mod listing;
 pub(crate) mod loading;
 pub(crate) mod lone_window;

@@ -3,16 +3,17 @@
 //! ```text
 //! run:  stretch (at most 256 generations)  ->  stretch  ->  ..
 //!
-//! stretch:  cut into parts that lie far apart  ->  a board for each part  ->  the parts together
-//!           or, where boards would be too large, one step
+//! stretch:  cut into parts that are far apart  ->  a board for each part  ->  the parts together
+//!           or, if boards would be too large, one step
 //!
-//! step:  in a window, or on a board, or counted cell by cell
+//! step:  in a window, or on a board, or computed cell by cell
 //! ```
 ghost use Rattle.std.specs.Prelude.{◌≡◌, ◌≢◌, ℕ, ◌+◌, ◌-◌, ◌*◌, ◌<◌, ◌≤◌, true, false};
 ghost use Rattle.std.specs.Prelude.{IfOk, IfErr, IfSome, OnOk, OnSome, IsErrOf};
 ghost use Rattle.memory.specs.Witness.{out_of_memory};
 ghost use Rattle.plane_core.specs.plane.Cells.{IsPattern, has, plane_bound};
 ghost use Rattle.plane_core.specs.plane.Generations.{next, after, lives, touches_edge, lies_within, NextMoved, NextTurned};
+ghost use Rattle.plane_core.specs.plane.Generations.{CellsFollowTheRule};
 ghost use Rattle.plane_core.specs.plane.Generations.{SpeedFromOrigin, SpeedOfCells, SpeedOfLight};
 ghost use Rattle.plane_core.specs.plane.Bounds.{AreSidesWithin};
 ghost use Rattle.plane_core.specs.engine.Frames.{HasFewWords, IsFrame, LieOn, bounds_of};
@@ -35,7 +36,7 @@ use thiserror::Error;
 /// Why a pattern has no next generation.
 #[derive(Clone, Copy, PartialEq, Eq, Error)]
 pub enum StepError {
-    /// A cell lies on the edge of the plane, so a neighbour would lie past it.
+    /// A cell is on the edge of the plane, so a neighbour would be past it.
     Edge,
     /// Memory ran out.
     Memory(OutOfMemory),
@@ -57,11 +58,11 @@ impl fmt::Debug for StepError {
     }
 }
 
-/// The most generations on one board. Then the pattern is read back and a board is laid out anew, so that it is no
-/// wider than the pattern for long.
+/// The most generations on one board. Then the pattern is read back and a new board is made, so that the board never
+/// stays much wider than the pattern.
 const STRETCH: u32 = 256;
 
-/// The most cuts that lead to a part of a pattern. Each is near the middle, so there may be very many parts.
+/// The most cuts on the way to a part of a pattern. Each cut is near the middle, so there may be very many parts.
 const CUTS: u32 = 40;
 
 impl<E: Into<OutOfMemory>> From<E> for StepError {
@@ -73,10 +74,11 @@ impl<E: Into<OutOfMemory>> From<E> for StepError {
 }
 
 impl Pattern {
-    /// The next generation under the rule.
+    /// Returns the next generation under the rule.
     ///
-    /// It takes memory in proportion to the population. So does time in a window, if the pattern fits one, or on a board,
-    /// if that has at most 32 words a cell. Else it is counted cell by cell, where a sort takes most of the time.
+    /// The memory is proportional to the population. So is the time in a window, if the pattern fits one, or on a
+    /// board, if it needs at most 32 words per live cell. Otherwise the generation is computed cell by cell, and
+    /// sorting takes most of the time.
     ///
     /// # Errors
     ///
@@ -84,7 +86,7 @@ impl Pattern {
     /// would be born past it. Otherwise `Memory` if memory runs out.
     pub fn step(&self, alloc: Global, rule: &Rule) -> Result<Pattern, StepError>
         ensures next { IfOk result (λ pattern. pattern ≡ next rule.now self.now) }
-        // For every cell of the plane: it is alive then just where the rule's numbers say so.
+        // For every cell of the plane: it is alive exactly if the rule's numbers say so.
         ensures every_cell { IfOk result (λ pattern. (c : Cell) → has pattern c ≡ lives rule.now self.now c) }
         ensures inside { OnOk result (touches_edge self.now ≡ false) }
         ensures refused { IfErr result (RefusesStep self.now) }
@@ -101,8 +103,8 @@ impl Pattern {
         Ok(self.counted(alloc, rule)?)
     }
 
-    /// Whether a cell has a coordinate of 1,000,000 in size. Then there is no next generation: a neighbour of it would
-    /// lie past the plane.
+    /// Checks whether a cell has a coordinate of 1,000,000 in size. In that case, there is no next generation, because
+    /// a neighbour would be past the plane.
     pub fn touches_edge(&self) -> bool
         ensures { result ≡ touches_edge self.now }
     {
@@ -114,22 +116,26 @@ impl Pattern {
         false
     }
 
-    /// The pattern after so many generations under the rule. After 0 generations it is a copy.
+    /// Returns the pattern after `generations` generations under the rule. After 0 generations this is a copy.
     ///
     /// # Errors
     ///
     /// The generations are made one after another, and the first failure is returned.
     ///
-    /// - `Edge`: a generation before the last has a cell with a coordinate of 1,000,000 in size. If the pattern itself
-    ///   has one, it is `Edge` whether there is memory or not.
-    /// - `Memory`: memory ran out.
+    /// - `Edge` if a generation before the last has a cell with a coordinate of 1,000,000 in size. If the pattern
+    ///   itself has one, the error is `Edge` whether there is memory or not.
+    /// - `Memory` if memory runs out.
+    ///
+    /// # Examples
+    ///
+    /// `crates/tour_tests/src/patterns.rt` runs a glider for four generations.
     pub fn run(&self, alloc: Global, rule: &Rule, generations: u32) -> Result<Pattern, StepError>
         ensures after { IfOk result (λ pattern. pattern ≡ after rule.now self.now generations) }
         ensures inside { OnOk result ((g : ℕ) → g < generations → touches_edge (after rule.now self.now g) ≡ false) }
-        // No pattern gets to the edge faster than a cell a generation.
+        // No pattern moves towards the edge faster than one cell per generation.
         ensures never_edge { (reach : ℕ) → lies_within reach self.now ≡ true → reach + generations ≤ plane_bound
             → result ≢ Err StepError.Edge }
-        // An edge that is there from the start is refused as such, whether there is memory or not.
+        // If the pattern touches the edge from the start, the error is `Edge`, whether there is memory or not.
         ensures edge_first { 1 ≤ generations → touches_edge self.now ≡ true → result ≡ Err StepError.Edge }
         ensures edge { IsErrOf result StepError.Edge
             → (g : ℕ) × (g < generations) × (touches_edge (after rule.now self.now g) ≡ true) }
@@ -155,8 +161,8 @@ impl Pattern {
         Ok(pattern)
     }
 
-    /// The pattern after so many generations, each part that lies far from the others on a board of its own. It is
-    /// `None` if a board isn't worth it for some part. At most so many cuts lead to a part.
+    /// Returns the pattern after `generations` generations, each part that is far from the others on a board of its
+    /// own, or `None` if a board isn't worth it for some part. At most `cuts` cuts lead to a part.
     #[cycle(run_in_parts)]
     fn run_in_parts(
         &self,
@@ -185,7 +191,7 @@ impl Pattern {
         later.transposed(alloc).map(Some)
     }
 
-    /// What becomes of the cells above a cut and of those below it, together.
+    /// Returns what becomes of the cells above a cut and of those below it, together.
     #[cycle(run_in_parts)]
     fn run_sides(
         &self,
@@ -210,7 +216,7 @@ impl Pattern {
         above.united(&below).map(Some)
     }
 
-    /// What becomes of the cells on one side of a cut.
+    /// Returns what becomes of the cells on one side of a cut.
     #[cycle(run_in_parts)]
     fn run_side(
         alloc: Global,
@@ -228,7 +234,7 @@ impl Pattern {
         side.run_in_parts(alloc, rule, generations, cuts)
     }
 
-    /// The pattern after so many generations on a board, if one is worth it and there is room for them.
+    /// Returns the pattern after `generations` generations on a board, if a board is worth it and has room for them.
     #[tactic(auto, using(crate::proofs::lemmas::plane::PartLemmas::ran_on_board))]
     fn run_on(
         &self,
@@ -252,27 +258,31 @@ impl Pattern {
     }
 }
 
-/// A law of all rules: in g generations no pattern comes further than g cells from where it lay.
+/// The law of the next generation: a cell is alive in it exactly if the rule's numbers say so, whatever the pattern.
+pub fn cells_follow_the_rule()
+    ensures { CellsFollowTheRule }
+{}
+
+/// The law of the speed of light: in g generations, no pattern moves farther than g cells.
 pub fn speed_of_light()
     ensures boxes { SpeedOfLight }
     ensures origin { SpeedFromOrigin }
     ensures cells { SpeedOfCells }
 {}
 
-/// A law of all rules: two patterns that lie further than 2g apart run for g generations as if each were alone.
+/// The law of far patterns: two patterns that are more than 2g apart run for g generations as if each were alone.
 #[tactic(auto, using(crate::proofs::lemmas::plane::PartLemmas::far_patterns))]
 pub fn far_patterns_run_alone()
     ensures { FarPatternsRunAlone }
 {}
 
-/// The laws of generations on the grid: the next generation of a pattern moved or turned is its next generation, moved
-/// or turned.
+/// The laws of isotropy: the next generation of a moved or turned pattern is its next generation, moved or turned.
 pub fn isotropy()
     ensures moved { NextMoved }
     ensures turned { NextTurned }
 {}
 
-/// What the board shows so many generations on, if it has room for them.
+/// Returns what the board shows after `generations` generations, if it has room for them.
 fn shown_after(
     alloc: Global,
     board: &mut Board,

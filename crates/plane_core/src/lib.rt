@@ -1,21 +1,21 @@
 //! Finite patterns of a Life-like cellular automaton on the unbounded plane.
 //!
-//! Contracts see a [`Pattern`](plane::pattern::Pattern) as the list of its cells in order, each once. That list stands
+//! Contracts see a [`Pattern`](plane::pattern::Pattern) as the list of its cells in order, each once. This list stands
 //! for the finite set.
 //!
-//! The folders are floors. Each knows only those below it:
+//! Each folder knows only the folders below it:
 //!
 //! ```text
 //! generation     step and run: which representation is the cheapest
 //! one_sided      quick tests whose `true` is a proof and whose `false` says nothing
 //! engine         boards: leaps of up to four generations in windows
 //! windows        64 columns of cells in vectors, and a rule as operations on them
-//! clusters       the objects that a pattern falls into
+//! clusters       the objects of a pattern
 //! plane          cells, patterns, rules, orientations
 //! ```
 #![tactic(auto)]
 
-/// Clusters: the objects that a pattern falls into.
+/// Clusters: the objects of a pattern.
 pub mod clusters;
 /// Boards, which advance by leaps of up to four generations.
 pub mod engine;
@@ -23,7 +23,7 @@ pub mod engine;
 pub mod generation;
 /// One-sided tests: `true` is a proof, and `false` says nothing.
 pub mod one_sided;
-/// A writer that remembers that it failed.
+/// A writer that remembers that a write failed.
 pub mod output;
 /// Cells, patterns, rules and orientations.
 pub mod plane;

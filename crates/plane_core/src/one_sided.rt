@@ -7,6 +7,7 @@ pub(crate) mod diverges;
 /// A checkpoint of a board that is rejected by one cluster.
 pub mod early_reject;
 pub(crate) mod flood;
+pub(crate) mod follow;
 pub(crate) mod never_recurs;
 /// Tests on a small pattern, which is run in one window.
 pub mod quick_test;

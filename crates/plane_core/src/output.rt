@@ -7,10 +7,10 @@ use std::io::{self, ErrorKind, Write};
 use std::marker::Model;
 use thiserror::Error;
 
-/// A write failed or took no byte. Who holds one got it from a writer.
+/// The witness that a write failed or took no byte. It comes from a writer.
 #[derive(Clone, Copy, PartialEq, Eq, Error)]
 pub struct WriteError {
-    /// What the writer failed with. `None` if it took no byte, or was called 2^64 times for one piece.
+    /// The writer's kind of error, or `None` if it took no byte, or was called 2^64 times for one piece.
     kind: Option<ErrorKind>,
 }
 
@@ -28,7 +28,7 @@ impl fmt::Debug for WriteError {
 }
 
 impl WriteError {
-    /// What a writer's error says.
+    /// Returns the witness that a writer's error carries.
     pub fn of_stream(error: &io::Error) -> WriteError {
         WriteError {
             kind: Some(error.kind()),
@@ -36,9 +36,9 @@ impl WriteError {
     }
 }
 
-/// A writer that remembers that it failed.
+/// A writer that remembers that a write failed.
 ///
-/// Contracts see it as its writer and whether it has failed.
+/// Contracts see the writer and whether a write has failed.
 #[derive(Debug, Drop)]
 pub struct Out<V: Write> {
     writer: V,
@@ -54,7 +54,7 @@ impl<V: Write> Model for Out<V> {
 }
 
 impl<V: Write> Out<V> {
-    /// An `Out` over the writer. It hasn't failed.
+    /// Returns an `Out` over the writer. No write has failed yet.
     pub fn new(writer: V) -> Self
         ensures writer { result.writer ≡ writer }
         ensures failed { result.failed ≡ false }
@@ -65,7 +65,7 @@ impl<V: Write> Out<V> {
         }
     }
 
-    /// Whether a write has failed.
+    /// Checks whether a write has failed.
     pub fn failed(&self) -> bool
         ensures { result ≡ self.now.failed }
     {
@@ -80,13 +80,13 @@ impl<V: Write> Out<V> {
         self.writer
     }
 
-    /// Writes the whole piece. The `Out` must not have failed. A write that a signal interrupts is tried again, no
-    /// other is, and nothing is flushed.
+    /// Writes the whole piece. No earlier write may have failed. Only a write that a signal interrupts is tried again.
+    /// Nothing is flushed.
     ///
     /// # Errors
     ///
-    /// [`WriteError`] if a write fails for another reason, or takes no byte of what is left. The front of the piece may
-    /// have been written by then, and the `Out` is failed from then on.
+    /// [`WriteError`] if a write fails for another reason, or takes no byte of what is left. A prefix of the piece may
+    /// have been written, and the `Out` is marked as failed.
     pub fn put(&mut self, piece: &[u8]) -> Result<(), WriteError>
         requires { self.old.failed ≡ false }
         ensures { Writes V.contents self.old self.new result piece.now }
@@ -113,11 +113,11 @@ impl<V: Write> Out<V> {
         Err(WriteError { kind })
     }
 
-    /// Flushes the writer: what it holds back is sent on. The `Out` must not have failed.
+    /// Flushes the writer, which sends on everything that it holds back. No earlier write may have failed.
     ///
     /// # Errors
     ///
-    /// [`WriteError`] if the flush fails. The `Out` is failed from then on.
+    /// [`WriteError`] if the flush fails. The `Out` is marked as failed.
     pub fn flush(&mut self) -> Result<(), WriteError>
         requires { self.old.failed ≡ false }
         ensures { Writes V.contents self.old self.new result [] }

@@ -33,14 +33,14 @@ use std::fmt::{self, Display};
 use std::io::Write;
 use thiserror::Error;
 
-/// The most columns, or rows, that a text may have, dead cells included. Empty rows may follow.
+/// The most columns, and the most rows, that a text may have, including dead cells. More empty rows may follow.
 pub const PLAINTEXT_SIDE_LIMIT: usize = 1_000;
 
 const DEAD: u8 = b'.';
 
 const LIVE: u8 = b'O';
 
-/// Another byte for a live cell. It is read and never written.
+/// Another byte for a live cell, which is read and never written.
 const STAR: u8 = b'*';
 
 /// The first byte of a comment.
@@ -48,15 +48,15 @@ const COMMENT: u8 = b'!';
 
 const LINE_FEED: u8 = b'\n';
 
-/// Dead cells that are written at once.
+/// Dead cells that are written in one write.
 const DEAD_CELLS: [u8; 64] = [DEAD; 64];
 
-/// Why a text is not a plaintext pattern.
+/// Why a text isn't a plaintext pattern.
 #[derive(Clone, Copy, PartialEq, Eq, Error)]
 pub enum PlaintextFault {
-    /// A byte of a row is none of `.`, `O` and `*`. Lines and columns count from 1.
+    /// A byte of a row isn't `.`, `O` or `*`. Lines and columns count from 1.
     BadByte { line: usize, column: usize },
-    /// A `.`, `O` or `*` stands past the 1,000th column or the 1,000th row.
+    /// There is a `.`, `O` or `*` past the 1,000th column or the 1,000th row.
     TooLarge,
 }
 
@@ -81,7 +81,7 @@ impl fmt::Debug for PlaintextFault {
 /// Why a text was not read.
 #[derive(Clone, Copy, PartialEq, Eq, Error)]
 pub enum PlaintextError {
-    /// The text is not a plaintext pattern.
+    /// The text isn't a plaintext pattern.
     Fault(PlaintextFault),
     /// Memory ran out.
     Memory(OutOfMemory),
@@ -106,15 +106,15 @@ impl fmt::Debug for PlaintextError {
 impl Pattern {
     /// Reads a plaintext pattern file (LifeWiki, "Plaintext").
     ///
-    /// Lines end with a line feed, which the last may lack; a carriage return at a line's end is dropped. A line
-    /// that begins with `!` is a comment. Each other line is the next row, from y = 0 on, and its bytes are the
-    /// cells from x = 0 on: `.` is dead, `O` and `*` are live. There may be up to 1,000 columns and 1,000 rows, dead
-    /// cells included; empty rows may follow.
+    /// Lines end with a line feed, which the last may lack. A carriage return at the end of a line is dropped. A line
+    /// that begins with `!` is a comment. Each other line is the next row, from y = 0 on, and its bytes are the cells
+    /// from x = 0 on: `.` is dead, `O` and `*` are alive. There may be up to 1,000 columns and 1,000 rows, including
+    /// dead cells. More empty rows may follow.
     ///
     /// # Errors
     ///
-    /// [`PlaintextError::Fault`] with the fault that stands first in the text, whether there is memory or not.
-    /// Otherwise [`PlaintextError::Memory`] if memory runs out.
+    /// [`PlaintextError::Fault`] with the first fault of the text, whether there is memory or not. Otherwise
+    /// [`PlaintextError::Memory`] if memory runs out.
     pub fn read_plaintext(alloc: Global, input: &[u8]) -> Result<Pattern, PlaintextError>
         ensures pattern { IfOk result (λ read. pattern input.now ≡ Ok read) }
         ensures cells { IfOk result (λ read. (x y : ℕ) →
@@ -132,16 +132,16 @@ impl Pattern {
         }
     }
 
-    /// Writes the pattern as plaintext (LifeWiki, "Plaintext"): the rows of its least box from the top, each from the
-    /// box's left column to its right column with `.` and `O`, and each ended by a line feed. Nothing is written of the
-    /// empty pattern. The `Out` must not have failed.
+    /// Writes the pattern as plaintext (LifeWiki, "Plaintext"): the rows of its smallest box from the top, each from
+    /// the box's left column to its right column with `.` and `O`, and a line feed after each. Nothing is written for
+    /// the empty pattern. No earlier write to the `Out` may have failed.
     ///
-    /// It takes no memory. Each live cell is a write of one byte, so the writer should be buffered, as by a
+    /// This takes no memory. Each live cell is a write of one byte, so the writer should be buffered, for example by a
     /// `BufWriter`.
     ///
     /// # Errors
     ///
-    /// [`WriteError`] if a write fails or takes no byte. The front of the text may have been written by then.
+    /// [`WriteError`] if a write fails or takes no byte. A prefix of the text may have been written.
     pub fn write_plaintext<V: Write>(&self, out: &mut Out<V>) -> Result<(), WriteError>
         requires { out.old.failed ≡ false }
         ensures { Writes V.contents out.old out.new result (plain self.now) }
@@ -158,15 +158,15 @@ impl Pattern {
     }
 }
 
-/// A law of all patterns whose box is at most 1,000 by 1,000: what is written is read again, as the pattern moved to
-/// the corner.
+/// The law of patterns whose box is at most 1,000 by 1,000: what is written is read as the same pattern, moved to the
+/// corner.
 #[tactic(auto, using(crate::proofs::lemmas::plaintext::PlaintextRoundTrip::round_trip))]
 pub fn round_trip()
     ensures { (cells : List Cell) → IsPattern cells → IfSome (box_of cells) FitsThousandSquare
         → pattern (plain cells) ≡ Ok (at_corner cells) }
 {}
 
-/// The line without a carriage return at its end.
+/// Returns the line without a carriage return at its end.
 fn without_return(line: &[u8]) -> &[u8]
     ensures { result.now ≡ strip_carriage_return line.now }
 {
@@ -176,7 +176,7 @@ fn without_return(line: &[u8]) -> &[u8]
     }
 }
 
-/// Whether the byte ends a line.
+/// Checks whether the byte ends a line.
 fn is_line_feed(byte: &u8) -> bool
     ensures { result ≡ (byte.now == line_feed) }
 {
@@ -195,7 +195,7 @@ fn is_live(byte: u8) -> bool
     byte == LIVE || byte == STAR
 }
 
-/// The first fault of a row. Lines count from 1, and x and y from 0.
+/// Returns the first fault of a row. Lines count from 1, and x and y from 0.
 fn fault_in_row(line: usize, y: usize, row: &[u8]) -> Option<PlaintextFault>
     ensures { result ≡ first_fault (places_of_row (y, (line, row.now))) }
 {
@@ -215,7 +215,7 @@ fn fault_in_row(line: usize, y: usize, row: &[u8]) -> Option<PlaintextFault>
     None
 }
 
-/// The first fault of a text.
+/// Returns the first fault of a text.
 fn fault_in(text: &[u8]) -> Option<PlaintextFault>
     ensures { result ≡ first_fault (places text.now) }
 {
@@ -234,7 +234,7 @@ fn fault_in(text: &[u8]) -> Option<PlaintextFault>
     None
 }
 
-/// Adds the cells of row y, each byte of which is in the first 1,000 columns and rows.
+/// Adds the cells of row y, whose bytes are all in the first 1,000 columns and rows.
 #[tactic(auto, using(crate::proofs::lemmas::plaintext::PlaintextRows::live_here, crate::proofs::lemmas::plaintext::PlaintextRows::dead_here, crate::proofs::lemmas::plaintext::PlaintextRows::no_cell_past))]
 fn push_row(cells: &mut Vec<Cell>, y: usize, row: &[u8]) -> Result<(), OutOfMemory>
     requires { (x : ℕ) → x < length row.now → (x < side_limit) × (y < side_limit) }
@@ -252,7 +252,7 @@ fn push_row(cells: &mut Vec<Cell>, y: usize, row: &[u8]) -> Result<(), OutOfMemo
     Ok(())
 }
 
-/// The pattern of a text that has no fault.
+/// Returns the pattern of a text that has no fault.
 fn pattern_in(alloc: Global, text: &[u8]) -> Result<Pattern, OutOfMemory>
     requires { first_fault (places text.now) ≡ None }
     ensures pattern { IfOk result (λ read. read ≡ live_cells (places text.now)) }
@@ -271,7 +271,7 @@ fn pattern_in(alloc: Global, text: &[u8]) -> Result<Pattern, OutOfMemory>
     Ok(Pattern::from_ordered(cells))
 }
 
-/// Writes as many dead cells as the gap is wide, and then a byte.
+/// Writes `gap` dead cells, and then a byte.
 fn put_after_gap<V: Write>(out: &mut Out<V>, gap: u32, byte: u8) -> Result<(), WriteError>
     requires { out.old.failed ≡ false }
     ensures { Writes V.contents out.old out.new result (replicate gap dot ++ byte ∷ []) }
@@ -285,7 +285,7 @@ fn put_after_gap<V: Write>(out: &mut Out<V>, gap: u32, byte: u8) -> Result<(), W
     out.put(&[byte])
 }
 
-/// How many of the cells, from the first on, are in row y.
+/// Returns how many of the cells, from the first on, are in row y.
 fn row_len(cells: &[Cell], y: i32) -> usize
     ensures value { result ≡ prefix_len (λ c. int_eq c.y y) cells.now }
     ensures bound { result ≤ length cells.now }
@@ -297,7 +297,7 @@ fn row_len(cells: &[Cell], y: i32) -> usize
     len
 }
 
-/// The cells after those of row y.
+/// Returns the cells after those of row y.
 fn below(cells: &[Cell], y: i32) -> &[Cell]
     ensures { result.now ≡ drop (prefix_len (λ c. int_eq c.y y) cells.now) cells.now }
 {

@@ -1,4 +1,4 @@
-//! What no clause says of a board: that spaceships are among its small clusters, and that the frontier is no further than it
+//! What no clause says about a board: that spaceships are among its small clusters, and that the frontier is no further than it
 //! has to be.
 use memory::OutOfMemory;
 use plane_core::engine::board::Board;

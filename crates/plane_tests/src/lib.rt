@@ -13,3 +13,5 @@ mod runs;
 mod shortage;
 #[cfg(test)]
 mod sizes;
+#[cfg(test)]
+mod texts;

@@ -1,4 +1,4 @@
--- Where a text that is not that of a list of ranges goes wrong.
+-- The first fault of a text that isn't that of a list of ranges.
 use Rattle.std.specs.Prelude.{◌≡◌, ◌<◌, ◌≤◌, ◌+◌, ◌-◌, ◌^◌, ◌⊎◌, ◌++◌, ℕ, false, true, List, drop, length, slice_index, take}
 use Rattle.std.specs.Char.{is_ascii_digit}
 use Rattle.std.specs.List.{All}
@@ -6,18 +6,18 @@ use Rattle.std.specs.Str.{all_ascii_digits}
 use Rattle.std.specs.Str.Parse.{digits_value}
 use Rattle.ranges.specs.RangeLists.{Written, joined, IsListText}
 
--- the text begins that of some ranges
+-- the text begins the text of some list of ranges
 pub record BeginsList (text : List ℕ) : Type 0 where
   pub remainder : List ℕ
   pub whole : IsListText (text ++ remainder)
 
--- a decimal of any size: digits, of which the first is `0` (48) only if there is no other
+-- a decimal of any size: digits, the first of which is `0` (48) only if it is the only one
 pub record IsDecimal (text : List ℕ) : Type 0 where
   pub digits : all_ascii_digits text ≡ true
   pub some : 1 ≤ length text
   pub plain : slice_index text 0 ≡ 48 → length text ≡ 1
 
--- the text begins that of some ranges, if numbers of any size are allowed
+-- the text begins the text of some list of ranges, if numbers of any size are allowed
 pub record BeginsLongList (text : List ℕ) : Type 0 where
   pub ranges : List Written
   pub remainder : List ℕ
@@ -32,20 +32,21 @@ pub record BeginsLargeDecimal (text : List ℕ) : Type 0 where
   pub large : 2 ^ 64 ≤ digits_value 10 number
   pub spelled : text ≡ number ++ remainder
 
--- What stands before the place begins a list. With the byte there it doesn't, whatever the size of numbers; or the text ends there too early.
+-- What comes before the place begins a list. With the byte at the place it doesn't, whatever the size of numbers; or the text ends
+-- there too early.
 pub record IsBadListByte (text : List ℕ) (place : ℕ) : Type 0 where
   pub within : place ≤ length text
   pub before : BeginsList (take place text)
   pub there : place < length text → ¬ BeginsLongList (take (place + 1) text)
   pub short : place ≡ length text → ¬ IsListText text
 
--- What stands before the place begins a list, and a decimal of 2^64 or more begins there: so the byte before it is no digit.
+-- What comes before the place begins a list, and a decimal of 2^64 or more begins there. So the byte before the place is no digit.
 pub record IsLargeDecimal (text : List ℕ) (place : ℕ) : Type 0 where
   pub before : BeginsList (take place text)
   pub apart : 1 ≤ place → is_ascii_digit (slice_index text (place - 1)) ≡ false
   pub there : BeginsLargeDecimal (drop place text)
 
--- The first fault from the left: all that stands before the place is right.
+-- the leftmost fault: everything before the place is right
 abbrev pub IsFirstListFault : List ℕ → ℕ → Type 0
 IsFirstListFault text place = IsBadListByte text place ⊎ IsLargeDecimal text place
 

@@ -1,16 +1,16 @@
--- How a list of ranges is read, a range at a time.
+-- How a list of ranges is read, one range at a time.
 use Rattle.std.specs.Prelude.{◌≡◌, ◌≢◌, ◌<◌, ◌^◌, ◌⊎◌, ◌++◌, ℕ, Bool, false, true, List, [], ◌∷◌, Option, None, Some, decimal}
 use Rattle.std.specs.Char.{is_ascii_digit}
 use Rattle.ranges.specs.declared.range.Range.{Range}
 use Rattle.ranges.specs.RangeLists.{list_text, pair_text, written}
 use Rattle.ranges.specs.RangeListFaults.{BeginsLargeDecimal}
 
--- a digit stands at the front
+-- the text begins with a digit
 abbrev pub has_digit : List ℕ → Bool
 has_digit [] = false
 has_digit (b ∷ remainder) = is_ascii_digit b
 
--- the byte stands at the front
+-- the text begins with this byte
 abbrev pub has_byte : ℕ → List ℕ → Type 0
 has_byte b [] = ⊥
 has_byte b (c ∷ remainder) = b ≡ c
@@ -21,7 +21,7 @@ pub record BeginsDecimal (text : List ℕ) (n : ℕ) (remainder : List ℕ) : Ty
   pub spelled : text ≡ decimal n ++ remainder
   pub ends : has_digit remainder ≡ true → n ≡ 0
 
--- no digit begins the text, or those that do are a number of 2^64 or more
+-- no digit begins the text, or its first digits are a number of 2^64 or more
 abbrev pub BeginsNoDecimal : List ℕ → Type 0
 BeginsNoDecimal text = has_digit text ≡ true → BeginsLargeDecimal text
 
@@ -32,7 +32,7 @@ pub record BeginsRange (text : List ℕ) (r : Range) (remainder : List ℕ) : Ty
   pub spelled : text ≡ pair_text (written r) ++ remainder
   pub ends : has_digit remainder ≡ true → r.count ≡ 0
 
--- a first number begins the text, and the rest is no `+` (43)
+-- a first number begins the text, and the rest doesn't begin with `+` (43)
 pub record LacksPlus (text remainder : List ℕ) : Type 0 where
   pub n : ℕ
   pub begins : BeginsDecimal text n remainder
@@ -44,11 +44,11 @@ pub record LacksCount (text remainder : List ℕ) : Type 0 where
   pub begins : BeginsDecimal text n (43 ∷ remainder)
   pub none : BeginsNoDecimal remainder
 
--- no range begins the text: the rest is where the fault is
+-- no range begins the text; the rest is where the fault is
 abbrev pub IsNoRange : List ℕ → List ℕ → Type 0
 IsNoRange text remainder = ((remainder ≡ text) × BeginsNoDecimal text) ⊎ (LacksPlus text remainder ⊎ LacksCount text remainder)
 
--- a range begins the text, and after it there is neither the end nor a `,` (44)
+-- a range begins the text, and neither the end nor a `,` (44) follows it
 pub record LacksComma (text remainder : List ℕ) : Type 0 where
   pub range : Range
   pub begins : BeginsRange text range remainder
@@ -60,7 +60,7 @@ abbrev pub Starts : List ℕ → Option (List ℕ) → Type 0
 Starts text None = text ≡ []
 Starts text (Some remainder) = (remainder ≡ text) × (remainder ≢ [])
 
--- a range is passed, and either it ends the text or the next one begins after a `,` (44)
+-- a range is passed, and either it ends the text, or the next one begins after a `,` (44)
 abbrev pub Passes : List ℕ → Range → Option (List ℕ) → Type 0
 Passes text r None = BeginsRange text r []
 Passes text r (Some remainder) = BeginsRange text r (44 ∷ remainder)

@@ -29,12 +29,12 @@ list_text ranges = joined (map written ranges)
 abbrev pub FitU64 : List Range → Type 0
 FitU64 ranges = All (λ r. (r.first < 2 ^ 64) × (r.count < 2 ^ 64)) ranges
 
--- the text is that of some ranges
+-- the text is that of some list of ranges
 pub record IsListText (text : List ℕ) : Type 0 where
   pub ranges : List Range
   pub fit : FitU64 ranges
   pub spelled : list_text ranges ≡ text
 
--- a text is that of one list of ranges
+-- a text is that of at most one list of ranges
 abbrev pub TextsHaveOneList : Type 0
 TextsHaveOneList = (one other : List Range) → FitU64 one → FitU64 other → list_text one ≡ list_text other → one ≡ other

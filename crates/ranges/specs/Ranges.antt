@@ -7,7 +7,7 @@ use Rattle.ranges.specs.declared.range.Range.{Range}
 abbrev pub end_of : Range → ℕ
 end_of r = r.first + r.count
 
--- n is one of the range's numbers: so many, from the first on
+-- n is one of the range's numbers
 abbrev pub is_in_range : ℕ → Range → Bool
 is_in_range n r = nat_le r.first n && nat_lt n (end_of r)
 
@@ -19,7 +19,7 @@ is_in ranges n = list_any (is_in_range n) ranges
 abbrev pub size_of : List Range → ℕ
 size_of ranges = sum_by (λ r. r.count) ranges
 
--- some number stands in two of the ranges
+-- some number is in two of the ranges
 abbrev pub Overlap : List Range → Type 0
 Overlap ranges = (n : ℕ) × (2 ≤ count_by (is_in_range n) ranges)
 
@@ -29,25 +29,25 @@ pub record ShareNumber (a b : List Range) : Type 0 where
   pub first : is_in a number ≡ true
   pub second : is_in b number ≡ true
 
--- no range goes past the bound
+-- no range ends past the bound
 abbrev pub AreBelow : ℕ → List Range → Type 0
 AreBelow bound ranges = All (λ r. end_of r ≤ bound) ranges
 
--- soup numbers lie below this: the project's choice
+-- soup numbers are below this, which is the project's choice
 abbrev pub number_bound : ℕ
 number_bound = 2 ^ 40
 
--- small enough for a haul: no number over the bound, and at most 2^24 numbers, which is the project's choice too
+-- small enough for a haul: no number at or over the bound, and at most 2^24 numbers, which is also the project's choice
 pub record AreSmall (ranges : List Range) : Type 0 where
   pub below : AreBelow number_bound ranges
   pub few : size_of ranges ≤ 2 ^ 24
 
--- the next range, if there is one, begins after the place: so the number at the place is left out
+-- the next range, if there is one, begins after the place, so that the number at the place is left out
 abbrev pub BeginAfter : ℕ → List Range → Type 0
 BeginAfter place [] = Unit {0}
 BeginAfter place (r ∷ more) = place < r.first
 
--- Normal form: the ranges ascend, none is empty, and between two of them a number is left out.
+-- Normal form: the ranges ascend, none is empty, and between two of them at least one number is left out.
 abbrev pub AreNormal : List Range → Type 0
 AreNormal [] = Unit {0}
 AreNormal (r ∷ more) = (1 ≤ r.count) × BeginAfter (end_of r) more × AreNormal more

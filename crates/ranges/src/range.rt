@@ -18,20 +18,20 @@ use std::alloc::Global;
 use std::fmt;
 use std::marker::Model;
 
-/// Soup numbers lie below this, so that there are enough of them for anybody, and sums over them stay small.
+/// Soup numbers are below this bound, which is enough for anybody and keeps sums of numbers small.
 pub const NUMBER_BOUND: u64 = 1 << 40;
 
-/// The most numbers of a haul that is opened, so that a haul fits into memory.
+/// The most soups of a haul that is opened, so that it fits into memory.
 pub const MOST_NUMBERS: u64 = 1 << 24;
 
-/// The soup numbers from `first` on, `count` of them.
+/// The `count` soup numbers from `first` on.
 #[derive(Clone, Copy, Debug, PartialEq, Eq)]
 pub struct Range {
     pub first: u64,
     pub count: u64,
 }
 
-/// Shows the range as a list of ranges is written: `first+count`, such as `10+2`.
+/// Shows the range as it is written in a list: `first+count`, such as `10+2`.
 impl fmt::Display for Range {
     ghost output = { λ range. Some (pair_text (written range)) };
 
@@ -42,21 +42,21 @@ impl fmt::Display for Range {
 }
 
 impl Range {
-    /// Whether the number is one of the range's.
+    /// Checks whether `number` is in the range.
     fn has(&self, number: u64) -> bool
         ensures { result ≡ is_in_range number self.now }
     {
         self.first <= number && number - self.first < self.count
     }
 
-    /// Whether the range doesn't go past 2^40.
+    /// Checks whether the range ends at 2^40 or before.
     fn is_below(&self) -> bool
         ensures { IsTrue result ↔ (end_of self.now ≤ number_bound) }
     {
         self.first <= NUMBER_BOUND && self.count <= NUMBER_BOUND - self.first
     }
 
-    /// Whether the two have a number in common.
+    /// Checks whether the two ranges have a number in common.
     fn shares(&self, other: &Range) -> bool
         requires own { end_of self.now ≤ number_bound }
         requires others { end_of other.now ≤ number_bound }
@@ -68,7 +68,7 @@ impl Range {
     }
 }
 
-/// Ranges in normal form: they ascend, none is empty, and between two of them a number is left out.
+/// Ranges in normal form: they ascend, none is empty, and at least one number is left out between two of them.
 #[derive(Debug, Drop)]
 pub struct Ranges {
     ranges: Vec<Range>,
@@ -87,7 +87,7 @@ impl Model for Ranges {
 }
 
 impl Ranges {
-    /// The ranges, in ascending order.
+    /// Returns the ranges in ascending order.
     pub fn as_slice(&self) -> &[Range]
         ensures ranges { result.now ≡ self.now }
         ensures normal { AreNormal self.now }
@@ -109,7 +109,7 @@ impl Ranges {
         }
     }
 
-    /// The normal form of ranges of which no two share a number.
+    /// Returns the normal form of ranges of which no two share a number.
     pub fn normal_form(alloc: Global, ranges: &[Range]) -> Result<Ranges, OutOfMemory>
         requires below { AreBelow number_bound ranges.now }
         requires apart { ¬ Overlap ranges.now }
@@ -122,7 +122,7 @@ impl Ranges {
         Ok(Ranges { ranges })
     }
 
-    /// The normal form of the numbers of both, which share none.
+    /// Returns the normal form of all numbers of both sets, which share none.
     pub fn union(&self, alloc: Global, other: &Ranges) -> Result<Ranges, OutOfMemory>
         requires apart { ¬ ShareNumber self.now other.now }
         ensures form { IfOk result (IsNormalForm (self.now ++ other.now)) }
@@ -134,7 +134,7 @@ impl Ranges {
         Ranges::normal_form(alloc, both.as_slice())
     }
 
-    /// Whether a number is in both sets.
+    /// Checks whether a number is in both sets.
     pub fn share_number(&self, other: &Ranges) -> bool
         ensures { IsTrue result ↔ ShareNumber self.now other.now }
     {
@@ -147,7 +147,7 @@ impl Ranges {
         false
     }
 
-    /// Equal ranges.
+    /// Returns equal ranges.
     pub fn copy(&self, alloc: Global) -> Result<Ranges, OutOfMemory>
         ensures { IfOk result (λ ranges. ranges ≡ self.now) }
     {
@@ -163,7 +163,7 @@ pub fn one_normal_form()
     ensures { OneNormalForm }
 {}
 
-/// How many numbers the ranges have together, if none goes past 2^40 and they have at most 2^24.
+/// Returns how many numbers the ranges have together, or `None` if one ends past 2^40 or there are more than 2^24.
 pub fn small_size(ranges: &[Range]) -> Option<u64>
     ensures small { IfSome result (λ size. (size ≡ size_of ranges.now) × AreSmall ranges.now) }
     ensures large { IfNone result (¬ AreSmall ranges.now) }
@@ -182,7 +182,7 @@ pub fn small_size(ranges: &[Range]) -> Option<u64>
     Some(size)
 }
 
-/// The ranges that aren't empty, in ascending order.
+/// Returns the ranges that aren't empty, in ascending order.
 fn ascending(alloc: Global, ranges: &[Range]) -> Result<Vec<Range>, OutOfMemory>
     ensures ordered { IfOk result (λ ordered. IsNonDecreasingBy (λ r. r.first) ordered.items) }
     ensures same { IfOk result (λ ordered. IsPermutation (filter has_numbers ranges.now) ordered.items) }
@@ -192,7 +192,7 @@ fn ascending(alloc: Global, ranges: &[Range]) -> Result<Vec<Range>, OutOfMemory>
     Ok(ordered)
 }
 
-/// The ranges that aren't empty.
+/// Returns the ranges that aren't empty, in the same order.
 fn with_numbers(alloc: Global, ranges: &[Range]) -> Result<Vec<Range>, OutOfMemory>
     ensures { IfOk result (λ some. some.items ≡ filter has_numbers ranges.now) }
 {
@@ -205,7 +205,7 @@ fn with_numbers(alloc: Global, ranges: &[Range]) -> Result<Vec<Range>, OutOfMemo
     Ok(some)
 }
 
-/// Ascending ranges, of which touching ones are made one.
+/// Joins ranges that touch. The ranges have to ascend.
 fn joined(alloc: Global, ascending: &[Range]) -> Result<Vec<Range>, OutOfMemory>
     requires ascending { Ascending ascending.now }
     requires below { AreBelow number_bound ascending.now }
@@ -230,7 +230,7 @@ fn joined(alloc: Global, ascending: &[Range]) -> Result<Vec<Range>, OutOfMemory>
     Ok(joined)
 }
 
-/// Whether a number stands in two of the ranges.
+/// Checks whether a number is in two of the ranges.
 pub fn overlap(ranges: &[Range]) -> bool
     requires { AreBelow number_bound ranges.now }
     ensures { IsTrue result ↔ Overlap ranges.now }
@@ -244,7 +244,7 @@ pub fn overlap(ranges: &[Range]) -> bool
     false
 }
 
-/// Whether the range has a number in common with one of the others.
+/// Checks whether `range` has a number in common with one of the others.
 fn shares_any(range: Range, others: &[Range]) -> bool
     requires own { end_of range ≤ number_bound }
     requires others { AreBelow number_bound others.now }

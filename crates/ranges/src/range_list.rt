@@ -1,4 +1,4 @@
-//! How a list of ranges is read: in one pass without memory for the first fault, and then, if there is none, range by
+//! Reads a list of ranges: in one pass without memory for the first fault, and then, if there is no fault, range by
 //! range.
 //!
 //! ```text
@@ -22,10 +22,10 @@ use std::alloc::Global;
 use std::fmt;
 use thiserror::Error;
 
-/// Why a text is not read as a list of ranges.
+/// Why a text can't be read as a list of ranges.
 #[derive(Clone, Copy, PartialEq, Eq, Error)]
 pub enum ListError {
-    /// The byte at `place` can't stand there, or the text ends there too early, or a decimal of 2^64 or more begins
+    /// The byte at `place` isn't allowed there, the text ends there too early, or a decimal of 2^64 or more begins
     /// there. Places count bytes from 0.
     BadList { place: usize },
     /// Memory ran out.
@@ -57,16 +57,17 @@ impl<E: Into<OutOfMemory>> From<E> for ListError {
 }
 
 impl Range {
-    /// Reads a list of ranges as in `0+4,10+2`: of each range the first number, a `+` and the count, and a `,` between
-    /// two. Numbers are decimals below 2^64 without leading zeros. The empty text has no range.
+    /// Reads a list of ranges such as `0+4,10+2`: the first number of each range, a `+` and the count, and a `,`
+    /// between two ranges. Numbers are decimals below 2^64 without leading zeros. The empty text is the list without a
+    /// range.
     ///
     /// # Errors
     ///
-    /// - [`ListError::BadList`] if the text is not that of a list, whether there is memory or not. Its place is that of
-    ///   the first fault from the left.
+    /// - [`ListError::BadList`] if the text isn't that of a list, whether there is memory or not. Its place is that of
+    ///   the leftmost fault.
     /// - [`ListError::Memory`] if memory runs out.
     pub fn read_list(alloc: Global, text: &str) -> Result<Vec<Range>, ListError>
-        // What is read has the text as its one text, and each list of ranges is read from its text.
+        // The text of the list that is read is this text, and the text of every list can be read.
         ensures fit { IfOk result (λ read. FitU64 read.items) }
         ensures ranges { IfOk result (λ read. list_text read.items ≡ text.now) }
         ensures complete { (ranges : List Numbers) → FitU64 ranges → list_text ranges ≡ text.now
@@ -85,13 +86,14 @@ impl Range {
     }
 }
 
-/// The laws that a text is that of one list of ranges, and that one without a list has its first fault at one place.
+/// The laws that a text is that of one list of ranges, and that a text that is no list has its first fault at one
+/// place.
 pub fn list_texts_tell_ranges()
     ensures one { TextsHaveOneList }
     ensures place { TextsHaveOneFault }
 {}
 
-/// The place of the first fault of a text, if it is not that of a list of ranges.
+/// Returns the place of the first fault of a text, if it isn't the text of a list of ranges.
 #[tactic(auto, using(crate::proofs::ListLemmas::passed_first))]
 fn fault_in(text: &[u8]) -> Option<usize>
     ensures fault { IfSome result (IsFirstListFault text.now) }
@@ -108,7 +110,7 @@ fn fault_in(text: &[u8]) -> Option<usize>
     None
 }
 
-/// The ranges of a text that has no fault.
+/// Returns the ranges of a text that has no fault.
 #[tactic(auto, using(crate::proofs::ListLemmas::passed_first))]
 fn ranges_in(alloc: Global, text: &[u8]) -> Result<Vec<Range>, OutOfMemory>
     requires { IsListText text.now }
@@ -129,15 +131,15 @@ fn ranges_in(alloc: Global, text: &[u8]) -> Result<Vec<Range>, OutOfMemory>
     Ok(ranges)
 }
 
-/// Where the first range begins, if there is one.
+/// Returns the text in which the first range begins, unless it is empty.
 fn unless_empty(text: &[u8]) -> Option<&[u8]>
     ensures { Starts text.now (option_map (λ remainder. remainder.now) result) }
 {
     if text.is_empty() { None } else { Some(text) }
 }
 
-/// The range at the prefix of a text, and where the next one begins if a comma follows. If no range stands there, or
-/// neither the end nor a comma after it, the answer is the text from the fault on.
+/// Returns the range at the beginning of a text, and where the next one begins if a comma follows. If there is no
+/// range, or if something other than the end or a comma follows it, the error is the text from the fault on.
 fn next_range(text: &[u8]) -> Result<(Range, Option<&[u8]>), &[u8]>
     ensures ok { IfOk result (λ next. Passes text.now next.0 (option_map (λ remainder. remainder.now) next.1)) }
     ensures err { IfErr result (λ remainder. IsNoRange text.now remainder.now ⊎ LacksComma text.now remainder.now) }
@@ -150,7 +152,7 @@ fn next_range(text: &[u8]) -> Result<(Range, Option<&[u8]>), &[u8]>
     }
 }
 
-/// The range at the prefix of a text and the text after it, or the text from the fault on.
+/// Returns the range at the beginning of a text and the text after it, or the text from the fault on.
 fn first_range(text: &[u8]) -> Result<(Range, &[u8]), &[u8]>
     ensures ok { IfOk result (λ first. BeginsRange text.now first.0 first.1.now) }
     ensures err { IfErr result (λ remainder. IsNoRange text.now remainder.now) }
@@ -167,8 +169,8 @@ fn first_range(text: &[u8]) -> Result<(Range, &[u8]), &[u8]>
     Ok((Range { first, count }, remainder))
 }
 
-/// The decimal at the prefix of a text and the text after it. There is none if no digit stands there, or if the number
-/// is 2^64 or more. After a `0` the decimal ends.
+/// Returns the decimal at the beginning of a text and the text after it, or `None` if there is no digit or the number
+/// is 2^64 or more. A decimal that begins with `0` ends there.
 #[tactic(auto, using(crate::proofs::DecimalLemmas::begins_zero))]
 pub fn first_decimal(text: &[u8]) -> Option<(u64, &[u8])>
     ensures some { IfSome result (λ first. BeginsDecimal text.now first.0 first.1.now) }
@@ -181,8 +183,8 @@ pub fn first_decimal(text: &[u8]) -> Option<(u64, &[u8])>
     more_digits(digit, remainder)
 }
 
-/// The decimal of a first digit that isn't 0 and of those at the prefix of a text, and the text after them. There is
-/// none if the number is 2^64 or more.
+/// Returns the decimal of a first digit that isn't 0 and of the digits at the beginning of a text, and the text after
+/// them, or `None` if the number is 2^64 or more.
 #[tactic(auto, using(crate::proofs::DecimalLemmas::reading_first, crate::proofs::DecimalLemmas::reading_done))]
 fn more_digits(first: u8, text: &[u8]) -> Option<(u64, &[u8])>
     requires least { 1 ≤ first }
@@ -199,7 +201,7 @@ fn more_digits(first: u8, text: &[u8]) -> Option<(u64, &[u8])>
     Some((number, remainder))
 }
 
-/// The number with a digit more at its end, if it is below 2^64.
+/// Appends a digit to a number, if the result is below 2^64.
 fn with_digit(number: u64, digit: u8) -> Option<u64>
     requires { digit ≤ 9 }
     ensures some { IfSome result (λ more. more ≡ 10 * number + digit) }
@@ -208,7 +210,7 @@ fn with_digit(number: u64, digit: u8) -> Option<u64>
     number.checked_mul(10)?.checked_add(u64::from(digit))
 }
 
-/// The digit at the prefix of a text, and the text after it.
+/// Returns the digit at the beginning of a text, and the text after it.
 fn first_digit(text: &[u8]) -> Option<(u8, &[u8])>
     ensures some { IfSome result (λ first. text.now ≡ (48 + first.0) ∷ first.1.now) }
     ensures digit { IfSome result (λ first. first.0 ≤ 9) }

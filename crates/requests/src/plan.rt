@@ -1,12 +1,12 @@
-//! What a census is taken of, and how: the soups, the profile by which they settle, and the rule.
+//! The plan of a census: which soups, under which profile and rule.
 
 use crate::profile_numbers::ProfileNumbers;
 use crate::soup_set::SoupSet;
 use crate::text::Text;
 
-/// The plan of a census: which soups are surveyed, under which profile and rule.
+/// The plan of a census: the soups to survey, the profile and the rule.
 ///
-/// The texts aren't looked at yet.
+/// The texts haven't been parsed yet.
 #[derive(Drop)]
 pub struct Plan<'a> {
     /// The soups.

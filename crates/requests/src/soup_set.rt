@@ -1,18 +1,18 @@
-//! Sets of soups, as a call asks for them.
+//! Sets of soups, as a call gives them.
 
 use crate::text::Text;
 
-/// The soups of a seed whose numbers stand in a range, or in the ranges of a list beside it.
+/// The soups of a seed whose numbers are in a range, or in one of the ranges of a list.
 ///
-/// The texts aren't looked at yet.
+/// The texts haven't been parsed yet.
 #[derive(Drop)]
 pub struct SoupSet<'a> {
     /// The seed.
     pub seed: Text<'a>,
-    /// The first number of the range.
+    /// The first number of the range, at most 2^40.
     pub first: u64,
-    /// How many numbers the range has.
+    /// The number of soups in the range, at most 2^24.
     pub count: u64,
-    /// The list of the other ranges.
+    /// The list of the other ranges, such as `0+4,10+2`.
     pub also: Text<'a>,
 }

@@ -1,12 +1,12 @@
-//! Texts among the command-line arguments, at whose form nobody has looked yet.
+//! Texts among the command-line arguments that haven't been parsed yet.
 
 ghost use Rattle.std.specs.Prelude.{◌≡◌};
 
 use std::marker::Model;
 
-/// A text among the command-line arguments, as that of a rule. Its form is not looked at yet.
+/// A text among the command-line arguments, such as a rule. It hasn't been parsed yet.
 ///
-/// Contracts see it as its bytes.
+/// Contracts see its bytes.
 #[derive(Drop)]
 pub struct Text<'a> {
     text: &'a str,
@@ -21,14 +21,14 @@ impl<'a> Model for Text<'a> {
 }
 
 impl<'a> Text<'a> {
-    /// The text with these bytes.
+    /// Returns the text with these bytes.
     pub fn new(text: &'a str) -> Text<'a>
         ensures { result ≡ text.now }
     {
         Text { text }
     }
 
-    /// Its text.
+    /// Returns its text.
     pub fn as_str(&self) -> &'a str
         ensures { result.now ≡ self.now }
     {

@@ -16,7 +16,7 @@ use Rattle.survey_core.specs.Profiles.{Settling}
 use Rattle.survey_core.specs.rest.Rest.{RestsAs}
 use Rattle.survey_core.specs.rest.RestLaws.{RestsForever}
 
--- a pattern has one finding
+-- a pattern has only one finding
 abbrev pub FindingsAreDetermined : Type 0
 FindingsAreDetermined = (rule : Numbers) (profile : Settling) (cells : List Cell) (one other : Finding)
     → IsFinding rule profile cells one → IsFinding rule profile cells other → one ≡ other
@@ -26,7 +26,7 @@ abbrev pub FindingsMoved : Type 0
 FindingsMoved = (dx dy : ℤ) (rule : Numbers) (profile : Settling) (cells : List Cell) (finding : Finding)
     → InOrder cells → IsFinding rule profile cells finding → IsFinding rule profile (shifted dx dy cells) finding
 
--- the image of a pattern, turned or mirrored, has its finding, where it comes to lie
+-- the image of a pattern, turned or mirrored, has its finding, wherever it lies
 abbrev pub FindingsOfImages : Type 0
 FindingsOfImages = (o : Orientation) (rule : Numbers) (profile : Settling) (cells : List Cell) (finding : Finding)
     → InOrder cells → IsFinding rule profile cells finding → IsFinding rule profile (image o cells) finding
@@ -48,7 +48,7 @@ abbrev pub FindingsForGood : Type 0
 FindingsForGood = (rule : Numbers) (profile : Settling) (cells : List Cell) (t : ℕ) (objects : List (List ℕ × ℕ)) → InOrder cells → profile.period ≤ 64
     → IsFinding rule profile cells (Settled t objects true) → RestsForGood rule profile (after rule cells t) objects
 
--- the counts of objects add up to the clusters that they are the objects of
+-- the counts of the objects add up to the number of clusters
 abbrev pub CountsAddUp : Type 0
 CountsAddUp = (rule : Numbers) (limit : ℕ) (clusters : List (List Cell)) (objects : List (List ℕ × ℕ))
     → AreObjectsOf rule limit clusters objects → sum (values_of objects) ≡ length clusters

@@ -26,12 +26,13 @@ pub record IsSettled (rule : Numbers) (profile : Settling) (cells : List Cell) (
   pub counted : AreObjectsOf rule profile.period clusters objects
   pub good : IsTrue for_good ↔ StayForGood profile.horizon objects
 
--- the finding of a pattern that is at rest after t generations, and which is this one then
+-- the pattern is at rest after t generations, and this is its finding then
 abbrev pub SettlesAt : Numbers → Settling → List Cell → ℕ → Finding → Type 0
 SettlesAt rule profile cells t (Settled u objects for_good) = (u ≡ t) × IsSettled rule profile cells objects for_good
 SettlesAt rule profile cells t Unsettled = ⊥
 
--- The finding of a pattern: the first checkpoint at which it is at rest, with the objects that it consists of then, or that there is none.
+-- The finding of a pattern: the first checkpoint at which it is at rest, with its objects then, or that there is no such
+-- checkpoint.
 abbrev pub IsFinding : Numbers → Settling → List Cell → Finding → Type 0
 IsFinding rule profile cells (Settled t objects for_good) =
     IsCheckpoint profile t × NoRestBefore rule profile cells t × IsSettled rule profile (after rule cells t) objects for_good

@@ -3,7 +3,8 @@ use Rattle.std.specs.Prelude.{◌≡◌, ◌*◌, ◌≤◌, ◌&&◌, ℕ, Bool
 use Rattle.survey_core.specs.declared.profile.ProfileError.{ProfileError}
 use Rattle.survey_core.specs.declared.profile.ProfileError.TheVariants as error
 
--- the longest period that counts, how far the test of rest looks ahead, from one checkpoint to the next, and the last checkpoint
+-- the longest period that counts, how far the test of rest looks ahead, the distance between checkpoints, and the last generation
+-- at which there may be one, all in generations
 pub record Settling : Type 0 where
   pub period : ℕ
   pub horizon : ℕ
@@ -23,7 +24,7 @@ pub record IsProfile (profile : Settling) : Type 0 where
 abbrev pub is_from_to : ℕ → ℕ → ℕ → Bool
 is_from_to least most n = nat_le least n && nat_le n most
 
--- the profile of four numbers, or the first of them that lies outside its range
+-- the profile with four numbers, or the first of them that lies outside its range
 abbrev pub profile_of : Settling → Result Settling ProfileError
 profile_of p =
     if not (is_from_to 1 64 p.period) then Err error.Period
@@ -32,7 +33,7 @@ profile_of p =
     else if not (nat_le p.limit 100000) then Err error.Limit
     else Ok p
 
--- the profile that is meant where nothing else is said
+-- the profile that is used where nothing else is said
 abbrev pub standard : Settling
 standard = record { period = 64; horizon = 512; stride = 101; limit = 30300 }
 

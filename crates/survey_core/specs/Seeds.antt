@@ -8,7 +8,7 @@ use Rattle.survey_core.specs.declared.seed.SeedFault.TheVariants.{BadByte, TooLo
 abbrev pub most_bytes : ℕ
 most_bytes = 64
 
--- `!` (33) to `~` (126): the ASCII characters that can be seen
+-- `!` (33) to `~` (126): the visible ASCII characters
 abbrev pub is_visible : ℕ → Bool
 is_visible b = nat_le 33 b && nat_le b 126
 
@@ -20,11 +20,11 @@ pub record IsSeed (bytes : List ℕ) : Type 0 where
   pub short : length bytes ≤ most_bytes
   pub visible : list_all is_visible bytes ≡ true
 
--- a text whose first byte that isn't visible is this one
+-- the text, if this is its first byte that isn't visible
 abbrev pub seed_with_fault : List ℕ → Option ℕ → Result (List ℕ) SeedFault
 seed_with_fault text None = Ok text
 seed_with_fault text (Some place) = Err (BadByte place)
 
--- the seed that a text is, or why it is none: its length is looked at first, and then its bytes from the left
+-- the seed with this text, or why there is none: first its length is checked, and then its bytes from the left
 abbrev pub seed_read : List ℕ → Result (List ℕ) SeedFault
 seed_read text = if nat_lt most_bytes (length text) then Err TooLong else seed_with_fault text (position is_invisible text)

@@ -6,7 +6,7 @@ use Rattle.plane_core.specs.declared.plane.bounds.Bounds.{Bounds}
 use Rattle.plane_core.specs.plane.Cells.{cell_at, has, set_of}
 use Rattle.sha2.specs.Sha256.{sha256}
 
--- the digest's bit for column x of row y is set: bit 7 - x mod 8 of byte 2y + x div 8, where bit 7 is the greatest
+-- the digest's bit for column x of row y is set: bit 7 - x mod 8 of byte 2y + x div 8, where bit 7 is the most significant
 abbrev pub is_set : List ℕ → ℕ → ℕ → Bool
 is_set digest x y = (slice_index digest (2 * y + x / 8) / 2 ^ (7 - x % 8)) % 2 == 1
 
@@ -25,7 +25,7 @@ live_in_square digest n = map square_cell (filter (is_alive_at digest) (range_wi
 abbrev pub soup_of : List ℕ → List Cell
 soup_of digest = set_of (live_in_square digest 256)
 
--- the soup with this number: the message is the seed's bytes and then the number in decimal
+-- soup `number`: the message is the seed's bytes and then the number in decimal
 abbrev pub soup : List ℕ → ℕ → List Cell
 soup seed number = soup_of (sha256 (seed ++ decimal number))
 
@@ -33,7 +33,7 @@ soup seed number = soup_of (sha256 (seed ++ decimal number))
 abbrev pub square : Bounds
 square = record { left = pos 0; top = pos 0; right = pos 15; bottom = pos 15 }
 
--- the soup cell by cell: the cell in column x of row y is alive exactly if its bit is set
+-- the soup cell by cell: the cell in column x of row y is alive if and only if its bit is set
 abbrev pub SoupsByCells : Type 0
 SoupsByCells = (seed : List ℕ) (number x y : ℕ) → x < 16 → y < 16
     → has (soup seed number) (cell_at (pos x) (pos y)) ≡ is_set (sha256 (seed ++ decimal number)) x y

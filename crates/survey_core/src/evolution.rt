@@ -30,7 +30,7 @@ pub(crate) mod split_pattern;
 
 use crate::evolution::spare_board::SpareBoard;
 use crate::evolution::split_pattern::{LATEST_TIME, SplitPattern, whole};
-use crate::patterns::{next, run_on};
+use crate::patterns::run_on;
 use crate::profile::Profile;
 use crate::shapes::memo::Memo;
 use memory::OutOfMemory;
@@ -43,7 +43,7 @@ use std::alloc::Global;
 pub(crate) enum Evolution {
     /// The pattern is a list of cells.
     Listed(Pattern),
-    /// It is on a board, with the spaceships that have left it, as it was so many generations before: none or one.
+    /// It is on a board, with the spaceships that have left it, as it was that many generations ago: none or one.
     Shown(SplitPattern, u32),
 }
 
@@ -56,12 +56,11 @@ impl Evolution {
         match self {
             Evolution::Listed(pattern) => pattern.copy(alloc),
             Evolution::Shown(split, ahead) => {
-                let spaceships = split.spaceships.as_slice();
-                let pattern = whole(alloc, rule, split.time, &split.board, spaceships)?;
                 if *ahead == 0 {
-                    return Ok(pattern);
+                    let spaceships = split.spaceships.as_slice();
+                    return whole(alloc, rule, split.time, &split.board, spaceships);
                 }
-                next(alloc, rule, &pattern)
+                split.next(alloc, rule)
             }
         }
     }

@@ -5,7 +5,7 @@
 //!                                                        ->  or unsettled, at the limit
 //! ```
 //!
-//! The calls here survey one soup or pattern. A [`Surveyor`] surveys many, and is faster.
+//! The functions here survey one soup or pattern. A [`Surveyor`] surveys many, and is faster.
 ghost use Rattle.std.specs.Prelude.{◌≡◌, IfOk, true};
 ghost use Rattle.plane_core.specs.plane.Generations.{lies_within};
 ghost use Rattle.survey_core.specs.FindingLaws.{CountsAddUp, FindingsAreDetermined, FindingsForGood, FindingsMoved};
@@ -43,6 +43,10 @@ pub enum Finding {
 /// # Errors
 ///
 /// [`OutOfMemory`] if memory runs out.
+///
+/// # Examples
+///
+/// `crates/tour_tests/src/soups.rt` surveys a soup and reads its objects.
 pub fn survey(alloc: Global, job: &Job, number: u64) -> Result<Finding, OutOfMemory>
     ensures { IfOk result (IsSurvey job.now.rule job.now.profile (soup job.now.seed number)) }
 {
@@ -68,12 +72,12 @@ pub fn survey_pattern(
     Surveyor::without_memo(alloc).survey_pattern(alloc, profile, rule, pattern)
 }
 
-/// A law of all patterns: they have one finding.
+/// The law that a pattern has only one finding.
 pub fn findings_are_determined()
     ensures { FindingsAreDetermined }
 {}
 
-/// A law of all objects: their counts add up to the clusters that they are the objects of.
+/// The law that the counts of objects add up to the number of clusters.
 pub fn counts_add_up()
     ensures { CountsAddUp }
 {}
@@ -85,8 +89,8 @@ pub fn findings_are_kept()
     ensures turned { FindingsTurned }
 {}
 
-/// A law of all patterns: if a finding says that the objects stay for good, the clusters, each run alone, keep apart
-/// and make up the whole forever, and the pattern recurs after the least common multiple of their periods.
+/// The law that a finding for good means what it says: the clusters, each run alone, keep apart and make up the whole
+/// forever, and the pattern recurs after the least common multiple of their periods.
 pub fn findings_for_good()
     ensures { FindingsForGood }
 {}

@@ -1,4 +1,4 @@
-//! What a census counts: seed, profile and rule together.
+//! A job: seed, profile and rule together.
 ghost use Rattle.std.specs.Prelude.{◌≡◌};
 ghost use Rattle.survey_core.specs.Jobs.{SameJobsAreEqual, same_job};
 
@@ -14,7 +14,7 @@ pub struct Job {
     pub rule: Rule,
 }
 
-/// Whether the two jobs have the same seed, profile and rule.
+/// Checks whether the two jobs have the same seed, profile and rule.
 pub fn is_same_job(job: &Job, other: &Job) -> bool
     ensures { result ≡ same_job job.now other.now }
 {

@@ -1,6 +1,6 @@
 //! Soups, and what becomes of a pattern: when it is at rest, and which objects are left then.
 //!
-//! The folders are floors. Each knows only those below it:
+//! Each of these modules uses only those below it:
 //!
 //! ```text
 //! finding        what becomes of a soup

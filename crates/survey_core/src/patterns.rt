@@ -1,4 +1,4 @@
-//! Patterns that lie so far from the edge of the plane that no step can fail there, and their later generations.
+//! Patterns that lie so far from the edge of the plane that no step can fail, and their later generations.
 ghost use Rattle.std.specs.Prelude.{◌≡◌, ◌≤◌, ◌↔◌, IfOk, IsTrue, true};
 ghost use Rattle.plane_core.specs.plane.Cells.{set_of};
 ghost use Rattle.plane_core.specs.plane.Generations.{after, lies_within, next};
@@ -11,7 +11,7 @@ use plane_core::plane::pattern::{FromCellsError, Pattern};
 use plane_core::plane::rule::Rule;
 use std::alloc::Global;
 
-/// The pattern of these cells, none of which touches the edge of the plane.
+/// Returns the pattern of these cells, none of which touches the edge of the plane.
 pub(crate) fn pattern_of(alloc: Global, cells: &[Cell]) -> Result<Pattern, OutOfMemory>
     requires { lies_within 999999 cells.now ≡ true }
     ensures { IfOk result (λ pattern. pattern ≡ set_of cells.now) }
@@ -23,7 +23,7 @@ pub(crate) fn pattern_of(alloc: Global, cells: &[Cell]) -> Result<Pattern, OutOf
     }
 }
 
-/// The next generation of a pattern that doesn't touch the edge of the plane.
+/// Returns the next generation of a pattern that doesn't touch the edge of the plane.
 pub(crate) fn next(alloc: Global, rule: &Rule, pattern: &Pattern) -> Result<Pattern, OutOfMemory>
     requires { lies_within 999999 pattern.now ≡ true }
     ensures { IfOk result (λ later. later ≡ next rule.now pattern.now) }
@@ -35,7 +35,7 @@ pub(crate) fn next(alloc: Global, rule: &Rule, pattern: &Pattern) -> Result<Patt
     }
 }
 
-/// The pattern after so many generations, in which it doesn't come near the edge of the plane.
+/// Returns the pattern `generations` later, if it doesn't come near the edge of the plane until then.
 pub(crate) fn run_on(
     alloc: Global,
     rule: &Rule,
@@ -53,7 +53,7 @@ pub(crate) fn run_on(
     }
 }
 
-/// Whether the two lists are the same.
+/// Checks whether the two lists are the same.
 pub(crate) fn are_same(one: &[Cell], other: &[Cell]) -> bool
     ensures { IsTrue result ↔ (one.now ≡ other.now) }
 {

@@ -9,11 +9,11 @@ use thiserror::Error;
 /// Why four numbers are not a profile.
 #[derive(Clone, Copy, PartialEq, Eq, Error)]
 pub enum ProfileError {
-    /// The period is not 1 to 64.
+    /// The period is not from 1 to 64.
     Period,
-    /// The horizon is not the period to 4,096.
+    /// The horizon is not from the period to 4,096.
     Horizon,
-    /// The stride is not 1 to 10,000.
+    /// The stride is not from 1 to 10,000.
     Stride,
     /// The limit is over 100,000.
     Limit,
@@ -30,7 +30,7 @@ impl fmt::Display for ProfileError {
     }
 }
 
-/// Shows the message, as `Display` does.
+/// Writes the message, as `Display` does.
 impl fmt::Debug for ProfileError {
     fn fmt<W: fmt::Write>(&self, f: &mut fmt::Formatter<W>) -> fmt::Result {
         fmt::Display::fmt(self, f)
@@ -40,8 +40,8 @@ impl fmt::Debug for ProfileError {
 /// When a pattern counts as settled, in four numbers of generations.
 ///
 /// A pattern is looked at in the generations 0, `stride`, twice the stride and so on, up to `limit`. It has settled if
-/// each of its clusters recurs within `period` generations, and if none of them comes into another's way for
-/// `horizon` generations.
+/// each of its clusters recurs within `period` generations, and if none of them influences another for `horizon`
+/// generations.
 #[derive(Clone, Copy, Debug, PartialEq, Eq)]
 pub struct Profile {
     period: u32,
@@ -64,15 +64,15 @@ impl Model for Profile {
 }
 
 impl Profile {
-    /// The profile with these numbers.
+    /// Returns the profile with these numbers.
     ///
     /// # Errors
     ///
     /// The first of these that holds:
     ///
-    /// - [`ProfileError::Period`] if the period is not 1 to 64.
-    /// - [`ProfileError::Horizon`] if the horizon is not the period to 4,096.
-    /// - [`ProfileError::Stride`] if the stride is not 1 to 10,000.
+    /// - [`ProfileError::Period`] if the period is not from 1 to 64.
+    /// - [`ProfileError::Horizon`] if the horizon is not from the period to 4,096.
+    /// - [`ProfileError::Stride`] if the stride is not from 1 to 10,000.
     /// - [`ProfileError::Limit`] if the limit is over 100,000.
     pub fn new(period: u32, horizon: u32, stride: u32, limit: u32) -> Result<Profile, ProfileError>
         ensures { result ≡ profile_of (record { period = period; horizon = horizon; stride = stride; limit = limit }) }
@@ -97,7 +97,7 @@ impl Profile {
         })
     }
 
-    /// The profile that is meant where nothing else is said: 64, 512, 101 and 30,300.
+    /// Returns the profile that is used where nothing else is said: 64, 512, 101 and 30,300.
     pub fn standard() -> Profile
         ensures { result ≡ standard }
     {
@@ -109,7 +109,7 @@ impl Profile {
         }
     }
 
-    /// The longest period that counts, 1 to 64.
+    /// Returns the longest period that counts, in generations, 1 to 64.
     pub fn period(&self) -> u32
         ensures period { result ≡ self.now.period }
         ensures profile { IsProfile self.now }
@@ -117,7 +117,7 @@ impl Profile {
         self.period
     }
 
-    /// For how many generations clusters may not come into each other's way, at least the period and at most 4,096.
+    /// Returns how many generations clusters must not influence each other, at least the period and at most 4,096.
     pub fn horizon(&self) -> u32
         ensures horizon { result ≡ self.now.horizon }
         ensures profile { IsProfile self.now }
@@ -125,7 +125,7 @@ impl Profile {
         self.horizon
     }
 
-    /// How many generations there are from one checkpoint to the next, 1 to 10,000.
+    /// Returns the number of generations from one checkpoint to the next, 1 to 10,000.
     pub fn stride(&self) -> u32
         ensures stride { result ≡ self.now.stride }
         ensures profile { IsProfile self.now }
@@ -133,7 +133,7 @@ impl Profile {
         self.stride
     }
 
-    /// The last generation at which there may be a checkpoint, at most 100,000.
+    /// Returns the last generation at which there may be a checkpoint, at most 100,000.
     pub fn limit(&self) -> u32
         ensures limit { result ≡ self.now.limit }
         ensures profile { IsProfile self.now }
@@ -142,7 +142,7 @@ impl Profile {
     }
 }
 
-/// Whether n is one of the numbers from the least to the most.
+/// Checks whether n is one of the numbers from `least` to `most`.
 fn is_from_to(least: u32, most: u32, n: u32) -> bool
     ensures { result ≡ is_from_to least most n }
 {

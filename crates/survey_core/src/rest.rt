@@ -1,6 +1,6 @@
-//! A pattern is at rest if each of its clusters recurs, and if the clusters, each run alone, are the whole pattern
-//! in every generation up to the horizon. Two blinkers with two empty rows between them show why the second is asked
-//! for:
+//! A pattern is at rest if each of its clusters recurs, and if the clusters, each run alone, are the whole pattern in
+//! every generation up to the horizon. Two blinkers with two empty rows between them show why the second condition is
+//! needed:
 //!
 //! ```text
 //! generation 0    generation 1    generation 2,    generation 2,
@@ -13,18 +13,19 @@
 //!                     .O.
 //! ```
 //!
-//! Most patterns that are looked at are not at rest, and nearly always some cluster doesn't recur. So that is asked
-//! first, and the envelope of each cluster is kept. Envelopes tell which clusters may come near each other: these are a
-//! group, and clusters of different groups are never run side by side. In a group the whole and its clusters are
-//! stepped, a generation at a time, until a generation differs, or until each cluster is itself again in its place:
-//! then the whole is what it was as well, and all that follows has been seen. Even before that a cluster that is itself
-//! again isn't stepped, since its next generation is known.
+//! Most patterns that are looked at are not at rest, and nearly always because some cluster doesn't recur. So this is
+//! asked first, and the envelope of each cluster is kept. Envelopes tell which clusters may come near each other: these
+//! are a group, and clusters of different groups are never run side by side. In a group the clusters are stepped, one
+//! generation at a time, until one influences another, or until all have recurred in place and nothing new can follow.
+//! A cluster that has recurred isn't stepped, since its next generation is known. While the clusters lie more than two
+//! cells apart, they evolve in the whole as they do alone. Only otherwise is the whole stepped too, and compared with
+//! their union.
 
 ghost use Rattle.std.specs.Prelude.{◌≡◌, ◌<◌, ◌≤◌, ◌↔◌, ℕ, All, IfNone, IfOk, IfSome, IsTrue, length, map};
-ghost use Rattle.std.specs.Prelude.{◌==◌, filter, true};
+ghost use Rattle.std.specs.Prelude.{◌==◌, OnOk, filter, true};
 ghost use Rattle.plane_core.specs.plane.Cells.{InOrder};
-ghost use Rattle.plane_core.specs.plane.Generations.{lies_within};
-ghost use Rattle.survey_core.specs.rest.Alone.{alone_at, clusters_of};
+ghost use Rattle.plane_core.specs.plane.Generations.{after, lies_within, next};
+ghost use Rattle.survey_core.specs.rest.Alone.{alone_at, clusters_of, latest_of, stepped};
 ghost use Rattle.survey_core.specs.rest.Groups.{GroupKeeps, ShareNoCell, members, union_of};
 ghost use Rattle.survey_core.specs.rest.Rest.{IsAtRest, KeepApart, RestsAs};
 ghost use Rattle.survey_core.specs.rest.RestLaws.{AtRestForGood, EmptyIsAtRest, GroupsRunAlone, PartsRunAlone};
@@ -37,7 +38,7 @@ mod groups;
 
 use crate::patterns::{are_same, next};
 use crate::profile::Profile;
-use crate::rest::alone::{Alone, have_recurred, joined, step_each};
+use crate::rest::alone::{Alone, have_recurred, joined, lie_apart, step_each};
 use crate::rest::groups::groups;
 use crate::shapes::memo::Memo;
 use memory::OutOfMemory;
@@ -45,7 +46,7 @@ use plane_core::plane::pattern::Pattern;
 use plane_core::plane::rule::Rule;
 use std::alloc::Global;
 
-/// The clusters of the pattern, if it is at rest.
+/// Returns the clusters of the pattern, if it is at rest.
 pub(crate) fn clusters_at_rest(
     alloc: Global,
     profile: &Profile,
@@ -71,7 +72,7 @@ pub(crate) fn clusters_at_rest(
     Ok(apart.then_some(clusters))
 }
 
-/// Whether in each group the clusters, each run alone, keep apart and make up their union up to the horizon.
+/// Checks whether in each group the clusters, each run alone, keep apart and make up their union up to the horizon.
 fn groups_keep_apart(
     alloc: Global,
     rule: &Rule,
@@ -101,21 +102,19 @@ fn groups_keep_apart(
     Ok(true)
 }
 
-/// How many clusters the group with this number has.
+/// Returns the number of clusters in the group with this number. No branch depends on a group, so that several are
+/// compared at once.
 fn count_of(groups: &[usize], number: usize) -> usize
     ensures { result ≡ length (filter (λ group. group == number) groups.now) }
 {
     let mut count = 0;
     for group in groups {
-        if *group != number {
-            continue;
-        }
-        count += 1;
+        count += usize::from(*group == number);
     }
     count
 }
 
-/// The clusters of the group with this number, to be run alone.
+/// Returns the clusters of the group with this number, to be run alone.
 fn members(
     alloc: Global,
     rule: &Rule,
@@ -142,8 +141,8 @@ fn members(
     Ok(members)
 }
 
-/// Whether the clusters, each run alone, keep apart and make up what their union becomes, in each generation up to the
-/// horizon.
+/// Checks whether the clusters, each run alone, keep apart and make up what their union becomes, in each generation up
+/// to the horizon.
 fn keep_apart(
     alloc: Global,
     rule: &Rule,
@@ -160,18 +159,9 @@ fn keep_apart(
         ↔ ((g : ℕ) → g ≤ horizon
         → KeepApart rule.now (union_of (clusters_of clusters.old)) (clusters_of clusters.old) g)) }
 {
-    let Some(mut whole) = joined(alloc, clusters)? else {
-        return Ok(false);
-    };
     for _ in 0..horizon {
-        whole = next(alloc, rule, &whole)?;
-        step_each(alloc, rule, clusters)?;
-        let Some(together) = joined(alloc, clusters)? else {
-            return Ok(false);
-        };
-        let same = are_same(together.cells(), whole.cells());
-        drop(together);
-        if !same {
+        let keeps = step_apart(alloc, rule, clusters)?;
+        if !keeps {
             return Ok(false);
         }
         if have_recurred(clusters) {
@@ -179,6 +169,34 @@ fn keep_apart(
         }
     }
     Ok(true)
+}
+
+/// Runs each of the clusters for a generation. Returns whether they then share no cell and make up what their union becomes.
+fn step_apart(alloc: Global, rule: &Rule, clusters: &mut [Alone]) -> Result<bool, OutOfMemory>
+    requires first { All (λ alone. alone.first ≡ next rule.now alone.cluster) clusters.old }
+    requires near { All (λ alone. lies_within 999999 alone.latest ≡ true) clusters.old }
+    requires later { All (λ part. lies_within 999999 part ≡ true) (map (λ part. after rule.now part 1) (latest_of clusters.old)) }
+    requires order { All InOrder (latest_of clusters.old) }
+    requires off { ShareNoCell (latest_of clusters.old) }
+    ensures stepped { OnOk result (clusters.new ≡ map (stepped rule.now) clusters.old) }
+    ensures apart { IfOk result
+        (λ apart. IsTrue apart ↔ KeepApart rule.now (union_of (latest_of clusters.old)) (latest_of clusters.old) 1) }
+{
+    // Their boxes nearly always show this, and then the whole needn't be made.
+    if lie_apart(clusters) {
+        step_each(alloc, rule, clusters)?;
+        return Ok(true);
+    }
+    let Some(whole) = joined(alloc, clusters)? else {
+        return Ok(false);
+    };
+    let later = next(alloc, rule, &whole)?;
+    step_each(alloc, rule, clusters)?;
+    let Some(together) = joined(alloc, clusters)? else {
+        return Ok(false);
+    };
+    let same = are_same(together.cells(), later.cells());
+    Ok(same)
 }
 
 /// The laws of patterns at rest: the empty pattern is at rest, and a pattern whose objects stay for good keeps them
@@ -189,8 +207,8 @@ pub fn at_rest_for_good()
     ensures forever { AtRestForGood }
 {}
 
-/// The laws of parts that stay apart: what stays more than two cells apart runs as if each part were alone, and so does
-/// what is in groups of which that is true.
+/// The laws of parts that stay apart: those that stay more than two cells apart evolve as if each were alone, and so do
+/// groups that stay apart from each other.
 pub fn far_parts_run_alone()
     ensures parts { PartsRunAlone }
     ensures groups { GroupsRunAlone }

@@ -1,9 +1,10 @@
 //! Seeds: the texts from which soups are made.
-ghost use Rattle.std.specs.Prelude.{◌≡◌};
+ghost use Rattle.std.specs.Prelude.{◌≡◌, Some};
 ghost use Rattle.survey_core.specs.Seeds.{IsSeed, is_visible, seed_read};
 
 use std::fmt;
 use std::marker::Model;
+use std::str::FromStr;
 use thiserror::Error;
 
 /// The most bytes of a seed.
@@ -12,7 +13,7 @@ pub const MOST_BYTES: usize = 64;
 /// Why a text is not a seed.
 #[derive(Clone, Copy, PartialEq, Eq, Error)]
 pub enum SeedFault {
-    /// The text has over 64 bytes.
+    /// The text has more than 64 bytes.
     TooLong,
     /// The byte at `place` is the first that isn't a visible ASCII character. Places count from 0.
     BadByte { place: usize },
@@ -27,7 +28,7 @@ impl fmt::Display for SeedFault {
     }
 }
 
-/// Shows the message, as `Display` does.
+/// Writes the message, as `Display` does.
 impl fmt::Debug for SeedFault {
     fn fmt<W: fmt::Write>(&self, f: &mut fmt::Formatter<W>) -> fmt::Result {
         fmt::Display::fmt(self, f)
@@ -36,10 +37,10 @@ impl fmt::Debug for SeedFault {
 
 /// A text from which soups are made: at most 64 bytes, each one of `!` to `~`. It may be empty.
 ///
-/// Seeds are equal where their bytes are. Contracts see a seed as the list of its bytes.
+/// Seeds are equal if their bytes are. Contracts see a seed as the list of its bytes.
 #[derive(Clone, Copy, Debug, PartialEq, Eq)]
 pub struct Seed {
-    /// The bytes, and zeros after them.
+    /// The bytes, followed by zeros.
     padded: [u8; 64],
     count: usize,
 }
@@ -60,12 +61,35 @@ impl Model for Seed {
         × (length (take s.count s.padded) ≡ s.count) × IsSeed (take s.count s.padded) };
 }
 
+impl FromStr for Seed {
+    type Err = SeedFault;
+
+    ghost from_str_gives = { λ text result. result ≡ seed_read text };
+
+    /// Reads a seed, as [`Seed::new`] does.
+    fn from_str(text: &str) -> Result<Seed, SeedFault> {
+        Seed::new(text)
+    }
+}
+
+/// Writes the text.
+impl fmt::Display for Seed {
+    ghost output = { λ seed. Some seed };
+
+    fn fmt<W: fmt::Write>(&self, f: &mut fmt::Formatter<W>) -> fmt::Result {
+        match std::str::from_utf8(self.bytes()) {
+            Ok(text) => f.write_str(text),
+            Err(_) => unreachable!(),
+        }
+    }
+}
+
 impl Seed {
-    /// The seed that the text is.
+    /// Returns the seed with this text.
     ///
     /// # Errors
     ///
-    /// - [`SeedFault::TooLong`] if the text has over 64 bytes.
+    /// - [`SeedFault::TooLong`] if the text has more than 64 bytes.
     /// - [`SeedFault::BadByte`] with the place of the first byte that isn't one of `!` to `~` (33 to 126).
     pub fn new(text: &str) -> Result<Seed, SeedFault>
         ensures { result ≡ seed_read text.now }
@@ -87,7 +111,7 @@ impl Seed {
         })
     }
 
-    /// The bytes of the text.
+    /// Returns the bytes of the text.
     pub fn bytes(&self) -> &[u8]
         ensures bytes { result.now ≡ self.now }
         ensures seed { IsSeed self.now }
@@ -97,7 +121,7 @@ impl Seed {
     }
 }
 
-/// Whether the byte is a visible ASCII character.
+/// Checks whether the byte is a visible ASCII character.
 fn is_visible(byte: u8) -> bool
     ensures { result ≡ is_visible byte }
 {

@@ -6,5 +6,5 @@ pub mod envelope_bounds;
 pub(crate) mod memo;
 /// The objects of a finding, with how many there are of each.
 pub mod objects;
-/// In which slot of a memo a pattern belongs.
+/// The choice of a slot in a memo.
 mod slot;

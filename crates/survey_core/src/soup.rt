@@ -23,12 +23,15 @@ use plane_core::plane::pattern::Pattern;
 use sha2::{Digest, Sha256};
 use std::alloc::Global;
 
-/// The soup with this number: the 256 bits of the SHA-256 digest of the job's seed and then the number in decimal, as a
+/// The number of cells that are reserved at the start. A soup has 128 on average, and hardly ever more than 160.
+const ROOM: usize = 160;
+
+/// Returns soup `number`: the 256 bits of the SHA-256 digest of the job's seed and then the number in decimal, as a
 /// square of 16 by 16 cells. The job's profile and rule don't matter.
 ///
 /// # Errors
 ///
-/// [`OutOfMemory`] if there is no memory.
+/// [`OutOfMemory`] if memory runs out.
 pub fn soup(alloc: Global, job: &Job, number: u64) -> Result<Pattern, OutOfMemory>
     ensures soup { IfOk result (λ pattern. pattern ≡ soup job.now.seed number) }
     ensures small { IfOk result (All (IsWithin square)) }
@@ -40,17 +43,17 @@ pub fn soup(alloc: Global, job: &Job, number: u64) -> Result<Pattern, OutOfMemor
     soup_of_digest(alloc, &hasher.finalize())
 }
 
-/// The soup of a digest: the cell in column x of row y, both 0 to 15, is bit 7 - x mod 8 of byte 2y + x div 8, where
-/// bit 7 is the greatest.
+/// Returns the soup of a digest: the cell in column x of row y, both 0 to 15, is bit 7 - x mod 8 of byte 2y + x div 8,
+/// where bit 7 is the most significant.
 ///
 /// # Errors
 ///
-/// [`OutOfMemory`] if there is no memory.
+/// [`OutOfMemory`] if memory runs out.
 pub fn soup_of_digest(alloc: Global, digest: &[u8; 32]) -> Result<Pattern, OutOfMemory>
     ensures soup { IfOk result (λ pattern. pattern ≡ soup_of digest.now) }
     ensures small { IfOk result (All (IsWithin square)) }
 {
-    let mut cells = Vec::new(alloc);
+    let mut cells = Vec::with_capacity(alloc, ROOM)?;
     for place in 0..256 {
         if is_alive_at(digest, place) {
             cells.push(square_cell(place))?;
@@ -59,13 +62,14 @@ pub fn soup_of_digest(alloc: Global, digest: &[u8; 32]) -> Result<Pattern, OutOf
     pattern_of(alloc, cells.as_slice())
 }
 
-/// A law of all soups, cell by cell: the one in column x of row y, both 0 to 15, is alive exactly if its bit is set.
+/// The law of all soups, cell by cell: the one in column x of row y, both 0 to 15, is alive if and only if its bit is
+/// set.
 #[tactic(auto, using(crate::proofs::lemmas::SoupLemmas::soups_by_cells))]
 pub fn soups_by_cells()
     ensures { SoupsByCells }
 {}
 
-/// Whether the cell at this place of the square is alive.
+/// Checks whether the cell at this place of the square is alive.
 #[tactic(auto, unfolding(crate::specs::Soups::is_alive_at))]
 fn is_alive_at(digest: &[u8; 32], place: u32) -> bool
     requires { place < 256 }
@@ -76,7 +80,7 @@ fn is_alive_at(digest: &[u8; 32], place: u32) -> bool
     (byte >> (7 - x % 8)) % 2 == 1
 }
 
-/// The cell at this place of the square.
+/// Returns the cell at this place of the square.
 fn square_cell(place: u32) -> Cell
     requires { place < 256 }
     ensures { result ≡ square_cell place }

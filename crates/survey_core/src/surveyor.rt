@@ -32,7 +32,7 @@ use std::alloc::Global;
 
 /// What a worker keeps from soup to soup: a memo table of shapes, and a board.
 ///
-/// It serves any job, one after another. What it has seen before changes no finding: only how long a survey takes.
+/// It serves any job, one after another. What it has seen before changes no finding, only how long a survey takes.
 #[derive(Drop)]
 pub struct Surveyor {
     memo: Memo,
@@ -116,11 +116,11 @@ impl Surveyor {
     }
 }
 
-/// The finding of a pattern that has come so far at the checkpoint, if it is at rest.
+/// Returns the finding of a pattern at this checkpoint, if it is at rest.
 ///
-/// Where an even number of generations changes nothing, the pattern is the same in every second generation. So a look
-/// that has said no answers for each later one that is an even number of generations on, and that is noted in one of
-/// the `known_restless`: the first is about even generations, and the second about odd ones.
+/// If an even number of generations changes nothing, the pattern is the same in every second generation. So once an
+/// examination says no, the answer is no an even number of generations later too. This is noted in one of the
+/// `known_restless`: the first is about even generations, and the second about odd ones.
 ///
 /// ```text
 /// generation   404   505   606   707   808

@@ -1,9 +1,14 @@
-//! Names a plaintext pattern from standard input, or finds its clusters, as often as its words say, or surveys soups: a
-//! program for `bench/run` to time. `timing clusters N` prints how many clusters there are, `timing names N` the name,
-//! `timing surveys N` how many of the soups 0 to N - 1 settle, and `timing gliders N` the population of two far gliders
-//! after N generations. `timing reports N` makes reports of N soups, under a profile that makes a survey cheap, and
-//! prints how many; `timing offers N` offers N such reports to a haul, then a thousand more, and prints how many it
-//! has taken and the microseconds of the thousand. All but the first two don't look at their input.
+//! A program for `bench/run` to time. It reads a plaintext pattern from standard input, or surveys soups.
+//!
+//! - `timing clusters N` finds the pattern's clusters N times, and prints their number.
+//! - `timing names N` names the pattern N times, and prints the name.
+//! - `timing surveys N` prints how many of the soups 0 to N - 1 settle.
+//! - `timing gliders N` prints the population of two far gliders after N generations.
+//! - `timing reports N` makes reports of N soups, under a profile that makes a survey cheap, and prints their number.
+//! - `timing offers N` offers N such reports to a haul, and then a thousand more. It prints how many the haul has
+//!   taken, and the microseconds that the thousand took.
+//!
+//! Only the first two read their input.
 #![tactic(auto)]
 
 ghost use Rattle.std.specs.Prelude.{◌≡◌, IfOk, List, length};
@@ -31,7 +36,7 @@ use survey_core::profile::Profile;
 use survey_core::seed::Seed;
 use survey_core::surveyor::Surveyor;
 
-/// How many clusters the pattern has.
+/// Returns the number of clusters of the pattern.
 fn cluster_count(alloc: Global, pattern: &Pattern) -> Result<usize, OutOfMemory>
     ensures { IfOk result
         (λ count. (clusters : List (List Place)) → AreClusters pattern.now clusters → count ≡ length clusters) }
@@ -42,7 +47,7 @@ fn cluster_count(alloc: Global, pattern: &Pattern) -> Result<usize, OutOfMemory>
     Ok(clusters.len())
 }
 
-/// The name of the pattern in Life, if it has a cell and comes back within 64 generations.
+/// Returns the name of the pattern in Life, if it has a cell and recurs within 64 generations.
 fn name_in_life(alloc: Global, pattern: &Pattern) -> Result<Option<Apgcode>, StepError> {
     if pattern.population() == 0 {
         return Ok(None);
@@ -50,7 +55,7 @@ fn name_in_life(alloc: Global, pattern: &Pattern) -> Result<Option<Apgcode>, Ste
     name(alloc, pattern, &Rule::life(), 64)
 }
 
-/// Finds the clusters so many times, and prints their number.
+/// Finds the clusters `times` times, and prints their number.
 fn find_clusters(rt: &HostRuntime, pattern: &Pattern, times: u32) -> io::Result<()> {
     let mut found = Ok(0);
     for _ in 0..times {
@@ -62,7 +67,7 @@ fn find_clusters(rt: &HostRuntime, pattern: &Pattern, times: u32) -> io::Result<
     }
 }
 
-/// Names the pattern so many times, and prints the name.
+/// Names the pattern `times` times, and prints the name.
 fn find_names(rt: &HostRuntime, pattern: &Pattern, times: u32) -> io::Result<()> {
     let mut found = Ok(None);
     for _ in 0..times {
@@ -75,7 +80,7 @@ fn find_names(rt: &HostRuntime, pattern: &Pattern, times: u32) -> io::Result<()>
     }
 }
 
-/// Two gliders that lie 100,000 columns apart and fly the same way.
+/// Returns two gliders that are 100,000 columns apart and fly in the same direction.
 fn two_gliders(alloc: Global) -> Result<Pattern, FromCellsError> {
     let mut cells = Vec::new(alloc);
     for left in [0, 100_000] {
@@ -86,7 +91,7 @@ fn two_gliders(alloc: Global) -> Result<Pattern, FromCellsError> {
     Pattern::from_cells(alloc, cells.as_slice())
 }
 
-/// Runs two far gliders for so many generations of Life, and prints their population.
+/// Runs two far gliders for `generations` generations of Life, and prints their population.
 fn fly_gliders(rt: &HostRuntime, generations: u32) -> io::Result<()> {
     let Ok(gliders) = two_gliders(rt.alloc()) else {
         return println!(rt; "no gliders");
@@ -97,7 +102,7 @@ fn fly_gliders(rt: &HostRuntime, generations: u32) -> io::Result<()> {
     }
 }
 
-/// How many of the first soups of the empty seed settle, in Life and by the standard profile.
+/// Returns how many of the first `soups` soups of the empty seed settle, in Life and under the standard profile.
 fn settled_count(alloc: Global, job: &Job, soups: u32) -> Result<usize, OutOfMemory> {
     let mut settled = Vec::new(alloc);
     let mut surveyor = Surveyor::new(alloc);
@@ -110,7 +115,7 @@ fn settled_count(alloc: Global, job: &Job, soups: u32) -> Result<usize, OutOfMem
     Ok(settled.len())
 }
 
-/// Surveys so many soups, and prints how many settle.
+/// Surveys `soups` soups, and prints how many settle.
 fn survey_soups(rt: &HostRuntime, seed: Seed, soups: u32) -> io::Result<()> {
     let job = Job {
         seed,
@@ -123,10 +128,10 @@ fn survey_soups(rt: &HostRuntime, seed: Seed, soups: u32) -> io::Result<()> {
     }
 }
 
-/// How many offers are timed.
+/// The number of offers that are timed.
 const TIMED: u32 = 1000;
 
-/// A job under whose profile a soup is settled only if it is a still life at once.
+/// Returns a job under whose profile a soup is settled only if it is a still life from the start.
 fn cheap_job(seed: Seed) -> Option<Job> {
     let profile = Profile::new(1, 1, 1, 0).ok()?;
     Some(Job {
@@ -136,7 +141,7 @@ fn cheap_job(seed: Seed) -> Option<Job> {
     })
 }
 
-/// Reports of the soups from a number on, up to another.
+/// Returns reports of the soups from `from` up to `to`.
 fn reports(alloc: Global, job: &Job, from: u32, to: u32) -> Result<Vec<Report>, OutOfMemory> {
     let mut reports = Vec::new(alloc);
     for number in from..to {
@@ -151,7 +156,7 @@ fn reports(alloc: Global, job: &Job, from: u32, to: u32) -> Result<Vec<Report>, 
     Ok(reports)
 }
 
-/// A haul of the first soups that has taken none.
+/// Opens a haul of the first `soups` soups.
 fn open_haul(alloc: Global, job: Job, soups: u32) -> Result<Haul, OpenError> {
     let range = Range {
         first: 0,
@@ -163,12 +168,12 @@ fn open_haul(alloc: Global, job: Job, soups: u32) -> Result<Haul, OpenError> {
 /// Offers the reports one after another.
 fn offer_each(haul: &mut Haul, reports: Vec<Report>) {
     for report in reports {
-        // A report that is refused is not counted.
+        // A report that is refused isn't counted.
         let _ = haul.offer(report);
     }
 }
 
-/// Makes so many reports, and prints how many there are.
+/// Makes `count` reports, and prints their number.
 fn make_reports(rt: &HostRuntime, job: &Job, count: u32) -> io::Result<()> {
     match reports(rt.alloc(), job, 0, count) {
         Ok(reports) => println!(rt; "{}", reports.len()),
@@ -176,7 +181,7 @@ fn make_reports(rt: &HostRuntime, job: &Job, count: u32) -> io::Result<()> {
     }
 }
 
-/// Offers so many reports to a haul, and then times some more.
+/// Offers `count` reports to a haul, and then times some more.
 fn offer_reports(rt: &HostRuntime, job: Job, count: u32) -> io::Result<()> {
     let all = count.saturating_add(TIMED);
     let Ok(first) = reports(rt.alloc(), &job, 0, count) else {
@@ -195,7 +200,7 @@ fn offer_reports(rt: &HostRuntime, job: Job, count: u32) -> io::Result<()> {
     println!(rt; "{} {}", haul.taken().len(), taken.as_micros())
 }
 
-/// Makes reports, or offers them.
+/// Makes reports, or makes and offers them.
 fn time_reports(rt: &HostRuntime, offered: bool, count: u32) -> io::Result<()> {
     let job = Seed::new("").ok().and_then(cheap_job);
     match job {

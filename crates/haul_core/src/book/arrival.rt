@@ -1,4 +1,4 @@
-//! What arrives at a haul, and what is replied.
+//! What arrives at a haul, and the replies.
 
 use crate::book::refused::OfferError;
 use crate::report::Report;
@@ -12,7 +12,7 @@ pub enum Arrival {
     Closing,
 }
 
-/// What is replied to an arrival.
+/// The reply to an arrival.
 #[derive(Clone, Copy, Debug, PartialEq, Eq)]
 pub enum Reply {
     /// The report is taken.

@@ -1,4 +1,4 @@
-//! What the soups that a haul has taken left.
+//! The census of a haul: what the soups that it has taken left.
 
 use crate::book::census_rows::Rows;
 use ranges::range::Ranges;
@@ -10,15 +10,15 @@ pub struct Census {
     pub job: Job,
     /// The set of soup numbers, in normal form.
     pub ranges: Ranges,
-    /// How many numbers the set has.
+    /// The number of soups in the set.
     pub count: u64,
-    /// How many soups are taken.
+    /// The number of soups that were taken.
     pub soups: u64,
-    /// How many of them are unsettled.
+    /// The number of these that are unsettled.
     pub unsettled: u64,
-    /// How many of them stay for good.
+    /// The number of these that stay for good.
     pub for_good: u64,
-    /// How many objects they left: the sum of all totals.
+    /// The number of objects that they left: the sum of all totals.
     pub objects: u128,
     /// A row for each code that they left.
     pub rows: Rows,

@@ -1,4 +1,4 @@
-//! The rows of a census: of each code how many objects have it, and which soups are its samples.
+//! The rows of a census: for each code, how many objects have it, and its sample soups.
 
 ghost use Rattle.std.specs.Prelude.{◌≡◌, ◌<◌, ◌^◌, ℕ, List, IfOk, OnOk, map, sum_by};
 ghost use Rattle.std.specs.BTreeMap.{IsOrdered};
@@ -21,13 +21,13 @@ use std::collections::BTreeMap;
 use std::marker::Model;
 use std::slice::Iter;
 
-/// What a census says of a code.
+/// The row of a code in a census.
 #[derive(Debug, Drop)]
 pub struct Row {
     pub code: Apgcode,
-    /// How many objects have the code, at least 1.
+    /// The number of objects that have the code, at least 1.
     pub total: u128,
-    /// The least three numbers of soups that left one, ascending.
+    /// The three lowest numbers of soups that left such an object, ascending.
     pub samples: Samples,
 }
 
@@ -50,7 +50,7 @@ impl Model for Rows {
 }
 
 impl Rows {
-    /// The rows, in ASCII order of their codes.
+    /// Returns the rows, in ASCII order of their codes.
     pub fn as_slice(&self) -> &[Row]
         ensures rows { result.now ≡ self.now }
         ensures in_order { AreInOrder self.now }
@@ -65,7 +65,7 @@ impl Rows {
         self.as_slice().iter()
     }
 
-    /// The rows of the codes that have an object.
+    /// Returns the rows of the codes that have an object.
     pub(crate) fn of_scores(
         alloc: Global,
         scores: &IndexMap<Apgcode, Score>,
@@ -78,7 +78,7 @@ impl Rows {
     }
 }
 
-/// The scores of the codes that have an object, in order of code.
+/// Returns the scores of the codes that have an object, in order of code.
 fn with_objects(
     alloc: Global,
     scores: &IndexMap<Apgcode, Score>,
@@ -98,7 +98,7 @@ fn with_objects(
     Ok(kept)
 }
 
-/// The scores as rows.
+/// Returns the scores as rows.
 fn listed(alloc: Global, scores: BTreeMap<Apgcode, Score>) -> Result<Vec<Row>, OutOfMemory>
     ensures rows { IfOk result (λ rows. rows.items
         ≡ map (λ entry. row_from entry.0 entry.1) scores.entries) }
@@ -116,7 +116,7 @@ fn listed(alloc: Global, scores: BTreeMap<Apgcode, Score>) -> Result<Vec<Row>, O
     Ok(rows)
 }
 
-/// The sum of all totals.
+/// Returns the sum of all totals.
 pub(crate) fn sum_of_totals(rows: &[Row]) -> u128
     requires { sum_by (λ row. row.total) rows.now < 2 ^ 128 }
     ensures { result ≡ sum_by (λ row. row.total) rows.now }

@@ -28,7 +28,7 @@ ghost use Rattle.haul_core.specs.declared.book.arrival.Arrival.TheVariants as ar
 ghost use Rattle.haul_core.specs.declared.book.haul.OpenError.TheVariants.{BadRange, BadWorkers, Memory};
 ghost use Rattle.haul_core.specs.declared.book.haul.OpenError.TheVariants.{Overlap as SharedNumber};
 
-/// How two hauls are joined.
+/// Joining two hauls.
 pub mod join;
 
 use crate::book::census::Census;
@@ -47,7 +47,7 @@ use survey_core::finding::Finding;
 use survey_core::job::{Job, is_same_job};
 use thiserror::Error;
 
-/// A haul that is closed is not closed again.
+/// A haul that is closed can't be closed again.
 #[derive(Clone, Copy, PartialEq, Eq, Error)]
 pub struct AlreadyClosed;
 
@@ -67,9 +67,9 @@ impl fmt::Debug for AlreadyClosed {
 /// Why no haul was opened.
 #[derive(Clone, Copy, PartialEq, Eq, Error)]
 pub enum OpenError {
-    /// There are not 1 to 16 workers.
+    /// The number of workers isn't from 1 to 16.
     BadWorkers,
-    /// A range goes past 2^40, or the ranges have over 2^24 numbers together.
+    /// A range ends past 2^40, or the ranges have more than 2^24 numbers together.
     BadRange,
     /// Two ranges share a number.
     Overlap,
@@ -103,10 +103,10 @@ impl<E: Into<OutOfMemory>> From<E> for OpenError {
     }
 }
 
-/// Which soups of a job have been taken, by whom, and the totals over them.
+/// Which soups of a job have been taken, from which workers, and the totals over them.
 ///
-/// A haul is opened for a job, a set of soup numbers and some workers. It takes each number of its set at most once.
-/// Contracts see what it was opened for, whether it is closed, and the worker and number of each report taken.
+/// A haul is opened for a job, a set of soup numbers and a number of workers. It takes each number of its set at most
+/// once. Contracts see what it was opened for, whether it is closed, and the worker and number of each report taken.
 pub struct Haul {
     alloc: Global,
     job: Job,
@@ -140,7 +140,7 @@ impl Model for Haul {
         (record { scores = h.totals.scores.entries; unsettled = h.totals.unsettled; for_good = h.totals.for_good }) };
 }
 
-// Written out, since a derived drop is proved anew wherever a haul is given up.
+// Written out, because a derived drop is proved anew wherever a haul is dropped.
 impl Drop for Haul {
     fn drop(self) {
         let Haul {
@@ -162,18 +162,22 @@ impl Drop for Haul {
 }
 
 impl Haul {
-    /// A haul for a job, the soup numbers of the ranges, and workers with the numbers from 1 on. It is open.
+    /// Opens a haul for a job, for the soup numbers of the ranges, and for workers that are numbered from 1.
     ///
     /// # Errors
     ///
     /// The first of these that holds:
     ///
-    /// - [`OpenError::BadWorkers`] if there are not 1 to 16 workers.
-    /// - [`OpenError::BadRange`] if a range goes past 2^40, or the ranges have over 2^24 numbers together.
+    /// - [`OpenError::BadWorkers`] if the number of workers isn't from 1 to 16.
+    /// - [`OpenError::BadRange`] if a range ends past 2^40, or the ranges have more than 2^24 numbers together.
     /// - [`OpenError::Overlap`] if two ranges share a number.
     /// - [`OpenError::Memory`] if memory runs out.
+    ///
+    /// # Examples
+    ///
+    /// `crates/tour_tests/src/hauls.rt` opens a haul, offers four reports, and writes its census.
     pub fn open(alloc: Global, job: Job, ranges: &[Range], workers: u8) -> Result<Haul, OpenError>
-        // What was handed in, and nothing taken.
+        // What was passed in, and nothing taken.
         ensures job { IfOk result (λ haul. haul.terms.job ≡ job) }
         ensures ranges { IfOk result (λ haul. IsNormalForm ranges.now haul.terms.ranges) }
         ensures workers { IfOk result (λ haul. haul.terms.workers ≡ workers) }
@@ -209,7 +213,7 @@ impl Haul {
         })
     }
 
-    /// Closes the haul. It takes no report from then on.
+    /// Closes the haul, which then takes no more reports.
     ///
     /// # Errors
     ///
@@ -231,21 +235,21 @@ impl Haul {
         Ok(())
     }
 
-    /// Whether the haul is closed.
+    /// Checks whether the haul is closed.
     pub fn is_closed(&self) -> bool
         ensures { result ≡ self.now.closed }
     {
         self.closed
     }
 
-    /// The job.
+    /// Returns the job.
     pub fn job(&self) -> Job
         ensures { result ≡ self.now.terms.job }
     {
         self.job
     }
 
-    /// How many workers there are, 1 to 16.
+    /// Returns the number of workers, 1 to 16.
     pub fn workers(&self) -> u8
         ensures workers { result ≡ self.now.terms.workers }
         ensures few { IsWorker self.now.terms.workers }
@@ -253,7 +257,7 @@ impl Haul {
         self.workers
     }
 
-    /// The set of soup numbers, in normal form.
+    /// Returns the set of soup numbers, in normal form.
     pub fn ranges(&self) -> &[Range]
         ensures ranges { result.now ≡ self.now.terms.ranges }
         ensures normal { AreNormal self.now.terms.ranges }
@@ -263,14 +267,15 @@ impl Haul {
         ranges.as_slice()
     }
 
-    /// How many numbers the set has.
+    /// Returns the number of soups in the set.
     pub fn count(&self) -> u64
         ensures { result ≡ size_of self.now.terms.ranges }
     {
         self.count
     }
 
-    /// The worker and the number of each report taken, in order. No number stands twice, and each is of the set.
+    /// Returns the worker and the number of each report taken, in order. No number occurs twice, and each is in the
+    /// set.
     pub fn taken(&self) -> &[(u8, u64)]
         ensures taken { result.now ≡ self.now.taken }
         ensures distinct { IsDistinct nat_eq (numbers_in self.now.taken) }
@@ -280,7 +285,7 @@ impl Haul {
         taken.as_slice()
     }
 
-    /// Recalls, for a proof, what always holds: the numbers taken are distinct, and each is of the haul's set.
+    /// Recalls, for a proof, that the numbers taken are distinct and in the haul's set.
     pub fn recall_taken_is_subset(&self)
         ensures distinct { IsDistinct nat_eq (numbers_in self.now.taken) }
         ensures within { All (λ t. is_in self.now.terms.ranges t.1 ≡ true) self.now.taken }
@@ -288,7 +293,7 @@ impl Haul {
         self.taken();
     }
 
-    /// Recalls, for a proof, that the workers are 1 to 16.
+    /// Recalls, for a proof, that there are 1 to 16 workers.
     pub fn recall_workers_are_few(&self)
         ensures { IsWorker self.now.terms.workers }
     {
@@ -303,7 +308,7 @@ impl Haul {
         self.missing_count();
     }
 
-    /// The numbers of the set that haven't been taken, ascending.
+    /// Returns the numbers of the set that haven't been taken, ascending.
     ///
     /// # Errors
     ///
@@ -323,7 +328,7 @@ impl Haul {
         missing(*alloc, ranges.as_slice(), worker_of)
     }
 
-    /// How many numbers of the set haven't been taken. It takes the same time for any set.
+    /// Returns how many numbers of the set haven't been taken. This takes the same time for any set.
     pub fn missing_count(&self) -> u64
         ensures count { result ≡ length (missing_of self.now.terms.ranges self.now.taken) }
         ensures none { (result ≡ 0) ↔ IsComplete self.now.terms.ranges self.now.taken }
@@ -332,7 +337,7 @@ impl Haul {
         *count - taken.len() as u64
     }
 
-    /// Whether each number of the set has been taken.
+    /// Checks whether each number of the set has been taken.
     pub fn is_complete(&self) -> bool
         ensures complete { IsTrue result ↔ IsComplete self.now.terms.ranges self.now.taken }
         ensures all { IsTrue result → AreAll self.now.terms.ranges (numbers_in self.now.taken) }
@@ -341,7 +346,7 @@ impl Haul {
         *count == taken.len() as u64
     }
 
-    /// What the taken soups left, whether the haul is open or closed.
+    /// Returns the census of the soups that were taken, whether the haul is open or closed.
     ///
     /// # Errors
     ///
@@ -372,12 +377,12 @@ impl Haul {
         })
     }
 
-    /// Offers a report. An open haul takes one of its job, of one of its workers, and of a number that is missing.
-    /// That takes time in proportion to the report's objects, and to the ranges of the set.
+    /// Offers a report. An open haul takes a report of its job, of one of its workers, and of a number that is missing.
+    /// The time is proportional to the report's objects, and grows with the logarithm of the number of ranges.
     ///
     /// # Errors
     ///
-    /// [`Refused`] has the report, and the first [`OfferError`] that holds in their order. The haul is as it was.
+    /// [`Refused`] has the report, and the first [`OfferError`] that holds, in their order. The haul is unchanged.
     pub fn offer(&mut self, report: Report) -> Result<(), Refused>
         ensures reply { (arrivals : List Arrival) → StandsFor arrivals self.old
             → IsReply (reply_of result) (refusal_of self.old.terms arrivals report) }
@@ -414,12 +419,12 @@ impl Haul {
             report.number(),
         );
         self.totals.add(report.finding(), report.number());
-        // By a call: dropped at the end of the function, the report costs the prover twice as much.
+        // By a call: if it is dropped at the end of the function, the report takes the prover twice as long.
         drop(report);
         Ok(())
     }
 
-    /// Why a report is refused, if it is, apart from memory.
+    /// Returns why a report is refused, memory apart, or `None`.
     fn refusal(&self, report: &Report) -> Option<OfferError>
         ensures { result ≡ refusal_at self.now report.now }
     {
@@ -440,7 +445,7 @@ impl Haul {
     }
 }
 
-/// Makes room for a report with this finding. Nothing that can be seen changes.
+/// Makes room for a report with this finding. Nothing that contracts see changes.
 fn make_room(
     alloc: Global,
     taken: &mut Vec<(u8, u64)>,
@@ -462,7 +467,7 @@ fn make_room(
     totals.make_room(alloc, finding)
 }
 
-/// Notes who reported the soup with this number. There is room for it.
+/// Notes who reported the soup with this number, for which there is room.
 fn note(taken: &mut Vec<(u8, u64)>, worker_of: &mut IndexMap<u64, u8>, worker: u8, number: u64)
     requires room { vec_len taken.old + 1 ≤ vec_capacity taken.old }
     requires spare { 1 ≤ spare worker_of.old }

@@ -1,4 +1,4 @@
-//! The text of a haul, which is that of its census.
+//! Writes the text of a haul, which is that of its census.
 //!
 //! ```text
 //! census ── head ── ranges ── sums ── totals, a line for each code ── samples, a line for each code
@@ -22,13 +22,14 @@ use survey_core::job::Job;
 use survey_core::profile::Profile;
 
 /// Writes the haul text of a census: the job, the set of soup numbers, the sums, and two lines for each code, one with
-/// how many objects have it and one with its samples. The `Out` must not have failed.
+/// its total and one with its samples. No earlier write to the `Out` may have failed.
 ///
-/// It takes no memory. Each name and number is a write, so the writer should be buffered, as by a `BufWriter`.
+/// This takes no memory. Each name and number is a write, so the writer should be buffered, for example by a
+/// `BufWriter`.
 ///
 /// # Errors
 ///
-/// [`WriteError`] if a write fails or takes no byte. The front of the text may have been written by then.
+/// [`WriteError`] if a write fails or takes no byte. A prefix of the text may have been written.
 pub fn write_haul<W: Write>(census: &Census, out: &mut Out<W>) -> Result<(), WriteError>
     requires { out.old.failed ≡ false }
     ensures { Writes W.contents out.old out.new result (haul_text census.now) }
@@ -40,8 +41,8 @@ pub fn write_haul<W: Write>(census: &Census, out: &mut Out<W>) -> Result<(), Wri
     put_samples(out, census.rows.as_slice())
 }
 
-/// The laws that the text doesn't depend on the order in which the soups came: censuses of one job and set have the
-/// same text if they are over the same soups, as those of complete hauls are.
+/// The laws that the text doesn't depend on the order in which the soups arrived: censuses of one job and set have the
+/// same text if they are over the same soups, and complete hauls of one job and set have the same text.
 pub fn complete_hauls_print_the_same()
     ensures same { SameSoupsPrintTheSame }
     ensures complete { CompleteHaulsPrintTheSame }
@@ -50,7 +51,7 @@ pub fn complete_hauls_print_the_same()
     findings_are_determined();
 }
 
-/// Writes what was surveyed, and how.
+/// Writes the job and the profile.
 fn put_head<W: Write>(out: &mut Out<W>, job: &Job) -> Result<(), WriteError>
     requires { out.old.failed ≡ false }
     ensures { Writes W.contents out.old out.new result (text_of (head_lines job.now)) }
@@ -63,7 +64,7 @@ fn put_head<W: Write>(out: &mut Out<W>, job: &Job) -> Result<(), WriteError>
     put_profile(out, &job.profile)
 }
 
-/// Writes the line of a profile.
+/// Writes the line of the profile.
 fn put_profile<W: Write>(out: &mut Out<W>, profile: &Profile) -> Result<(), WriteError>
     requires { out.old.failed ≡ false }
     ensures { Writes W.contents out.old out.new result (ended (profile_line profile.now)) }

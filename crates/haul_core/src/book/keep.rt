@@ -1,4 +1,4 @@
-//! The book as a whole: a haul, and any list of arrivals with its replies.
+//! The book as a whole: a haul, any list of arrivals, and the replies.
 
 ghost use Rattle.std.specs.Prelude.{◌≡◌, ◌++◌, ◌∷◌, [], List, IfOk, OnErr, OnOk};
 ghost use Rattle.haul_core.specs.BookLaws.{WorkersAreTakenInOrder};
@@ -13,16 +13,16 @@ use crate::book::refused::OfferError;
 use memory::OutOfMemory;
 use std::alloc::Global;
 
-/// Lets some arrivals come to a haul, one after another, and returns the replies in order.
+/// Lets arrivals come to a haul, one after another, and returns the replies in order.
 ///
-/// Whatever arrived before, and in whatever order reports come, the haul takes each number of its set at most once,
+/// Whatever arrived before, and in whatever order reports arrive, the haul takes each number of its set at most once,
 /// keeps each worker's reports in the order in which they were offered, and refuses doubles, strangers and everything
-/// after closing by name.
+/// after closing, by name.
 ///
 /// # Errors
 ///
-/// [`OutOfMemory`] if memory runs out: for the replies, and then nothing has come to the haul; or for an offer that the
-/// book takes, and then the arrivals before it have come, and no other.
+/// [`OutOfMemory`] if memory runs out. If there is no memory for the replies, nothing has arrived at the haul. If there
+/// is none for an offer that the book takes, the arrivals before it have arrived, and no others.
 pub fn keep_book(
     alloc: Global,
     haul: &mut Haul,
@@ -44,13 +44,14 @@ pub fn keep_book(
     Ok(replies)
 }
 
-/// The law that what the book takes of a worker is a part of what it offered, in its order, each number at most once
-/// and of the set.
+/// The law that what the book takes from a worker is a part of what the worker offered, in its order, each number at
+/// most once and in the set.
 pub fn workers_are_taken_in_order()
     ensures { WorkersAreTakenInOrder }
 {}
 
-/// Lets one arrival come to a haul. Memory runs out only for an offer that the book takes, and then nothing has come.
+/// Lets one arrival come to a haul. Memory can run out only for an offer that the book takes, and then nothing has
+/// arrived.
 fn answer(haul: &mut Haul, arrival: Arrival) -> Result<Reply, OutOfMemory>
     ensures reply { (before : List Arrived) → StandsFor before haul.old
         → IfOk result (λ reply. reply ≡ reply_to haul.old.terms before arrival) }
@@ -66,7 +67,7 @@ fn answer(haul: &mut Haul, arrival: Arrival) -> Result<Reply, OutOfMemory>
             Ok(()) => Ok(Reply::Taken),
             Err(refused) => {
                 let reason = refused.reason;
-                // By a call: dropped after each case, what was refused costs the prover four times as much.
+                // By a call: if it is dropped after each case, what was refused takes the prover four times as long.
                 drop(refused);
                 match reason {
                     OfferError::Memory(error) => Err(error),

@@ -1,4 +1,4 @@
-//! Which numbers of a haul's set no worker has taken.
+//! The numbers of a haul's set that no worker has taken.
 
 ghost use Rattle.std.specs.Prelude.{◌≡◌, ◌≤◌, ◌++◌, IfOk, OnOk, filter};
 ghost use Rattle.haul_core.specs.Missing.{numbers_of, numbers_of_range};
@@ -10,7 +10,7 @@ use memory::OutOfMemory;
 use ranges::range::Range;
 use std::alloc::Global;
 
-/// The numbers of the ranges that have no worker, in the order of the ranges.
+/// Returns the numbers of the ranges that have no worker, in the order of the ranges.
 pub(crate) fn missing(
     alloc: Global,
     ranges: &[Range],

@@ -12,9 +12,9 @@ pub enum OfferError {
     Closed,
     /// The report is of another job.
     OtherJob,
-    /// The haul has fewer workers.
+    /// The haul has fewer workers than the report's number.
     UnknownWorker,
-    /// The number is not in the haul's set.
+    /// The number isn't in the haul's set.
     OutOfRange,
     /// A report of this soup was taken before, from this worker.
     Double { worker: u8 },
@@ -42,7 +42,7 @@ impl fmt::Debug for OfferError {
     }
 }
 
-/// A report that was not taken, and why.
+/// A report that wasn't taken, and why.
 #[derive(Debug, Drop)]
 pub struct Refused {
     pub report: Report,

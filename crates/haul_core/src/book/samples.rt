@@ -1,4 +1,4 @@
-//! The samples of a code: the least three numbers of soups that have an object.
+//! The samples of a code: the three lowest numbers of soups that left such an object.
 //!
 //! ```text
 //! 5 12 40   and then 7     7 goes before 12, and 40 falls out
@@ -13,10 +13,10 @@ ghost use Rattle.haul_core.specs.Samples.{IsAscending, LeastThreeAreDetermined};
 use std::marker::Model;
 use std::slice::Iter;
 
-/// The most samples of a code: as many as a page of a census shows, and enough to look at more than one.
+/// The most samples of a code, enough to look at more than one.
 pub const MOST_SAMPLES: usize = 3;
 
-/// The least three numbers of soups that have an object, ascending, or all if there are fewer.
+/// The three lowest numbers of soups that left an object, ascending, or all numbers if there are fewer.
 #[derive(Debug, Drop)]
 pub struct Samples {
     numbers: [u64; MOST_SAMPLES],
@@ -35,7 +35,7 @@ impl Model for Samples {
 }
 
 impl Samples {
-    /// The numbers, ascending.
+    /// Returns the numbers, ascending.
     pub fn as_slice(&self) -> &[u64]
         ensures samples { result.now ≡ self.now }
         ensures ascending { IsAscending self.now }
@@ -51,7 +51,7 @@ impl Samples {
         self.as_slice().iter()
     }
 
-    /// No number.
+    /// Returns no numbers.
     pub(crate) fn none() -> Samples
         ensures { result ≡ [] }
     {
@@ -61,7 +61,7 @@ impl Samples {
         }
     }
 
-    /// Equal samples.
+    /// Returns equal samples.
     pub(crate) fn copy(&self) -> Samples
         ensures { result ≡ self.now }
     {
@@ -72,7 +72,7 @@ impl Samples {
         }
     }
 
-    /// The least three of these numbers and those of the other samples.
+    /// Returns the three lowest of these numbers and those of the other samples.
     pub(crate) fn with_all(&self, other: &Samples) -> Samples
         ensures { result ≡ with_each self.now other.now }
     {
@@ -83,8 +83,8 @@ impl Samples {
         least
     }
 
-    /// The least three of these numbers and one more: each number finds its place among those that are kept, and the
-    /// greatest falls out if there are four.
+    /// Returns the three lowest of these numbers and `number`. It finds its place among those that are kept, and the
+    /// highest falls out if there are four.
     pub(crate) fn with_number(&self, number: u64) -> Samples
         ensures { result ≡ take 3 (with_number number self.now) }
     {
@@ -105,12 +105,12 @@ impl Samples {
     }
 }
 
-/// The law that some numbers have one list of their least three.
+/// The law that a list of numbers has one list of its three lowest.
 pub fn least_three_are_determined()
     ensures { LeastThreeAreDetermined }
 {}
 
-/// Puts a number in its place among the first `count`, and returns the one that then goes last.
+/// Inserts a number among the first `count`, and returns the one that then comes last.
 fn put(numbers: &mut [u64; MOST_SAMPLES], count: usize, number: u64) -> u64
     requires few { count ≤ 3 }
     requires ascending { IsAscending (take count numbers.old) }

@@ -1,9 +1,9 @@
-//! How the book keeps its totals: a score for each code, which has the total and the samples so far. A report's counts
-//! are added in two steps. Codes that are new get a score of 0, which takes memory; after that nothing can fail, and
-//! the counts are added.
+//! The book's running totals: a score for each code, with its total and its samples so far. A report's counts are added
+//! in two steps. First, new codes get a score of 0, which takes memory. After that nothing can fail, and the counts are
+//! added.
 //!
 //! ```text
-//! scores         xs4_33  7 | xp2_7  5            of a report with xs4_33 2, xq4_153 1:
+//! scores         xs4_33  7 | xp2_7  5            a report with xs4_33 2, xq4_153 1:
 //! make_scores    xs4_33  7 | xp2_7  5 | xq4_153  0
 //! add            xs4_33  9 | xp2_7  5 | xq4_153  1
 //! ```
@@ -23,28 +23,28 @@ use memory::OutOfMemory;
 use std::alloc::Global;
 use survey_core::finding::Finding;
 
-/// What is kept of a code.
+/// The total and the samples of a code.
 #[derive(Drop)]
 pub(crate) struct Score {
-    /// How many objects have the code.
+    /// The number of objects that have the code.
     pub(crate) total: u128,
-    /// The least three numbers of soups that have one.
+    /// The three lowest numbers of soups that have one.
     pub(crate) samples: Samples,
 }
 
-/// The totals over some surveyed soups.
+/// The totals over the surveyed soups.
 #[derive(Drop)]
 pub(crate) struct Totals {
     /// A score for each code that one of them left, and perhaps some with total 0.
     pub(crate) scores: IndexMap<Apgcode, Score>,
-    /// How many soups are unsettled.
+    /// The number of unsettled soups.
     pub(crate) unsettled: u64,
-    /// How many soups stay for good.
+    /// The number of soups that stay for good.
     pub(crate) for_good: u64,
 }
 
 impl Totals {
-    /// The totals over no soup.
+    /// Returns the totals over no soup.
     pub(crate) fn none(alloc: Global) -> Totals
         ensures scores { result.scores.entries ≡ [] }
         ensures unsettled { result.unsettled ≡ 0 }
@@ -57,7 +57,7 @@ impl Totals {
         }
     }
 
-    /// Makes a score for each code of a finding that has none. If there is no memory the scores are as they were.
+    /// Makes a score for each code of a finding that has none. If there is no memory, the scores are unchanged.
     pub(crate) fn make_room(&mut self, alloc: Global, finding: &Finding) -> Result<(), OutOfMemory>
         ensures extends { Extends self.old.scores.entries self.new.scores.entries }
         ensures scores { OnOk result (HasScores finding.now self.new.scores.entries) }
@@ -72,7 +72,7 @@ impl Totals {
         }
     }
 
-    /// The totals over the soups of both.
+    /// Returns the totals over the soups of both.
     pub(crate) fn joined(&self, alloc: Global, other: &Totals) -> Result<Totals, OutOfMemory>
         requires room { (code : List ℕ)
             → (score_in self.now.scores.entries code).total + (score_in other.now.scores.entries code).total < 2 ^ 128 }
@@ -121,7 +121,7 @@ impl Totals {
 }
 
 impl Score {
-    /// An equal score.
+    /// Returns an equal score.
     pub(crate) fn copy(&self) -> Score
         ensures { result ≡ self.now }
     {
@@ -132,7 +132,7 @@ impl Score {
         }
     }
 
-    /// This score and another as one.
+    /// Returns this score and another as one.
     fn joined(&self, other: &Score) -> Score
         requires { self.now.total + other.now.total < 2 ^ 128 }
         ensures { result ≡ together self.now other.now }
@@ -144,7 +144,7 @@ impl Score {
         }
     }
 
-    /// The score after one soup more, with so many objects.
+    /// Returns the score after one more soup, number `number`, with `count` objects.
     fn with(&self, count: u64, number: u64) -> Score
         requires { self.now.total + count < 2 ^ 128 }
         ensures { result ≡ added (Some count) number self.now }
@@ -157,7 +157,7 @@ impl Score {
     }
 }
 
-/// Adds the scores of other totals. If there is no memory some of them are added.
+/// Adds the scores of other totals. If there is no memory, some of them have been added.
 fn add_scores(
     alloc: Global,
     scores: &mut IndexMap<Apgcode, Score>,
@@ -176,7 +176,7 @@ fn add_scores(
     Ok(())
 }
 
-/// Adds what another score has of its code.
+/// Adds another score to that of its code.
 fn add_score(
     alloc: Global,
     scores: &mut IndexMap<Apgcode, Score>,
@@ -194,7 +194,7 @@ fn add_score(
     Ok(())
 }
 
-/// Adds another score to that of a code, which has one.
+/// Adds another score to that of a code that has one.
 fn put_together(scores: &mut IndexMap<Apgcode, Score>, code: &Apgcode, score: &Score)
     requires score { HasScore scores.old.entries code.now }
     requires room { (score_in scores.old.entries code.now).total + score.now.total < 2 ^ 128 }
@@ -209,7 +209,7 @@ fn put_together(scores: &mut IndexMap<Apgcode, Score>, code: &Apgcode, score: &S
     scores[index] = joined;
 }
 
-/// Makes a score for each code that has none. If there is no memory the scores are as they were.
+/// Makes a score for each code that has none. If there is no memory, the scores are unchanged.
 pub(crate) fn make_scores(
     alloc: Global,
     scores: &mut IndexMap<Apgcode, Score>,
@@ -227,7 +227,7 @@ pub(crate) fn make_scores(
     made
 }
 
-/// Makes a score for each code that has none. If there is no memory some of them are made.
+/// Makes a score for each code that has none. If there is no memory, some of them have been made.
 fn make_each_score(
     alloc: Global,
     scores: &mut IndexMap<Apgcode, Score>,
@@ -263,7 +263,7 @@ fn make_score(
     Ok(())
 }
 
-/// Adds the objects of a soup. Each of their codes has a score.
+/// Adds the objects of a soup, each of whose codes has a score.
 pub(crate) fn add(scores: &mut IndexMap<Apgcode, Score>, objects: &[(Apgcode, u64)], number: u64)
     requires scores { All (λ object. HasScore scores.old.entries object.0) objects.now }
     requires lawful { AreObjects objects.now }
@@ -277,7 +277,7 @@ pub(crate) fn add(scores: &mut IndexMap<Apgcode, Score>, objects: &[(Apgcode, u6
     }
 }
 
-/// Adds the objects with one code. It has a score.
+/// Adds the objects of one code, which has a score.
 fn add_one(scores: &mut IndexMap<Apgcode, Score>, code: &Apgcode, count: u64, number: u64)
     requires score { HasScore scores.old.entries code.now }
     requires room { (score_in scores.old.entries code.now).total + count < 2 ^ 128 }

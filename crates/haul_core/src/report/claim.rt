@@ -7,18 +7,18 @@ use crate::report::claim::claimed_code::ClaimedCode;
 use std::marker::Model;
 use survey_core::job::Job;
 
-/// How claims are checked.
+/// Checking claims.
 pub mod check;
 /// The codes of claims.
 pub mod claimed_code;
-/// How claims are read from their lines.
+/// Reading the fields of lines.
 mod read_field;
 pub mod read_line;
 mod read_start;
 
-/// What a worker claims of a soup: the job, the worker, the soup's number, and what is said to be found.
+/// What a worker claims about a soup: the job, the worker, the soup's number, and the finding.
 ///
-/// Its numbers and texts are within the limits of report lines. What it says of the soup may be wrong.
+/// Its numbers and texts are within the limits of report lines. What it says about the soup may be wrong.
 #[derive(Debug, Drop)]
 pub struct Claim {
     version: u8,
@@ -41,7 +41,7 @@ impl Model for Claim {
 }
 
 impl Claim {
-    /// The version of the line, 1 or 2. Version 1 has no mark.
+    /// Returns the version of the line, 1 or 2. Version 1 has no mark.
     pub fn version(&self) -> u8
         ensures version { result ≡ self.now.version }
         ensures claim { IsClaim self.now }
@@ -49,14 +49,14 @@ impl Claim {
         self.version
     }
 
-    /// The job.
+    /// Returns the job.
     pub fn job(&self) -> Job
         ensures { result ≡ self.now.job }
     {
         self.job
     }
 
-    /// The worker, 1 to 16.
+    /// Returns the worker, 1 to 16.
     pub fn worker(&self) -> u8
         ensures worker { result ≡ self.now.worker }
         ensures claim { IsClaim self.now }
@@ -64,7 +64,7 @@ impl Claim {
         self.worker
     }
 
-    /// The number of the soup, below 2^40.
+    /// Returns the number of the soup, below 2^40.
     pub fn number(&self) -> u64
         ensures number { result ≡ self.now.number }
         ensures claim { IsClaim self.now }
@@ -72,7 +72,7 @@ impl Claim {
         self.number
     }
 
-    /// What is said of a soup that settled. There is nothing if the soup is said not to have settled.
+    /// Returns what the claim says about a soup that settled, or `None` if it says that the soup didn't settle.
     pub fn settled(&self) -> Option<&SettledClaim>
         ensures found { option_map (λ said. said.now) result ≡ self.now.found }
         ensures claim { IsClaim self.now }
@@ -81,7 +81,7 @@ impl Claim {
     }
 }
 
-/// What a claim says of a soup that settled.
+/// What a claim says about a soup that settled.
 #[derive(Debug, Drop)]
 pub struct SettledClaim {
     checkpoint: u32,
@@ -98,7 +98,7 @@ impl Model for SettledClaim {
 }
 
 impl SettledClaim {
-    /// The codes in ASCII order, each once, with how many objects are said to have it, at least 1.
+    /// Returns the codes in ASCII order, each once, with the number of objects that are said to have it, at least 1.
     pub fn counts(&self) -> &[(ClaimedCode, u64)]
         ensures { result.now ≡ self.now.counts }
     {

@@ -1,4 +1,4 @@
-//! Report lines, by which workers on other machines say what they found.
+//! Writes report lines, in which workers on other machines report what they found.
 //!
 //! ```text
 //! report 2 rule=b3s23 profile=64,512,101,30300 seed= worker=1 soup=5 at=404 good=no xp2_7*3 xs4_33*2
@@ -18,13 +18,15 @@ use std::io::Write;
 use survey_core::finding::Finding;
 use survey_core::profile::Profile;
 
-/// Writes the line of a report, in version 2, with the line feed that ends it. The `Out` must not have failed.
+/// Writes the line of a report, in version 2, with the line feed that ends it. No earlier write to the `Out` may have
+/// failed.
 ///
-/// It takes no memory. Each name and number is a write, so the writer should be buffered, as by a `BufWriter`.
+/// This takes no memory. Each name and number is a write, so the writer should be buffered, for example by a
+/// `BufWriter`.
 ///
 /// # Errors
 ///
-/// [`WriteError`] if a write fails or takes no byte. The front of the line may have been written by then.
+/// [`WriteError`] if a write fails or takes no byte. A prefix of the line may have been written.
 pub fn write_report_line<W: Write>(report: &Report, out: &mut Out<W>) -> Result<(), WriteError>
     requires { out.old.failed ≡ false }
     ensures { Writes W.contents out.old out.new result (report_text report.now) }

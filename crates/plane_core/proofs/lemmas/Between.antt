@@ -10,10 +10,10 @@ use Rattle.plane_core.specs.plane.Generations.{after, lives_by}
 use Rattle.plane_core.specs.windows.LaneSums.{bit_of, sum_of, total_of}
 use Rattle.plane_core.specs.engine.Leaps.{ShowsInner}
 use Rattle.plane_core.specs.engine.Listing.{AreAmong}
-use Rattle.plane_core.specs.windows.LonePatterns.{Holds, IsFirstRow}
+use Rattle.plane_core.specs.windows.LonePatterns.{FillsRows, IsFirstRow}
 use Rattle.plane_core.specs.engine.OnBoard.{cells_on}
 use Rattle.plane_core.specs.engine.WindowIo.{bit_on}
-use Rattle.plane_core.specs.engine.WindowOrigins.{MarksDifferences, IsCovered, IsInnerCell, compared_with}
+use Rattle.plane_core.specs.engine.LeapWindows.{MarksDifferences, IsCovered, IsInnerCell, compared_with}
 use Rattle.plane_core.specs.plane.Rules.{Numbers}
 use Rattle.plane_core.specs.engine.RowSpans.{AreSpans, IsInSpan, LieInSpans}
 use Rattle.plane_core.specs.windows.Windows.{IsShownInside, row_at}
@@ -25,6 +25,7 @@ use Rattle.plane_core.specs.declared.clusters.union_find.Cursors.{Cursors}
 use Rattle.plane_core.specs.declared.engine.frame.Frame.{Frame}
 use Rattle.plane_core.specs.declared.windows.lane_sums.Sum.{Sum}
 use Rattle.plane_core.specs.declared.windows.lane_sums.Total.{Total}
+use Rattle.plane_core.specs.declared.engine.leap_window.LeapWindow.{LeapWindow}
 use Rattle.plane_core.specs.declared.engine.window_origin.WindowOrigin.{WindowOrigin}
 use Rattle.plane_core.specs.declared.engine.row_spans.RowSpan.{RowSpan}
 use Rattle.std.specs.Int.{bit_at}
@@ -51,11 +52,11 @@ pub record HasGoneOn (rule : Numbers) (at : Frame) (n : ℕ) (old new : List ℕ
   pub live : LieInSpans at spans (cells_on at new)
 
 -- each cell that lies in no inner part is n generations on what it is
-abbrev pub IsStillOutside : Numbers → List WindowOrigin → List Cell → ℕ → Type 0
+abbrev pub IsStillOutside : Numbers → List LeapWindow → List Cell → ℕ → Type 0
 IsStillOutside rule places cells n = (c : Cell) → ¬ IsCovered places c → has (after rule cells n) c ≡ has cells c
 
 -- the inner part of a window begins in this column and this row
-pub record BeginsAt (p : WindowOrigin) (column row : ℤ) : Type 0 where
+pub record BeginsAt (p : LeapWindow) (column row : ℤ) : Type 0 where
   pub left : p.left ≡ column -ℤ pos 4
   pub top : p.top ≡ row -ℤ pos 4
 
@@ -105,13 +106,8 @@ AnswersNeighbours rule up beside down now next =
     (j i : ℕ) → j < 4 → i < 64
     → bit_of next j i ≡ one_if (lives_by rule (sum_of up j i + (sum_of beside j i + bit_of now j i) + sum_of down j i) (bit_of now j i == 1))
 
--- The rows of a place are those of the board some generations later, and what has changed is told.
-abbrev pub IsRunAt : Frame → List ℕ → Numbers → ℕ → WindowOrigin → List ℕ → DifferenceMask → Type 0
-IsRunAt at words rule count p rows change = (cells : List Cell) → InOrder cells → Shows at words cells
-    → ShowsInner p rows (after rule cells count) × MarksDifferences p (after rule cells count) (compared_with rule cells count) change
-
 -- If each cell off all inner parts is some generations later what it was, the board shows the cells of that time.
-abbrev pub HasLeapt : Frame → Numbers → ℕ → List WindowOrigin → List ℕ → List ℕ → Type 0
+abbrev pub HasLeapt : Frame → Numbers → ℕ → List LeapWindow → List ℕ → List ℕ → Type 0
 HasLeapt at rule count places old new = (cells : List Cell) → InOrder cells → Shows at old cells
     → ((c : Cell) → ¬ IsCovered places c → has (after rule cells count) c ≡ has cells c) → Shows at new (after rule cells count)
 
@@ -152,17 +148,17 @@ abbrev pub IsReadAt : Frame → List ℕ → ℕ → ℕ → ℕ → List (List 
 IsReadAt at words x y n window =
     (r i : ℕ) → r < 4 * n → i < 64 → bit_at (row_at n window r) i ≡ bit_on at words (x + i) (y + r)
 
--- a cluster of the pattern, which is alone in the window of n vectors
-pub record IsAlone (n : ℕ) (left top : ℤ) (window : List (List ℕ)) (cells cluster : List Cell) : Type 0 where
+-- a cluster of the pattern, which the rows of the flood show, and nothing else
+pub record IsAlone (left top : ℤ) (flood : List ℕ) (cells cluster : List Cell) : Type 0 where
   pub is : IsCluster cells cluster
-  pub held : Holds n left top window cluster
+  pub held : FillsRows left top flood cluster
 
--- for each pattern that the whole window shows at this depth, the other window holds one of its clusters, and nothing else
-abbrev pub HoldsCluster : ℕ → List (List ℕ) → List (List ℕ) → ℕ → Type 0
-HoldsCluster n whole alone depth =
-    (cells : List Cell) (left top : ℤ) → InOrder cells → IsShownInside n left top depth whole cells
-    → (cluster : List Cell) × IsAlone n left top alone cells cluster
+-- for each pattern that the window shows at this depth, the flood is one of its clusters
+abbrev pub FloodsCluster : List (List ℕ) → List ℕ → ℕ → Type 0
+FloodsCluster window flood depth =
+    (cells : List Cell) (left top : ℤ) → InOrder cells → IsShownInside 16 left top depth window cells
+    → (cluster : List Cell) × IsAlone left top flood cells cluster
 
 -- each cell of the board in the inner part of a window lies in the span of its lane
-abbrev pub HoldInner : Frame → List RowSpan → WindowOrigin → Type 0
+abbrev pub HoldInner : Frame → List RowSpan → LeapWindow → Type 0
 HoldInner at spans p = (s r i : ℕ) → s < at.word_columns → r < at.rows → i < 64 → IsInnerCell p (board_cell at s r i) → IsInSpan spans s r

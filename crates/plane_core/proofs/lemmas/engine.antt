@@ -10,6 +10,7 @@ pub mod FrameLemmas
 pub mod LeapLemmas
 pub mod ListingLemmas
 pub mod LoneWindowLemmas
+pub mod NextListingLemmas
 pub mod OnBoardLemmas
 pub mod QuietLemmas
 pub mod RemovalLemmas

@@ -9,6 +9,7 @@ pub mod FrontierLemmas
 pub mod GenerationLemmas
 pub mod ListGenerationLemmas
 pub mod LocalityLemmas
+pub mod MergeLemmas
 pub mod NeighbourhoodLemmas
 pub mod OrderLemmas
 pub mod OrientationLemmas
@@ -16,6 +17,7 @@ pub mod PartLemmas
 pub mod RuleLemmas
 pub mod RuleNumbers
 pub mod RuleReading
+pub mod RuleTexts
 pub mod RunLemmas
 pub mod SearchLemmas
 pub mod SetLemmas

@@ -1,4 +1,4 @@
--- Clusters: the objects that a pattern falls into.
+-- Clusters: the parts into which a pattern falls.
 use Rattle.std.specs.Prelude.{◌≡◌, ◌≤◌, true, false, ◌↔◌, List, [], ◌∷◌, All, Any, AllPairs, ℤ, map}
 use Rattle.plane_core.specs.declared.plane.cell.Cell.{Cell}
 use Rattle.std.specs.declared.cmp.Ordering.TheVariants.{Less}
@@ -6,12 +6,12 @@ use Rattle.std.specs.List.{list_any}
 use Rattle.plane_core.specs.plane.Bounds.{shifted}
 use Rattle.plane_core.specs.plane.Cells.{InOrder, cell_cmp, king_distance, has}
 
--- A list of cells of the pattern leads from c to d: each next one is at king distance at most 2 from the one before.
+-- A list of cells of the pattern leads from c to d: each cell is at king distance at most 2 from the one before.
 abbrev pub Leads : List Cell → Cell → List Cell → Cell → Type 0
 Leads cells c [] d = c ≡ d
 Leads cells c (e ∷ es) d = (has cells e ≡ true) × (king_distance c e ≤ 2) × Leads cells e es d
 
--- c and d are cells of the pattern, and some such list leads from the one to the other
+-- c and d are cells of the pattern, and some such list leads from one to the other
 pub record Linked (cells : List Cell) (c d : Cell) : Type 0 where
   pub start : has cells c ≡ true
   pub path : List Cell
@@ -24,7 +24,7 @@ pub record IsCluster (cells cluster : List Cell) : Type 0 where
   pub has_start : has cells start ≡ true
   pub members : (d : Cell) → (has cluster d ≡ true) ↔ Linked cells start d
 
--- the first cell of the one stands before that of the other
+-- the first cell of one comes before that of the other
 abbrev pub FirstBefore : List Cell → List Cell → Type 0
 FirstBefore [] ds = ⊥
 FirstBefore (c ∷ cs) [] = ⊥
@@ -36,17 +36,17 @@ pub record AreClusters (cells : List Cell) (clusters : List (List Cell)) : Type 
   pub every : (c : Cell) → has cells c ≡ true → Any (λ cluster. has cluster c ≡ true) clusters
   pub in_order : AllPairs FirstBefore clusters
 
--- a relation on the cells of a pattern that parts them into classes
+-- an equivalence relation on the cells of a pattern
 pub record IsEquivalenceOn (cells : List Cell) (R : Cell → Cell → Type 0) : Type 0 where
   pub itself : (c : Cell) → has cells c ≡ true → R c c
   pub back : (c d : Cell) → R c d → R d c
   pub onward : (c d e : Cell) → R c d → R d e → R c e
 
--- being linked parts the cells of any pattern into classes
+-- being linked is an equivalence relation
 abbrev pub LinkedIsAnEquivalence : Type 0
 LinkedIsAnEquivalence = (cells : List Cell) → IsEquivalenceOn cells (Linked cells)
 
--- the cells of the one are at king distance 3 or more from those of the other
+-- the cells of one are at king distance 3 or more from those of the other
 abbrev pub LieApart : List Cell → List Cell → Type 0
 LieApart a b = (c d : Cell) → has a c ≡ true → has b d ≡ true → 3 ≤ king_distance c d
 

@@ -1,4 +1,5 @@
--- How clusters are found: the places of a pattern's list become a forest. Each leads to an earlier place or is a root.
+-- How clusters are found: the places of a pattern's list become a forest, in which each place leads to an earlier place or is a
+-- root.
 use Rattle.std.specs.Prelude.{◌≡◌, ◌+◌, ◌-◌, ◌<◌, ◌≤◌, ◌==◌, ℕ, pos, List, [], ◌∷◌, cond, drop, get_or, length, take}
 use Rattle.std.specs.List.{AllPairs}
 use Rattle.std.specs.declared.cmp.Ordering.TheVariants.{Less}
@@ -28,11 +29,11 @@ pub record IsForest (cells : List Cell) (parents : List ℕ) : Type 0 where
 abbrev pub Labels : List ℕ → (ℕ → ℕ) → Type 0
 Labels parents label = (k : ℕ) → k < length parents → label (parent_of parents k) ≡ label k
 
--- two places are of one tree: whoever labels trees gives them one label
+-- two places are in one tree: any labels that agree along the links agree on these two
 abbrev pub Joined : List ℕ → ℕ → ℕ → Type 0
 Joined parents j k = (label : ℕ → ℕ) → Labels parents label → label j ≡ label k
 
--- what was joined still is
+-- places that were joined still are
 abbrev pub Keeps : List ℕ → List ℕ → Type 0
 Keeps old new = (label : ℕ → ℕ) → Labels new label → Labels old label
 
@@ -41,7 +42,7 @@ abbrev pub JoinsAll : List Cell → List ℕ → ℕ → Type 0
 JoinsAll cells parents place =
     (j k : ℕ) → j < k → k < place → king_distance (cell_of cells j) (cell_of cells k) ≤ 2 → Joined parents j k
 
--- the cell at the place just before a place is near that one's cell and an earlier one, so that it joins the two
+-- the cell just before a place lies near both that place's cell and an earlier one, so it joins the two
 pub record IsBridged (cells : List Cell) (k place : ℕ) : Type 0 where
   pub earlier : k + 1 < place
   pub left : king_distance (cell_of cells k) (cell_of cells (place - 1)) ≤ 2

@@ -4,14 +4,14 @@ use Rattle.std.specs.Int.{bit_at}
 use Rattle.plane_core.specs.declared.plane.bounds.Bounds.{Bounds}
 use Rattle.plane_core.specs.declared.plane.cell.Cell.{Cell}
 use Rattle.plane_core.specs.declared.engine.difference_box.BitSpan.{BitSpan}
-use Rattle.plane_core.specs.declared.engine.window_origin.WindowOrigin.{WindowOrigin}
+use Rattle.plane_core.specs.declared.engine.leap_window.LeapWindow.{LeapWindow}
 use Rattle.plane_core.specs.plane.Bounds.{IsWithin, enlarged}
 use Rattle.plane_core.specs.plane.Cells.{has}
 use Rattle.plane_core.specs.plane.Generations.{after}
-use Rattle.plane_core.specs.engine.WindowOrigins.{IsCovered, IsInnerCell}
+use Rattle.plane_core.specs.engine.LeapWindows.{IsCovered, IsInnerCell}
 use Rattle.plane_core.specs.plane.Rules.{Numbers}
 
--- how far from the origin the sides of a box may be, and of a rectangle of united boxes: no board reaches further
+-- how far from the origin the sides of a box may be, and of a rectangle of united boxes: no board is larger
 abbrev pub box_bound : ℕ
 box_bound = 8388608
 
@@ -19,7 +19,7 @@ abbrev pub rectangle_bound : ℕ
 rectangle_bound = 8388612
 
 -- the window begins so near to the origin that a box of its cells has its sides within the bound
-pub record IsInReach (p : WindowOrigin) : Type 0 where
+pub record IsInReach (p : LeapWindow) : Type 0 where
   pub left : unsigned_abs p.left ≤ 6291456
   pub top : unsigned_abs p.top ≤ 6291456
 
@@ -35,7 +35,7 @@ IsNearOne n boxes c = Any (λ b. IsWithin (enlarged n b) c) boxes
 abbrev pub AreWider : List Bounds → List Bounds → Type 0
 AreWider boxes later = (n : ℕ) (c : Cell) → IsNearOne n boxes c → IsNearOne n later c
 
--- each cell that is not within 2 of a box is the same two generations on
+-- each cell that isn't within 2 of a box is the same two generations later
 abbrev pub IsQuiet : Numbers → List Cell → List Bounds → Type 0
 IsQuiet rule cells boxes = (c : Cell) → ¬ IsNearOne 2 boxes c → has (after rule cells 2) c ≡ has cells c
 
@@ -44,7 +44,7 @@ abbrev pub HoldAll : List Bounds → List Cell → Type 0
 HoldAll boxes cells = (c : Cell) → has cells c ≡ true → IsInOne boxes c
 
 -- each cell within 4 of a box lies in the inner part of a window
-abbrev pub AreCovered : List WindowOrigin → List Bounds → Type 0
+abbrev pub AreCovered : List LeapWindow → List Bounds → Type 0
 AreCovered places boxes = (c : Cell) → IsNearOne 4 boxes c → IsCovered places c
 
 -- each bit that is 1 lies between the first and the last, which are below 64
@@ -55,9 +55,9 @@ pub record HasBits (word : ℕ) (span : BitSpan) : Type 0 where
   pub high : span.last < 64
 
 -- the box, if there is one, has each inner cell of the window in it in which the two patterns differ
-abbrev pub HoldsDifference : WindowOrigin → List Cell → List Cell → Option Bounds → Type 0
+abbrev pub HoldsDifference : LeapWindow → List Cell → List Cell → Option Bounds → Type 0
 HoldsDifference p one other found = (c : Cell) → IsInnerCell p c → has one c ≢ has other c → IsSomeAnd found (λ b. IsWithin b c)
 
 -- each cell of an inner part in which the two patterns differ lies in one of the boxes
-abbrev pub HoldDifferences : List WindowOrigin → List Cell → List Cell → List Bounds → Type 0
+abbrev pub HoldDifferences : List LeapWindow → List Cell → List Cell → List Bounds → Type 0
 HoldDifferences places one other boxes = (c : Cell) → IsCovered places c → has one c ≢ has other c → IsInOne boxes c

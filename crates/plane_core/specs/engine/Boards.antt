@@ -1,4 +1,4 @@
--- A board that goes on by leaps.
+-- A board that advances by leaps.
 use Rattle.std.specs.Prelude.{◌≡◌, ℕ, Bool, true, All, List}
 use Rattle.plane_core.specs.declared.plane.bounds.Bounds.{Bounds}
 use Rattle.plane_core.specs.declared.plane.cell.Cell.{Cell}

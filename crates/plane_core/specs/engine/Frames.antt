@@ -48,7 +48,7 @@ pub record IsViewFrame (at : Frame) : Type 0 where
 abbrev pub FillsFrame : Frame → List ℕ → Type 0
 FillsFrame at words = length words ≡ at.word_columns * at.rows
 
--- There are not many more words than cells: at most 256 a cell, and two megabytes of them and some more.
+-- There are at most 256 words per cell and two megabytes of them, plus a little.
 abbrev pub HasFewWords : Frame → List Cell → Type 0
 HasFewWords at cells = at.word_columns * at.rows ≤ 256 * length cells + 271000
 

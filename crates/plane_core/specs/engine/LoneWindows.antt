@@ -1,4 +1,4 @@
--- A quick test at a pattern: where the window lies in which it is run.
+-- A quick test of a pattern: where the window lies in which it is run.
 use Rattle.std.specs.Prelude.{◌≤◌, unsigned_abs}
 use Rattle.plane_core.specs.declared.engine.window_origin.WindowOrigin.{WindowOrigin}
 

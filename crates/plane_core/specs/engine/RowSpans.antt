@@ -2,12 +2,12 @@
 use Rattle.std.specs.Prelude.{◌≡◌, ◌<◌, ◌≤◌, ℕ, List, length, slice_index_or, true}
 use Rattle.plane_core.specs.declared.plane.cell.Cell.{Cell}
 use Rattle.plane_core.specs.declared.engine.frame.Frame.{Frame}
-use Rattle.plane_core.specs.declared.engine.window_origin.WindowOrigin.{WindowOrigin}
+use Rattle.plane_core.specs.declared.engine.leap_window.LeapWindow.{LeapWindow}
 use Rattle.plane_core.specs.declared.engine.row_spans.Hull.{Hull}
 use Rattle.plane_core.specs.declared.engine.row_spans.RowSpan.{RowSpan}
 use Rattle.plane_core.specs.plane.Cells.{has}
 use Rattle.plane_core.specs.engine.Frames.{board_cell}
-use Rattle.plane_core.specs.engine.WindowOrigins.{IsCovered}
+use Rattle.plane_core.specs.engine.LeapWindows.{IsCovered}
 
 -- the number lies in the span
 pub record HasRow (span : RowSpan) (n : ℕ) : Type 0 where
@@ -27,7 +27,7 @@ abbrev pub LieInSpans : Frame → List RowSpan → List Cell → Type 0
 LieInSpans at spans cells = (s r i : ℕ) → s < at.word_columns → r < at.rows → i < 64 → has cells (board_cell at s r i) ≡ true → IsInSpan spans s r
 
 -- or in one of the inner parts of windows
-abbrev pub HoldCovered : Frame → List RowSpan → List WindowOrigin → Type 0
+abbrev pub HoldCovered : Frame → List RowSpan → List LeapWindow → Type 0
 HoldCovered at spans places = (s r i : ℕ) → s < at.word_columns → r < at.rows → i < 64 → IsCovered places (board_cell at s r i) → IsInSpan spans s r
 
 -- what was in the old spans is in the new ones

@@ -1,12 +1,11 @@
 -- One cluster in a window of 64 rows, grown from one of its cells. Row r of the window is a word, as is row r of the flood.
-use Rattle.std.specs.Prelude.{◌≡◌, ◌==◌, ◌+◌, ◌<◌, ◌≤◌, ℕ, ℤ, ◌+ℤ◌, pos, List, slice_index}
-use Rattle.std.specs.Int.{bit_at}
+use Rattle.std.specs.Prelude.{◌≡◌, ◌+◌, ◌<◌, ◌≤◌, ℕ, ℤ, ◌+ℤ◌, pos, List}
 use Rattle.plane_core.specs.declared.plane.cell.Cell.{Cell}
-use Rattle.plane_core.specs.plane.Cells.{cell_at, has}
+use Rattle.plane_core.specs.plane.Cells.{cell_at}
 use Rattle.plane_core.specs.clusters.Clusters.{Linked}
 use Rattle.plane_core.specs.windows.Rows.{ShowsInRows, bit_in}
 
--- two columns or rows are at most so far apart
+-- two columns or rows are at most `reach` apart
 pub record AreNear (reach a b : ℕ) : Type 0 where
   pub low : a ≤ b + reach
   pub high : b ≤ a + reach
@@ -36,7 +35,7 @@ LiesInside flood = (r i : ℕ) → bit_in flood r i ≡ 1 → IsWellInside r i
 abbrev pub IsClosedAt : List ℕ → List ℕ → ℕ → ℕ → Type 0
 IsClosedAt rows flood q j = (r i : ℕ) → bit_in flood r i ≡ 1 → AreNear 2 q r → AreNear 2 j i → bit_in rows q j ≡ 1 → bit_in flood q j ≡ 1
 
--- and so is each, but for the two rows at either border
+-- this holds everywhere except in the two rows at either border
 abbrev pub IsClosed : List ℕ → List ℕ → Type 0
 IsClosed rows flood = (q j : ℕ) → 2 ≤ q → q < 62 → j < 64 → IsClosedAt rows flood q j
 

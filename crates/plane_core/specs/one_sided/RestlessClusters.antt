@@ -1,14 +1,16 @@
--- Patterns that are seen not to be at rest, by one cluster that is run alone.
+-- Patterns that are known not to be at rest, because of one cluster that is run alone.
 use Rattle.std.specs.Prelude.{◌≡◌, ◌+◌, ◌*◌, ◌<◌, ◌≤◌, ◌⊎◌, ℕ, ℤ, true, false, List}
 use Rattle.std.specs.Int.{bit_at}
+use Rattle.plane_core.specs.windows.LonePatterns.{FillsRows}
 use Rattle.plane_core.specs.declared.plane.cell.Cell.{Cell}
 use Rattle.plane_core.specs.plane.Cells.{InOrder, has}
 use Rattle.plane_core.specs.clusters.Clusters.{IsCluster}
 use Rattle.plane_core.specs.plane.Generations.{NeverRecurs, after}
 use Rattle.plane_core.specs.plane.Rules.{Numbers}
+use Rattle.plane_core.specs.windows.Rows.{ShowsInside}
 use Rattle.plane_core.specs.windows.Windows.{IsShownInside, row_at}
 
--- at some generation up to the horizon the cluster, run alone, has a cell that the whole hasn't
+-- at some generation up to the horizon the cluster, run alone, has a cell that the whole doesn't have
 pub record Diverges (rule : Numbers) (whole cluster : List Cell) (horizon : ℕ) : Type 0 where
   pub generation : ℕ
   pub early : generation ≤ horizon
@@ -16,7 +18,7 @@ pub record Diverges (rule : Numbers) (whole cluster : List Cell) (horizon : ℕ)
   pub alone : has (after rule cluster generation) cell ≡ true
   pub missing : has (after rule whole generation) cell ≡ false
 
--- some cluster of the pattern diverges from it within the horizon, or is itself never again within the period
+-- some cluster of the pattern diverges from it within the horizon, or never recurs within the period
 pub record HasRestlessCluster (rule : Numbers) (cells : List Cell) (horizon period : ℕ) : Type 0 where
   pub cluster : List Cell
   pub is : IsCluster cells cluster
@@ -26,16 +28,6 @@ pub record HasRestlessCluster (rule : Numbers) (cells : List Cell) (horizon peri
 abbrev pub AreAllRestless : Numbers → ℕ → List (List ℕ) → ℕ → ℕ → ℕ → Type 0
 AreAllRestless rule n window depth horizon period =
     (cells : List Cell) (left top : ℤ) → InOrder cells → IsShownInside n left top depth window cells → HasRestlessCluster rule cells horizon period
-
--- the other window has the 40 rows of the window from this one on
-abbrev pub IsCrop : ℕ → List (List ℕ) → List (List ℕ) → Type 0
-IsCrop from window part = (r : ℕ) → r < 40 → row_at 10 part r ≡ row_at 16 window (from + r)
-
--- all live cells of the window lie in these rows
-pub record LiesInCrop (from : ℕ) (window : List (List ℕ)) : Type 0 where
-  pub low : from ≤ 24
-  pub above : (r : ℕ) → r < from → row_at 16 window r ≡ 0
-  pub below : (r : ℕ) → from + 40 ≤ r → r < 64 → row_at 16 window r ≡ 0
 
 -- At least so deep inside the windows there is a cell alone that the whole hasn't: in column i of row r.
 pub record HasDivergingCell (n : ℕ) (whole alone : List (List ℕ)) (depth : ℕ) : Type 0 where
@@ -53,3 +45,9 @@ abbrev pub DivergesFromWhole : Numbers → ℕ → List (List ℕ) → List (Lis
 DivergesFromWhole rule n whole alone depth horizon =
     (cells cluster : List Cell) (left top : ℤ) → InOrder cells → InOrder cluster → IsShownInside n left top depth whole cells
     → IsShownInside n left top depth alone cluster → Diverges rule cells cluster horizon
+
+-- what the one rows show alone diverges from what the other rows show
+abbrev pub DivergesInRows : Numbers → List ℕ → List ℕ → ℕ → ℕ → Type 0
+DivergesInRows rule whole alone depth horizon =
+    (cells cluster : List Cell) (left top : ℤ) → InOrder cells → ShowsInside left top depth whole cells → FillsRows left top alone cluster
+    → Diverges rule cells cluster horizon

@@ -14,7 +14,7 @@ box_at c = record { left = c.x; top = c.y; right = c.x; bottom = c.y }
 abbrev pub widened : Cell → Bounds → Bounds
 widened c b = record { left = int_min c.x b.left; top = int_min c.y b.top; right = int_max c.x b.right; bottom = int_max c.y b.bottom }
 
--- a box, if there is one, with one cell more
+-- the least box that contains a cell and a box, if there is one
 abbrev pub grown : Cell → Option Bounds → Bounds
 grown c None = box_at c
 grown c (Some b) = widened c b
@@ -35,7 +35,7 @@ pub record IsWithin (b : Bounds) (c : Cell) : Type 0 where
 abbrev pub enlarged : ℕ → Bounds → Bounds
 enlarged n b = record { left = b.left -ℤ pos n; top = b.top -ℤ pos n; right = b.right +ℤ pos n; bottom = b.bottom +ℤ pos n }
 
--- the least box that has both in it: of each side, the one that lies further out
+-- the least box that contains both: each side is the outer one of the two
 pub record IsRoundBoth (one other b : Bounds) : Type 0 where
   pub left : b.left ≡ int_min one.left other.left
   pub top : b.top ≡ int_min one.top other.top
@@ -50,7 +50,7 @@ pub record IsLeastBox (cells : List Cell) (b : Bounds) : Type 0 where
   pub right : Any (λ c. c.x ≡ b.right) cells
   pub bottom : Any (λ c. c.y ≡ b.bottom) cells
 
--- the sides of a box are at most so far from the origin
+-- the sides of a box are at most `reach` from the origin
 pub record AreSidesWithin (reach : ℕ) (b : Bounds) : Type 0 where
   pub left : unsigned_abs b.left ≤ reach
   pub top : unsigned_abs b.top ≤ reach
@@ -69,7 +69,7 @@ cornered (Some b) cells = shifted (neg_ℤ b.left) (neg_ℤ b.top) cells
 abbrev pub at_corner : List Cell → List Cell
 at_corner cells = cornered (box_of cells) cells
 
--- The answer is a shift that makes S into T, if there is one. A pattern with a cell has no other; for two empty ones it is (0, 0).
+-- The answer is a displacement that takes S to T, if there is one. There is only one, unless both are empty, and then it is (0, 0).
 pub record TellsShift (S T : List Cell) (found : Option (ℤ × ℤ)) : Type 0 where
   pub some : IfSome found (λ v. shifted v.0 v.1 S ≡ T)
   pub none : IfNone found ((dx dy : ℤ) → shifted dx dy S ≢ T)

@@ -7,7 +7,7 @@ use Rattle.std.specs.Ordering.{ordering_then, int_cmp, is_eq, match_ordering}
 use Rattle.plane_core.specs.declared.plane.cell.Cell.{Cell}
 use lib.IntN.{◌-ℤ◌}
 
--- how large the coordinates of a cell of the plane may be in size: this project's choice
+-- the largest absolute value of a coordinate of a cell of the plane: this project's choice
 abbrev pub plane_bound : ℕ
 plane_bound = 1000000
 
@@ -53,7 +53,7 @@ abbrev pub set_of : List Cell → List Cell
 set_of [] = []
 set_of (c ∷ cs) = put c (set_of cs)
 
--- both coordinates are at most reach in size
+-- both coordinates have an absolute value of at most reach
 abbrev pub is_within : ℕ → Cell → Bool
 is_within reach c = nat_le (unsigned_abs c.x) reach && nat_le (unsigned_abs c.y) reach
 
@@ -64,11 +64,11 @@ on_plane c = is_within plane_bound c
 abbrev pub off_plane : Cell → Bool
 off_plane c = not (on_plane c)
 
--- the cell is at most a step off the plane
+-- the cell is at most one step off the plane
 unfoldable pub near_plane : Cell → Bool
 near_plane c = is_within (plane_bound + 1) c
 
--- a coordinate is as large as the bound in size
+-- a coordinate has the absolute value of the bound
 unfoldable pub on_edge : Cell → Bool
 on_edge c = unsigned_abs c.x == plane_bound || unsigned_abs c.y == plane_bound
 
@@ -77,6 +77,6 @@ pub record IsPattern (cells : List Cell) : Type 0 where
   pub in_order : InOrder cells
   pub on_plane : list_all on_plane cells ≡ true
 
--- two lists in order with the same members are one list, so that a set of cells has one
+-- two lists in order with the same members are the same list, so a set of cells has only one
 abbrev pub SetsHaveOneList : Type 0
 SetsHaveOneList = (S T : List Cell) → InOrder S → InOrder T → ((c : Cell) → has S c ≡ has T c) → S ≡ T

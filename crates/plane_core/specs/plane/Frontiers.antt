@@ -7,11 +7,11 @@ use Rattle.plane_core.specs.plane.Generations.{after}
 use Rattle.plane_core.specs.plane.Orientations.{turned_cell}
 use Rattle.plane_core.specs.plane.Rules.{Numbers, is_birth, is_survival}
 
--- how far to the right and down a cell lies, both together
+-- the depth of a cell: its column and its row together
 abbrev pub depth : Cell → ℤ
 depth c = c.x +ℤ c.y
 
--- each cell of the pattern, turned by the orientation, lies at most so deep
+-- each cell of the pattern, turned by the orientation, has at most this depth
 abbrev pub LiesUpTo : Orientation → ℤ → List Cell → Type 0
 LiesUpTo o m cells = (c : Cell) → has cells c ≡ true → depth (turned_cell o c) ≤ℤ m
 
@@ -19,7 +19,7 @@ LiesUpTo o m cells = (c : Cell) → has cells c ≡ true → depth (turned_cell 
 abbrev pub is_slow : Numbers → Bool
 is_slow rule = not (is_birth rule 1 || is_birth rule 2 || is_survival rule 4 || is_survival rule 5)
 
--- Under a slow rule a pattern grows by at most a cell in two generations in each of the diagonal directions, rounded up.
+-- Under a slow rule a pattern grows by at most one cell in two generations, rounded up, in each of the diagonal directions.
 abbrev pub FrontiersAreSlow : Type 0
 FrontiersAreSlow = (rule : Numbers) (o : Orientation) (m : ℤ) (cells : List Cell) (n : ℕ) → InOrder cells → is_slow rule ≡ true → LiesUpTo o m cells
     → (c : Cell) → has (after rule cells n) c ≡ true → (pos 2 *ℤ depth (turned_cell o c)) ≤ℤ ((pos 2 *ℤ m) +ℤ pos (n + 1))

@@ -17,18 +17,18 @@ around cells c = count_by (λ d. king_distance c d == 1) cells
 abbrev pub lives : Numbers → List Cell → Cell → Bool
 lives rule cells c = if has cells c then is_survival rule (around cells c) else is_birth rule (around cells c)
 
--- The same where count is the number of live cells of its neighbourhood, itself among them where it is alive.
+-- The same if `count` is the number of live cells in its neighbourhood, including itself.
 abbrev pub lives_by : Numbers → ℕ → Bool → Bool
 lives_by rule count alive = if alive then is_survival rule (count - 1) else is_birth rule count
 
--- c with the cells to its left and right, and three such rows: the cells at king distance at most 1 from c
+-- the cells at king distance at most 1 from c: three rows of three
 abbrev pub triple : Cell → List Cell
 triple c = moved_by (negsuc 0) (pos 0) c ∷ c ∷ moved_by (pos 1) (pos 0) c ∷ []
 
 abbrev pub neighbourhood : Cell → List Cell
 neighbourhood c = flat_map triple (moved_by (pos 0) (negsuc 0) c ∷ c ∷ moved_by (pos 0) (pos 1) c ∷ [])
 
--- the next generation: of the cells in the pattern and beside it, those that are alive then
+-- the next generation: the cells in the pattern and beside it that are alive then
 unfoldable pub next : Numbers → List Cell → List Cell
 next rule cells = filter (lives rule cells) (set_of (flat_map neighbourhood cells))
 
@@ -37,7 +37,7 @@ unfoldable pub after : Numbers → List Cell → ℕ → List Cell
 after rule cells zero = cells
 after rule cells (suc g) = next rule (after rule cells g)
 
--- a cell lies so far out that a neighbour would lie past the bound
+-- a cell lies so far out that a neighbour would lie off the plane
 abbrev pub touches_edge : List Cell → Bool
 touches_edge cells = list_any on_edge cells
 
@@ -49,6 +49,10 @@ lies_within reach cells = list_all (is_within reach) cells
 abbrev pub NeverRecurs : Numbers → List Cell → ℕ → Type 0
 NeverRecurs rule cells n = (p : ℕ) (dx dy : ℤ) → 1 ≤ p → p ≤ n → after rule cells p ≢ shifted dx dy cells
 
+-- each cell of the plane is alive in the next generation if and only if the rule's numbers say so
+abbrev pub CellsFollowTheRule : Type 0
+CellsFollowTheRule = (rule : Numbers) (cells : List Cell) (c : Cell) → has (next rule cells) c ≡ lives rule cells c
+
 -- the next generation of a pattern moved, or turned, is its next generation, moved or turned
 abbrev pub NextMoved : Type 0
 NextMoved = (dx dy : ℤ) (rule : Numbers) (cells : List Cell) → InOrder cells → next rule (shifted dx dy cells) ≡ shifted dx dy (next rule cells)
@@ -56,8 +60,8 @@ NextMoved = (dx dy : ℤ) (rule : Numbers) (cells : List Cell) → InOrder cells
 abbrev pub NextTurned : Type 0
 NextTurned = (o : Orientation) (rule : Numbers) (cells : List Cell) → InOrder cells → next rule (image o cells) ≡ image o (next rule cells)
 
--- The field's speed of light: in a generation no pattern grows by more than a cell a side. So after g generations it lies
--- in each box that it lay in, with g more columns and rows on each side.
+-- The speed of light: no pattern grows by more than one cell on each side in a generation. So after g generations it lies in any
+-- box that it lay in, with g more columns and rows on each side.
 abbrev pub SpeedOfLight : Type 0
 SpeedOfLight = (rule : Numbers) (cells : List Cell) (b : Bounds) (g : ℕ) → All (IsWithin b) cells → All (IsWithin (enlarged g b)) (after rule cells g)
 

@@ -1,4 +1,4 @@
--- How far a cell sees: what it is after k generations is decided by the cells that are at most k from it.
+-- How far influence reaches: the state of a cell after k generations depends only on the cells that are at most k from it.
 use Rattle.std.specs.Prelude.{◌≡◌, ◌≤◌, ℕ, ◌+ℤ◌, ◌-ℤ◌, pos, List}
 use Rattle.plane_core.specs.declared.plane.bounds.Bounds.{Bounds}
 use Rattle.plane_core.specs.declared.plane.cell.Cell.{Cell}
@@ -16,8 +16,8 @@ abbrev pub SeesNoFurther : Type 0
 SeesNoFurther = (rule : Numbers) (one other : List Cell) (k : ℕ) (c : Cell) → InOrder one → InOrder other
     → ((d : Cell) → king_distance c d ≤ k → has one d ≡ has other d) → has (after rule one k) c ≡ has (after rule other k) c
 
--- A pattern that is cut off at the sides of a box, and one that isn't, agree in the box. So after k generations they agree in
--- each cell that lies k columns and rows or more inside its sides.
+-- A pattern that is cut off at the sides of a box agrees with the whole one in the box. So after k generations they agree in each
+-- cell that lies k columns and rows or more inside its sides.
 abbrev pub RightInside : Type 0
 RightInside = (rule : Numbers) (one other : List Cell) (b : Bounds) (k : ℕ) → InOrder one → InOrder other
     → ((d : Cell) → IsWithin b d → has one d ≡ has other d) → (c : Cell) → IsWithin (narrowed k b) c → has (after rule one k) c ≡ has (after rule other k) c

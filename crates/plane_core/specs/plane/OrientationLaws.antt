@@ -1,4 +1,4 @@
--- The laws of the eight orientations: which one comes of two, and what turning twice does.
+-- The laws of the eight orientations: their products, and how they are undone.
 use Rattle.std.specs.Prelude.{◌≡◌, ℤ, List}
 use Rattle.plane_core.specs.declared.plane.cell.Cell.{Cell}
 use Rattle.plane_core.specs.declared.plane.orientation.Orientation.{Orientation}
@@ -6,7 +6,7 @@ use Rattle.plane_core.specs.declared.plane.orientation.Orientation.TheVariants.{
 use Rattle.plane_core.specs.plane.Bounds.{shifted}
 use Rattle.plane_core.specs.plane.Orientations.{turned_cell, turned}
 
--- a quarter turn more, and a mirror more
+-- another quarter turn, and another mirror
 abbrev pub quarter_after : Orientation → Orientation
 quarter_after Same = Quarter
 quarter_after Quarter = Half
@@ -27,7 +27,7 @@ mirror_after Flip = Half
 mirror_after Diagonal = Quarter
 mirror_after AntiDiagonal = ThreeQuarter
 
--- the one orientation and then the other: each is some quarter turns, after a mirror or not
+-- one orientation and then the other: each is some quarter turns, after a mirror or not
 abbrev pub product : Orientation → Orientation → Orientation
 product a Same = a
 product a Quarter = quarter_after a
@@ -38,15 +38,15 @@ product a AntiDiagonal = quarter_after (mirror_after a)
 product a Flip = quarter_after (quarter_after (mirror_after a))
 product a Diagonal = quarter_after (quarter_after (quarter_after (mirror_after a)))
 
--- three orientations one after another: it doesn't matter which two are put together first
+-- the product of orientations is associative
 abbrev pub ProductAssociates : Type 0
 ProductAssociates = (a b c : Orientation) → product (product a b) c ≡ product a (product b c)
 
--- `Same` changes nothing, before and after
+-- `Same` is its identity
 abbrev pub SameIsIdentity : Type 0
 SameIsIdentity = (a : Orientation) → (product Same a ≡ a) × (product a Same ≡ a)
 
--- orientations that take each cell to the same place are one
+-- different orientations take some cell to different places
 abbrev pub OrientationsDiffer : Type 0
 OrientationsDiffer = (a b : Orientation) → ((c : Cell) → turned_cell a c ≡ turned_cell b c) → a ≡ b
 

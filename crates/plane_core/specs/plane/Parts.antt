@@ -10,17 +10,17 @@ pub record HasRun (rule : Numbers) (cells : List Cell) (n : ℕ) (later : List C
   pub after : later ≡ after rule cells n
   pub inside : lies_within (plane_bound - n) cells ≡ true
 
--- the cells of the one pattern are further than so far from those of the other
+-- the cells of one pattern are further than `far` from those of the other
 abbrev pub LieFurther : ℕ → List Cell → List Cell → Type 0
 LieFurther far one other = (c d : Cell) → has one c ≡ true → has other d ≡ true → far < king_distance c d
 
--- so many cells of the list, and not all, are further than so far from the others
+-- `cut` cells of the list, and not all of them, are further than `far` from the others
 pub record IsCut (far : ℕ) (cells : List Cell) (cut : ℕ) : Type 0 where
   pub some : 1 ≤ cut
   pub within : cut < length cells
   pub apart : LieFurther far (take cut cells) (drop cut cells)
 
--- Two patterns that lie further than 2g apart run for g generations as if each were alone.
+-- Two patterns that lie further than 2g apart evolve for g generations as if each were alone.
 abbrev pub FarPatternsRunAlone : Type 0
 FarPatternsRunAlone = (rule : Numbers) (one other : List Cell) (g : ℕ) → InOrder one → InOrder other → LieFurther (2 * g) one other
     → after rule (set_of (one ++ other)) g ≡ set_of (after rule one g ++ after rule other g)

@@ -1,4 +1,4 @@
--- When a call of this crate returns which error.
+-- Which error a call of this crate returns, and when.
 use Rattle.std.specs.Prelude.{◌≡◌, true, false, List, position, Some, None}
 use Rattle.plane_core.specs.declared.plane.cell.Cell.{Cell}
 use Rattle.plane_core.specs.declared.plane.pattern.FromCellsError.{FromCellsError}

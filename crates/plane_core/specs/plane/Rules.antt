@@ -5,12 +5,12 @@ use Rattle.std.specs.List.{starts_with}
 use Rattle.plane_core.specs.declared.plane.rule.RuleFault.{RuleFault}
 use Rattle.plane_core.specs.declared.plane.rule.RuleFault.TheVariants.{BadRule, BirthZero}
 
--- A rule as two tables of answers: births has those for 1 to 8 live neighbours, survivals those for 0 to 8.
+-- A rule as two tables of answers: `births` for 1 to 8 live neighbours, and `survivals` for 0 to 8.
 pub record Numbers : Type 0 where
   pub births : List Bool
   pub survivals : List Bool
 
--- n is a birth number. Nothing is born where no neighbour lives.
+-- n is a birth number. Nothing is born without live neighbours.
 abbrev pub is_birth : Numbers → ℕ → Bool
 is_birth rule zero = false
 is_birth rule (suc n) = unwrap_or (slice_get rule.births n) false
@@ -24,13 +24,13 @@ pub record IsRule (rule : Numbers) : Type 0 where
   pub births : length rule.births ≡ 8
   pub survivals : length rule.survivals ≡ 9
 
--- the digits, ascending, of the numbers that a table answers true, where its first answer is for n; `0` is byte 48
+-- the digits, ascending, of the numbers for which a table answers true, if its first answer is for n; `0` is byte 48
 unfoldable pub digits : ℕ → List Bool → List ℕ
 digits n [] = []
 digits n (true ∷ more) = (48 + n) ∷ digits (n + 1) more
 digits n (false ∷ more) = digits (n + 1) more
 
--- the one text of a rule, as b3s23: each letter with the digits of its numbers
+-- the only text of a rule, such as b3s23: each letter with the digits of its numbers
 unfoldable pub rule_text : Numbers → List ℕ
 rule_text rule = codes "b" ++ (digits 1 rule.births ++ (codes "s" ++ digits 0 rule.survivals))
 
@@ -41,13 +41,13 @@ pub record BeginsRule (text : List ℕ) : Type 0 where
   pub is_rule : IsRule rule
   pub spelled : rule_text rule ≡ text ++ remainder
 
--- The bytes before the place begin some rule's text, and with the byte there they don't. At the text's end there is none.
+-- The bytes before the place begin some rule's text, and with the byte there they don't. There is no byte at the text's end.
 pub record IsFirstFault (text : List ℕ) (place : ℕ) : Type 0 where
   pub within : place ≤ length text
   pub before : BeginsRule (take place text)
   pub there : place < length text → ¬ BeginsRule (take (place + 1) text)
 
--- numbers read off the prefix of a text, as a table of answers, and the text after them
+-- the numbers read from the start of a text, as a table of answers, and the rest of the text
 pub record Reading : Type 0 where
   pub logic : List Bool
   pub remainder : List ℕ
@@ -58,7 +58,7 @@ with_answer next_cells read = record { logic = next_cells ∷ read.logic; remain
 abbrev pub begins : List ℕ → List ℕ → Bool
 begins text prefix = starts_with nat_eq text prefix
 
--- so many numbers from n on: each is one whose digit stands next in the text
+-- the given number of numbers from n on: each is one of the rule's if its digit comes next in the text
 unfoldable pub numbers_at : ℕ → ℕ → List ℕ → Reading
 numbers_at zero n text = record { logic = []; remainder = text }
 numbers_at (suc more) n text =
@@ -66,11 +66,11 @@ numbers_at (suc more) n text =
     then with_answer true (numbers_at more (n + 1) (drop 1 text))
     else with_answer false (numbers_at more (n + 1) text)
 
--- the fault where this rest of the text begins
+-- the fault at this rest of the text
 abbrev pub rule_fault_at : List ℕ → List ℕ → Result Numbers RuleFault
 rule_fault_at text remainder = Err (BadRule (length text - length remainder))
 
--- the rule that a text says, or its first fault from the left
+-- the rule of a text, or its first fault from the left
 unfoldable pub rule_read : List ℕ → Result Numbers RuleFault
 rule_read text =
     let births = numbers_at 8 1 (drop 1 text) in

@@ -1,4 +1,4 @@
--- Vectors of four words, a word to a lane, and sums of cells in them.
+-- Vectors of four words, one word to a lane, and sums of cells in them.
 use Rattle.std.specs.Prelude.{◌≡◌, ◌==◌, ◌+◌, ◌*◌, ◌<◌, ℕ, List, slice_index}
 use Rattle.std.specs.Int.{bit_at}
 use Rattle.plane_core.specs.declared.windows.lane_sums.RowSums.{RowSums}
@@ -24,7 +24,7 @@ total_of t j i = bit_of t.ones j i + 2 * bit_of t.twos j i + 4 * bit_of t.fours 
 abbrev pub row_sum : ℕ → ℕ → ℕ
 row_sum word i = west_of 0 word i + bit_at word i + east_of word 0 i
 
--- The one sum has the cells beside each cell, and the other these and the cell itself.
+-- One sum counts the cells beside each cell, and the other these and the cell itself.
 abbrev pub AreBeside : RowSums → List ℕ → Type 0
 AreBeside row now = (j i : ℕ) → j < 4 → sum_of row.all j i ≡ sum_of row.beside j i + bit_of now j i
 

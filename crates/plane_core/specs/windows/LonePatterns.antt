@@ -1,10 +1,9 @@
--- A pattern in a window, which has nothing else in it: for as long as no cell stands on the rim, its generations are the window's.
-use Rattle.std.specs.Prelude.{◌≡◌, ◌-◌, ◌*◌, ◌<◌, ◌≤◌, ◌^◌, ℕ, ℤ, ◌+ℤ◌, ◌≤ℤ◌, ◌<ℤ◌, pos, List, [], length, slice_index, slice_index_or, true}
+-- A pattern in a window that contains nothing else: until a cell lies on the rim, its generations are the window's.
+use Rattle.std.specs.Prelude.{◌≡◌, ◌-◌, ◌*◌, ◌<◌, ◌^◌, ℕ, ℤ, ◌+ℤ◌, ◌≤ℤ◌, ◌<ℤ◌, pos, List, [], length, slice_index, slice_index_or, true}
 use Rattle.std.specs.Int.{bit_at}
 use Rattle.plane_core.specs.declared.plane.cell.Cell.{Cell}
 use Rattle.plane_core.specs.plane.Cells.{InOrder, has}
-use Rattle.plane_core.specs.plane.Generations.{NeverRecurs, after}
-use Rattle.plane_core.specs.plane.Rules.{Numbers}
+use Rattle.plane_core.specs.windows.Rows.{ShowsInAllRows}
 use Rattle.plane_core.specs.windows.Windows.{IsShownInside, row_at}
 
 -- the cell lies in the window of n vectors that begins at (left, top): it has 64 columns and 4 n rows
@@ -20,10 +19,11 @@ pub record Holds (n : ℕ) (left top : ℤ) (x : List (List ℕ)) (cells : List 
   pub inside : (c : Cell) → has cells c ≡ true → IsInWindow n left top c
   pub shown : IsShownInside n left top 0 x cells
 
--- up to generation g the pattern stays in the window, and none of the generations from 1 on is the pattern itself again
-pub record HasChanged (rule : Numbers) (n : ℕ) (left top : ℤ) (cells : List Cell) (g : ℕ) : Type 0 where
-  pub new : NeverRecurs rule cells g
-  pub inside : (h : ℕ) → h ≤ g → (c : Cell) → has (after rule cells h) c ≡ true → IsInWindow n left top c
+-- the pattern lies in the 64 rows, and they show just this pattern
+pub record FillsRows (left top : ℤ) (rows : List ℕ) (cells : List Cell) : Type 0 where
+  pub in_order : InOrder cells
+  pub inside : (c : Cell) → has cells c ≡ true → IsInWindow 16 left top c
+  pub shown : ShowsInAllRows left top rows cells
 
 -- a vector of four words
 pub record IsVector (v : List ℕ) : Type 0 where

@@ -1,4 +1,4 @@
--- The rule whose answers these are.
+-- The rule with these answers.
 use Rattle.plane_core.specs.declared.windows.rule_logic.RuleLogic.{RuleLogic}
 use Rattle.plane_core.specs.declared.windows.rule_logic.RuleLogic.TheVariants.{Life, Any}
 use Rattle.plane_core.specs.plane.Rules.{Numbers}

@@ -1,9 +1,11 @@
 -- Windows: n vectors, so 4 n rows of 64 columns. Row r is lane r / n of vector r % n.
-use Rattle.std.specs.Prelude.{◌≡◌, ◌==◌, ◌+◌, ◌*◌, ◌/◌, ◌%◌, ◌<◌, ◌≤◌, ℕ, ℤ, zero, suc, ◌+ℤ◌, pos, List, [], slice_index, slice_index_or, if◌then◌else◌}
+use Rattle.std.specs.Prelude.{◌≡◌, ◌==◌, ◌+◌, ◌*◌, ◌/◌, ◌%◌, ◌<◌, ◌≤◌, ℕ, ℤ, zero, suc, ◌+ℤ◌, pos, List, [], set, slice_index, slice_index_or, if◌then◌else◌}
 use Rattle.std.specs.Int.{bit_at}
 use Rattle.plane_core.specs.declared.plane.cell.Cell.{Cell}
 use Rattle.plane_core.specs.plane.Cells.{cell_at, has}
-use Rattle.plane_core.specs.windows.LaneSums.{row_sum}
+use Rattle.plane_core.specs.declared.windows.lane_sums.RowSums.{RowSums}
+use Rattle.plane_core.specs.declared.windows.lane_sums.Sum.{Sum}
+use Rattle.plane_core.specs.windows.LaneSums.{AnswersRows, AreBeside, row_sum, sum_of}
 use Rattle.plane_core.specs.plane.Rules.{Numbers}
 use Rattle.plane_core.specs.plane.Generations.{lives_by}
 use Rattle.plane_core.specs.windows.Words.{one_if}
@@ -25,16 +27,25 @@ row_above n x (suc r) = row_at n x r
 abbrev pub row_below : ℕ → List (List ℕ) → ℕ → ℕ
 row_below n x r = if r + 1 == 4 * n then 0 else row_at n x (r + 1)
 
--- the row is that of the middle one, a generation later, if nothing lives beside the three
+-- the row is the middle one a generation later, if nothing lives beside the three
 abbrev pub IsNextRow : Numbers → ℕ → ℕ → ℕ → ℕ → Type 0
 IsNextRow rule above here below next =
     (i : ℕ) → i < 64 → bit_at next i ≡ one_if (lives_by rule (row_sum above i + row_sum here i + row_sum below i) (bit_at here i == 1))
 
--- each row of the window is a generation later, if nothing lives round the window
+-- each row of the window is a generation later, if nothing lives around the window
 abbrev pub IsNextWindow : Numbers → ℕ → List (List ℕ) → List (List ℕ) → Type 0
 IsNextWindow rule n x y = (r : ℕ) → r < 4 * n → IsNextRow rule (row_above n x r) (row_at n x r) (row_below n x r) (row_at n y r)
 
--- At least so deep inside the window its bits are the cells of the list. The window's first cell is (left, top).
+-- Vector k of a window was made a generation later, by the sums of the rows above it, here and below it. Those below are the sums of
+-- the next vector.
+pub record IsVectorMade (rule : Numbers) (k : ℕ) (up : Sum) (here below : RowSums) (old new : List (List ℕ)) : Type 0 where
+  pub next : List ℕ
+  pub is : new ≡ set old k next
+  pub answers : AnswersRows rule up here.all below.all (slice_index_or old k []) next
+  pub sums : (j i : ℕ) → j < 4 → i < 64 → sum_of below.all j i ≡ row_sum (lane_at old (k + 1) j) i
+  pub beside : AreBeside below (slice_index_or old (k + 1) [])
+
+-- From this depth inside the window on, its bits are the cells of the list. The window's first cell is (left, top).
 abbrev pub IsShownInside : ℕ → ℤ → ℤ → ℕ → List (List ℕ) → List Cell → Type 0
 IsShownInside n left top depth x cells = (r i : ℕ) → depth ≤ r → r + depth < 4 * n → depth ≤ i → i + depth < 64
     → has cells (cell_at (left +ℤ pos i) (top +ℤ pos r)) ≡ (bit_at (row_at n x r) i == 1)

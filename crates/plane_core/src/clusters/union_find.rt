@@ -1,17 +1,17 @@
-//! Which cells of a pattern share a cluster: a forest over the places of its cells.
+//! Finds which cells of a pattern share a cluster, with a forest over the places of its cells.
 //!
 //!      O . O . . . O          0 . 1 . . . 2          place    0  1  2  3  4
 //!      . . . . . . O          . . . . . . 3          leads to 0  0  2  2  0
 //!      . . . O . . .          . . . 4 . . .
 //!
-//! Each place leads to an earlier one of its tree, or to itself: then it is a root. At first all are roots. The places
-//! are gone through in order, and each is joined with those before it whose cells are near, at most two columns and two
-//! rows away: of the two roots, the later one leads to the earlier from then on. At the end each tree is a cluster.
+//! Each place leads to an earlier place of its tree, or to itself if it is a root. At first, all places are roots. Then
+//! each place, in order, is joined with the earlier places whose cells are near, which means at most two columns and
+//! two rows away: the later one of the two roots then leads to the earlier one. At the end, each tree is a cluster.
 //!
-//! What is near and stands earlier lies in the cell's own row or in the two above. A cursor for each of the two skips
-//! what lies too far to the left; it never goes back, since the next cell lies further right or further down. In its
-//! own row a cell is joined with the one just before it, and that one, if near, has been joined with all that is near
-//! both: so of the rows above mostly one cell is left, or none.
+//! Near cells that come earlier are in the cell's own row or in the two rows above. A cursor for each of the two rows
+//! skips what is too far to the left. It never goes back, because the next cell is further right or further down. In
+//! its own row, a cell is joined with the cell just before it. If that cell is near, it has been joined with everything
+//! that is near both, so in the rows above at most one cell is usually left.
 ghost use Rattle.std.specs.Prelude.{◌≡◌, ◌≢◌, ◌+◌, ◌<◌, ◌<ℤ◌, ◌≤◌, ℕ, true, IfOk, List, length, nat_le};
 ghost use Rattle.std.specs.declared.cmp.Ordering.TheVariants.{Less};
 ghost use Rattle.plane_core.specs.plane.Cells.{IsPattern, cell_cmp, king_distance, on_plane};
@@ -33,7 +33,7 @@ struct Cursors {
     top: usize,
 }
 
-/// So many places, each a root.
+/// Returns `count` places, each a root.
 pub(crate) fn roots(alloc: Global, count: usize) -> Result<Vec<usize>, OutOfMemory>
     ensures count { IfOk result (λ parents. length parents.items ≡ count) }
     ensures roots { IfOk result (λ parents. (k : ℕ) → k < count → parent_of parents.items k ≡ k) }
@@ -45,8 +45,7 @@ pub(crate) fn roots(alloc: Global, count: usize) -> Result<Vec<usize>, OutOfMemo
     Ok(parents)
 }
 
-/// Joins the places of all cells that are near each other: the places lead to one another as in the forest of the
-/// pattern then.
+/// Joins the places of all cells that are near each other, which makes the forest of the pattern.
 pub(crate) fn join_all(cells: &[Cell], parents: &mut [usize])
     requires pattern { IsPattern cells.now }
     requires forest { IsForest cells.now parents.old }
@@ -54,7 +53,7 @@ pub(crate) fn join_all(cells: &[Cell], parents: &mut [usize])
     ensures joined { JoinsAll cells.now parents.new (length cells.now) }
 {
     let mut cursors = Cursors { above: 0, top: 0 };
-    // The first place has none before it.
+    // The first place has no earlier one.
     for place in 1..cells.len() {
         join_if_near(cells, parents, place - 1, place);
         let cell = cells[place];
@@ -78,8 +77,8 @@ pub(crate) fn join_all(cells: &[Cell], parents: &mut [usize])
     }
 }
 
-/// Joins this place with those before it whose cells are near and lie between two cells, these included. The result is
-/// the first place that may be one.
+/// Joins this place with the earlier places whose cells are near and between two cells, these included. Returns the
+/// first place that may be one.
 #[inline(always)]
 fn join_row(
     cells: &[Cell],
@@ -112,7 +111,7 @@ fn join_row(
     first
 }
 
-/// The first place from the cursor on whose cell doesn't come before this one.
+/// Returns the first place from the cursor on whose cell doesn't come before `from`.
 fn skipped(cells: &[Cell], cursor: usize, from: Cell) -> usize
     ensures { (k : ℕ) → cursor ≤ k → k < result → cell_cmp (cell_of cells.now k) from ≡ Less }
 {
@@ -123,8 +122,8 @@ fn skipped(cells: &[Cell], cursor: usize, from: Cell) -> usize
     at
 }
 
-/// The first cell of a row above this place that needs a join with it, where those from a cell on are near: if the cell
-/// just before stands in the same row and is near, it is the one past all that are near both.
+/// Returns the first cell of a row above this place that has to be joined with it, if cells from `from` on are near. If
+/// the cell just before is in the same row and near, this is the cell after all that are near both.
 fn fresh_from(cells: &[Cell], place: usize, from: Cell) -> Cell
     requires pattern { IsPattern cells.now }
     requires place { (0 < place) × (place < length cells.now) }
@@ -146,7 +145,7 @@ fn fresh_from(cells: &[Cell], place: usize, from: Cell) -> Cell
     }
 }
 
-/// Joins the trees of two places if their cells are near: the later root leads to the earlier.
+/// Joins the trees of two places if their cells are near: the later root then leads to the earlier one.
 fn join_if_near(cells: &[Cell], parents: &mut [usize], one: usize, other: usize)
     requires pattern { IsPattern cells.now }
     requires one { one < length cells.now }
@@ -165,7 +164,7 @@ fn join_if_near(cells: &[Cell], parents: &mut [usize], one: usize, other: usize)
     parents[later] = left.min(right);
 }
 
-/// The root of a place's tree.
+/// Returns the root of a place's tree.
 fn root(parents: &[usize], place: usize) -> usize
     requires place { place < length parents.now }
     requires back { LeadsBack parents.now }
@@ -182,7 +181,7 @@ fn root(parents: &[usize], place: usize) -> usize
     at
 }
 
-/// Whether two cells are at king distance at most 2.
+/// Checks whether two cells are at king distance at most 2.
 #[tactic(auto, unfolding(crate::specs::plane::Cells::on_plane))]
 fn are_near(one: Cell, other: Cell) -> bool
     requires one { on_plane one ≡ true }

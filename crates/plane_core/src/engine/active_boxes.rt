@@ -1,12 +1,12 @@
-//! Boxes outside of which nothing changes from one generation to the next but one.
+//! Active boxes: outside of them, every cell is the same two generations later.
 //!
-//! When a board is loaded there is one for each group of cells that lie together. After a leap there is one for each
-//! window in which something still changes. So what is at rest, or alternates, costs nothing:
+//! When a board is loaded, there is a box for each group of cells that are close together. After a leap, there is a box
+//! for each window in which something still changes. So a part that is at rest or alternates costs nothing:
 //!
 //! ```text
 //! +-----+
 //! |.XX. |      .XX.       The cells of the glider change, and have a box. The block doesn't, and has none.
-//! |X.X. |      .XX.       Each cell that is not within 2 of a box is the same two generations on.
+//! |X.X. |      .XX.       Each cell that is not within 2 of a box is the same two generations later.
 //! |..X. |
 //! +-----+
 //! ```
@@ -21,11 +21,11 @@ use crate::plane::bounds::Bounds;
 use crate::plane::cell::Cell;
 use memory::OutOfMemory;
 
-/// With how many of the last boxes a cell is compared.
+/// The number of boxes, counted from the last, with which a cell is compared.
 const LAST_BOXES: usize = 16;
 
-/// Widens the boxes of the list, and adds others to it, so that they have these cells in them as well. If memory runs
-/// out, they have at least what they had.
+/// Widens boxes of the list, and adds others, so that they contain these cells too. If memory runs out, they contain at
+/// least what they did.
 pub(crate) fn put_in_boxes(cells: &[Cell], boxes: &mut Vec<Bounds>) -> Result<(), OutOfMemory>
     ensures wider { AreWider boxes.old.items boxes.new.items }
     ensures held { OnOk result (HoldAll boxes.new.items cells.now) }
@@ -38,15 +38,15 @@ pub(crate) fn put_in_boxes(cells: &[Cell], boxes: &mut Vec<Bounds>) -> Result<()
     Ok(())
 }
 
-/// Widens the last box that is near the part, if one of the last sixteen is, so that it has the part in it. Else the
-/// part is a box. If memory runs out, the boxes have at least what they had.
+/// Widens the last box that is near the part, if one of the last sixteen is, so that it contains the part. Otherwise
+/// the part becomes a box. If memory runs out, the boxes contain at least what they did.
 pub(crate) fn put_in_box(part: Bounds, boxes: &mut Vec<Bounds>) -> Result<(), OutOfMemory>
     ensures wider { AreWider boxes.old.items boxes.new.items }
     ensures held { OnOk result ((c : Cell) → IsWithin part c → IsInOne boxes.new.items c) }
     ensures sides { (n : ℕ) → AreSidesWithin n part → All (AreSidesWithin n) boxes.old.items
         → All (AreSidesWithin n) boxes.new.items }
 {
-    // Mostly it is the last one.
+    // Usually it is the last one.
     let mut i = boxes.len();
     let earliest = i.saturating_sub(LAST_BOXES);
     while i > earliest {
@@ -61,7 +61,7 @@ pub(crate) fn put_in_box(part: Bounds, boxes: &mut Vec<Bounds>) -> Result<(), Ou
     Ok(())
 }
 
-/// Whether the part is at most eight columns and rows from the box, and the two fit one window.
+/// Checks whether the part is at most eight columns and rows from the box, and both together fit one window.
 #[inline(always)]
 fn is_near(bounds: Bounds, part: Bounds) -> bool {
     let wide = bounds.joined(part);

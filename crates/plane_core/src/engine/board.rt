@@ -1,15 +1,15 @@
-//! A pattern on a board, which goes on by leaps of up to four generations.
+//! Boards: a pattern in words of bits, which advances by leaps of up to four generations.
 //!
-//! Beside the board stands a list of boxes: each cell that isn't the same two generations on lies in a box, or within 2
-//! of one. So a leap is made in windows that cover the boxes, and all else stays as it is:
+//! A board has a list of boxes: each cell that isn't the same two generations later is in a box, or within 2 of one. So
+//! a leap runs windows that cover the boxes, and everything else stays as it is:
 //!
 //! ```text
 //! +--------+                     the box of what changes
 //! | .OO    |   +-----------+
-//! | OO.    |   |  window   |     Only a window's inner part is right after four generations, and is put back.
+//! | OO.    |   |  window   |     Only the inner part of a window is right after four generations, and is put back.
 //! |  O     |   | +-------+ |
-//! +--------+   | | inner | |     Where the last generation of the leap differs from the one two before it, there are
-//!              | +-------+ |     the boxes for the next leap.
+//! +--------+   | | inner | |     The boxes for the next leap are where the last generation of this leap differs from
+//!              | +-------+ |     the one two before it.
 //!              +-----------+
 //! ```
 ghost use Rattle.std.specs.Prelude.{◌≡◌, [], IfOk, true, false};
@@ -19,16 +19,17 @@ ghost use Rattle.plane_core.specs.plane.Cells.{plane_bound};
 ghost use Rattle.plane_core.specs.plane.Bounds.{AreSidesWithin};
 
 mod advance;
+mod next_pattern;
 mod reach;
 mod removal;
 pub(crate) mod view;
 
 use crate::engine::first_boxes::boxes_round;
 use crate::engine::frame::Frame;
+use crate::engine::leap_window::LeapWindow;
 use crate::engine::listing::list;
 use crate::engine::loading::fill;
 use crate::engine::row_spans::{RowSpan, empty};
-use crate::engine::window_origin::WindowOrigin;
 use crate::plane::bounds::Bounds;
 use crate::plane::pattern::Pattern;
 use crate::plane::rule::Rule;
@@ -37,37 +38,37 @@ use memory::OutOfMemory;
 use std::alloc::Global;
 use std::marker::Model;
 
-/// How many word columns a large board has: 64, and one more, since a window wants a word column to its right.
+/// The word columns of a large board: 64, and one more, because a window needs a word column to its right.
 const LARGE_WORD_COLUMNS: usize = 65;
 
-/// How many rows it has: as many as columns, and 72 more. A multiple of 512 would bring the same row of several word columns
-/// to one place of the processor's cache.
+/// The rows of a large board: as many as columns, and 72 more. With a multiple of 512, the same row of several word
+/// columns would share a place in the processor's cache.
 const LARGE_ROWS: usize = 4168;
 
-/// How many word columns a small board has, whose words are cleared in no time: 8, and one more.
+/// The word columns of a small board, whose words are cleared quickly: 8, and one more.
 const SMALL_WORD_COLUMNS: usize = 9;
 
-/// And how many rows: as many as columns, and 72 more.
+/// The rows of a small board: as many as columns, and 72 more.
 const SMALL_ROWS: usize = 584;
 
-/// For how many cells there is room from the start where a pattern is read: it takes a kilobyte.
+/// The number of cells for which there is room from the start when a pattern is read. It takes a kilobyte.
 const ROOM: usize = 128;
 
-/// A pattern on a board under a rule.
+/// A pattern on a board, and a rule.
 pub struct Board {
     at: Frame,
     logic: RuleLogic,
     words: Vec<u64>,
-    /// Which rows of each word column may have a live cell.
+    /// The rows of each word column that may have a live cell.
     spans: Vec<RowSpan>,
     boxes: Vec<Bounds>,
     /// Whether the boxes hold all live cells.
     holds_all: bool,
-    // The lists of a leap. They are kept from one to the next, since new ones each time would cost a tenth of all.
-    /// Rectangles, and then the boxes for the next leap.
+    // The lists of a leap. They are kept from one leap to the next, because new ones each time would cost a tenth of
+    // all instructions.
     next_boxes: Vec<Bounds>,
-    origins: Vec<WindowOrigin>,
-    held: Vec<[u64; 40]>,
+    windows: Vec<LeapWindow>,
+    held: Vec<[u64; 64]>,
 }
 
 impl Model for Board {
@@ -83,7 +84,7 @@ impl Model for Board {
         IsSpannedBoard b.at (rule_of b.logic) b.words.items b.boxes.items b.holds_all b.spans.items };
 }
 
-// Written out, since a derived drop is proved anew wherever a board is given up.
+// Written out, because a derived drop is proved anew wherever a board is dropped.
 impl Drop for Board {
     fn drop(self) {
         let Board {
@@ -94,21 +95,21 @@ impl Drop for Board {
             boxes,
             holds_all: _,
             next_boxes,
-            origins,
+            windows,
             held,
         } = self;
         drop(words);
         drop(spans);
         drop(boxes);
         drop(next_boxes);
-        drop(origins);
+        drop(windows);
         drop(held);
     }
 }
 
 impl Board {
-    /// An empty board that lies round the origin, for patterns that are shown one after another. It has 4,096 columns,
-    /// and a word column more, and 4,168 rows.
+    /// Makes an empty board around the origin, for patterns that are shown one after another. It has 4,096 columns, one
+    /// more word column, and 4,168 rows.
     ///
     /// # Errors
     ///
@@ -126,8 +127,8 @@ impl Board {
         Board::blank(alloc, rule, at)
     }
 
-    /// An empty board as `new` makes it, but for its size: it has 512 columns, and a word column more, and 584 rows, so it
-    /// is made fifty times as fast.
+    /// Makes an empty board as `new` does, with 512 columns, one more word column, and 584 rows. This is fifty times as
+    /// fast.
     ///
     /// # Errors
     ///
@@ -145,7 +146,7 @@ impl Board {
         Board::blank(alloc, rule, at)
     }
 
-    /// A board that shows the pattern.
+    /// Makes a board that shows the pattern.
     pub(crate) fn lay(
         alloc: Global,
         rule: &Rule,
@@ -173,12 +174,12 @@ impl Board {
             boxes,
             holds_all: true,
             next_boxes: Vec::new(alloc),
-            origins: Vec::new(alloc),
+            windows: Vec::new(alloc),
             held: Vec::new(alloc),
         })
     }
 
-    /// An empty board: one that shows the empty pattern.
+    /// Makes an empty board.
     fn blank(alloc: Global, rule: &Rule, at: Frame) -> Result<Board, OutOfMemory>
         requires frame { IsFrame at }
         requires plane { AreSidesWithin plane_bound (bounds_of at) }
@@ -190,12 +191,12 @@ impl Board {
         Board::lay(alloc, rule, at, &none)
     }
 
-    /// Shows another pattern under a rule, in the middle of the board. If it has no room there, the board shows
-    /// nothing, and it is `false`.
+    /// Shows another pattern under a rule, in the middle of the board. Returns `false` if there is no room for it; the
+    /// board then shows the empty pattern.
     ///
     /// # Errors
     ///
-    /// `OutOfMemory` if memory runs out. Then the board shows nothing that is known.
+    /// `OutOfMemory` if memory runs out. Then nothing is known about what the board shows.
     pub fn show(&mut self, rule: &Rule, pattern: &Pattern) -> Result<bool, OutOfMemory>
         ensures rule { self.new.rule ≡ rule.now }
         ensures shown { IfOk result (λ shown. shown ≡ true → self.new.cells ≡ pattern.now) }
@@ -224,7 +225,7 @@ impl Board {
         Ok(true)
     }
 
-    /// Returns the active boxes. They serve to choose where a test looks, so nothing is said of them.
+    /// Returns the active boxes. Tests use them only to choose where to look, so no contract says anything about them.
     pub(crate) fn active_boxes(&self) -> &[Bounds] {
         self.boxes.as_slice()
     }
@@ -236,7 +237,7 @@ impl Board {
         &self.logic
     }
 
-    /// The pattern that the board shows.
+    /// Returns the pattern that the board shows.
     ///
     /// # Errors
     ///

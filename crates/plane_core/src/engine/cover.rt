@@ -1,11 +1,11 @@
-//! Windows whose inner parts cover the boxes, with four columns and rows more on each side.
+//! Covers the boxes, with a margin of four columns and rows, by the inner parts of windows.
 //!
-//! Boxes that lie together are united to rectangles first, where that saves windows. Then windows are laid side by side
-//! over each rectangle, so that their inner parts leave no gap:
+//! First, boxes that are close together are united into rectangles, if that is cheaper. Then windows are laid side by
+//! side over each rectangle, so that their inner parts leave no gap. They have as few rows as possible:
 //!
 //! ```text
-//! +-------+-------+        The rectangle is 90 columns by 40 rows. Two inner parts of 56 columns side by side,
-//! | +-----+-----+ |        and two of 32 rows below one another, cover it. They reach as far past it on one side
+//! +-------+-------+        The rectangle is 90 columns by 80 rows. Two inner parts of 56 columns side by side,
+//! | +-----+-----+ |        and two of 40 rows below one another, cover it. They reach as far past it on one side
 //! | |     |     | |        as on the other.
 //! +-------+-------+
 //! | |     |     | |
@@ -18,15 +18,21 @@ ghost use Rattle.plane_core.specs.plane.Bounds.{IsWithin};
 ghost use Rattle.plane_core.specs.engine.ActiveBoxes.{AreCovered, IsInOne, IsNearOne, box_bound, rectangle_bound};
 ghost use Rattle.plane_core.specs.engine.Covers.{AreSideBySide, IsInRow};
 ghost use Rattle.plane_core.specs.plane.Bounds.{AreSidesWithin};
-ghost use Rattle.plane_core.specs.engine.WindowOrigins.{IsCovered};
+ghost use Rattle.plane_core.specs.engine.LeapWindows.{IsCovered};
 ghost use Rattle.plane_core.specs.declared.plane.cell.Cell.{Cell};
 
-use crate::engine::window_origin::WindowOrigin;
+use crate::engine::leap_window::LeapWindow;
 use crate::plane::bounds::Bounds;
 use memory::OutOfMemory;
 
-/// With how many of the last rectangles a box may be united.
+/// The number of rectangles, counted from the last, with which a box may be united.
 const UNITED_AT_ONCE: usize = 16;
+
+/// The most inner rows of a window. Higher windows have larger boxes, of which more is at rest.
+const INNER_ROWS: u32 = 48;
+
+/// The most that a union may cost in addition. See `slack`.
+const MOST_SLACK: u64 = 16;
 
 /// Spans of one length, side by side: where the first begins, and how many there are.
 #[derive(Clone, Copy)]
@@ -35,31 +41,32 @@ struct Spans {
     count: u32,
 }
 
-/// Lays windows over the boxes, in place of those of the list, so that each cell within 4 of a box lies in the inner
-/// part of one. The rectangles are of use for the time of the call alone.
+/// Replaces the list by windows over the boxes, so that each cell within 4 of a box is in the inner part of a window.
+/// `rectangles` is used only during the call.
 pub(crate) fn cover(
     boxes: &[Bounds],
     rectangles: &mut Vec<Bounds>,
-    origins: &mut Vec<WindowOrigin>,
+    windows: &mut Vec<LeapWindow>,
 ) -> Result<(), OutOfMemory>
     requires { All (AreSidesWithin box_bound) boxes.now }
-    ensures { OnOk result (AreCovered origins.new.items boxes.now) }
+    ensures { OnOk result (AreCovered windows.new.items boxes.now) }
 {
     unite(boxes, rectangles)?;
-    origins.clear();
+    windows.clear();
     for rectangle in rectangles.as_slice() {
-        lay(*rectangle, origins)?;
+        lay(*rectangle, windows)?;
     }
     Ok(())
 }
 
-/// Rectangles round the boxes, with four columns and rows more on each side, in place of those of the list.
+/// Replaces the list by rectangles around the boxes, with a margin of four columns and rows.
 fn unite(boxes: &[Bounds], rectangles: &mut Vec<Bounds>) -> Result<(), OutOfMemory>
     requires { All (AreSidesWithin box_bound) boxes.now }
     ensures near { OnOk result ((c : Cell) → IsNearOne 4 boxes.now c → IsInOne rectangles.new.items c) }
     ensures sides { OnOk result (All (AreSidesWithin rectangle_bound) rectangles.new.items) }
 {
     rectangles.clear();
+    let slack = slack(boxes.len());
     for bounds in boxes {
         let with_margin = Bounds {
             left: bounds.left - 4,
@@ -67,14 +74,15 @@ fn unite(boxes: &[Bounds], rectangles: &mut Vec<Bounds>) -> Result<(), OutOfMemo
             right: bounds.right + 4,
             bottom: bounds.bottom + 4,
         };
-        let rectangle = absorbed(rectangles, with_margin);
+        let rectangle = absorbed(rectangles, with_margin, slack);
         rectangles.push(rectangle)?;
     }
     Ok(())
 }
 
-/// The rectangle, united with those of the last sixteen with which that saves windows. These are taken off the list.
-fn absorbed(rectangles: &mut Vec<Bounds>, rectangle: Bounds) -> Bounds
+/// Returns the rectangle, united with those of the last sixteen for which that is cheaper. These are removed from the
+/// list.
+fn absorbed(rectangles: &mut Vec<Bounds>, rectangle: Bounds, slack: u64) -> Bounds
     requires all_sides { All (AreSidesWithin rectangle_bound) rectangles.old.items }
     requires sides { AreSidesWithin rectangle_bound rectangle }
     ensures held { (c : Cell) → IsWithin rectangle c ⊎ IsInOne rectangles.old.items c
@@ -87,7 +95,7 @@ fn absorbed(rectangles: &mut Vec<Bounds>, rectangle: Bounds) -> Bounds
     let mut all = rectangle;
     while i > earliest {
         i -= 1;
-        if !saves_windows(rectangles[i], all) {
+        if !pays(rectangles[i], all, slack) {
             continue;
         }
         let other = rectangles.swap_remove(i);
@@ -96,61 +104,98 @@ fn absorbed(rectangles: &mut Vec<Bounds>, rectangle: Bounds) -> Bounds
     all
 }
 
-/// Whether the two take no fewer windows than the least rectangle that has both in it. Mostly the two are far apart: if
-/// a column or a row of windows fits between them, nothing is saved. The sides lie near the plane, so no difference
-/// wraps.
-#[inline(always)]
-fn saves_windows(one: Bounds, other: Bounds) -> bool {
-    other.left.wrapping_sub(one.right) <= 56
-        && one.left.wrapping_sub(other.right) <= 56
-        && other.top.wrapping_sub(one.bottom) <= 32
-        && one.top.wrapping_sub(other.bottom) <= 32
-        && windows_for(one.joined(other)) <= windows_for(one).saturating_add(windows_for(other))
+/// Returns how much more a union may cost than the two rectangles. If there are many boxes, the pattern is dense, and
+/// rectangles that overlap would grow into each other from leap to leap, so that more and more windows run the same
+/// cells.
+fn slack(boxes: usize) -> u64 {
+    (boxes as u64 / 8).min(MOST_SLACK)
 }
 
-/// How many windows it takes to cover the rectangle.
+/// Checks whether the smallest rectangle that contains both costs no more than the two, and the slack. Usually the two
+/// are far apart: if a column or a row of windows fits between them, nothing is saved. The sides are near the plane, so
+/// no difference wraps around.
 #[inline(always)]
-fn windows_for(rectangle: Bounds) -> u64 {
+fn pays(one: Bounds, other: Bounds, slack: u64) -> bool {
+    let rows = INNER_ROWS as i32;
+    other.left.wrapping_sub(one.right) <= 56
+        && one.left.wrapping_sub(other.right) <= 56
+        && other.top.wrapping_sub(one.bottom) <= rows
+        && one.top.wrapping_sub(other.bottom) <= rows
+        && cost_of(one.joined(other))
+            <= cost_of(one)
+                .saturating_add(cost_of(other))
+                .saturating_add(slack)
+}
+
+/// Returns what it costs to run the windows that cover the rectangle: 1 for each vector, and 2 for each window.
+#[inline(always)]
+fn cost_of(rectangle: Bounds) -> u64 {
     let across = rectangle.left.abs_diff(rectangle.right) / 56 + 1;
-    let down = rectangle.top.abs_diff(rectangle.bottom) / 32 + 1;
-    u64::from(across) * u64::from(down)
+    let length = rectangle.top.abs_diff(rectangle.bottom);
+    let down = length / INNER_ROWS + 1;
+    let each = window_rows(length) / 4 + 2;
+    u64::from(across)
+        .saturating_mul(u64::from(down))
+        .saturating_mul(u64::from(each))
+}
+
+/// Returns the number of rows of windows that cover a row and `length` more: as few windows as possible, and as low as
+/// possible.
+#[inline(always)]
+fn window_rows(length: u32) -> u32
+    ensures some { 8 < result }
+    ensures few { result ≤ 64 }
+{
+    let down = length / INNER_ROWS + 1;
+    let inner = length / down + 1;
+    (inner.saturating_add(11) / 4 * 4).max(20).min(56)
 }
 
 /// Lays windows over a rectangle, row by row.
-fn lay(rectangle: Bounds, origins: &mut Vec<WindowOrigin>) -> Result<(), OutOfMemory>
+fn lay(rectangle: Bounds, windows: &mut Vec<LeapWindow>) -> Result<(), OutOfMemory>
     requires { AreSidesWithin rectangle_bound rectangle }
-    ensures kept { OnOk result ((c : Cell) → IsCovered origins.old.items c → IsCovered origins.new.items c) }
-    ensures laid { OnOk result ((c : Cell) → IsWithin rectangle c → IsCovered origins.new.items c) }
+    ensures kept { OnOk result ((c : Cell) → IsCovered windows.old.items c → IsCovered windows.new.items c) }
+    ensures laid { OnOk result ((c : Cell) → IsWithin rectangle c → IsCovered windows.new.items c) }
 {
     let across = side_by_side(rectangle.left, rectangle.right, 56);
-    let down = side_by_side(rectangle.top, rectangle.bottom, 32);
-    for i in 0..down.count {
-        let row = down.first + 32 * i as i32;
-        lay_row(across, row, origins)?;
+    let rows = window_rows(rectangle.top.abs_diff(rectangle.bottom));
+    let inner = rows - 8;
+    let down = side_by_side(rectangle.top, rectangle.bottom, inner);
+    let length = down.first.abs_diff(rectangle.bottom);
+    let mut laid = 0;
+    while laid <= length {
+        lay_row(across, down.first + laid as i32, rows as usize, windows)?;
+        laid += inner;
     }
     Ok(())
 }
 
-/// Lays windows side by side, whose inner parts begin in this row.
-fn lay_row(across: Spans, top: i32, origins: &mut Vec<WindowOrigin>) -> Result<(), OutOfMemory>
+/// Lays windows side by side. Their inner parts begin in row `top`.
+fn lay_row(
+    across: Spans,
+    top: i32,
+    rows: usize,
+    windows: &mut Vec<LeapWindow>,
+) -> Result<(), OutOfMemory>
     requires top { unsigned_abs top ≤ 2 ^ 26 }
     requires first { unsigned_abs across.first ≤ 2 ^ 26 }
     requires count { across.count ≤ 2 ^ 20 }
-    ensures kept { OnOk result ((c : Cell) → IsCovered origins.old.items c → IsCovered origins.new.items c) }
-    ensures laid { OnOk result ((c : Cell) → IsInRow across top c → IsCovered origins.new.items c) }
+    ensures kept { OnOk result ((c : Cell) → IsCovered windows.old.items c → IsCovered windows.new.items c) }
+    ensures laid { OnOk result ((c : Cell) → IsInRow across top rows c → IsCovered windows.new.items c) }
 {
     for i in 0..across.count {
         let column = across.first + 56 * i as i32;
-        origins.push(WindowOrigin {
+        windows.push(LeapWindow {
             left: column - 4,
             top: top - 4,
+            rows,
         })?;
     }
     Ok(())
 }
 
-/// Spans of this length, side by side, that reach from the first number to the last and as far past the one as past the
-/// other.
+/// Returns spans of this length, side by side, that reach from the first number to the last, and as far past the one as
+/// past the other.
 #[inline(always)]
 #[tactic(auto, using(crate::proofs::lemmas::engine::CoverLemmas::side_by_side_is))]
 fn side_by_side(first: i32, last: i32, size: u32) -> Spans

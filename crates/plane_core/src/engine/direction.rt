@@ -27,7 +27,7 @@ pub(crate) struct Direction {
 }
 
 impl Orientation {
-    /// The direction that the orientation turns to the right and down. There are two orientations for each.
+    /// Returns the direction that the orientation turns to the right and down. There are two orientations for each.
     pub(crate) fn direction(self) -> Direction
         ensures { (c : Cell) → depth_in result c ≡ depth (turned_cell self c) }
     {
@@ -53,7 +53,7 @@ impl Orientation {
 }
 
 impl Direction {
-    /// How deep a cell of the plane lies in the direction.
+    /// Returns how deep a cell of the plane is in the direction.
     pub(crate) fn depth(self, cell: Cell) -> i32
         requires { on_plane cell ≡ true }
         ensures { result ≡ depth_in self cell }
@@ -61,7 +61,7 @@ impl Direction {
         counted(self.right, cell.x) + counted(self.down, cell.y)
     }
 
-    /// The column of a word column that lies farthest in the direction.
+    /// Returns the column of a word column that is farthest in the direction.
     pub(crate) fn outer_column(self) -> usize
         ensures column { result ≡ outer_column self.right }
         ensures small { result < 64 }
@@ -69,7 +69,7 @@ impl Direction {
         if self.right { 63 } else { 0 }
     }
 
-    /// The column of a word's bit that lies farthest in the direction.
+    /// Returns the column of a word's bit that is farthest in the direction.
     pub(crate) fn farthest(self, word: u64) -> usize
         requires { 0 < word }
         ensures small { result < 64 }
@@ -84,7 +84,7 @@ impl Direction {
     }
 }
 
-/// A coordinate, counted forwards or backwards.
+/// Returns a coordinate, counted forwards or backwards.
 fn counted(forwards: bool, at: i32) -> i32
     requires { unsigned_abs at ≤ plane_bound }
     ensures counted { result ≡ counted forwards at }

@@ -1,9 +1,9 @@
-//! The first boxes of a board: they have all cells of a pattern in them. Cells that stand side by side in a row are a
-//! run, and are put in a box at once, since a dense pattern has many more cells than runs:
+//! The first boxes of a board, which contain all cells of a pattern. Cells side by side in a row are a run, and are put
+//! in a box at once, because a dense pattern has many more cells than runs:
 //!
 //! ```text
 //! +-------------+
-//! | OOO.O.OO... |      Three rows, and a run in each. A run goes in the box of those above it, if
+//! | OOO.O.OO... |      Three rows, and a run in each. A run is put in the box of those above it, if
 //! | .O.OO.OOOO. |      it is near them and the box stays small enough for one window.
 //! | ..OO..O.O.. |
 //! +-------------+
@@ -19,15 +19,15 @@ use crate::plane::bounds::Bounds;
 use crate::plane::cell::Cell;
 use memory::OutOfMemory;
 
-/// How far apart the cells of a run are at most.
+/// The largest distance between neighbouring cells of a run.
 const GAP: u32 = 8;
 
-/// How many columns a run has at most. With four more on each side it fits the inner part of a window.
+/// The most columns of a run. With a margin of four, it fits the inner part of a window.
 const LENGTH: u32 = 48;
 
-/// Boxes that have all cells in them, one for each group of cells that lie together, in place of those of the list.
-/// With four columns and rows more on each side, each fits the inner part of a window. So a trail across the plane gets
-/// some boxes along it, and not one of its length and height.
+/// Replaces the list by boxes that contain all cells, one for each group of cells that are close together. With a
+/// margin of four columns and rows, each fits the inner part of a window. So a trail across the plane gets several
+/// boxes along it instead of one large box.
 pub(crate) fn boxes_round(cells: &[Cell], boxes: &mut Vec<Bounds>) -> Result<(), OutOfMemory>
     ensures held { OnOk result (HoldAll boxes.new.items cells.now) }
     ensures sides { (n : ℕ) → lies_within n cells.now ≡ true → All (AreSidesWithin n) boxes.new.items }
@@ -48,7 +48,7 @@ pub(crate) fn boxes_round(cells: &[Cell], boxes: &mut Vec<Bounds>) -> Result<(),
     put_in_box(run, boxes)
 }
 
-/// Whether the cell stands in the row of the run, near its end, and the run stays short with it.
+/// Checks whether the cell is in the row of the run and near its end, and the run stays short with it.
 #[inline(always)]
 fn is_at_end(run: Bounds, cell: Cell) -> bool {
     cell.y == run.top && cell.x.abs_diff(run.right) <= GAP && cell.x.abs_diff(run.left) < LENGTH

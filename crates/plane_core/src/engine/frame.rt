@@ -1,6 +1,7 @@
-//! Where a board lies, and where a cell stands in its words.
+//! The frame of a board: where the board is, and where a cell is in its words.
 //!
-//! A board is cut into word columns of 64 columns. The words stand word column after word column, a word for each row of a word column:
+//! A board consists of word columns, which are 64 columns wide. The words of a word column follow one another, one for
+//! each row:
 //!
 //! ```text
 //!          word column 0                 word column 1
@@ -23,7 +24,7 @@ use crate::plane::cell::{BOUND, Cell};
 use crate::plane::coordinate::{apart, back};
 use crate::plane::pattern::Pattern;
 
-/// Where a board lies: its first column and row, how many word columns of 64 columns it has, and how many rows. The rows are a
+/// The frame of a board: its first column and row, the number of word columns, and the number of rows, which is a
 /// multiple of eight.
 #[derive(Clone, Copy)]
 pub(crate) struct Frame {
@@ -33,16 +34,16 @@ pub(crate) struct Frame {
     pub(crate) rows: usize,
 }
 
-/// How many columns and rows a board has more on each side than what its pattern may reach: a window that covers a cell
-/// begins at most 36 columns or rows before it, and ends as far past it.
+/// The number of columns and rows that a board has in addition on each side of what its pattern may reach: a window
+/// that covers a cell begins at most 36 columns or rows before it, and ends as far past it.
 const MARGIN: u32 = 40;
 
-/// How many columns and rows a board has at least on each side of a pattern that is shown in its middle.
+/// The fewest columns and rows on each side of a pattern that is shown in the middle of a board.
 const ROOM: u32 = 200;
 
 impl Frame {
-    /// A frame round the pattern that is mostly large enough for so many generations, if a board is worth it: the
-    /// pattern has a cell, the frame lies on the plane, and there are not many more words than cells.
+    /// Returns a frame around the pattern that is usually large enough for `generations` generations, if a board is
+    /// worth it: the pattern has a cell, the frame is on the plane, and there are not many more words than cells.
     pub(crate) fn round(pattern: &Pattern, generations: u32) -> Option<Frame>
         requires { generations ≤ 1000 }
         ensures frame { IfSome result IsFrame }
@@ -65,7 +66,7 @@ impl Frame {
         Some(at)
     }
 
-    /// A frame round the pattern for one generation, if there are at most 32 words a cell.
+    /// Returns a frame around the pattern for one generation, if there are at most 32 words per cell.
     pub(crate) fn for_a_step(pattern: &Pattern) -> Option<Frame>
         ensures frame { IfSome result IsFrame }
         ensures plane { IfSome result (λ at. AreSidesWithin plane_bound (bounds_of at)) }
@@ -82,7 +83,7 @@ impl Frame {
         Some(at)
     }
 
-    /// A frame round the box, with so many columns and rows more on each side, and then some.
+    /// Returns a frame around the box, with at least `margin` more columns and rows on each side.
     fn round_box(bounds: Bounds, margin: u32) -> Frame
         requires margin { margin ≤ 2000 }
         requires across { bounds.left ≤ℤ bounds.right }
@@ -102,8 +103,8 @@ impl Frame {
         }
     }
 
-    /// The frame of the same size in whose middle the pattern lies, if it has room there, and the frame lies on the
-    /// plane.
+    /// Returns the frame of the same size around the pattern's middle, if the pattern has room there and the frame is
+    /// on the plane.
     pub(crate) fn centred(self, pattern: &Pattern) -> Option<Frame>
         requires frame { IsFrame self }
         requires plane { AreSidesWithin plane_bound (bounds_of self) }
@@ -119,7 +120,8 @@ impl Frame {
         self.round_middle(bounds)
     }
 
-    /// The frame of the same size in whose middle the box lies, if it has room there, and the frame lies on the plane.
+    /// Returns the frame of the same size around the box's middle, if the box has room there and the frame is on the
+    /// plane.
     fn round_middle(self, bounds: Bounds) -> Option<Frame>
         requires frame { IsFrame self }
         requires across { bounds.left ≤ℤ bounds.right }
@@ -156,7 +158,8 @@ impl Frame {
         })
     }
 
-    /// Whether there are many more words than cells: over 262,144, which take 2 megabytes, and 256 a cell.
+    /// Checks whether there are many more words than cells: more than 262,144 words, which take 2 megabytes, and 256
+    /// per cell.
     fn is_sparse(self, population: usize) -> bool
         requires { IsFrame self }
         ensures { result ≡ false → self.word_columns * self.rows ≤ 256 * population + 262400 }
@@ -165,7 +168,7 @@ impl Frame {
         count > 262_144 && (count - 262_144) / 256 > population
     }
 
-    /// How many words there are.
+    /// Returns the number of words.
     pub(crate) fn count(self) -> usize
         requires { IsFrame self }
         ensures count { result ≡ self.word_columns * self.rows }
@@ -174,7 +177,7 @@ impl Frame {
         self.word_columns * self.rows
     }
 
-    /// The place of a row of a word column in the list of words.
+    /// Returns the place of a row of a word column in the list of words.
     pub(crate) fn index(self, word_column: usize, row: usize) -> usize
         requires frame { IsFrame self }
         requires word_column { word_column < self.word_columns }
@@ -186,7 +189,7 @@ impl Frame {
         word_column * self.rows + row
     }
 
-    /// The first cell of a row of a word column.
+    /// Returns the first cell of a row of a word column.
     pub(crate) fn corner(self, word_column: usize, row: usize) -> Cell
         requires frame { IsFrame self }
         requires word_column { word_column < self.word_columns }
@@ -200,7 +203,7 @@ impl Frame {
         }
     }
 
-    /// Whether the cell lies on the board.
+    /// Checks whether the cell is on the board.
     pub(crate) fn has(self, cell: Cell) -> bool
         requires { IsFrame self }
         ensures { IsTrue result ↔ IsWithin (bounds_of self) cell }
@@ -214,7 +217,7 @@ impl Frame {
         true
     }
 
-    /// How many columns of the board are left of the cell.
+    /// Returns how many columns of the board are left of the cell.
     pub(crate) fn across(self, cell: Cell) -> usize
         requires frame { IsFrame self }
         requires within { IsWithin (bounds_of self) cell }
@@ -223,7 +226,7 @@ impl Frame {
         (cell.x - self.left) as usize
     }
 
-    /// How many rows of the board are above the cell.
+    /// Returns how many rows of the board are above the cell.
     pub(crate) fn down(self, cell: Cell) -> usize
         requires frame { IsFrame self }
         requires within { IsWithin (bounds_of self) cell }
@@ -233,7 +236,7 @@ impl Frame {
     }
 }
 
-/// How far the sides of a box are from the origin, at most.
+/// Returns the largest distance of a side of the box from the origin.
 #[tactic(auto, using(crate::proofs::lemmas::engine::FrameFits::sides_below))]
 pub(crate) fn farthest(bounds: Bounds) -> u32
     ensures { AreSidesWithin result bounds }

@@ -4,42 +4,44 @@
 //!
 //! ```text
 //! board  ->  window 0  ->  ..  ->  window 0  ->
-//!        ->  window 1  ->  ..  ->  window 1  ->  board, some generations later
+//!        ->  window 1  ->  ..  ->  window 1  ->  board, up to four generations later
 //!        ->  window 2  ->  ..  ->  window 2  ->
 //! ```
 //!
 //! So windows may overlap: what two of them put back is the same.
-ghost use Rattle.std.specs.Prelude.{◌≡◌, ◌<◌, ◌≤◌, All, IfOk, length, true};
+ghost use Rattle.std.specs.Prelude.{◌≡◌, ◌*◌, ◌<◌, ◌≤◌, [], All, IfOk, IfSome, OnOk, length, true};
 ghost use Rattle.plane_core.specs.windows.RuleLogic.{rule_of};
 ghost use Rattle.plane_core.specs.engine.Frames.{FillsFrame, IsFrame};
-ghost use Rattle.plane_core.specs.engine.Leaps.{ArePutBack, AreRun, IsRun};
-ghost use Rattle.plane_core.specs.engine.WindowOrigins.{IsOnBoard};
+ghost use Rattle.plane_core.specs.engine.Leaps.{ArePutBack, AreRun, IsRun, IsRunAt};
+ghost use Rattle.plane_core.specs.engine.LeapWindows.{IsOnBoard};
 ghost use Rattle.plane_core.specs.engine.RowSpans.{AreWidened, HoldCovered};
 
 use crate::engine::difference_box::DifferenceMask;
 use crate::engine::frame::Frame;
+use crate::engine::leap_window::LeapWindow;
 use crate::engine::row_spans::{RowSpan, widen};
 use crate::engine::window_difference::difference_of;
 use crate::engine::window_io::{column_of, read_rows, row_of, write};
-use crate::engine::window_origin::WindowOrigin;
 use crate::plane::bounds::Bounds;
-use crate::windows::row_packing::{packed, unpacked};
+use crate::windows::row_packing::{packed, unpack};
 use crate::windows::rule_logic::RuleLogic;
 use crate::windows::window::generations;
 use memory::OutOfMemory;
 use std::simd::u64x4;
 
-/// Runs a window for one to four generations. For an even number it tells where the last one differs from the one two
-/// before it, and for an odd one where it has live cells.
+/// Runs a window for one to four generations. For an even number, it returns where the last generation differs from the
+/// one two before it, and for an odd number where there are live cells.
 #[inline(always)]
-fn run(window: &mut [u64x4; 10], rule: &RuleLogic, count: usize) -> DifferenceMask
+fn run<const N: usize>(window: &mut [u64x4; N], rule: &RuleLogic, count: usize) -> DifferenceMask
+    requires height { 0 < N }
+    requires low { N ≤ 16 }
     requires some { 1 ≤ count }
     requires few { count ≤ 4 }
-    ensures { IsRun (rule_of rule.now) count window.old window.new result }
+    ensures { IsRun N (rule_of rule.now) count window.old window.new result }
 {
     if count % 2 == 1 {
         generations(window, rule, count);
-        return difference_of(window, &[u64x4::splat(0); 10]);
+        return difference_of(window, &[u64x4::splat(0); N]);
     }
     generations(window, rule, count - 2);
     let earlier = *window;
@@ -47,38 +49,128 @@ fn run(window: &mut [u64x4; 10], rule: &RuleLogic, count: usize) -> DifferenceMa
     difference_of(window, &earlier)
 }
 
-/// Runs the windows of all places, and returns whether all lie on the board.
+/// Runs a window of N vectors, and stores its rows in `held`.
+fn run_vectors<const R: usize, const N: usize>(
+    words: &[u64],
+    at: Frame,
+    window: LeapWindow,
+    rule: &RuleLogic,
+    count: usize,
+    held: &mut [u64; 64],
+) -> Option<DifferenceMask>
+    requires frame { IsFrame at }
+    requires long { FillsFrame at words.now }
+    requires on_board { IsOnBoard at window }
+    requires vectors { 0 < N }
+    requires rows { R ≡ 4 * N }
+    requires height { window.rows ≡ R }
+    requires some { 1 ≤ count }
+    requires few { count ≤ 4 }
+    ensures { IfSome result (IsRunAt at words.now (rule_of rule.now) count window held.new) }
+{
+    let rows = read_rows::<R>(words, at, column_of(at, window), row_of(at, window));
+    let mut vectors = packed::<R, N>(&rows);
+    let change = run(&mut vectors, rule, count);
+    unpack(&vectors, held);
+    Some(change)
+}
+
+/// Runs a window, and stores its rows in `held`. Returns `None` if there is no function for its number of rows.
+fn run_window(
+    words: &[u64],
+    at: Frame,
+    window: LeapWindow,
+    rule: &RuleLogic,
+    count: usize,
+    held: &mut [u64; 64],
+) -> Option<DifferenceMask>
+    requires frame { IsFrame at }
+    requires long { FillsFrame at words.now }
+    requires on_board { IsOnBoard at window }
+    requires some { 1 ≤ count }
+    requires few { count ≤ 4 }
+    ensures { IfSome result (IsRunAt at words.now (rule_of rule.now) count window held.new) }
+{
+    match window.rows {
+        20 => run_vectors::<20, 5>(words, at, window, rule, count, held),
+        24 => run_vectors::<24, 6>(words, at, window, rule, count, held),
+        28 => run_vectors::<28, 7>(words, at, window, rule, count, held),
+        32 => run_vectors::<32, 8>(words, at, window, rule, count, held),
+        36 => run_vectors::<36, 9>(words, at, window, rule, count, held),
+        40 => run_vectors::<40, 10>(words, at, window, rule, count, held),
+        44 => run_vectors::<44, 11>(words, at, window, rule, count, held),
+        48 => run_vectors::<48, 12>(words, at, window, rule, count, held),
+        52 => run_vectors::<52, 13>(words, at, window, rule, count, held),
+        56 => run_vectors::<56, 14>(words, at, window, rule, count, held),
+        _ => None,
+    }
+}
+
+/// Makes room for the rows of `count` windows.
+fn make_room(held: &mut Vec<[u64; 64]>, count: usize) -> Result<(), OutOfMemory>
+    ensures { OnOk result (count ≤ length held.new.items) }
+{
+    while held.len() < count {
+        held.push([0; 64])?;
+    }
+    Ok(())
+}
+
+/// Runs all windows, and returns whether all are on the board.
 ///
-/// Both lists are cleared and filled anew: `held` with the rows of the windows, and `boxes` with a box for each window
-/// in which something has changed. So all room is made before the first word is written.
+/// The rows of each window are stored, and `boxes` is replaced by a box for each window in which something has changed.
+/// So all memory is allocated before the first word is written.
 pub(crate) fn run_all(
     words: &[u64],
     at: Frame,
-    origins: &[WindowOrigin],
+    windows: &[LeapWindow],
     rule: &RuleLogic,
     count: usize,
-    held: &mut Vec<[u64; 40]>,
+    held: &mut Vec<[u64; 64]>,
     boxes: &mut Vec<Bounds>,
 ) -> Result<bool, OutOfMemory>
     requires frame { IsFrame at }
     requires long { FillsFrame at words.now }
     requires some { 1 ≤ count }
     requires few { count ≤ 4 }
-    ensures on_board { IfOk result (λ inside. inside ≡ true → All (IsOnBoard at) origins.now) }
+    ensures on_board { IfOk result (λ inside. inside ≡ true → All (IsOnBoard at) windows.now) }
     ensures run { IfOk result (λ inside. inside ≡ true
-        → AreRun at words.now (rule_of rule.now) count origins.now held.new.items boxes.new.items) }
+        → AreRun at words.now (rule_of rule.now) count windows.now held.new.items boxes.new.items) }
 {
-    held.clear();
     boxes.clear();
-    for origin in origins {
-        if !origin.is_on_board(at) {
+    make_room(held, windows.len())?;
+    run_each(words, at, windows, rule, count, held.as_mut_slice(), boxes)
+}
+
+/// Runs one window after another. There is room for their rows.
+fn run_each(
+    words: &[u64],
+    at: Frame,
+    windows: &[LeapWindow],
+    rule: &RuleLogic,
+    count: usize,
+    held: &mut [[u64; 64]],
+    boxes: &mut Vec<Bounds>,
+) -> Result<bool, OutOfMemory>
+    requires frame { IsFrame at }
+    requires long { FillsFrame at words.now }
+    requires some { 1 ≤ count }
+    requires few { count ≤ 4 }
+    requires room { length windows.now ≤ length held.old }
+    requires empty { boxes.old.items ≡ [] }
+    ensures on_board { IfOk result (λ inside. inside ≡ true → All (IsOnBoard at) windows.now) }
+    ensures run { IfOk result (λ inside. inside ≡ true
+        → AreRun at words.now (rule_of rule.now) count windows.now held.new boxes.new.items) }
+{
+    for k in 0..windows.len() {
+        let window = windows[k];
+        if !window.is_on_board(at) {
             return Ok(false);
         }
-        let rows = read_rows::<40>(words, at, column_of(at, *origin), row_of(at, *origin));
-        let mut window = packed(&rows);
-        let change = run(&mut window, rule, count);
-        held.push(unpacked(&window))?;
-        let Some(bounds) = change.bounds(*origin) else {
+        let Some(change) = run_window(words, at, window, rule, count, &mut held[k]) else {
+            return Ok(false);
+        };
+        let Some(bounds) = change.bounds(window) else {
             continue;
         };
         boxes.push(bounds)?;
@@ -86,31 +178,32 @@ pub(crate) fn run_all(
     Ok(true)
 }
 
-/// Puts all inner parts back, and widens the spans by them. Each may lie in two word columns.
+/// Puts all inner parts back, and widens the spans by them. Each may be in two word columns.
 pub(crate) fn put_all(
     words: &mut [u64],
     spans: &mut [RowSpan],
     at: Frame,
-    origins: &[WindowOrigin],
-    held: &[[u64; 40]],
+    windows: &[LeapWindow],
+    held: &[[u64; 64]],
 )
     requires frame { IsFrame at }
     requires long { FillsFrame at words.old }
     requires word_columns { length spans.old ≡ at.word_columns }
-    requires on_board { All (IsOnBoard at) origins.now }
-    requires each { length held.now ≡ length origins.now }
-    ensures put { ArePutBack at origins.now held.now (length origins.now) words.old words.new }
+    requires on_board { All (IsOnBoard at) windows.now }
+    requires each { length windows.now ≤ length held.now }
+    ensures put { ArePutBack at windows.now held.now (length windows.now) words.old words.new }
     ensures kept { AreWidened spans.old spans.new }
-    ensures covered { HoldCovered at spans.new origins.now }
+    ensures covered { HoldCovered at spans.new windows.now }
 {
-    for k in 0..origins.len() {
-        let origin = origins[k];
-        let x = column_of(at, origin);
-        let y = row_of(at, origin);
-        write(words, at, x, y, &held[k]);
+    for k in 0..windows.len() {
+        let window = windows[k];
+        let x = column_of(at, window);
+        let y = row_of(at, window);
+        let end = window.rows - 4;
+        write(words, at, x, y, end, &held[k]);
         let rows = RowSpan {
             from: y + 4,
-            end: y + 36,
+            end: y + end,
         };
         let word_column = x / 64;
         widen(spans, word_column, rows);

@@ -1,12 +1,12 @@
-//! The cells of a board in a list, in their order: row by row, and each row from the left.
+//! Lists the cells of a board in order: row by row, and each row from the left.
 //!
-//! The rows are gone through in bands of eight, from the first that a span reaches to the last. Most word columns have no live
-//! cell in a band: either its span doesn't reach there, or eight words at once are seen to be empty.
+//! The rows are read in bands of eight, from the first that a span reaches to the last. Most word columns have no live
+//! cell in a band: either their span doesn't reach it, or eight words at once are seen to be empty.
 //!
 //! ```text
 //! word column      0     1     2     3     4
 //! band 0    .     .     .     .     .
-//! band 1    .    [#]   [.]    .     .      Only where the spans reach, in brackets, is a word looked at.
+//! band 1    .    [#]   [.]    .     .      Only where the spans reach, in brackets, a word is read.
 //! band 2    .    [#]   [#]   [#]    .
 //! band 3    .     .     .     .     .
 //! ```
@@ -29,8 +29,8 @@ use crate::plane::pattern::{Pattern, in_order};
 use memory::OutOfMemory;
 use std::alloc::Global;
 
-/// The pattern of a board on the plane, whose cells lie in these spans. There is room for `room` of them from the
-/// start. They come in their order, so it costs little to see to that.
+/// Returns the pattern of a board on the plane, whose cells are in these spans. There is room for `room` of them from
+/// the start. They are listed in order, so checking the order costs little.
 pub(crate) fn list(
     alloc: Global,
     at: Frame,
@@ -48,7 +48,7 @@ pub(crate) fn list(
     let mut cells = Vec::with_capacity(alloc, room)?;
     let hull = hull_of(at, spans);
     let word_columns = hull.word_columns.below(at.word_columns);
-    // The bands that have all rows of the hull.
+    // The bands that contain all rows of the hull.
     let first = hull.rows.from.min(at.rows) / 8;
     let end = (hull.rows.end.min(at.rows) + 7) / 8;
     for band in first..end {
@@ -57,8 +57,8 @@ pub(crate) fn list(
     Ok(Pattern::from_ordered(in_order(cells)))
 }
 
-/// Reads the cells of a word, whose first cell this is, and adds them to a list.
-fn read_word(word: u64, first: Cell, cells: &mut Vec<Cell>) -> Result<(), OutOfMemory>
+/// Appends the cells of a word, whose first cell is given, to a list.
+pub(crate) fn read_word(word: u64, first: Cell, cells: &mut Vec<Cell>) -> Result<(), OutOfMemory>
     requires { unsigned_abs first.x ≤ 2 ^ 24 }
     ensures { OnOk result (HasRead word first cells.old.items 64 cells.new.items) }
 {
@@ -75,7 +75,7 @@ fn read_word(word: u64, first: Cell, cells: &mut Vec<Cell>) -> Result<(), OutOfM
     Ok(())
 }
 
-/// The cell so many columns to the right.
+/// Returns the cell `columns` columns to the right.
 pub(crate) fn along(cell: Cell, columns: usize) -> Cell
     requires cell { unsigned_abs cell.x ≤ 2 ^ 24 }
     requires columns { columns < 64 }
@@ -87,7 +87,7 @@ pub(crate) fn along(cell: Cell, columns: usize) -> Cell
     }
 }
 
-/// The word of a row of a word column, of which this is the span. Outside of it nothing is alive, and no word is looked at.
+/// Returns the word of a row of a word column with this span. Outside the span nothing is alive, and no word is read.
 fn word_at(at: Frame, words: &[u64], span: RowSpan, word_column: usize, row: usize) -> u64
     requires frame { IsFrame at }
     requires word_column { word_column < at.word_columns }
@@ -102,7 +102,7 @@ fn word_at(at: Frame, words: &[u64], span: RowSpan, word_column: usize, row: usi
     words[at.index(word_column, row)]
 }
 
-/// Reads the cells of a band of eight rows, row by row, and adds them to a list. All lie in these word columns.
+/// Appends the cells of a band of eight rows, row by row, to a list. All are in these word columns.
 fn read_band(
     at: Frame,
     words: &[u64],
@@ -136,8 +136,8 @@ fn read_band(
     Ok(())
 }
 
-/// The word columns from the first to the last in which a cell of a band is alive, of these word columns. If there is none, they end
-/// where they begin.
+/// Returns the word columns from the first to the last, out of these, in which a cell of a band is alive. If there is
+/// none, the span is empty.
 fn word_columns_of_band(
     at: Frame,
     words: &[u64],
@@ -169,7 +169,7 @@ fn word_columns_of_band(
     RowSpan { from, end }
 }
 
-/// Whether no cell of a band is alive in a word column.
+/// Checks whether no cell of a band is alive in a word column.
 fn is_word_column_empty(
     at: Frame,
     words: &[u64],

@@ -1,5 +1,5 @@
-//! Cells that are put on an empty board, one after another: the bit of each is set in the word of its row and word column, and
-//! its row joins the span of the word column.
+//! Puts cells on an empty board, one after another. The bit of each is set in the word of its row and word column, and
+//! the span of the word column is widened by the row.
 ghost use Rattle.std.specs.Prelude.{◌≡◌, ◌*◌, [], length};
 ghost use Rattle.plane_core.specs.engine.Frames.{FillsFrame, IsFrame, LieOn, Shows};
 ghost use Rattle.plane_core.specs.engine.RowSpans.{LieInSpans};

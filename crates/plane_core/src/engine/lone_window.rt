@@ -1,4 +1,4 @@
-//! A window with a small pattern and nothing else, and the next generation made in it:
+//! A window that contains only a small pattern, and the next generation made in it:
 //!
 //! ```text
 //!  cells             window               cells
@@ -14,7 +14,7 @@ ghost use Rattle.plane_core.specs.engine.Frames.{IsFrame, bounds_of};
 ghost use Rattle.plane_core.specs.plane.Generations.{next};
 ghost use Rattle.plane_core.specs.engine.OnBoard.{cells_on};
 ghost use Rattle.plane_core.specs.engine.LoneWindows.{IsInland};
-ghost use Rattle.plane_core.specs.windows.LonePatterns.{Holds, IsInWindow};
+ghost use Rattle.plane_core.specs.windows.LonePatterns.{FillsRows, Holds, IsInWindow};
 ghost use Rattle.plane_core.specs.declared.plane.cell.Cell.{Cell};
 
 use crate::engine::frame::{Frame, farthest};
@@ -33,13 +33,13 @@ use memory::OutOfMemory;
 use std::alloc::Global;
 use std::simd::u64x4;
 
-/// How far from the origin the sides of a pattern's box are at most: far from the edge of the plane.
+/// The largest distance of the sides of a pattern's box from the origin: far from the edge of the plane.
 const INLAND: u32 = 900_000;
 
-/// For how many cells there is room from the start where a pattern is listed.
+/// The number of cells for which there is room from the start when a pattern is listed.
 const ROOM: usize = 20;
 
-/// The next generation of a pattern, if it is small enough for a window.
+/// Returns the next generation of a pattern, if it is small enough for a window.
 pub(crate) fn next_in_window(
     alloc: Global,
     rule: &Rule,
@@ -55,7 +55,7 @@ pub(crate) fn next_in_window(
         return Ok(None);
     }
     generation(&mut window, &RuleLogic::new(rule));
-    // The window as a board, of one word column.
+    // The window as a board of one word column.
     let at = Frame {
         left: origin.left,
         top: origin.top,
@@ -66,7 +66,7 @@ pub(crate) fn next_in_window(
     Ok(Some(later))
 }
 
-/// The pattern whose cells are these rows of a window that lies here.
+/// Returns the pattern whose cells are these rows of a window.
 pub(crate) fn pattern_of(alloc: Global, at: Frame, rows: &[u64; 64]) -> Result<Pattern, OutOfMemory>
     requires frame { IsFrame at }
     requires plane { AreSidesWithin plane_bound (bounds_of at) }
@@ -108,11 +108,20 @@ pub(crate) fn window_of(origin: WindowOrigin, cells: &[Cell]) -> [u64x4; 16]
     requires inside { (c : Cell) → has cells.now c ≡ true → IsInWindow 16 origin.left origin.top c }
     ensures { Holds 16 origin.left origin.top result cells.now }
 {
+    packed(&rows_of(origin, cells))
+}
+
+/// Returns the rows of the window at this origin that shows these cells.
+pub(crate) fn rows_of(origin: WindowOrigin, cells: &[Cell]) -> [u64; 64]
+    requires order { InOrder cells.now }
+    requires inside { (c : Cell) → has cells.now c ≡ true → IsInWindow 16 origin.left origin.top c }
+    ensures { FillsRows origin.left origin.top result cells.now }
+{
     let mut rows = [0; 64];
     for cell in cells {
         let across = (cell.x - origin.left) as usize;
         let down = (cell.y - origin.top) as usize;
         rows[down] |= 1 << across;
     }
-    packed(&rows)
+    rows
 }

@@ -1,11 +1,11 @@
-//! Which rows of each word column of a board may have a live cell. So a large board that is nearly empty is read and emptied
-//! at little cost:
+//! The rows of each word column of a board that may have a live cell. They make it cheap to read and clear a large
+//! board that is nearly empty:
 //!
 //! ```text
 //! word column      0     1     2     3
 //! row 0     .     .     .     .
-//! row 1     .     #     .     .      The rows from the first that was written in a word column to the last. Outside of them
-//! row 2     .     #     #     .      all is dead.
+//! row 1     .     #     .     .      The rows from the first that was written in a word column to the last. Outside of
+//! row 2     .     #     #     .      them everything is dead.
 //! row 3     .     .     #     .
 //! ```
 ghost use Rattle.std.specs.Prelude.{◌≡◌, ◌+◌, ◌/◌, ◌<◌, ◌≤◌, ◌⊎◌};
@@ -17,7 +17,7 @@ ghost use Rattle.plane_core.specs.engine.RowSpans.{HasRow, IsInSpan, LieInSpans}
 
 use crate::engine::frame::Frame;
 
-/// The numbers from one on, and before another: mostly rows.
+/// The numbers from `from` on, up to `end`, which is excluded: usually rows.
 #[derive(Clone, Copy)]
 pub(crate) struct RowSpan {
     pub(crate) from: usize,
@@ -25,7 +25,7 @@ pub(crate) struct RowSpan {
 }
 
 impl RowSpan {
-    /// No numbers.
+    /// Returns the empty span.
     pub(crate) fn empty() -> RowSpan
         ensures { (n : ℕ) → ¬ HasRow result n }
     {
@@ -35,7 +35,7 @@ impl RowSpan {
         }
     }
 
-    /// The least span that has both.
+    /// Returns the smallest span that contains both.
     pub(crate) fn joined(self, other: RowSpan) -> RowSpan
         ensures first { (n : ℕ) → HasRow self n → HasRow result n }
         ensures second { (n : ℕ) → HasRow other n → HasRow result n }
@@ -46,7 +46,7 @@ impl RowSpan {
         }
     }
 
-    /// Its numbers below a limit.
+    /// Returns its numbers below a limit.
     pub(crate) fn below(self, limit: usize) -> RowSpan
         ensures order { result.from ≤ result.end }
         ensures most { result.end ≤ limit }
@@ -69,14 +69,14 @@ pub(crate) fn widen(spans: &mut [RowSpan], word_column: usize, rows: RowSpan)
     spans[word_column] = spans[word_column].joined(rows);
 }
 
-/// The word columns from the first that has rows to the last, and the rows from the least to the greatest.
+/// The word columns from the first that has rows to the last, and the rows from the lowest to the highest number.
 #[derive(Clone, Copy)]
 pub(crate) struct Hull {
     pub(crate) word_columns: RowSpan,
     pub(crate) rows: RowSpan,
 }
 
-/// The word columns and the rows in which spans lie.
+/// Returns the word columns and the rows in which spans are.
 pub(crate) fn hull_of(at: Frame, spans: &[RowSpan]) -> Hull
     requires frame { IsFrame at }
     requires long { length spans.now ≡ at.word_columns }
@@ -100,7 +100,7 @@ pub(crate) fn hull_of(at: Frame, spans: &[RowSpan]) -> Hull
     hull
 }
 
-/// Empties a board of which all live cells lie in these spans.
+/// Clears a board whose live cells are all in these spans.
 pub(crate) fn empty(at: Frame, words: &mut [u64], spans: &mut [RowSpan])
     requires frame { IsFrame at }
     requires long { FillsFrame at words.old }
@@ -114,7 +114,7 @@ pub(crate) fn empty(at: Frame, words: &mut [u64], spans: &mut [RowSpan])
     }
 }
 
-/// Empties the rows of a word column that lie in the span.
+/// Clears the rows of a word column that are in the span.
 fn empty_word_column(at: Frame, words: &mut [u64], word_column: usize, span: RowSpan)
     requires frame { IsFrame at }
     requires word_column { word_column < at.word_columns }

@@ -1,7 +1,7 @@
 //! Where two windows differ in their inner parts.
 //!
-//! The windows are laid over one another, and what differs is gathered in two words, one for the columns and one for
-//! the rows. No branch depends on a cell:
+//! The windows are compared, and the differences are collected in two words, one for the columns and one for the rows.
+//! No branch depends on a cell:
 //!
 //! ```text
 //!   . . . .      . . . .      . . . .   rows
@@ -20,7 +20,7 @@ use crate::windows::window_queries::{either, in_any_lane};
 use std::simd::cmp::SimdPartialEq;
 use std::simd::u64x4;
 
-/// The inner columns of a row, or none.
+/// Returns the inner columns of a row, or none.
 #[inline(always)]
 fn inner_if(inside: bool) -> u64
     ensures { IsTrue inside → result ≡ inner_mask }
@@ -28,11 +28,12 @@ fn inner_if(inside: bool) -> u64
     if inside { INNER_COLUMNS } else { 0 }
 }
 
-/// The places of vector k that lie in the inner part of its window, of those in which two of them differ.
+/// Returns the places of vector k in the inner part of its window, out of those in which two windows differ.
 #[inline(always)]
-fn differing(one: u64x4, other: u64x4, k: usize) -> u64x4
-    requires { k < 10 }
-    ensures { (j i : ℕ) → j < 4 → 4 ≤ i → i < 60 → 4 ≤ j * 10 + k → j * 10 + k < 36 → bit_of result j i ≡ 0
+fn differing<const N: usize>(one: u64x4, other: u64x4, k: usize) -> u64x4
+    requires low { k < N }
+    requires few { N ≤ 16 }
+    ensures { (j i : ℕ) → j < 4 → 4 ≤ i → i < 60 → 4 ≤ j * N + k → j * N + k + 4 < 4 * N → bit_of result j i ≡ 0
         → bit_of one j i ≡ bit_of other j i }
 {
     (one ^ other)
@@ -40,33 +41,35 @@ fn differing(one: u64x4, other: u64x4, k: usize) -> u64x4
             inner_if(k >= 4),
             INNER_COLUMNS,
             INNER_COLUMNS,
-            inner_if(k < 6),
+            inner_if(k + 4 < N),
         ])
 }
 
-/// The rows of vector k of which a place is set, as bits of a word in each lane.
+/// Returns the rows of vector k of which a place is set, as bits of a word in each lane.
 #[inline(always)]
-fn marked(places: u64x4, k: usize) -> u64x4
-    requires { k < 10 }
-    ensures { (j i : ℕ) → j < 4 → bit_of result j (j * 10 + k) ≡ 0 → bit_of places j i ≡ 0 }
+fn marked<const N: usize>(places: u64x4, k: usize) -> u64x4
+    requires low { k < N }
+    requires few { N ≤ 16 }
+    ensures { (j i : ℕ) → j < 4 → bit_of result j (j * N + k) ≡ 0 → bit_of places j i ≡ 0 }
 {
-    let rows = u64x4::from_array([1 << k, 1 << (10 + k), 1 << (20 + k), 1 << (30 + k)]);
+    let rows = u64x4::from_array([1 << k, 1 << (N + k), 1 << (2 * N + k), 1 << (3 * N + k)]);
     places
         .simd_ne(u64x4::splat(0))
         .select(rows, u64x4::splat(0))
 }
 
-/// Where two windows differ in their inner parts.
+/// Returns where two windows differ in their inner parts.
 #[inline(always)]
-pub(crate) fn difference_of(one: &[u64x4; 10], other: &[u64x4; 10]) -> DifferenceMask
-    ensures { DiffersOnlyIn result one.now other.now }
+pub(crate) fn difference_of<const N: usize>(one: &[u64x4; N], other: &[u64x4; N]) -> DifferenceMask
+    requires { N ≤ 16 }
+    ensures { DiffersOnlyIn N result one.now other.now }
 {
     let mut columns = u64x4::splat(0);
     let mut rows = u64x4::splat(0);
-    for k in 0..10 {
-        let places = differing(one[k], other[k], k);
+    for k in 0..N {
+        let places = differing::<N>(one[k], other[k], k);
         columns = either(columns, places);
-        rows = either(rows, marked(places, k));
+        rows = either(rows, marked::<N>(places, k));
     }
     DifferenceMask {
         columns: in_any_lane(columns),

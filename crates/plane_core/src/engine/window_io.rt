@@ -1,6 +1,6 @@
-//! Windows read from a board, and their inner parts put back.
+//! Reads windows from a board, and puts their inner parts back.
 //!
-//! A window may begin in any column, so each of its rows lies in two word columns of the board:
+//! A window may begin in any column, so each of its rows is in two word columns of the board:
 //!
 //! ```text
 //!   word column x / 64        |  the word column after it
@@ -12,36 +12,37 @@ ghost use Rattle.std.specs.Prelude.{if◌then◌else◌, slice_index};
 ghost use Rattle.std.specs.Int.{bit_at};
 ghost use Rattle.plane_core.specs.engine.Frames.{FillsFrame, IsFrame};
 ghost use Rattle.plane_core.specs.engine.WindowIo.{AreRowsRead, IsPutBack, IsRowPut};
-ghost use Rattle.plane_core.specs.engine.WindowOrigins.{IsOnBoard};
+ghost use Rattle.plane_core.specs.engine.LeapWindows.{IsOnBoard};
 
 use crate::engine::frame::Frame;
-use crate::engine::window_origin::WindowOrigin;
+use crate::engine::leap_window::LeapWindow;
 use crate::windows::window::INNER_COLUMNS;
 
-/// The column of the board in which a window begins.
+/// Returns the column of the board in which a window begins.
 #[inline(always)]
-pub(crate) fn column_of(at: Frame, origin: WindowOrigin) -> usize
+pub(crate) fn column_of(at: Frame, window: LeapWindow) -> usize
     requires frame { IsFrame at }
-    requires on_board { IsOnBoard at origin }
-    ensures is { origin.left ≡ at.left +ℤ pos result }
+    requires on_board { IsOnBoard at window }
+    ensures is { window.left ≡ at.left +ℤ pos result }
     ensures word_columns { result / 64 + 1 < at.word_columns }
 {
-    (origin.left - at.left) as usize
+    (window.left - at.left) as usize
 }
 
-/// The row of the board in which a window begins.
+/// Returns the row of the board in which a window begins.
 #[inline(always)]
-pub(crate) fn row_of(at: Frame, origin: WindowOrigin) -> usize
+pub(crate) fn row_of(at: Frame, window: LeapWindow) -> usize
     requires frame { IsFrame at }
-    requires on_board { IsOnBoard at origin }
-    ensures is { origin.top ≡ at.top +ℤ pos result }
-    ensures rows { result + 40 ≤ at.rows }
+    requires on_board { IsOnBoard at window }
+    ensures is { window.top ≡ at.top +ℤ pos result }
+    ensures rows { result + window.rows ≤ at.rows }
 {
-    (origin.top - at.top) as usize
+    (window.top - at.top) as usize
 }
 
-/// Reads the rows of a window that begins in column x and row y of the board: each is the end of a word of the first
-/// word column with the beginning of one of the second. They are read in order, so that four of them are read at once.
+/// Reads the rows of a window that begins in column x and row y of the board. Each consists of the end of a word of the
+/// first word column and the beginning of one of the second. The rows are read in order, so that four of them are read
+/// at once.
 #[inline(always)]
 pub(crate) fn read_rows<const R: usize>(words: &[u64], at: Frame, x: usize, y: usize) -> [u64; R]
     requires long { FillsFrame at words.now }
@@ -59,7 +60,7 @@ pub(crate) fn read_rows<const R: usize>(words: &[u64], at: Frame, x: usize, y: u
     rows
 }
 
-/// The word's columns that lie in the first word column, where it begins in this column of it.
+/// Returns the columns of the word that are in the first word column, if the word begins in this column of it.
 #[inline(always)]
 fn in_first(word: u64, shift: usize) -> u64
     requires { shift < 64 }
@@ -69,7 +70,7 @@ fn in_first(word: u64, shift: usize) -> u64
     word << shift
 }
 
-/// The word's columns that lie in the second word column.
+/// Returns the columns of the word that are in the second word column.
 #[inline(always)]
 #[tactic(auto, using(crate::proofs::lemmas::windows::ShiftLemmas::bit_second))]
 fn in_second(word: u64, shift: usize) -> u64
@@ -115,15 +116,17 @@ fn write_row(words: &mut [u64], at: Frame, x: usize, y: usize, word: u64)
     );
 }
 
-/// Puts the inner part of a window back, whose rows these are. It begins in column x and row y of the board.
+/// Puts the inner part of a window back, down to row `end`. The window begins in column x and row y of the board.
 #[inline(always)]
-pub(crate) fn write(words: &mut [u64], at: Frame, x: usize, y: usize, rows: &[u64; 40])
+pub(crate) fn write(words: &mut [u64], at: Frame, x: usize, y: usize, end: usize, rows: &[u64; 64])
     requires long { FillsFrame at words.old }
     requires word_columns { x / 64 + 1 < at.word_columns }
-    requires rows { y + 40 ≤ at.rows }
-    ensures { IsPutBack at x y 36 rows.now words.old words.new }
+    requires rows { y + end ≤ at.rows }
+    requires some { 4 ≤ end }
+    requires few { end ≤ 64 }
+    ensures { IsPutBack at x y end rows.now words.old words.new }
 {
-    for r in 4..36 {
+    for r in 4..end {
         write_row(words, at, x, y + r, rows[r]);
     }
 }

@@ -1,8 +1,8 @@
-//! The cells of a window that change within two generations. What is at rest, or alternates, has none:
+//! The cells of a window that change within two generations. A part that is at rest or alternates has none:
 //!
 //! ```text
 //! . . . . . . . .      . . . . . . . .
-//! . O O . . . O .      . . . . . . 1 .      Two cells of the glider are dead two generations on. Those of the block
+//! . O O . . . O .      . . . . . . 1 .      Two cells of the glider are dead two generations later. Those of the block
 //! . O O . . . . O      . . . . . . . .      are alive.
 //! . . . . . O O O      . . . . . . 1 .
 //! ```
@@ -11,7 +11,7 @@ use crate::windows::rule_logic::RuleLogic;
 use crate::windows::window::{INNER_COLUMNS, generations};
 use std::simd::u64x4;
 
-/// The columns in the middle of a window, where a cell that changes is looked for first.
+/// The columns in the middle of a window, where a changing cell is looked for first.
 const MIDDLE: u64 = 0x0000_0fff_fff0_0000;
 
 /// A row and a column of a window.
@@ -21,18 +21,20 @@ pub(crate) struct Spot {
     pub(crate) column: u32,
 }
 
-/// The live cells that are dead two generations on, of those in columns 4 to 59, from which a cluster may be grown.
+/// Returns the live cells in columns 4 to 59 that are dead two generations later. A cluster may be grown from each of
+/// them.
 pub(crate) fn changing_cells(window: &[u64x4; 16], rule: &RuleLogic) -> [u64; 64] {
     let mut cells = *window;
     generations(&mut cells, rule, 2);
     for k in 0..16 {
-        // What is alive, and differs two generations on.
+        // The cells that are alive and differ two generations later.
         cells[k] = window[k] & (window[k] ^ cells[k]) & u64x4::splat(INNER_COLUMNS);
     }
     unpacked(&cells)
 }
 
-/// One of the cells, if there is one four or more from the border, those in the middle before others.
+/// Returns one of the cells, if there is one at least four cells from the border. Cells in the middle come before
+/// others.
 pub(crate) fn first_cell(rows: &[u64; 64]) -> Option<Spot> {
     for d in 0..28 {
         if rows[31 - d] != 0 {
@@ -45,7 +47,7 @@ pub(crate) fn first_cell(rows: &[u64; 64]) -> Option<Spot> {
     None
 }
 
-/// The first of the cells of a row, those in the middle before others.
+/// Returns the first cell of a row. Cells in the middle come before others.
 fn spot_in(row: usize, cells: u64) -> Spot {
     let middle = cells & MIDDLE;
     let found = if middle == 0 { cells } else { middle };

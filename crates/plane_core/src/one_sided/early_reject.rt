@@ -1,4 +1,4 @@
-//! Rejecting a checkpoint of a board early: a pattern at rest has no cluster that diverges from it or never recurs.
+//! Rejects a checkpoint of a board early: a pattern at rest has no cluster that diverges from it or never recurs.
 //!
 //! One cluster is tested in the view of an active box:
 //!
@@ -7,7 +7,7 @@
 //! tried       3rd    1st    4th           2nd           Boxes larger than that of any small oscillator are tried first.
 //! ```
 //!
-//! At most four boxes are tried: if they show nothing, the board has mostly fallen into objects at rest.
+//! At most four boxes are tried. If they show nothing, the board usually consists of objects at rest.
 ghost use Rattle.std.specs.Prelude.{◌≤◌, IsTrue};
 ghost use Rattle.plane_core.specs.plane.Generations.{after};
 ghost use Rattle.plane_core.specs.one_sided.RestlessClusters.{HasRestlessCluster};
@@ -18,13 +18,13 @@ use crate::one_sided::rules_out_rest::rules_out_rest;
 use crate::windows::row_packing::packed;
 use crate::windows::window::generations;
 
-/// How many columns and rows the box of what changes in a small oscillator has at most.
+/// The most columns and rows of the box of what changes in a small oscillator.
 const SMALL: u32 = 6;
 
-/// How many boxes are tried at most.
+/// The most boxes that are tried.
 const TRIES: u32 = 4;
 
-/// What is asked of the pattern `ahead` generations later, 0 or 1: whether some cluster diverges within `horizon`
+/// A question about the pattern `ahead` generations later, 0 or 1: whether some cluster diverges within `horizon`
 /// generations, or doesn't recur within `period` generations.
 #[derive(Clone, Copy)]
 struct RestQuestion {
@@ -34,8 +34,9 @@ struct RestQuestion {
 }
 
 impl Board {
-    /// Returns `true` only if the pattern is not at rest `ahead` generations later, 0 or 1: one of its clusters diverges
-    /// from it within `horizon` generations, or doesn't recur within `period` generations. `false` says nothing.
+    /// Returns `true` only if the pattern is not at rest `ahead` generations later, 0 or 1: one of its clusters
+    /// diverges from it within `horizon` generations, or doesn't recur within `period` generations. `false` says
+    /// nothing.
     pub fn rules_out_rest(&self, ahead: u32, horizon: u32, period: u32) -> bool
         requires { ahead ≤ 1 }
         ensures { IsTrue result
@@ -53,8 +54,8 @@ impl Board {
         self.rules_out_rest_by(asked, false, &mut tries)
     }
 
-    /// Tries the boxes that are large, or those that aren't, for as long as there are tries left. Of each box the view
-    /// is looked at, if it lies on the board.
+    /// Tries the boxes that are large, or those that aren't, as long as there are tries left. A test looks at the view
+    /// of each box, if the view is on the board.
     fn rules_out_rest_by(&self, asked: RestQuestion, large: bool, tries: &mut u32) -> bool
         requires { asked.ahead ≤ 1 }
         ensures { IsTrue result → HasRestlessCluster self.now.rule

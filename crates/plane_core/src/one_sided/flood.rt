@@ -1,13 +1,13 @@
-//! One cluster of a window of 64 rows, grown from one of its cells:
+//! Grows a cluster of a window of 64 rows from one of its cells:
 //!
 //! ```text
-//! . O . . O      . 1 . . O      . 2 . . O     The start, then what is within 2 of it, then what is within 2 of that.
-//! . O . . O      . 1 . . O      . 2 . . O     When nothing new comes, one pass over all rows tells whether this is
-//! . S . . O      . S . . O      . S . . O     all.
+//! . O . . O      . 1 . . O      . 2 . . O     The start, then the cells within 2 of it, then the cells within 2 of those.
+//! . O . . O      . 1 . . O      . 2 . . O     When nothing new is found, one pass over all rows checks whether this is
+//! . S . . O      . S . . O      . S . . O     the whole cluster.
 //! ```
 //!
-//! Near the border of the window not all cells may be right, and what lies outside isn't seen: so a flood that comes
-//! within four of the border is none.
+//! Near the border of the window, not all cells may be right, and what is outside isn't known. So a flood that comes
+//! within four cells of the border is rejected.
 ghost use Rattle.std.specs.Prelude.{◌≡◌, ◌<◌, ◌≤◌, ℕ, IsTrue};
 ghost use Rattle.std.specs.Int.{bit_at};
 ghost use Rattle.plane_core.specs.one_sided.Floods.{AreNear, HasGrown, IsClosed, IsFlooded, IsWellInside, LiesInside};
@@ -18,11 +18,11 @@ use crate::windows::window::INNER_COLUMNS;
 /// The columns in which a window is right two generations after it was read, 2 to 61.
 const COLUMNS: u64 = 0x3fff_ffff_ffff_fffc;
 
-/// How many times the rows are gone through at most. A cluster that winds more is not told.
+/// The most passes over the rows. A cluster that winds more is rejected.
 const ROUNDS: usize = 64;
 
-/// Grows the cluster of the cell in a row and a column, which replaces `flood`. Returns whether it is all there, and
-/// lies well inside the window; `false` says nothing.
+/// Grows the cluster of the cell in a row and a column, which replaces `flood`. Returns `true` only if it is complete
+/// and well inside the window. `false` says nothing.
 pub(crate) fn flood(rows: &[u64; 64], flood: &mut [u64; 64], row: usize, column: u32) -> bool
     ensures { IsTrue result → IsFlooded rows.now flood.new row column }
 {
@@ -31,70 +31,59 @@ pub(crate) fn flood(rows: &[u64; 64], flood: &mut [u64; 64], row: usize, column:
     }
     *flood = [0; 64];
     flood[row] = 1 << column;
-    let mut first = row;
-    let mut end = row + 1;
+    let mut first = row - 2;
+    let mut end = row + 3;
     for _ in 0..ROUNDS {
-        first = earlier_first(flood, first);
-        end = later_end(flood, end);
-        let new = grow(rows, flood, first, end);
-        if new == 0 {
+        end = grow_down(rows, flood, first, end);
+        let grown = grow_up(rows, flood, first, end);
+        first = grown.first;
+        if grown.new == 0 {
             return lies_inside(flood) && is_closed(rows, flood);
         }
     }
     false
 }
 
-/// The first row to look at: two further, where the flood has come to it.
-#[inline(always)]
-fn earlier_first(flood: &[u64; 64], first: usize) -> usize
-    requires low { 2 ≤ first }
-    requires high { first < 62 }
-    ensures low { 2 ≤ result }
-    ensures high { result ≤ first }
+/// Grows the flood downwards from row `first` up to row `end`, and on as long as it grows further. Returns the row
+/// where it ended.
+fn grow_down(rows: &[u64; 64], flood: &mut [u64; 64], first: usize, end: usize) -> usize
+    requires { 2 ≤ first }
+    ensures grown { HasGrown rows.now flood.old flood.new }
+    ensures low { result ≤ 62 }
 {
-    if first < 4 {
-        return 2;
+    for r in first..62 {
+        if r >= end && flood[r - 2] | flood[r - 1] == 0 {
+            return r;
+        }
+        grow_row(rows, flood, r);
     }
-    if flood[first] | flood[first + 1] != 0 {
-        return first - 2;
-    }
-    first
+    62
 }
 
-/// The row before which to stop: two further, where the flood has come to it.
-#[inline(always)]
-fn later_end(flood: &[u64; 64], end: usize) -> usize
-    requires low { 2 ≤ end }
-    requires high { end ≤ 62 }
-    ensures low { end ≤ result }
-    ensures high { result ≤ 62 }
-{
-    if end > 60 {
-        return 62;
-    }
-    if flood[end - 2] | flood[end - 1] != 0 {
-        return end + 2;
-    }
-    end
+/// The result of growing upwards: the new bits, in any row, and the first row that may have a bit of the flood near it.
+#[derive(Clone, Copy)]
+struct Grown {
+    new: u64,
+    first: usize,
 }
 
-/// Grows the flood in these rows, downwards and then upwards. Returns what has come, or 0.
-fn grow(rows: &[u64; 64], flood: &mut [u64; 64], first: usize, end: usize) -> u64
-    requires first { 2 ≤ first }
-    requires end { end ≤ 62 }
-    ensures { HasGrown rows.now flood.old flood.new }
+/// Grows the flood upwards from row `end` up to row `first`, and on as long as it grows further.
+fn grow_up(rows: &[u64; 64], flood: &mut [u64; 64], first: usize, end: usize) -> Grown
+    requires { end ≤ 62 }
+    ensures grown { HasGrown rows.now flood.old flood.new }
+    ensures low { 2 ≤ result.first }
 {
     let mut new = 0;
-    for r in first..end {
+    for r in (2..end).rev() {
+        if r < first && flood[r + 1] | flood[r + 2] == 0 {
+            return Grown { new, first: r + 1 };
+        }
         new |= grow_row(rows, flood, r);
     }
-    for r in (first..end).rev() {
-        new |= grow_row(rows, flood, r);
-    }
-    new
+    Grown { new, first: 2 }
 }
 
-/// Grows the flood in one row. Returns what has come.
+/// Grows the flood in one row. Returns the new bits.
 #[inline(always)]
 fn grow_row(rows: &[u64; 64], flood: &mut [u64; 64], r: usize) -> u64
     requires low { 2 ≤ r }
@@ -108,7 +97,7 @@ fn grow_row(rows: &[u64; 64], flood: &mut [u64; 64], r: usize) -> u64
     grown ^ here
 }
 
-/// The bits of the rows that are at most two away.
+/// Returns the bits of the rows that are at most two away.
 #[inline(always)]
 fn near_rows(flood: &[u64; 64], r: usize) -> u64
     requires low { 2 ≤ r }
@@ -119,7 +108,7 @@ fn near_rows(flood: &[u64; 64], r: usize) -> u64
     flood[r - 2] | flood[r - 1] | flood[r] | flood[r + 1] | flood[r + 2]
 }
 
-/// The bits, and those beside them.
+/// Returns the bits and their neighbours.
 #[inline(always)]
 fn beside(word: u64) -> u64
     ensures from { (i : ℕ) → bit_at result i ≡ 1 → (i < 64) × (j : ℕ) × (AreNear 1 i j) × (bit_at word j ≡ 1) }
@@ -128,7 +117,8 @@ fn beside(word: u64) -> u64
     word << 1 | word | word >> 1
 }
 
-/// Whether the flood lies well inside the window. No branch depends on a row, so that four are looked at at once.
+/// Checks whether the flood is well inside the window. No branch depends on a row, so that four rows are tested at
+/// once.
 fn lies_inside(flood: &[u64; 64]) -> bool
     ensures { IsTrue result → LiesInside flood.now }
 {
@@ -139,7 +129,7 @@ fn lies_inside(flood: &[u64; 64]) -> bool
     all == 0
 }
 
-/// The bits of a row of the flood that don't lie well inside the window.
+/// Returns the bits of a row of the flood that aren't well inside the window.
 #[inline(always)]
 fn outside(word: u64, r: usize) -> u64
     ensures { (i : ℕ) → bit_at result i ≡ 0 → bit_at word i ≡ 1 → IsWellInside r i }
@@ -150,7 +140,7 @@ fn outside(word: u64, r: usize) -> u64
     word & !INNER_COLUMNS
 }
 
-/// Whether no cell near the flood is missing.
+/// Checks whether no cell near the flood is missing.
 fn is_closed(rows: &[u64; 64], flood: &[u64; 64]) -> bool
     ensures { IsTrue result → IsClosed rows.now flood.now }
 {

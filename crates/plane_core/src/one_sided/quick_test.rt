@@ -1,19 +1,22 @@
-//! One-sided tests on a small pattern, which is run alone in a window of 64 by 64 cells: a few operations per vector show
-//! that it changes, or that it isn't at rest. `true` is a proof, and `false` says nothing.
+//! One-sided tests on a small pattern, which is run alone in windows of at most 64 by 64 cells. A few operations per
+//! vector show that it changes, or that it isn't at rest. `true` is a proof, and `false` says nothing.
 ghost use Rattle.std.specs.Prelude.{◌≡◌, ◌≤◌, ℕ, IsTrue, false};
 ghost use Rattle.plane_core.specs.plane.Generations.{NeverRecurs, after, touches_edge};
 ghost use Rattle.plane_core.specs.one_sided.RestlessClusters.{HasRestlessCluster};
 
-use crate::engine::lone_window::{origin_round, window_of};
+use crate::engine::lone_window::{origin_round, rows_of, window_of};
 use crate::one_sided::never_recurs::never_recurs;
 use crate::one_sided::rules_out_rest::rules_out_rest;
 use crate::plane::pattern::Pattern;
 use crate::plane::rule::Rule;
 use crate::windows::rule_logic::RuleLogic;
 
+/// The most generations for which a pattern is followed. They can't bring it to the edge of the plane.
+const FAR: u32 = 40_000;
+
 impl Pattern {
-    /// Returns `true` only if no generation from 1 to `generations` is the pattern again, possibly displaced, and none
-    /// touches the edge of the plane. `false` says nothing: the pattern may recur, or be or grow too large.
+    /// Returns `true` only if no generation from 1 to `generations` is a translate of the pattern, and none touches the
+    /// edge of the plane. `false` says nothing: the pattern may recur, or be or grow too large.
     pub fn surely_changes(&self, rule: &Rule, generations: u32) -> bool
         ensures new { IsTrue result → NeverRecurs rule.now self.now generations }
         ensures inside { IsTrue result → (g : ℕ) → g ≤ generations → touches_edge (after rule.now self.now g) ≡ false }
@@ -21,8 +24,11 @@ impl Pattern {
         let Some(origin) = origin_round(self) else {
             return false;
         };
-        let window = window_of(origin, self.cells());
-        never_recurs(&window, &RuleLogic::new(rule), generations)
+        if generations > FAR {
+            return false;
+        }
+        let rows = rows_of(origin, self.cells());
+        never_recurs(&rows, &RuleLogic::new(rule), generations)
     }
 
     /// Returns `true` only if the pattern is not at rest: one of its clusters diverges from it within `horizon`

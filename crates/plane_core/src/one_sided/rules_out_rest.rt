@@ -1,28 +1,28 @@
-//! A one-sided test that the pattern in a window isn't at rest, by one of its clusters:
+//! A one-sided test that the pattern in a window isn't at rest, using one of its clusters:
 //!
 //! ```text
 //! . . . . . . . .      The window shows a piece of the pattern. The test looks for a cell that changes within two
 //! . O O . . . S .      generations, and grows its cluster. Run alone, the cluster may diverge from the whole, or never
-//! . O O . . S S .      recur. Then the pattern hasn't fallen into objects at rest.
+//! . O O . . S S .      recur. In both cases, the pattern doesn't consist of objects at rest.
 //! . . . . . . S .
 //! ```
 //!
 //! Most patterns that aren't at rest are rejected by a single cluster.
 ghost use Rattle.std.specs.Prelude.{◌≤◌, IsTrue};
 ghost use Rattle.plane_core.specs.windows.RuleLogic.{rule_of};
-ghost use Rattle.plane_core.specs.one_sided.RestlessClusters.{AreAllRestless};
+ghost use Rattle.plane_core.specs.one_sided.RestlessClusters.{AreAllRestless, DivergesInRows};
 
 use crate::one_sided::active_cells::{changing_cells, first_cell};
-use crate::one_sided::crop::{crop, crop_round};
-use crate::one_sided::diverges::diverges_from_whole;
+use crate::one_sided::crop::{LiveRows, crop, lies_in_crop};
+use crate::one_sided::diverges::{diverges_from_whole, is_near_others};
 use crate::one_sided::flood::flood;
 use crate::one_sided::never_recurs::never_recurs;
-use crate::windows::row_packing::{packed, unpacked};
+use crate::windows::row_packing::unpacked;
 use crate::windows::rule_logic::RuleLogic;
 use std::simd::u64x4;
 
-/// Returns `true` only if no pattern that the window shows at depth `depth` is at rest: one of its clusters diverges from it
-/// within `horizon` generations, or doesn't recur within `period` generations.
+/// Returns `true` only if no pattern that the window shows at depth `depth` is at rest: one of its clusters diverges
+/// from it within `horizon` generations, or doesn't recur within `period` generations.
 pub(crate) fn rules_out_rest(
     window: &[u64x4; 16],
     rule: &RuleLogic,
@@ -36,22 +36,39 @@ pub(crate) fn rules_out_rest(
     let Some(spot) = first_cell(&changing_cells(window, rule)) else {
         return false;
     };
+    let rows = unpacked(window);
     let mut cluster = [0; 64];
-    let whole = flood(&unpacked(window), &mut cluster, spot.row, spot.column);
+    let whole = flood(&rows, &mut cluster, spot.row, spot.column);
     if !whole {
         return false;
     }
-    // The window with nothing in it but the cluster.
-    let alone = packed(&cluster);
-    let Some(from) = crop_round(&alone) else {
-        return diverges_from_whole(window, &alone, rule, depth, horizon)
-            || never_recurs(&alone, rule, period);
-    };
-    // The cluster lies in these 40 rows, where the same is seen in less time.
-    let whole = crop(window, from);
-    let part = crop(&alone, from);
-    if diverges_from_whole(&whole, &part, rule, depth, horizon) {
+    let live = LiveRows::of(&cluster);
+    if is_near_others(&rows, &cluster, live)
+        && diverges_in_crop(&rows, &cluster, live, rule, depth, horizon)
+    {
         return true;
     }
-    never_recurs(&part, rule, period) || never_recurs(&alone, rule, period)
+    never_recurs(&cluster, rule, period)
+}
+
+/// Returns `true` only if the cluster diverges from the whole within `horizon` generations. Both are run in the 40 rows
+/// around the cluster, whose live rows are given. `false` says nothing.
+fn diverges_in_crop(
+    rows: &[u64; 64],
+    cluster: &[u64; 64],
+    live: LiveRows,
+    rule: &RuleLogic,
+    depth: usize,
+    horizon: u32,
+) -> bool
+    requires { depth ≤ 2 }
+    ensures { IsTrue result → DivergesInRows (rule_of rule.now) rows.now cluster.now depth horizon }
+{
+    let from = live.crop_round(40);
+    if !lies_in_crop::<40>(cluster, from) {
+        return false;
+    }
+    let whole: [u64x4; 10] = crop::<40, 10>(rows, from);
+    let alone: [u64x4; 10] = crop::<40, 10>(cluster, from);
+    diverges_from_whole(&whole, &alone, rule, depth, horizon)
 }

@@ -1,17 +1,17 @@
 //! Candidates for spaceships: clusters of a few cells that change.
 //!
-//! In the view of each box the cells that change within two generations are looked for, and the cluster of one after
+//! In the view of each box, cells that change within two generations are looked for, and the cluster of one after
 //! another is grown:
 //!
 //! ```text
 //! . . . . . . . . . .      . . . . . . . . . .
-//! . . O . . . . O . .      . . x . . . . . . .     Two cells change. The cluster of the first has five cells, and
-//! . . . O . . . O . .      . . . . . . . . . .     the second is one of them, so it is no candidate any more. What
-//! . O O O . . . O . .      . . x . . . . . . .     alternates has no cell that changes in two generations.
+//! . . O . . . . O . .      . . x . . . . . . .     Two cells change. The cluster of the first has five cells. The second
+//! . . . O . . . O . .      . . . . . . . . . .     is one of them, so it is no longer looked at. A part that alternates
+//! . O O O . . . O . .      . . x . . . . . . .     has no cell that changes in two generations.
 //! . . . . . . . . . .      . . . . . . . . . .
 //! ```
 //!
-//! A lone spaceship has a small box, so only these are looked at, and of these only those that lie ahead of all others.
+//! A lone spaceship has a small box, so only small boxes are looked at, and only those that are ahead of all others.
 ghost use Rattle.std.specs.Prelude.{All, IfOk, List, OnOk};
 ghost use Rattle.plane_core.specs.plane.Cells.{InOrder};
 ghost use Rattle.plane_core.specs.clusters.Clusters.{IsCluster};
@@ -31,21 +31,21 @@ use crate::windows::row_packing::packed;
 use memory::OutOfMemory;
 use std::alloc::Global;
 
-/// How many boxes are looked at, at most.
+/// The most boxes that are looked at.
 const BOXES: u32 = 32;
 
-/// How many columns and rows the box of what changes in a spaceship has at most: a heavyweight spaceship's has nine. A spaceship
-/// that has just left a larger group shares its box, and gets one of its own soon.
+/// The most columns and rows of the box of what changes in a spaceship: a heavyweight spaceship's has nine. A spaceship
+/// that has just left a larger group shares its box, and soon gets one of its own.
 const SPACESHIP: u32 = 10;
 
-/// How many clusters are grown for each, at most.
+/// The most clusters that are grown for each box.
 const FLOODS: u32 = 8;
 
-/// How many cells a candidate has at most. A heavyweight spaceship has up to 18.
+/// The most cells of a candidate. A heavyweight spaceship has up to 18.
 const MOST: u32 = 20;
 
 impl Board {
-    /// Some clusters of the pattern that change, each of a few cells. Which ones isn't said.
+    /// Returns some clusters of the pattern that change, each with a few cells. Which ones isn't specified.
     ///
     /// # Errors
     ///
@@ -60,7 +60,7 @@ impl Board {
             if tries == 0 {
                 break;
             }
-            // Little else than a spaceship may change in a small box.
+            // A small box rarely contains anything other than a spaceship that changes.
             if longer_side(*bounds) >= SPACESHIP || !leads_somewhere(boxes, *bounds) {
                 continue;
             }
@@ -75,20 +75,21 @@ impl Board {
     }
 }
 
-/// Whether the box lies ahead of all others in some diagonal direction. What is in another box can't be ahead of all
-/// the rest, unless what is ahead of it goes first.
+/// Checks whether the box is ahead of all others in some diagonal direction. What is in another box can't be ahead of
+/// everything else, unless what is ahead of it goes first.
 fn leads_somewhere(boxes: &[Bounds], bounds: Bounds) -> bool {
     let mut right_down = true;
     let mut right_up = true;
     let mut left_down = true;
     let mut left_up = true;
     for other in boxes {
-        // How far it lies to the right of the other one, to the left, below and above: not at all, if not more than 0.
+        // How far the box is to the right of the other one, to the left, below and above. A number that isn't positive
+        // means that it isn't.
         let right = bounds.left.saturating_sub(other.right);
         let left = other.left.saturating_sub(bounds.right);
         let down = bounds.top.saturating_sub(other.bottom);
         let up = other.top.saturating_sub(bounds.bottom);
-        // Those that it meets don't count, since a spaceship has boxes from more than one window.
+        // Boxes that it meets don't count, because a spaceship has boxes from more than one window.
         if right.max(left).max(down).max(up) <= 1 {
             continue;
         }
@@ -103,8 +104,8 @@ fn leads_somewhere(boxes: &[Bounds], bounds: Bounds) -> bool {
     true
 }
 
-/// Adds the clusters of the cells that change in a window that lies here, if they are small and not among the others
-/// yet: two boxes may lie near each other. Their cells are struck out.
+/// Adds the clusters of the cells that change in a window, if they are small and not among the others yet (two boxes
+/// may be near each other). Their cells are removed.
 fn add_grown(
     alloc: Global,
     at: Frame,
@@ -135,18 +136,18 @@ fn add_grown(
     Ok(())
 }
 
-/// Takes the cells of a cluster off others. Returns how many cells the cluster has.
+/// Removes the cells of a cluster from others. Returns the number of cells of the cluster.
 fn strike_out(cells: &mut [u64; 64], cluster: &[u64; 64]) -> u32 {
     let mut count = 0u32;
     for row in 0..64 {
         cells[row] &= !cluster[row];
-        // At most 4,096, so nothing wraps.
+        // At most 4,096, so nothing wraps around.
         count = count.wrapping_add(cluster[row].count_ones());
     }
     count
 }
 
-/// Whether the cluster is one of the others.
+/// Checks whether the cluster is one of the others.
 fn has(clusters: &[Pattern], cluster: &Pattern) -> bool {
     for other in clusters {
         if other.cells() == cluster.cells() {

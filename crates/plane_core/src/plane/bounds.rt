@@ -1,9 +1,9 @@
-//! Boxes of cells, and the least one round a pattern:
+//! Boxes of cells, and the smallest box around a pattern:
 //!
 //! ```text
 //! +-----+
 //! |..O..|
-//! |O...O|      Each side of the least box touches a live cell.
+//! |O...O|      Each side of the smallest box touches a live cell.
 //! |.OO..|
 //! +-----+
 //! ```
@@ -14,7 +14,7 @@ ghost use Rattle.plane_core.specs.declared.plane.cell.Cell.{Cell};
 use crate::plane::cell::Cell;
 use crate::plane::pattern::Pattern;
 
-/// A box of cells: the columns `left` to `right` and the rows `top` to `bottom`, the ends included.
+/// A box of cells: the columns `left` to `right` and the rows `top` to `bottom`, both ends included.
 #[derive(Clone, Copy, Debug, PartialEq, Eq)]
 pub struct Bounds {
     pub left: i32,
@@ -24,7 +24,7 @@ pub struct Bounds {
 }
 
 impl Pattern {
-    /// The least box round the pattern. It is `None` for the empty pattern.
+    /// Returns the smallest box around the pattern, or `None` for the empty pattern.
     pub fn bounds(&self) -> Option<Bounds>
         ensures bounds { result ≡ box_of self.now }
         ensures none { IsNone result ↔ (self.now ≡ []) }
@@ -39,7 +39,7 @@ impl Pattern {
 }
 
 impl Bounds {
-    /// The box of one cell.
+    /// Returns the box of one cell.
     pub(crate) fn at(cell: Cell) -> Bounds
         ensures { result ≡ box_at cell }
     {
@@ -51,7 +51,7 @@ impl Bounds {
         }
     }
 
-    /// The least box that has this box and the cell in it.
+    /// Returns the smallest box that contains this box and the cell.
     pub(crate) fn widened(self, cell: Cell) -> Bounds
         ensures { result ≡ widened cell self }
     {
@@ -63,7 +63,7 @@ impl Bounds {
         }
     }
 
-    /// The least box that has both in it.
+    /// Returns the smallest box that contains both boxes.
     #[inline(always)]
     pub fn joined(self, other: Bounds) -> Bounds
         ensures least { IsRoundBoth self other result }
@@ -80,7 +80,7 @@ impl Bounds {
     }
 }
 
-/// A box, if there is one, with one cell more.
+/// Returns the smallest box that contains the cell and the box, if there is one.
 pub(crate) fn grown(bounds: Option<Bounds>, cell: Cell) -> Bounds
     ensures { result ≡ grown cell bounds }
 {

@@ -1,4 +1,4 @@
-//! Cells of the plane. Patterns have cells with coordinates up to 1,000,000 in size.
+//! Cells of the plane. The cells of patterns have coordinates from -1,000,000 to 1,000,000.
 //!
 //! ```text
 //!          x = 0     1     2
@@ -10,13 +10,13 @@ ghost use Rattle.plane_core.specs.plane.Cells.{moved_by, near_plane, on_plane, o
 
 use crate::plane::coordinate::stepped;
 
-/// How large the coordinates of a pattern's cells may be in size: from -1,000,000 to 1,000,000.
+/// The largest size of a coordinate of a pattern's cell: coordinates are from -1,000,000 to 1,000,000.
 pub const BOUND: u32 = 1_000_000;
 
 /// A cell of the plane: x grows to the right, y grows downwards.
 ///
-/// Cells are ordered row by row from the top, and in a row from the left: the derived order goes by `y`, the
-/// field that stands first, and then by `x`.
+/// Cells are ordered row by row from the top, and in a row from the left. The derived order compares `y`, which is the
+/// first field, and then `x`.
 #[derive(Clone, Copy, Debug, PartialEq, Eq, PartialOrd, Ord, Hash)]
 pub struct Cell {
     pub y: i32,
@@ -24,7 +24,7 @@ pub struct Cell {
 }
 
 impl Cell {
-    /// Whether a pattern may have this cell: both coordinates are at most [`BOUND`] in size.
+    /// Checks whether a pattern may have this cell: both coordinates are at most [`BOUND`] in size.
     #[tactic(auto, unfolding(crate::specs::plane::Cells::on_plane))]
     pub fn is_on_plane(self) -> bool
         ensures { result ≡ on_plane self }
@@ -32,7 +32,7 @@ impl Cell {
         self.x.unsigned_abs() <= BOUND && self.y.unsigned_abs() <= BOUND
     }
 
-    /// Whether a coordinate is [`BOUND`] in size, so that a neighbour may lie off the plane.
+    /// Checks whether a coordinate is [`BOUND`] in size, so that a neighbour may be off the plane.
     #[tactic(auto, unfolding(crate::specs::plane::Cells::on_edge))]
     pub fn is_on_edge(self) -> bool
         ensures { result ≡ on_edge self }
@@ -40,7 +40,7 @@ impl Cell {
         self.x.unsigned_abs() == BOUND || self.y.unsigned_abs() == BOUND
     }
 
-    /// The cell (x + dx, y + dy), at most two steps away.
+    /// Returns the cell (x + dx, y + dy), at most two steps away.
     #[tactic(auto, unfolding(crate::specs::plane::Cells::near_plane))]
     pub(crate) fn moved(self, dx: i32, dy: i32) -> Cell
         requires near { near_plane self ≡ true }

@@ -1,10 +1,10 @@
-//! How fast a pattern's frontier grows in a diagonal direction. Under rules such as Life it takes two generations for
-//! each cell, so a glider, which needs four for each step, is never caught from behind by what it has left:
+//! How fast the frontier of a pattern grows in a diagonal direction. Under rules such as Life it takes two generations
+//! for each cell. So nothing that a glider leaves behind catches up with it:
 //!
 //! ```text
-//! . . . O .     The depth of a cell is its column and its row, added up. A cell past the frontier sees
-//! . . O / .     at most three live cells, and if all three have just come to the frontier, the one
-//! . O / x .     behind them had four neighbours or more, and died.
+//! . . . O .     The depth of a cell is the sum of its column and its row. A cell past the frontier sees
+//! . . O / .     at most three live cells. If all three have just come to the frontier, the one behind
+//! . O / x .     them had four neighbours or more, and died.
 //! O / . . .
 //! ```
 ghost use Rattle.std.specs.Prelude.{◌≡◌};
@@ -12,7 +12,7 @@ ghost use Rattle.plane_core.specs.plane.Frontiers.{FrontiersAreSlow, FrontiersGo
 
 use crate::plane::rule::Rule;
 
-/// The law of frontiers. Under a slow rule, no pattern grows by more than a cell in two generations in a diagonal
+/// The law of frontiers: under a slow rule, no pattern grows by more than one cell in two generations in a diagonal
 /// direction.
 #[tactic(auto, using(crate::proofs::lemmas::plane::FrontierLemmas::frontiers_are_slow, crate::proofs::lemmas::plane::FrontierLemmas::frontiers_go_on))]
 pub fn frontiers()
@@ -20,7 +20,8 @@ pub fn frontiers()
     ensures go_on { FrontiersGoOn }
 {}
 
-/// Whether frontiers are slow under the rule: nothing is born on 1 or 2 neighbours, and nothing survives on 4 or 5.
+/// Checks whether frontiers are slow under the rule: nothing is born on 1 or 2 neighbours, and nothing survives on 4 or
+/// 5.
 pub fn is_slow(rule: &Rule) -> bool
     ensures { result ≡ is_slow rule.now }
 {

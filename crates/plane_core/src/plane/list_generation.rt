@@ -1,4 +1,4 @@
-//! How a generation is counted cell by cell: in one sorted list, and no table of the plane.
+//! Computes a generation cell by cell, with one sorted list and no table of the plane.
 //!
 //! ```text
 //! a pattern    how often each cell is listed     alive next, under Life
@@ -8,15 +8,15 @@
 //!  . . . .               1 2 2 1                        . . . .
 //! ```
 //!
-//! Each live cell lists the nine cells of its neighbourhood. Sorted, equal cells stand side by side, so the length of a
-//! run tells how many live cells the neighbourhood of its cell has:
+//! Each live cell lists the nine cells of its neighbourhood. When the list is sorted, equal cells are next to each
+//! other. So the length of a run is the number of live cells in the neighbourhood of its cell:
 //!
 //! ```text
 //! (0, 0)   (1, 0)   (2, 0)   (0, 1) (0, 1)   (1, 1) (1, 1) (1, 1)   (2, 1) (2, 1) (2, 1)   (3, 1)   ..
 //! ```
 //!
-//! A live cell is counted there itself. So the four cells with a 3 are alive next under Life: one is dead and has three
-//! neighbours, and the others are alive and have two.
+//! This number includes the cell itself if it is alive. So the four cells with a 3 are alive next under Life: one is
+//! dead and has three neighbours, and the others are alive and have two.
 ghost use Rattle.std.specs.Prelude.{◌≡◌, false, true, flat_map, IfOk};
 ghost use Rattle.std.specs.List.{list_all};
 ghost use Rattle.plane_core.specs.plane.Cells.{near_plane, on_plane};
@@ -29,14 +29,14 @@ use memory::OutOfMemory;
 use std::alloc::Global;
 
 impl Pattern {
-    /// The next generation, counted cell by cell.
+    /// Returns the next generation, computed cell by cell.
     pub(crate) fn counted(&self, alloc: Global, rule: &Rule) -> Result<Pattern, OutOfMemory>
         requires { touches_edge self.now ≡ false }
         ensures { IfOk result (λ pattern. pattern ≡ next rule.now self.now) }
     {
         let mut near = neighbourhoods(alloc, self.cells())?;
         near.sort_unstable();
-        // The cells that live are moved to the prefix of the list.
+        // The cells that live are moved to the beginning of the list.
         let mut kept = 0;
         let mut count = 0;
         let end = near.len();
@@ -46,7 +46,8 @@ impl Pattern {
             if place + 1 < end && near[place + 1] == cell {
                 continue;
             }
-            // A live cell is no neighbour of its own. Whether this is a live one is looked up only where that decides.
+            // A live cell isn't its own neighbour. Whether the cell is alive is looked up only if the answer depends on
+            // it.
             let stays = rule.survives(count - 1);
             let born = rule.births(count);
             let lives = if stays == born {
@@ -65,7 +66,7 @@ impl Pattern {
     }
 }
 
-/// The neighbourhoods of all cells, one after another.
+/// Returns the neighbourhoods of all cells, one after another.
 fn neighbourhoods(alloc: Global, cells: &[Cell]) -> Result<Vec<Cell>, OutOfMemory>
     requires { list_all on_plane cells.now ≡ true }
     ensures { IfOk result (λ near. near.items ≡ flat_map neighbourhood cells.now) }
@@ -77,7 +78,7 @@ fn neighbourhoods(alloc: Global, cells: &[Cell]) -> Result<Vec<Cell>, OutOfMemor
     Ok(near)
 }
 
-/// The cell, and the eight round it.
+/// Returns the cell and the eight cells around it.
 #[tactic(auto, using(crate::proofs::lemmas::plane::NeighbourhoodLemmas::nine_cells))]
 fn neighbourhood(cell: Cell) -> [Cell; 9]
     requires { near_plane cell ≡ true }

@@ -1,4 +1,4 @@
-//! The eight ways in which a pattern can lie on the square grid:
+//! The eight orientations of a pattern on the square grid:
 //!
 //! ```text
 //! O . .    . O O    . . O    . . O    O O .      and so on: four turns of the pattern, and four of its mirror image
@@ -14,10 +14,10 @@ ghost use Rattle.plane_core.specs.plane.OrientationLaws.{SameIsIdentity, Turning
 use crate::plane::cell::Cell;
 use crate::plane::coordinate::negated;
 
-/// The eight ways in which a pattern can lie on the square grid.
+/// One of the eight orientations of a pattern on the square grid.
 ///
-/// Each takes the cell (x, y) to the cell that is given here. [`Pattern::turn`](crate::plane::pattern::Pattern::turn) then
-/// moves the image so that its least x and its least y are 0.
+/// Each maps the cell (x, y) to the cell given below. [`Pattern::turn`](crate::plane::pattern::Pattern::turn) then
+/// moves the image so that its smallest x and its smallest y are 0.
 #[derive(Clone, Copy, Debug, PartialEq, Eq)]
 pub enum Orientation {
     /// (x, y)
@@ -49,7 +49,7 @@ const ORIENTATIONS: [Orientation; 8] = [
     Orientation::AntiDiagonal,
 ];
 
-/// All eight orientations, each once.
+/// Returns all eight orientations, each once.
 pub fn orientations() -> &'static [Orientation]
     ensures { result.now ≡ orientations }
 {
@@ -57,7 +57,7 @@ pub fn orientations() -> &'static [Orientation]
 }
 
 impl Orientation {
-    /// Where the orientation takes a cell of the plane.
+    /// Returns the cell to which the orientation maps a cell of the plane.
     #[tactic(auto, unfolding(crate::specs::plane::Cells::on_plane))]
     pub(crate) fn image_of(self, cell: Cell) -> Cell
         requires { on_plane cell ≡ true }
@@ -89,10 +89,10 @@ impl Orientation {
     }
 }
 
-/// The laws of the eight orientations: they are the group of the square.
+/// The laws of the eight orientations, which are the group of the square.
 ///
-/// They are different maps, and their product is that of a group. To turn a pattern by one of them and then by another
-/// is to turn it by their product, and a pattern has the same image wherever it lies.
+/// They are different maps, and their product is that of a group. Turning a pattern by one of them and then by another
+/// is turning it by their product. A pattern has the same image wherever it is.
 pub fn square_group()
     ensures associative { ProductAssociates }
     ensures identity { SameIsIdentity }

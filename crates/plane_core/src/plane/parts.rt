@@ -1,18 +1,17 @@
-//! A pattern in two parts that lie so far apart that they don't meet for some generations: each runs as if it were
-//! alone.
+//! Two parts of a pattern that are so far apart that they don't meet for a number of generations. Each runs as if it
+//! were alone.
 //!
-//! Cells stand row by row, so a cut between two rows is a place in their list: there is one wherever a cell lies far
-//! enough below the one that stands before it. A pattern whose rows are too near one another is turned, and cut
-//! between two of its columns. Each part is cut again. So a spaceship that has left costs no more than a board of its
-//! own.
+//! Cells are listed row by row, so a cut between two rows is a place in the list: it exists if a cell is far enough
+//! below the cell before it. If the rows of a pattern are too close together, the pattern is turned and cut between two
+//! of its columns. Each part is cut again. So a spaceship that has left costs only a board of its own.
 ghost use Rattle.std.specs.Prelude.{◌<◌, IfSome, OnSome};
 ghost use Rattle.plane_core.specs.plane.Parts.{IsCut};
 
 use crate::plane::pattern::Pattern;
 
 impl Pattern {
-    /// How many cells lie above a cut between two rows that are further apart than so far, if there are such rows and a
-    /// cut is left. It is the first cut from the middle of the cells on, or else the last one before.
+    /// Returns the number of cells above a cut between two rows that are more than `far` apart, if there is such a cut
+    /// and `cuts` isn't 0. It is the first cut from the middle of the cells on, or otherwise the last one before.
     pub(crate) fn cut(&self, far: u32, cuts: u32) -> Option<usize>
         ensures cut { IfSome result (IsCut far self.now) }
         ensures cuts { OnSome result (0 < cuts) }
@@ -33,9 +32,9 @@ impl Pattern {
         cut
     }
 
-    /// Whether the pattern is worth a turn, which sorts its cells: there may be a cut between two columns that are
-    /// further apart than so far. The columns are seen as at most 64 stripes. If these are narrow, there is one without
-    /// a cell in such a gap.
+    /// Checks whether the pattern is worth a turn, which sorts its cells: there may be a cut between two columns that
+    /// are more than `far` apart. The columns are divided into at most 64 stripes. If the stripes are narrow, a gap of
+    /// that width contains an empty one.
     pub(crate) fn is_worth_a_turn(&self, far: u32) -> bool {
         let Some(bounds) = self.bounds() else {
             return false;

@@ -1,5 +1,5 @@
 //! Patterns: finite sets of live cells. A pattern is kept as the list of its cells in order, each once.
-ghost use Rattle.std.specs.Prelude.{◌≡◌, ◌++◌, List, [], ◌∷◌, length, IfOk, IfErr, OnOk, position, None};
+ghost use Rattle.std.specs.Prelude.{◌≡◌, ◌+◌, ◌≤◌, ◌++◌, List, [], ◌∷◌, length, take, IfOk, IfErr, IsTrue, OnOk, position, None};
 ghost use Rattle.memory.specs.Witness.{out_of_memory};
 ghost use Rattle.plane_core.specs.plane.Cells.{IsPattern, SetsHaveOneList, cell_at, has, set_of, off_plane};
 ghost use Rattle.plane_core.specs.plane.Refusals.{RefusesCells};
@@ -13,10 +13,10 @@ use std::fmt::{self, Display};
 use std::marker::Model;
 use thiserror::Error;
 
-/// Why a list of cells is not a pattern.
+/// Why a list of cells isn't a pattern.
 #[derive(Clone, Copy, PartialEq, Eq, Error)]
 pub enum FromCellsError {
-    /// The cell at this index, counted from 0, is the first past the bound.
+    /// The cell at `index`, counted from 0, is the first past the bound.
     OutOfPlane { index: usize },
     /// Memory ran out.
     Memory(OutOfMemory),
@@ -62,7 +62,7 @@ impl Model for Pattern {
     ghost invariant = { λ p. IsPattern p.cells.items };
 }
 
-// Written out, since a derived drop is proved anew wherever a pattern is given up.
+// Written out, because a derived drop is proved anew wherever a pattern is dropped.
 impl Drop for Pattern {
     fn drop(self) {
         let Pattern { cells } = self;
@@ -71,12 +71,16 @@ impl Drop for Pattern {
 }
 
 impl Pattern {
-    /// The set of the cells of a list, which may stand in any order and more than once.
+    /// Returns the set of the cells of a list, which may be in any order and may repeat cells.
     ///
     /// # Errors
     ///
-    /// `OutOfPlane` if a cell lies past the bound, with the index of the first such cell, counted from 0, whether there
+    /// `OutOfPlane` if a cell is past the bound, with the index of the first such cell, counted from 0, whether there
     /// is memory or not. Otherwise `Memory` if memory runs out.
+    ///
+    /// # Examples
+    ///
+    /// `crates/tour_tests/src/patterns.rt` makes a glider, runs it, and finds and names its objects.
     pub fn from_cells(alloc: Global, cells: &[Cell]) -> Result<Pattern, FromCellsError>
         ensures set { IfOk result (λ pattern. pattern ≡ set_of cells.now) }
         ensures members { IfOk result (λ pattern. (c : Cell) → has pattern c ≡ has cells.now c) }
@@ -94,7 +98,7 @@ impl Pattern {
         })
     }
 
-    /// The pattern of cells that are already in order, each once.
+    /// Returns the pattern of cells that are already in order, each once.
     pub(crate) fn from_ordered(cells: Vec<Cell>) -> Pattern
         requires { IsPattern cells.items }
         ensures { result ≡ cells.items }
@@ -102,7 +106,7 @@ impl Pattern {
         Pattern { cells }
     }
 
-    /// Puts a cell after the others, which come before it.
+    /// Appends a cell that comes after all others.
     pub(crate) fn push(&mut self, cell: Cell) -> Result<(), OutOfMemory>
         requires { IsPattern (self.old ++ cell ∷ []) }
         ensures { OnOk result (self.new ≡ self.old ++ cell ∷ []) }
@@ -111,7 +115,7 @@ impl Pattern {
         Ok(())
     }
 
-    /// An equal pattern.
+    /// Returns an equal pattern.
     ///
     /// # Errors
     ///
@@ -123,18 +127,24 @@ impl Pattern {
         Ok(Pattern::from_ordered(cells))
     }
 
-    /// The cells of both patterns.
-    pub(crate) fn united(self, other: &Pattern) -> Result<Pattern, OutOfMemory>
+    /// Returns the cells of both patterns together. It is fastest if all cells of `other` come after those of `self`.
+    ///
+    /// # Errors
+    ///
+    /// `OutOfMemory` if memory runs out. `self` is dropped.
+    pub fn united(self, other: &Pattern) -> Result<Pattern, OutOfMemory>
         ensures { IfOk result (λ whole. whole ≡ set_of (self ++ other.now)) }
     {
         let Pattern { mut cells } = self;
+        let count = cells.len();
         cells.extend_from_slice(other.cells())?;
+        merge(cells.as_mut_slice(), count, other.cells());
         Ok(Pattern {
             cells: in_order(cells),
         })
     }
 
-    /// All cells in order, each once.
+    /// Returns all cells in order, each once.
     pub fn cells(&self) -> &[Cell]
         ensures cells { result.now ≡ self.now }
         ensures pattern { IsPattern self.now }
@@ -150,14 +160,14 @@ impl Pattern {
         let _ = &self.cells;
     }
 
-    /// The number of cells.
+    /// Returns the number of cells.
     pub fn population(&self) -> usize
         ensures { result ≡ length self.now }
     {
         self.cells.len()
     }
 
-    /// Whether the cell (x, y) is in the set.
+    /// Checks whether the cell (x, y) is in the set.
     pub fn has(&self, x: i32, y: i32) -> bool
         ensures { result ≡ has self.now (cell_at x y) }
     {
@@ -165,13 +175,47 @@ impl Pattern {
     }
 }
 
-/// A law of all sets of cells: each has one list in order. So two patterns with the same cells are the same list.
+/// Merges `others` with the first `count` cells of the list. Both are in order. It goes from the end, and stops when
+/// the last of the others is in its place:
+///
+/// ```text
+/// a b f g h . .      the others: c e
+/// a b f . f g h      g and h, and then f, move two places on
+/// a b c e f g h
+/// ```
+fn merge(cells: &mut [Cell], count: usize, others: &[Cell])
+    requires { length cells.old ≡ count + length others.now }
+    ensures { (c : Cell) → has cells.new c ≡ has (take count cells.old ++ others.now) c }
+{
+    let mut i = count;
+    let mut j = others.len();
+    while j > 0 {
+        let comes_later = comes_later(cells, i, others[j - 1]);
+        if comes_later {
+            i -= 1;
+            cells[i + j] = cells[i];
+            continue;
+        }
+        j -= 1;
+        cells[i + j] = others[j];
+    }
+}
+
+/// Checks whether there is a last one among the first `count` cells, and it comes after `cell`.
+fn comes_later(cells: &[Cell], count: usize, cell: Cell) -> bool
+    requires { count ≤ length cells.now }
+    ensures { IsTrue result → 1 ≤ count }
+{
+    count > 0 && cell < cells[count - 1]
+}
+
+/// The law of sets of cells: each has one list in order. So two patterns with the same cells are the same list.
 #[tactic(auto, using(crate::proofs::lemmas::plane::SetLemmas::same_lists))]
 pub fn sets_have_one_list()
     ensures { SetsHaveOneList }
 {}
 
-/// The cells in order, each once. Those that are read off a board are so already.
+/// Returns the cells in order, each once. Cells that are read from a board usually are so already.
 pub(crate) fn in_order(cells: Vec<Cell>) -> Vec<Cell>
     ensures { result.items ≡ set_of cells.items }
 {

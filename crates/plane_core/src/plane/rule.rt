@@ -1,6 +1,6 @@
 //! Life-like rules and their texts, such as `b3s23` for Conway's Life.
 ghost use Rattle.std.specs.Prelude.{◌≡◌, ◌↔◌, ◌+◌, ◌<◌, ◌≤◌, ◌++◌, ◌∷◌, [], ℕ, true, false};
-ghost use Rattle.std.specs.Prelude.{length, take, codes, IfOk, IsTrue};
+ghost use Rattle.std.specs.Prelude.{length, take, codes, IfOk, IsTrue, Some};
 ghost use Rattle.plane_core.specs.Outputs.{Writes};
 ghost use Rattle.plane_core.specs.plane.Rules.{Numbers, IsRule, IsFirstFault, is_birth, is_survival, digits, rule_text};
 ghost use Rattle.plane_core.specs.plane.Rules.{begins, numbers_at, rule_read};
@@ -9,17 +9,18 @@ use crate::output::{Out, WriteError};
 use std::fmt;
 use std::io::Write;
 use std::marker::Model;
+use std::str::FromStr;
 use thiserror::Error;
 
-/// How many bytes the longest text of a rule has: two letters, and 17 digits.
+/// The most bytes of a rule's text: two letters and 17 digits.
 const LONGEST: usize = 19;
 
-/// Why a text is not a rule.
+/// Why a text isn't a rule.
 #[derive(Clone, Copy, PartialEq, Eq, Error)]
 pub enum RuleFault {
-    /// The byte at `place` can't stand there, or the text ends there too early. Places count from 0.
+    /// The byte at `place` isn't allowed there, or the text ends there too early. Places count bytes from 0.
     BadRule { place: usize },
-    /// A `0` stands directly after the `b`.
+    /// There is a `0` directly after the `b`.
     BirthZero,
 }
 
@@ -39,10 +40,10 @@ impl fmt::Debug for RuleFault {
     }
 }
 
-/// A Life-like rule without birth on zero neighbours, as Conway's Life, `b3s23`.
+/// A Life-like rule without birth on zero neighbours, such as Conway's Life, `b3s23`.
 ///
-/// It has birth numbers, out of 1 to 8, and survival numbers, out of 0 to 8: a dead cell with a birth number of
-/// live neighbours is born, a live cell with a survival number of them lives on, and every other cell is dead.
+/// It has birth numbers from 1 to 8 and survival numbers from 0 to 8. A dead cell is born if the number of its live
+/// neighbours is a birth number. A live cell survives if this number is a survival number. Every other cell is dead.
 #[derive(Clone, Copy, Debug, PartialEq, Eq)]
 pub struct Rule {
     births: [bool; 8],
@@ -59,8 +60,33 @@ impl Model for Rule {
     ghost inverse = { λ n. record { births = n.births; survivals = n.survivals } };
 }
 
+impl FromStr for Rule {
+    type Err = RuleFault;
+
+    ghost from_str_gives = { λ text result. result ≡ rule_read text };
+
+    /// Reads a rule, as [`Rule::read`] does.
+    fn from_str(text: &str) -> Result<Rule, RuleFault> {
+        Rule::read(text)
+    }
+}
+
+/// Shows the one text of the rule, such as `b3s23`.
+impl fmt::Display for Rule {
+    ghost output = { λ rule. Some (rule_text rule) };
+
+    fn fmt<W: fmt::Write>(&self, f: &mut fmt::Formatter<W>) -> fmt::Result {
+        let mut text = [0; LONGEST];
+        let end = self.put_text(&mut text);
+        match std::str::from_utf8(&text[..end]) {
+            Ok(text) => f.write_str(text),
+            Err(_) => unreachable!(),
+        }
+    }
+}
+
 impl Rule {
-    /// Conway's Game of Life, `b3s23`.
+    /// Returns Conway's Game of Life, `b3s23`.
     #[tactic(auto, unfolding(crate::specs::plane::Rules::rule_text, crate::specs::plane::Rules::digits))]
     pub fn life() -> Rule
         ensures births { result.births ≡ false ∷ false ∷ true ∷ false ∷ false ∷ false ∷ false ∷ false ∷ [] }
@@ -74,17 +100,17 @@ impl Rule {
         }
     }
 
-    /// Reads a rule as in "b3s23" (LifeWiki, "Rulestring"): a `b`, the digits of the birth numbers, an `s`, the digits
-    /// of the survival numbers, each kind ascending. Letters are lower case.
+    /// Reads a rule such as `b3s23` (LifeWiki, "Rulestring"): a `b`, the digits of the birth numbers, an `s`, the
+    /// digits of the survival numbers, each in ascending order. Letters are lower case.
     ///
     /// # Errors
     ///
-    /// The fault that stands first from the left:
+    /// The leftmost fault:
     ///
-    /// - [`RuleFault::BadRule`]: a byte can't stand where it does, or the text ends too early.
-    /// - [`RuleFault::BirthZero`]: a `0` stands directly after the `b`.
+    /// - [`RuleFault::BadRule`] if a byte isn't allowed where it is, or the text ends too early.
+    /// - [`RuleFault::BirthZero`] if there is a `0` directly after the `b`.
     pub fn read(text: &str) -> Result<Rule, RuleFault>
-        // What is read has the text as its one text, and each rule's text is read as that rule.
+        // The text of the rule that is read is this text, and the text of each rule is read as that rule.
         ensures rule { IfOk result IsRule }
         ensures text { IfOk result (λ rule. rule_text rule ≡ text.now) }
         ensures complete { (rule : Numbers) → IsRule rule → rule_text rule ≡ text.now → result ≡ Ok rule }
@@ -121,7 +147,7 @@ impl Rule {
         Ok(Rule { births, survivals })
     }
 
-    /// Whether n is a birth number. It is false for 0 and for every n over 8.
+    /// Checks whether `n` is a birth number. This is false for 0 and for every number over 8.
     pub fn births(&self, n: u8) -> bool
         ensures birth { result ≡ is_birth self.now n }
         ensures zero { n ≡ 0 → result ≡ false }
@@ -135,7 +161,7 @@ impl Rule {
         }
     }
 
-    /// Whether n is a survival number. It is false for every n over 8.
+    /// Checks whether `n` is a survival number. This is false for every number over 8.
     pub fn survives(&self, n: u8) -> bool
         ensures survival { result ≡ is_survival self.now n }
         ensures over { 8 < n → result ≡ false }
@@ -148,25 +174,35 @@ impl Rule {
         }
     }
 
-    /// Writes the one text of the rule, which [`Rule::read`] reads as this rule. The `Out` must not have failed.
+    /// Writes the one text of the rule, which [`Rule::read`] reads as this rule. No earlier write to the `Out` may have
+    /// failed.
     ///
     /// # Errors
     ///
-    /// [`WriteError`] if a write fails or takes no byte. The front of the text may have been written by then.
+    /// [`WriteError`] if a write fails or takes no byte. A prefix of the text may have been written.
     pub fn write_text<V: Write>(&self, out: &mut Out<V>) -> Result<(), WriteError>
         requires { out.old.failed ≡ false }
         ensures text { Writes V.contents out.old out.new result (rule_text self.now) }
         ensures rule { IsRule self.now }
     {
         let mut text = [0; LONGEST];
-        let middle = put_numbers(&mut text, 0, b'b', 1, &self.births);
-        let end = put_numbers(&mut text, middle, b's', 0, &self.survivals);
+        let end = self.put_text(&mut text);
         out.put(&text[..end])
+    }
+
+    /// Puts the text of the rule at the beginning of `text`, and returns the place after it.
+    fn put_text(&self, text: &mut [u8; LONGEST]) -> usize
+        ensures end { result ≤ 19 }
+        ensures text { take result text.new ≡ rule_text self.now }
+        ensures rule { IsRule self.now }
+    {
+        let middle = put_numbers(text, 0, b'b', 1, &self.births);
+        put_numbers(text, middle, b's', 0, &self.survivals)
     }
 }
 
-/// Puts a letter at a place of the text, and behind it the digits of the numbers from `least` on that the table answers
-/// true. Returns the place after them.
+/// Puts a letter at a place of the text, followed by the digits of the numbers from `least` on that are true in the
+/// table. Returns the place after them.
 fn put_numbers(
     text: &mut [u8; LONGEST],
     place: usize,
@@ -190,8 +226,7 @@ fn put_numbers(
     end
 }
 
-/// Reads the numbers from `least` on whose digits stand in order at the prefix of the text, and returns the text after
-/// them.
+/// Reads the numbers from `least` on whose digits begin the text in ascending order, and returns the text after them.
 fn read_numbers<const N: usize>(text: &[u8], least: u8) -> ([bool; N], &[u8])
     requires { least + N ≤ 10 }
     ensures logic { result.0 ≡ (numbers_at N least text.now).logic }

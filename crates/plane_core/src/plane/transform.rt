@@ -1,8 +1,8 @@
-//! Patterns moved and turned:
+//! Moved and turned patterns:
 //!
 //! ```text
 //! O . .        . . O
-//! O O .   ->   . O O      Turned, an image is moved so that its least column and its least row are 0.
+//! O O .   ->   . O O      A turned image is moved so that its smallest column and its smallest row are 0.
 //! . O O        O O .
 //! ```
 ghost use Rattle.std.specs.Prelude.{◌≡◌, map, true};
@@ -26,10 +26,10 @@ use std::alloc::Global;
 use std::fmt::{self, Display};
 use thiserror::Error;
 
-/// Why a pattern can't be put somewhere.
+/// Why a pattern can't be moved or turned.
 #[derive(Clone, Copy, PartialEq, Eq, Error)]
 pub enum PlaceError {
-    /// A cell would lie past the bound.
+    /// A cell would be past the bound.
     OutOfPlane,
     /// Memory ran out.
     Memory(OutOfMemory),
@@ -60,11 +60,11 @@ impl<E: Into<OutOfMemory>> From<E> for PlaceError {
 }
 
 impl Pattern {
-    /// The pattern moved by (dx, dy).
+    /// Returns the pattern moved by (dx, dy).
     ///
     /// # Errors
     ///
-    /// `OutOfPlane` if a cell would lie past the bound, whether there is memory or not. Otherwise `Memory` if memory
+    /// `OutOfPlane` if a cell would be past the bound, whether there is memory or not. Otherwise `Memory` if memory
     /// runs out.
     pub fn shift(&self, alloc: Global, dx: i32, dy: i32) -> Result<Pattern, PlaceError>
         ensures shifted { IfOk result (λ pattern. pattern ≡ shifted dx dy self.now) }
@@ -86,12 +86,12 @@ impl Pattern {
         Ok(Pattern::from_ordered(placed))
     }
 
-    /// The image of the pattern in an orientation, moved so that its least x and its least y are 0. The empty pattern
-    /// stays empty.
+    /// Returns the image of the pattern in an orientation, moved so that its smallest x and its smallest y are 0. The
+    /// empty pattern stays empty.
     ///
     /// # Errors
     ///
-    /// `OutOfPlane` if a side of the image's box has over 1,000,001 cells, so that a cell would lie past the bound,
+    /// `OutOfPlane` if a side of the image's box has more than 1,000,001 cells, so that a cell would be past the bound,
     /// whether there is memory or not. Otherwise `Memory` if memory runs out.
     pub fn turn(&self, alloc: Global, orientation: Orientation) -> Result<Pattern, PlaceError>
         ensures turned { IfOk result (λ pattern. pattern ≡ turned orientation self.now) }
@@ -106,7 +106,7 @@ impl Pattern {
         Ok(Pattern::from_ordered(in_order(placed)))
     }
 
-    /// The pattern with its columns as rows, and its rows as columns.
+    /// Returns the pattern with columns and rows exchanged.
     pub(crate) fn transposed(&self, alloc: Global) -> Result<Pattern, OutOfMemory>
         ensures turned { IfOk result (λ pattern. pattern ≡ image Diagonal self.now) }
         ensures pattern { IsPattern self.now }
@@ -121,7 +121,7 @@ impl Pattern {
     }
 }
 
-/// How a cell is to lie: turned first, and then moved by (dx, dy).
+/// An orientation, followed by a move by (dx, dy).
 #[derive(Clone, Copy)]
 pub(crate) struct Transform {
     orientation: Orientation,
@@ -130,7 +130,7 @@ pub(crate) struct Transform {
 }
 
 impl Transform {
-    /// Where the cell lands, or some cell off the plane if it lands off it.
+    /// Returns the image of the cell, or some cell off the plane if the image is off the plane.
     fn landing(self, cell: Cell) -> Cell
         requires { on_plane cell ≡ true }
         ensures plane { on_plane result ≡ on_plane (landed self cell) }
@@ -143,7 +143,7 @@ impl Transform {
         }
     }
 
-    /// Where the cells land.
+    /// Returns the images of the cells.
     fn transform_all(self, alloc: Global, cells: &[Cell]) -> Result<Vec<Cell>, OutOfMemory>
         requires cells { list_all on_plane cells.now ≡ true }
         requires landed { list_all on_plane (map (landed self) cells.now) ≡ true }
@@ -157,7 +157,8 @@ impl Transform {
     }
 }
 
-/// How cells are to lie so that their image is at the corner, if it lies on the plane there.
+/// Returns the transformation that turns the cells and moves their image to the corner, if the image is on the plane
+/// there.
 fn to_corner(cells: &[Cell], orientation: Orientation) -> Option<Transform>
     requires { list_all on_plane cells.now ≡ true }
     ensures transform { IfSome result

@@ -1,4 +1,4 @@
-//! By how much one pattern has to be moved to become another:
+//! The displacement between two patterns:
 //!
 //! ```text
 //! O O . . .      . . . . .
@@ -14,8 +14,8 @@ use crate::plane::coordinate::difference;
 use crate::plane::pattern::Pattern;
 
 impl Pattern {
-    /// The shift (dx, dy) that makes this pattern into the other. It is `None` if there is none, and (0, 0) if both are
-    /// empty.
+    /// Returns the displacement (dx, dy) that turns this pattern into the other, or `None` if there is none. It is (0,
+    /// 0) if both are empty.
     pub fn shift_to(&self, other: &Pattern) -> Option<(i32, i32)>
         ensures { TellsShift self.now other.now result }
     {
@@ -36,7 +36,7 @@ impl Pattern {
     }
 }
 
-/// The step from one cell of the plane to another.
+/// Returns the step from one cell of the plane to another.
 #[tactic(auto, unfolding(crate::specs::plane::Cells::on_plane))]
 fn step_between(from: Cell, to: Cell) -> (i32, i32)
     requires from { on_plane from ≡ true }

@@ -1,6 +1,6 @@
 //! Sums over four words at once: a vector has a word in each of its four lanes.
 //!
-//! Cells are added up in binary digits, each digit a vector, so that one operation works on 256 cells:
+//! Cells are added in binary digits, each digit a vector, so that one operation works on 256 cells:
 //!
 //! ```text
 //!            lane 0      lane 1      lane 2      lane 3
@@ -20,7 +20,7 @@ pub(crate) struct Sum {
     pub(crate) twos: u64x4,
 }
 
-/// What lies across a cell in its row: the sum of its two neighbours there, and that of the three.
+/// The sums across each cell in its row: of its two neighbours, and of all three.
 #[derive(Clone, Copy)]
 pub(crate) struct RowSums {
     pub(crate) beside: Sum,
@@ -36,7 +36,7 @@ pub(crate) struct Total {
     pub(crate) eights: u64x4,
 }
 
-/// The sum of three bits, at each place.
+/// Returns the sum of three bits, at each place.
 #[inline(always)]
 #[tactic(auto, using(crate::proofs::lemmas::windows::LaneLemmas::lane_adder))]
 pub(crate) fn added(a: u64x4, b: u64x4, c: u64x4) -> Sum
@@ -48,7 +48,7 @@ pub(crate) fn added(a: u64x4, b: u64x4, c: u64x4) -> Sum
     }
 }
 
-/// The sums of the rows in a vector: at each bit those beside it, and these with the bit itself.
+/// Returns the sums of the rows in a vector: for each bit, those beside it, and these together with the bit itself.
 #[inline(always)]
 pub(crate) fn across(words: u64x4) -> RowSums
     ensures all { (j i : ℕ) → j < 4 → i < 64 → sum_of result.all j i ≡ row_sum (slice_index words j) i }
@@ -65,7 +65,7 @@ pub(crate) fn across(words: u64x4) -> RowSums
     }
 }
 
-/// The sum of three rows' sums.
+/// Returns the sum of three rows' sums.
 #[inline(always)]
 pub(crate) fn summed(up: Sum, here: Sum, down: Sum) -> Total
     ensures { (j i : ℕ) → j < 4 → total_of result j i ≡ sum_of up j i + sum_of here j i + sum_of down j i }
@@ -82,7 +82,7 @@ pub(crate) fn summed(up: Sum, here: Sum, down: Sum) -> Total
     }
 }
 
-/// At each place, the bit of `yes` if the test has a 1, and that of `no` if it has a 0.
+/// Returns, at each place, the bit of `yes` if the test has a 1, and that of `no` if it has a 0.
 #[inline(always)]
 #[tactic(auto, using(crate::proofs::lemmas::windows::LaneLemmas::lane_choice))]
 pub(crate) fn choice(test: u64x4, yes: u64x4, no: u64x4) -> u64x4
@@ -92,7 +92,7 @@ pub(crate) fn choice(test: u64x4, yes: u64x4, no: u64x4) -> u64x4
     no ^ ((no ^ yes) & test)
 }
 
-/// Whether exactly one of four bits is 1, at each place.
+/// Checks whether exactly one of four bits is 1, at each place.
 #[inline(always)]
 #[tactic(auto, using(crate::proofs::lemmas::windows::RuleLogicLemmas::lane_only_one))]
 pub(crate) fn only_one(a: u64x4, b: u64x4, c: u64x4, d: u64x4) -> u64x4
@@ -104,7 +104,7 @@ pub(crate) fn only_one(a: u64x4, b: u64x4, c: u64x4, d: u64x4) -> u64x4
     odd ^ (odd & two)
 }
 
-/// The sums a lane on: the first lane is empty.
+/// Returns the sums moved one lane on; the first lane is empty.
 #[inline(always)]
 pub(crate) fn later_sum(sum: Sum) -> Sum
     ensures first { (i : ℕ) → sum_of result 0 i ≡ 0 }
@@ -117,7 +117,7 @@ pub(crate) fn later_sum(sum: Sum) -> Sum
     }
 }
 
-/// The sums a lane back: the last lane is empty.
+/// Returns the sums moved one lane back; the last lane is empty.
 #[inline(always)]
 pub(crate) fn earlier_sum(sum: Sum) -> Sum
     ensures others { (j i : ℕ) → j < 3 → sum_of result j i ≡ sum_of sum (j + 1) i }

@@ -1,4 +1,4 @@
-//! The rows of a window one after another, and in vectors: here of a window of 40 rows, which are ten vectors.
+//! Converts the rows of a window between a list and vectors. Here is a window of 40 rows, which are ten vectors:
 //!
 //! ```text
 //!             lane 0    lane 1    lane 2    lane 3
@@ -7,12 +7,12 @@
 //!   ..
 //! vector 9    row 9     row 19    row 29    row 39
 //! ```
-ghost use Rattle.std.specs.Prelude.{◌≡◌, ◌≢◌, ◌+◌, ◌*◌, ◌<◌, ℕ, slice_index};
+ghost use Rattle.std.specs.Prelude.{◌≡◌, ◌≢◌, ◌+◌, ◌*◌, ◌<◌, ◌≤◌, ℕ, slice_index};
 ghost use Rattle.plane_core.specs.windows.Windows.{row_at};
 
 use std::simd::u64x4;
 
-/// The window of these rows.
+/// Returns the window with these rows.
 #[inline(always)]
 pub(crate) fn packed<const R: usize, const N: usize>(rows: &[u64; R]) -> [u64x4; N]
     requires some { 0 < N }
@@ -26,7 +26,7 @@ pub(crate) fn packed<const R: usize, const N: usize>(rows: &[u64; R]) -> [u64x4;
     window
 }
 
-/// The rows of a window one after another.
+/// Returns the rows of a window in order.
 #[inline(always)]
 pub(crate) fn unpacked<const N: usize, const R: usize>(window: &[u64x4; N]) -> [u64; R]
     requires some { 0 < N }
@@ -42,4 +42,19 @@ pub(crate) fn unpacked<const N: usize, const R: usize>(window: &[u64x4; N]) -> [
         rows[3 * N + k] = lanes[3];
     }
     rows
+}
+
+/// Writes the rows of a window in order.
+#[inline(always)]
+pub(crate) fn unpack<const N: usize>(window: &[u64x4; N], rows: &mut [u64; 64])
+    requires few { N ≤ 16 }
+    ensures { (r : ℕ) → r < 4 * N → slice_index rows.new r ≡ row_at N window.now r }
+{
+    for k in 0..N {
+        let lanes = window[k].to_array();
+        rows[k] = lanes[0];
+        rows[N + k] = lanes[1];
+        rows[2 * N + k] = lanes[2];
+        rows[3 * N + k] = lanes[3];
+    }
 }

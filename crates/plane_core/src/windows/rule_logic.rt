@@ -1,21 +1,21 @@
-//! The answers of a rule, whichever it is. Life has answers of its own, and so a loop of its own over a window.
+//! The logic of any rule. Life has logic of its own, and so a loop of its own over a window.
 ghost use Rattle.std.specs.Prelude.{◌≡◌};
 ghost use Rattle.plane_core.specs.windows.RuleLogic.{rule_of};
 
 use crate::plane::rule::Rule;
 use crate::windows::rule_tables::RuleTables;
 
-/// The answers of a rule.
+/// The logic of a rule.
 #[derive(Clone, Copy)]
 pub(crate) enum RuleLogic {
-    /// Those of Life.
+    /// The logic of Life.
     Life,
-    /// Those of any rule.
+    /// The logic of any rule.
     Any(RuleTables),
 }
 
 impl RuleLogic {
-    /// The answers of a rule.
+    /// Returns the logic of a rule.
     pub(crate) fn new(rule: &Rule) -> RuleLogic
         ensures { rule_of result ≡ rule.now }
     {

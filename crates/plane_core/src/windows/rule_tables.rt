@@ -1,7 +1,8 @@
-//! What a rule answers, as words: which cells live next, by how many live cells their neighbourhoods have.
+//! A rule as operations on words: which cells are alive next, depending on the number of live cells in their
+//! neighbourhoods.
 //!
-//! The answer for each total from 0 to 9 is a word of equal bits, and the digits of the total choose between them. So
-//! no branch depends on a cell or on the rule:
+//! The answer for each total from 0 to 9 is a word of equal bits, and the digits of the total choose between these
+//! words. So no branch depends on a cell or on the rule:
 //!
 //! ```text
 //! eights ?  ones ? 9 : 8
@@ -11,8 +12,8 @@
 //!                         :  ones ? 1 : 0
 //! ```
 //!
-//! Life, the rule that is run most, is answered by fewer operations, which count the eight neighbours alone. It is a
-//! type of its own, so that the loop of a generation is built once for Life and once for any rule.
+//! Life is run most often. It needs fewer operations, which count only the eight neighbours. It is a type of its own,
+//! so that the loop of a generation is compiled once for Life and once for any rule.
 ghost use Rattle.std.specs.Prelude.{◌≡◌, ◌==◌, ◌+◌, ◌-◌, ◌*◌, ◌<◌, ◌≤◌, ◌%◌, true, ℕ, slice_index};
 ghost use Rattle.std.specs.Int.{bit_at};
 ghost use Rattle.plane_core.specs.windows.LaneSums.{AnswersRows, AreBeside, bit_of};
@@ -24,11 +25,11 @@ use crate::plane::rule::Rule;
 use crate::windows::lane_sums::{RowSums, Sum, added, choice, only_one, summed};
 use std::simd::u64x4;
 
-/// What answers which cells live next.
+/// Decides which cells are alive next.
 pub(crate) trait CellLogic {
     ghost rule: { Self → Numbers };
 
-    /// The words one generation after `now`, by the sums of the rows above, here and below.
+    /// Returns the words one generation after `now`, from the sums of the rows above, here and below.
     fn next_cells(&self, up: Sum, here: RowSums, down: Sum, now: u64x4) -> u64x4
         requires { AreBeside here now }
         ensures { AnswersRows (rule self.now) up here.all down now result };
@@ -43,14 +44,14 @@ impl CellLogic for Life {
 
     #[inline(always)]
     fn next_cells(&self, up: Sum, here: RowSums, down: Sum, now: u64x4) -> u64x4 {
-        // By the eight neighbours: alive for three, and for two if the cell was alive. Their sum is two or three where
-        // exactly one of the digits that count twice is 1.
+        // From the eight neighbours: alive for three, and for two if the cell was alive. Their sum is two or three
+        // exactly if one of the digits that count twice is 1.
         let low = added(up.ones, down.ones, here.beside.ones);
         only_one(up.twos, down.twos, here.beside.twos, low.twos) & (low.ones | now)
     }
 }
 
-/// The answers of any rule: for each total the answer of a dead cell, and where a live cell's answer differs.
+/// The answers of any rule: for each total, the answer for a dead cell, and where the answer for a live cell differs.
 #[derive(Clone, Copy)]
 pub(crate) struct RuleTables {
     rule: Rule,
@@ -62,7 +63,7 @@ pub(crate) struct RuleTables {
 }
 
 impl RuleTables {
-    /// The answers of a rule.
+    /// Returns the answers of a rule.
     pub(crate) fn new(rule: &Rule) -> RuleTables
         ensures { result.rule ≡ rule.now }
     {
@@ -80,7 +81,7 @@ impl RuleTables {
         }
     }
 
-    /// The answer for the total n.
+    /// Returns the answer for the total n.
     #[inline(always)]
     fn at_one(&self, n: usize, now: u64x4) -> u64x4
         requires { n ≤ 9 }
@@ -90,7 +91,7 @@ impl RuleTables {
         u64x4::splat(self.dead[n]) ^ (u64x4::splat(self.change[n]) & now)
     }
 
-    /// The answer for the totals n and n + 1.
+    /// Returns the answer for the totals n and n + 1.
     #[inline(always)]
     fn at_two(&self, n: usize, ones: u64x4, now: u64x4) -> u64x4
         requires { n ≤ 8 }
@@ -100,7 +101,7 @@ impl RuleTables {
         choice(ones, self.at_one(n + 1, now), self.at_one(n, now))
     }
 
-    /// The answer for the totals n to n + 3.
+    /// Returns the answer for the totals n to n + 3.
     #[inline(always)]
     fn at_four(&self, n: usize, ones: u64x4, twos: u64x4, now: u64x4) -> u64x4
         requires { n ≤ 6 }
@@ -131,7 +132,7 @@ impl CellLogic for RuleTables {
     }
 }
 
-/// A word of 64 equal bits.
+/// Returns a word of 64 equal bits.
 fn word_of(bit: bool) -> u64
     ensures { (i : ℕ) → i < 64 → bit_at result i ≡ one_if bit }
 {

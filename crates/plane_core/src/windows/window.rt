@@ -1,7 +1,7 @@
 //! Windows: a piece of the plane, 64 columns wide, in vectors.
 //!
-//! A window of N vectors has 4 N rows. Row r is lane r / N of vector r % N, so the rows above and below those of a
-//! vector are those of the vectors beside it, and only at the two ends a lane further:
+//! A window of N vectors has 4 N rows. Row r is lane r / N of vector r % N. So the rows above and below those of a
+//! vector are those of the neighbouring vectors, and at the two ends those of the next lane:
 //!
 //! ```text
 //!            lane 0    lane 1    lane 2    lane 3
@@ -11,20 +11,21 @@
 //! vector 9   row 9     row 19    row 29    row 39
 //! ```
 //!
-//! Round the window all is taken for dead. So with each generation a window is wrong one cell further inside.
-ghost use Rattle.std.specs.Prelude.{◌≡◌, ◌+◌, ◌<◌, ℕ, ℤ, List};
+//! Everything around the window is taken for dead. So with each generation, a window is wrong one cell further inside.
+ghost use Rattle.std.specs.Prelude.{◌≡◌, ◌+◌, ◌<◌, ℕ, ℤ, List, [], slice_index_or};
+ghost use Rattle.plane_core.specs.windows.LaneSums.{AreBeside};
 ghost use Rattle.plane_core.specs.windows.RuleLogic.{rule_of};
 ghost use Rattle.plane_core.specs.plane.Cells.{InOrder};
 ghost use Rattle.plane_core.specs.plane.Generations.{after};
-ghost use Rattle.plane_core.specs.windows.Windows.{IsNextWindow, IsShownInside};
+ghost use Rattle.plane_core.specs.windows.Windows.{IsNextWindow, IsShownInside, IsVectorMade};
 ghost use Rattle.plane_core.specs.declared.plane.cell.Cell.{Cell};
 
-use crate::windows::lane_sums::{across, earlier_sum, later_sum};
+use crate::windows::lane_sums::{RowSums, Sum, across, earlier_sum, later_sum};
 use crate::windows::rule_logic::RuleLogic;
 use crate::windows::rule_tables::{CellLogic, Life};
 use std::simd::u64x4;
 
-/// The mask of a window's inner columns, 4 to 59: after four generations the other columns may be wrong.
+/// The mask of a window's inner columns, 4 to 59: after four generations, the other columns may be wrong.
 pub(crate) const INNER_COLUMNS: u64 = 0x0fff_ffff_ffff_fff0;
 
 /// Makes the next generation. Life has a loop of its own.
@@ -39,7 +40,8 @@ pub(crate) fn generation<const N: usize>(window: &mut [u64x4; N], rule: &RuleLog
     }
 }
 
-/// Makes the next generation. A vector's sums are made once, and serve the three rows that they lie in.
+/// Makes the next generation. The sums of a vector are computed once, and are used for the three rows that they belong
+/// to. Three vectors are computed per iteration, so that no sums have to be moved from one register to another.
 #[inline(always)]
 fn generation_by<const N: usize, A: CellLogic>(window: &mut [u64x4; N], rule: &A)
     requires { 0 < N }
@@ -48,16 +50,43 @@ fn generation_by<const N: usize, A: CellLogic>(window: &mut [u64x4; N], rule: &A
     let first = across(window[0]);
     let mut up = later_sum(across(window[N - 1]).all);
     let mut here = first;
-    for k in 0..N - 1 {
-        let down = across(window[k + 1]);
-        window[k] = rule.next_cells(up, here, down.all, window[k]);
+    let mut k = 0;
+    while N - k > 3 {
+        let second = next_vector(window, rule, k, up, here);
+        let third = next_vector(window, rule, k + 1, here.all, second);
+        let fourth = next_vector(window, rule, k + 2, second.all, third);
+        up = third.all;
+        here = fourth;
+        k += 3;
+    }
+    while N - k > 1 {
+        let down = next_vector(window, rule, k, up, here);
         up = here.all;
         here = down;
+        k += 1;
     }
     window[N - 1] = rule.next_cells(up, here, earlier_sum(first.all), window[N - 1]);
 }
 
-/// Makes so many generations.
+/// Makes the next generation of vector k, from the sums above it and its own. Returns the sums of the vector below it.
+#[inline(always)]
+fn next_vector<const N: usize, A: CellLogic>(
+    window: &mut [u64x4; N],
+    rule: &A,
+    k: usize,
+    up: Sum,
+    here: RowSums,
+) -> RowSums
+    requires low { k + 1 < N }
+    requires beside { AreBeside here (slice_index_or window.old k []) }
+    ensures { IsVectorMade (A.rule rule.now) k up here result window.old window.new }
+{
+    let below = across(window[k + 1]);
+    window[k] = rule.next_cells(up, here, below.all, window[k]);
+    below
+}
+
+/// Makes `count` generations.
 #[inline(always)]
 pub(crate) fn generations<const N: usize>(window: &mut [u64x4; N], rule: &RuleLogic, count: usize)
     requires { 0 < N }

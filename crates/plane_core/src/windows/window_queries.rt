@@ -1,4 +1,4 @@
-//! What is asked of a window: its rows, the columns with a live cell, whether its rim is clear.
+//! Questions about a window: its rows, the columns with a live cell, whether its rim is clear.
 //!
 //! ```text
 //! . . . . . . .     row 1, the first with a live cell
@@ -14,7 +14,7 @@ ghost use Rattle.plane_core.specs.windows.Windows.{row_at};
 
 use std::simd::u64x4;
 
-/// Which columns have a live cell.
+/// Returns the columns that have a live cell.
 #[inline(always)]
 pub(crate) fn columns_of<const N: usize>(window: &[u64x4; N]) -> u64
     ensures columns { IsColumns N window.now result }
@@ -27,7 +27,7 @@ pub(crate) fn columns_of<const N: usize>(window: &[u64x4; N]) -> u64
     in_any_lane(all)
 }
 
-/// The bits of both.
+/// Returns the bits of both.
 #[inline(always)]
 pub(crate) fn either(a: u64x4, b: u64x4) -> u64x4
     ensures bits { (j i : ℕ) → j < 4 → bit_of result j i ≡ max (bit_of a j i) (bit_of b j i) }
@@ -36,7 +36,7 @@ pub(crate) fn either(a: u64x4, b: u64x4) -> u64x4
     a | b
 }
 
-/// The bits of all four lanes.
+/// Returns the bits of all four lanes.
 #[inline(always)]
 #[tactic(auto, using(crate::proofs::lemmas::one_sided::NeverRecursLemmas::four_words))]
 pub(crate) fn in_any_lane(vector: u64x4) -> u64
@@ -47,7 +47,7 @@ pub(crate) fn in_any_lane(vector: u64x4) -> u64
     (words[0] | words[1]) | (words[2] | words[3])
 }
 
-/// A row of the window.
+/// Returns a row of the window.
 #[inline(always)]
 pub(crate) fn row<const N: usize>(window: &[u64x4; N], r: usize) -> u64
     requires some { 0 < N }
@@ -57,7 +57,7 @@ pub(crate) fn row<const N: usize>(window: &[u64x4; N], r: usize) -> u64
     window[r % N].to_array()[r / N]
 }
 
-/// Whether no cell stands on the rim.
+/// Checks whether no live cell is on the rim.
 #[inline(always)]
 pub(crate) fn is_rim_clear<const N: usize>(window: &[u64x4; N], columns: u64) -> bool
     requires some { 0 < N }
@@ -77,7 +77,7 @@ pub(crate) fn is_rim_clear<const N: usize>(window: &[u64x4; N], columns: u64) ->
     columns >> 63 == 0
 }
 
-/// Whether two windows have the same cells.
+/// Checks whether two windows have the same cells.
 pub(crate) fn are_alike<const N: usize>(one: &[u64x4; N], other: &[u64x4; N]) -> bool
     ensures { IsTrue result → AreAlike N one.now other.now }
 {
@@ -88,7 +88,7 @@ pub(crate) fn are_alike<const N: usize>(one: &[u64x4; N], other: &[u64x4; N]) ->
     in_any_lane(differ) == 0
 }
 
-/// The marks, and a mark where the two differ.
+/// Returns the marks, with a mark added where the two differ.
 #[inline(always)]
 fn marked(marks: u64x4, a: u64x4, b: u64x4) -> u64x4
     ensures before { (j i : ℕ) → j < 4 → bit_of result j i ≡ 0 → bit_of marks j i ≡ 0 }
@@ -97,28 +97,13 @@ fn marked(marks: u64x4, a: u64x4, b: u64x4) -> u64x4
     marks | (a ^ b)
 }
 
-/// The first row with a live cell.
+/// Returns the first row with a live cell.
 pub(crate) fn first_row<const N: usize>(window: &[u64x4; N]) -> Option<usize>
     requires some { 0 < N }
     requires few { N ≤ 16 }
     ensures { IfSome result (IsFirstRow N window.now) }
 {
     for r in 0..4 * N {
-        if row(window, r) != 0 {
-            return Some(r);
-        }
-    }
-    None
-}
-
-/// The last row with a live cell.
-pub(crate) fn last_row<const N: usize>(window: &[u64x4; N]) -> Option<usize>
-    requires some { 0 < N }
-    requires few { N ≤ 16 }
-    ensures low { IfSome result (λ last. last < 4 * N) }
-    ensures none { IfSome result (λ last. (r : ℕ) → last < r → r < 4 * N → row_at N window.now r ≡ 0) }
-{
-    for r in (0..4 * N).rev() {
         if row(window, r) != 0 {
             return Some(r);
         }

@@ -1,10 +1,13 @@
 -- Texts without an invisible byte.
-use Rattle.std.proofs.Common.{◌≡◌, refl, ℕ, suc, ◌+◌, ◌≤◌, Bool, true, false, not, List, [], ◌∷◌, position, length, None, Option, Some, Err, nat_lt, arith, cond, ◌&&◌}
+use Rattle.std.proofs.Common.{◌≡◌, refl, ℕ, suc, ◌+◌, ◌≤◌, Bool, true, false, not, List, [], ◌∷◌, position, length, None, Option, Some, Err, nat_le, nat_lt, arith, cond, ◌&&◌}
 use Rattle.std.proofs.Common.{◌∙◌, ◌++◌, ◌-◌, ◌<◌, ap, append_assoc, drop, get_or, replicate, set, sym, take}
 use Rattle.std.specs.List.{list_all, position_from, prefix_len}
-use Rattle.std.proofs.lemmas.Bool.{ltb-false, ltb-true}
+use Rattle.std.specs.Str.{IsAscii, IsUtf8}
+use Rattle.std.proofs.lemmas.Bool.{false≢true, leb-true, ltb-false, ltb-true}
 use Rattle.std.proofs.lemmas.List.{drop_all, drop_more, length-take-le, set_at, take_all, take_more}
-use Rattle.survey_core.specs.Seeds.{is_invisible, is_visible, most_bytes, seed_read, seed_with_fault}
+use Rattle.std.proofs.lemmas.Str.{IsUtf8-from_ascii}
+use Rattle.std.proofs.lemmas.Str.Ascii.{IsAscii-cons, IsAscii-nil}
+use Rattle.survey_core.specs.Seeds.{IsSeed, is_invisible, is_visible, most_bytes, seed_read, seed_with_fault}
 use Rattle.survey_core.specs.declared.seed.SeedFault.TheVariants.{TooLong}
 
 -- no byte is invisible, so all are visible
@@ -72,3 +75,24 @@ invisible_later bytes i low e =
 
 pub invisible_nowhere : (bytes : List ℕ) (i : ℕ) → length bytes ≤ i → position_from is_invisible i (drop i bytes) ≡ None
 invisible_nowhere bytes i all = ap (position_from is_invisible i) (drop_all i bytes all)
+
+-- ---- shown
+
+small_if : (b : ℕ) (low high : Bool) → nat_le b 126 ≡ high → (low && high) ≡ true → b < 128
+small_if b true true is h = let k : b ≤ 126 = leb-true b 126 is in omega (arith, k)
+small_if b true false is h = absurd (false≢true h)
+small_if b false high is h = absurd (false≢true h)
+
+both_true : (a b : Bool) → (a && b) ≡ true → (a ≡ true) × (b ≡ true)
+both_true true b h = (refl, h)
+both_true false b h = absurd (false≢true h)
+
+visible_ascii : (bytes : List ℕ) → list_all is_visible bytes ≡ true → IsAscii bytes
+visible_ascii [] h = IsAscii-nil
+visible_ascii (b ∷ more) h =
+    let both = both_true (is_visible b) (list_all is_visible more) h in
+    IsAscii-cons b more (small_if b (nat_le 33 b) (nat_le b 126) refl both.0) (visible_ascii more both.1)
+
+-- visible bytes are UTF-8
+pub seed_utf8 : (bytes : List ℕ) → IsSeed bytes → IsUtf8 bytes
+seed_utf8 bytes is = IsUtf8-from_ascii bytes (visible_ascii bytes is.visible)

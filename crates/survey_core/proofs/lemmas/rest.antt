@@ -1,4 +1,5 @@
 pub mod AloneLemmas
+pub mod ApartLemmas
 pub mod ForGoodLemmas
 pub mod GroupLemmas
 pub mod GroupingLemmas

@@ -1,4 +1,4 @@
--- Spaceships that are ahead of all the rest of a pattern. Nothing ever comes near them, so they run alone for good.
+-- Spaceships that are ahead of all the rest of a pattern. Nothing ever comes near them, so they evolve alone forever.
 use Rattle.std.specs.Prelude.{◌≡◌, ◌+◌, ◌*◌, ◌<◌, ◌≤◌, ℕ, ℤ, pos, ◌+ℤ◌, ◌*ℤ◌, ◌≤ℤ◌, ◌||◌, true, List}
 use Rattle.plane_core.specs.declared.plane.cell.Cell.{Cell}
 use Rattle.plane_core.specs.declared.plane.orientation.Orientation.{Orientation}
@@ -13,7 +13,7 @@ use Rattle.plane_core.specs.plane.Without.{without}
 use Rattle.code_core.specs.declared.recurrence.Recurrence.{Recurrence}
 use Rattle.survey_core.specs.declared.shapes.envelope_bounds.EnvelopeBounds.{EnvelopeBounds}
 
--- each cell of the pattern, turned by the orientation, lies at least so deep
+-- each cell of the pattern, turned by the orientation, has at least this depth
 abbrev pub LiesFrom : Orientation → ℤ → List Cell → Type 0
 LiesFrom o m cells = (c : Cell) → has cells c ≡ true → m ≤ℤ depth (turned_cell o c)
 
@@ -23,8 +23,8 @@ pub record IsSpaceship (rule : Numbers) (r : Recurrence) (cells : List Cell) : T
   pub some : 1 ≤ r.period
   pub back : after rule cells r.period ≡ shifted r.dx r.dy cells
 
--- A spaceship that is ahead of all that lies up to m in a diagonal direction: it goes there by at least a cell in two generations, and
--- begins far enough past m.
+-- A spaceship that is ahead of everything up to depth m in a diagonal direction: it moves that way by at least one cell in two
+-- generations, and begins far enough past m.
 pub record IsAheadOf (rule : Numbers) (way : Orientation) (m : ℤ) (r : Recurrence) (spaceship : List Cell) : Type 0 where
   pub comes : IsSpaceship rule r spaceship
   pub fast : pos r.period ≤ℤ (pos 2 *ℤ depth (turned_cell way (cell_at r.dx r.dy)))
@@ -32,8 +32,8 @@ pub record IsAheadOf (rule : Numbers) (way : Orientation) (m : ℤ) (r : Recurre
   pub none_behind : (g : ℕ) → g < r.period → LiesFrom way from (after rule spaceship g)
   pub room : ((pos 2 *ℤ m) +ℤ pos (r.period + 10)) ≤ℤ (pos 2 *ℤ from)
 
--- Under a slow rule, what lies up to m now, and what lies up to k further n generations later, where k is at most half of n + 1, stays more
--- than two cells from the spaceship.
+-- Under a slow rule, everything up to depth m now stays more than two cells away from the spaceship, and so does everything that
+-- lies up to depth m + k another n generations later, where k is at most half of n + 1.
 abbrev pub SpaceshipsStayAhead : Type 0
 SpaceshipsStayAhead = (rule : Numbers) (way : Orientation) (m : ℤ) (r : Recurrence) (spaceship cells : List Cell) (n k g : ℕ) → is_slow rule ≡ true
     → IsAheadOf rule way m r spaceship → InOrder cells → LiesUpTo way (m +ℤ pos k) cells → 2 * k ≤ n + 1
@@ -51,7 +51,7 @@ pub record IsForemost (rule : Numbers) (whole : List Cell) (r : Recurrence) (spa
   pub ahead : IsAheadOf rule way m r spaceship
   pub behind : LiesUpTo way m (without whole spaceship)
 
--- a pattern goes on as such a spaceship and the rest do alone
+-- the pattern evolves as such a spaceship and the rest do alone
 abbrev pub SpaceshipsRunAlone : Type 0
 SpaceshipsRunAlone = (rule : Numbers) (whole : List Cell) (r : Recurrence) (spaceship : List Cell) → is_slow rule ≡ true → InOrder whole
     → IsForemost rule whole r spaceship

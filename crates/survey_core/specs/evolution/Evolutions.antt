@@ -1,4 +1,4 @@
--- A pattern on its way through its generations.
+-- A pattern as it evolves.
 use Rattle.std.specs.Prelude.{◌≡◌, ◌≤◌, List, true}
 use Rattle.plane_core.specs.declared.plane.cell.Cell.{Cell}
 use Rattle.plane_core.specs.plane.Generations.{after, lies_within}
@@ -8,12 +8,12 @@ use Rattle.survey_core.specs.UnderWay.{survey_reach}
 use Rattle.survey_core.specs.declared.evolution.Evolution.{Evolution}
 use Rattle.survey_core.specs.declared.evolution.Evolution.TheVariants.{Listed, Shown}
 
--- the pattern, wherever it is kept
+-- the pattern, in whichever form it is kept
 abbrev pub kept : Numbers → Evolution → List Cell
 kept rule (Listed cells) = cells
 kept rule (Shown split ahead) = after rule (whole_of rule split) ahead
 
--- it lies near the origin; a split pattern goes by the rule, and is at most a generation behind
+-- it lies near the origin; a split pattern is under the rule, and at most one generation behind
 abbrev pub IsKept : Numbers → Evolution → Type 0
 IsKept rule (Listed cells) = lies_within survey_reach cells ≡ true
 IsKept rule (Shown split ahead) = IsSplit rule split × (ahead ≤ 1) × (lies_within survey_reach (whole_of rule split) ≡ true)

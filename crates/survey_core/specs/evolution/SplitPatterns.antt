@@ -25,14 +25,14 @@ whole_at rule t board spaceships = union_of (board ∷ map (spaceship_at rule t)
 abbrev pub IsNoneOf : List Spaceship → List Cell → Type 0
 IsNoneOf spaceships cells = All (λ spaceship. spaceship.cells ≢ cells) spaceships
 
--- Clusters of what the board showed before some of them left it as spaceships. The others are parts of it still.
+-- Clusters of what the board showed before some of them were removed as spaceships. The others are still parts of it.
 pub record AreCandidates (board : List Cell) (spaceships : List Spaceship) (clusters : List (List Cell)) : Type 0 where
   pub before : List Cell
   pub each : All (IsCluster before) clusters
   pub still : (cluster : List Cell) → IsCluster before cluster → IsNoneOf spaceships cluster → IsPartOf board cluster
 
--- The spaceship has been off the board for an even number of generations, twice `half`; it was ahead when it was taken off, and since then
--- the board hasn't come further than a cell in two generations.
+-- The spaceship was removed from the board an even number of generations ago, twice `half`. It was ahead then, and since then the
+-- board has grown by at most one cell in two generations.
 pub record IsOff (rule : Numbers) (t : ℕ) (board : List Cell) (spaceship : Spaceship) : Type 0 where
   pub slow : is_slow rule ≡ true
   pub half : ℕ
@@ -42,7 +42,7 @@ pub record IsOff (rule : Numbers) (t : ℕ) (board : List Cell) (spaceship : Spa
   pub ahead : IsAheadOf rule way m spaceship.recurrence spaceship.cells
   pub behind : LiesUpTo way (m +ℤ pos half) board
 
--- the spaceships are off the board for good: the whole pattern goes on as the board and each of them does alone
+-- the spaceships are removed for good: the whole pattern evolves as the board and each of them do alone
 pub record AreOff (rule : Numbers) (t : ℕ) (board : List Cell) (spaceships : List Spaceship) : Type 0 where
   pub in_order : InOrder board
   pub each : All (IsOff rule t board) spaceships
@@ -55,23 +55,23 @@ pub record HasSmallNumbers (spaceship : Spaceship) : Type 0 where
   pub across : unsigned_abs spaceship.recurrence.dx ≤ 64
   pub down : unsigned_abs spaceship.recurrence.dy ≤ 64
 
--- where the spaceship is at time t can be computed
+-- the position of the spaceship at time t can be computed
 pub record IsTraced (rule : Numbers) (t : ℕ) (spaceship : Spaceship) : Type 0 where
   pub comes : IsSpaceship rule spaceship.recurrence spaceship.cells
   pub small : HasSmallNumbers spaceship
   pub since : spaceship.since ≤ t
 
--- until when spaceships are kept off a board: by then none of them has come near the edge of the plane
+-- the latest time up to which spaceships are kept off a board: until then none of them comes near the edge of the plane
 abbrev pub latest_time : ℕ
 latest_time = 800000
 
--- a board and the spaceships that have left it
+-- a board and the spaceships that were removed from it
 pub record IsSplitAt (rule : Numbers) (t : ℕ) (board : List Cell) (spaceships : List Spaceship) : Type 0 where
   pub off : AreOff rule t board spaceships
   pub small : All HasSmallNumbers spaceships
   pub early : t ≤ latest_time
 
--- a board that goes by the rule, and the spaceships that have left it
+-- a board under the rule, and the spaceships that were removed from it
 abbrev pub IsSplit : Numbers → SplitPattern → Type 0
 IsSplit rule split = (split.board.rule ≡ rule) × IsSplitAt rule split.time split.board.cells split.spaceships.items
 

@@ -4,20 +4,20 @@ use Rattle.survey_core.specs.declared.shapes.envelope_bounds.EnvelopeBounds.{Env
 use Rattle.survey_core.specs.rest.Groups.{renamed}
 use Rattle.survey_core.specs.shapes.Envelopes.{StayApart}
 
--- each envelope has the number of its group, which is that of a place
+-- each envelope has the number of its group, which is the place of an envelope
 pub record AreNumbers (envelopes : List EnvelopeBounds) (groups : List ℕ) : Type 0 where
   pub count : length groups ≡ length envelopes
   pub below : All (λ k. k < length envelopes) groups
 
--- what was in one group still is
+-- two that were in one group still are
 abbrev pub Coarser : List ℕ → List ℕ → Type 0
 Coarser old new = (a b : ℕ) → a < length old → b < length old → get_or new a 0 ≢ get_or new b 0 → get_or old a 0 ≢ get_or old b 0
 
--- each of the groups has its number, and the one that of the other
+-- the group with one number gets the other number, and the other groups keep theirs
 abbrev pub AreRenamed : ℕ → ℕ → List ℕ → List ℕ → Type 0
 AreRenamed from to old new = (k : ℕ) → k < length old → get_or new k 0 ≡ renamed from to (get_or old k 0)
 
--- the envelopes at these two places stay apart if they are of different groups
+-- the envelopes at these two places stay apart if they are in different groups
 abbrev pub PairIsRight : ℕ → List EnvelopeBounds → List ℕ → ℕ → ℕ → Type 0
 PairIsRight horizon envelopes groups i j = (d : EnvelopeBounds) → get_or groups i 0 ≢ get_or groups j 0 → StayApart horizon (get_or envelopes i d) (get_or envelopes j d)
 

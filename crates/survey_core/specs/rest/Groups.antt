@@ -30,6 +30,6 @@ GroupsStayApart rule groups parts n = (i j : ℕ) (d : List Cell) (g : ℕ) → 
 abbrev pub GroupKeeps : Numbers → List ℕ → List (List Cell) → ℕ → ℕ → Type 0
 GroupKeeps rule groups parts n k = (g : ℕ) → g ≤ n → KeepApart rule (union_of (members k groups parts)) (members k groups parts) g
 
--- the number of group `from` is turned into that of group `to`
+-- the number of group `from` becomes that of group `to`
 abbrev pub renamed : ℕ → ℕ → ℕ → ℕ
 renamed from to k = if k == from then to else k

@@ -1,4 +1,4 @@
--- Looks that are known to say no, since nothing changes in an even number of generations.
+-- Examinations that are known to say no, because an even number of generations changes nothing.
 use Rattle.std.specs.Prelude.{◌≡◌, ◌+◌, ◌%◌, ℕ, Bool, false, true, List, get_or}
 use Rattle.plane_core.specs.declared.plane.cell.Cell.{Cell}
 use Rattle.plane_core.specs.plane.Generations.{after}
@@ -10,6 +10,6 @@ use Rattle.survey_core.specs.rest.Rest.{IsAtRest}
 abbrev pub is_known : List Bool → ℕ → Bool
 is_known known_restless t = get_or known_restless (t % 2) false
 
--- and so it does: in generation t the pattern is these cells, and it is at rest in no later one that is known
+-- what is known is true: in generation t the pattern is these cells, and it isn't at rest in any later generation that is known
 abbrev pub AreKnownRestless : Numbers → Settling → List Cell → ℕ → List Bool → Type 0
 AreKnownRestless rule profile cells t known_restless = (n : ℕ) → is_known known_restless (t + n) ≡ true → ¬ IsAtRest rule profile (after rule cells n)

@@ -1,4 +1,4 @@
--- When a pattern is at rest: each of its clusters recurs, and up to the horizon the clusters don't get into each other's way.
+-- When a pattern is at rest: each of its clusters recurs, and up to the horizon no cluster influences another.
 use Rattle.std.specs.Prelude.{◌≤◌, ℕ, List, All, map}
 use Rattle.plane_core.specs.declared.plane.cell.Cell.{Cell}
 use Rattle.plane_core.specs.clusters.Clusters.{AreClusters, Partition}

@@ -24,14 +24,15 @@ AtRestForGood = (rule : Numbers) (profile : Settling) (cells : List Cell) (clust
     → InOrder cells → profile.period ≤ 64 → RestsAs rule profile cells clusters → AreObjectsOf rule profile.period clusters objects
     → (good : StayForGood profile.horizon objects) → RestsForever rule cells clusters good.multiple
 
--- Parts that stay more than two cells apart, each run alone, run in the whole as if each were alone.
+-- Parts that stay more than two cells apart when each runs alone evolve in the whole as they do alone.
 abbrev pub PartsRunAlone : Type 0
 PartsRunAlone = (rule : Numbers) (cells : List Cell) (parts : List (List Cell)) (n : ℕ) → InOrder cells → All InOrder parts → Partition cells parts
     → ((i j : ℕ) (d : List Cell) (g : ℕ) → i < length parts → j < length parts → i ≢ j → g ≤ n
     → LieApart (after rule (get_or parts i d) g) (after rule (get_or parts j d) g))
     → (g : ℕ) → g ≤ n → KeepApart rule cells parts g
 
--- For groups of parts it is enough that parts of different groups do so: then all parts keep apart exactly if they do in each group.
+-- For groups of parts, it is enough that parts of different groups stay apart. Then all parts keep apart if and only if they do in
+-- each group.
 abbrev pub GroupsRunAlone : Type 0
 GroupsRunAlone = (rule : Numbers) (cells : List Cell) (groups : List ℕ) (parts : List (List Cell)) (n : ℕ) → InOrder cells → length groups ≡ length parts
     → Partition cells parts → GroupsStayApart rule groups parts n

@@ -28,7 +28,7 @@ pub record AreEnvelopes (rule : Numbers) (limit : ℕ) (parts : List (List Cell)
   pub count : length envelopes ≡ length parts
   pub each : (i : ℕ) (d : List Cell) (e : EnvelopeBounds) → i < length parts → IsEnvelope rule limit (get_or parts i d) (get_or envelopes i e)
 
--- cycles of so many generations suit an envelope: they are its period, or it doesn't move
+-- cycles of this many generations suit an envelope: this is its period, or the pattern doesn't move
 abbrev pub Serves : ℕ → EnvelopeBounds → Type 0
 Serves period envelope = (period ≡ envelope.recurrence.period) ⊎ ((envelope.recurrence.dx ≡ pos 0) × (envelope.recurrence.dy ≡ pos 0))
 
@@ -36,7 +36,7 @@ Serves period envelope = (period ≡ envelope.recurrence.period) ⊎ ((envelope.
 abbrev pub is_past : ℤ → ℤ → ℤ → ℤ → Bool
 is_past end t begin s = int_lt ((end +ℤ t) +ℤ pos 2) (begin +ℤ s)
 
--- the sides of the box on which the other, moved by (x, y), lies with at least two empty columns or rows between them
+-- the sides of the box beyond which the other, moved by (x, y), lies with at least two empty columns or rows between them
 abbrev pub gaps_of : Bounds → Bounds → ℤ → ℤ → Gaps
 gaps_of one other x y = record {
   right = is_past one.right (pos 0) other.left x;
@@ -49,7 +49,7 @@ gaps_of one other x y = record {
 abbrev pub is_gap : Gaps → Bool
 is_gap gaps = gaps.right || gaps.left || gaps.below || gaps.above
 
--- and one over which no step by (dx, dy) leads back
+-- there is a gap over which no step by (dx, dy) leads back
 abbrev pub gap_stays : Gaps → ℤ → ℤ → Bool
 gap_stays gaps dx dy = gaps.right && int_le (pos 0) dx || gaps.left && int_le dx (pos 0) || gaps.below && int_le (pos 0) dy || gaps.above && int_le dy (pos 0)
 
@@ -57,17 +57,21 @@ gap_stays gaps dx dy = gaps.right && int_le (pos 0) dx || gaps.left && int_le dx
 abbrev pub is_clear : Bounds → Bounds → ℤ → ℤ → Bool
 is_clear one other x y = is_gap (gaps_of one other x y)
 
--- so many cycles the boxes are clear of each other
+-- the boxes are clear of each other for this many cycles
 abbrev pub StayClear : ℕ → EnvelopeBounds → EnvelopeBounds → Type 0
 StayClear cycles one other = (n : ℕ) → n < cycles → is_clear one.bounds other.bounds (times n (other.recurrence.dx -ℤ one.recurrence.dx))
     (times n (other.recurrence.dy -ℤ one.recurrence.dy)) ≡ true
 
--- Up to the horizon patterns with these envelopes, each run alone, are at king distance 3 or more.
+-- Patterns with these envelopes that are at king distance 3 or more stay so up to the horizon, each run alone.
 abbrev pub StayApart : ℕ → EnvelopeBounds → EnvelopeBounds → Type 0
 StayApart horizon one other = (rule : Numbers) (limit : ℕ) (cells others : List Cell) → IsEnvelope rule limit cells one → IsEnvelope rule limit others other
-    → (g : ℕ) → g ≤ horizon → LieApart (after rule cells g) (after rule others g)
+    → LieApart cells others → (g : ℕ) → g ≤ horizon → LieApart (after rule cells g) (after rule others g)
 
--- what recurs moves by its shift each period
+-- a pattern with this envelope is a still life
+abbrev pub IsStillLife : EnvelopeBounds → Type 0
+IsStillLife envelope = (envelope.recurrence.period ≡ 1) × (envelope.recurrence.dx ≡ pos 0) × (envelope.recurrence.dy ≡ pos 0)
+
+-- a pattern that recurs moves by its displacement in each period
 abbrev pub SpaceshipsMoveByCycles : Type 0
 SpaceshipsMoveByCycles = (rule : Numbers) (cells : List Cell) (p : ℕ) (dx dy : ℤ) → InOrder cells → after rule cells p ≡ shifted dx dy cells → (n r : ℕ)
     → after rule cells (n * p + r) ≡ shifted (times n dx) (times n dy) (after rule cells r)

@@ -1,9 +1,9 @@
 -- Objects by their codes, with how many there are of each, and whether they stay for good.
-use Rattle.std.specs.Prelude.{◌≡◌, ◌≢◌, ◌*◌, ◌≤◌, ℕ, Bool, List, All, count_by, unwrap_or}
+use Rattle.std.specs.Prelude.{◌≡◌, ◌≢◌, ◌*◌, ◌+◌, ◌≤◌, ℕ, Bool, List, All, IfSome, count_by, sum, unwrap_or, if◌then◌else◌}
 use Rattle.std.specs.Cmp.Lexicographic.{slice_cmp}
 use Rattle.std.specs.List.{AllZip}
 use Rattle.std.specs.List.Sorted.{IsStrictlySortedBy}
-use Rattle.std.specs.Map.{keys_of, lookup}
+use Rattle.std.specs.Map.{keys_of, lookup, values_of}
 use Rattle.std.specs.Ordering.{is_eq, nat_cmp}
 use Rattle.plane_core.specs.declared.plane.cell.Cell.{Cell}
 use Rattle.plane_core.specs.plane.Rules.{Numbers}
@@ -16,7 +16,7 @@ use Rattle.code_core.specs.Names.{IsCode}
 abbrev pub is_code : List ℕ → List ℕ → Bool
 is_code a b = is_eq (slice_cmp nat_cmp a b)
 
--- how many objects a list has of a code: what stands beside it, or 0
+-- how many objects of a list have this code: the count beside it, or 0
 abbrev pub count_of : List (List ℕ × ℕ) → List ℕ → ℕ
 count_of objects code = unwrap_or (lookup (is_code code) objects) 0
 
@@ -25,6 +25,22 @@ pub record AreObjects (objects : List (List ℕ × ℕ)) : Type 0 where
   pub in_order : IsStrictlySortedBy (slice_cmp nat_cmp) (keys_of objects)
   pub some : All (λ object. 1 ≤ object.1) objects
 
+-- no code has a count of 0
+abbrev pub CountsAreSome : List (List ℕ × ℕ) → Type 0
+CountsAreSome objects = (code : List ℕ) → IfSome (lookup (is_code code) objects) (λ n. 1 ≤ n)
+
+-- there is one more object with this code, and no other count has changed
+pub record IsOneMore (code : List ℕ) (old new : List (List ℕ × ℕ)) : Type 0 where
+  pub counts : (other : List ℕ) → count_of new other ≡ count_of old other + (if is_code other code then 1 else 0)
+  pub some : CountsAreSome old → CountsAreSome new
+  pub number : sum (values_of new) ≡ sum (values_of old) + 1
+
+-- a cluster is counted under its code
+pub record IsCounted (rule : Numbers) (limit : ℕ) (cluster : List Cell) (old new : List (List ℕ × ℕ)) : Type 0 where
+  pub code : List ℕ
+  pub named : IsCode rule cluster limit code
+  pub more : IsOneMore code old new
+
 -- the objects of some clusters: each cluster has its code, and of each code there are as many objects as clusters have it
 pub record AreObjectsOf (rule : Numbers) (limit : ℕ) (clusters : List (List Cell)) (objects : List (List ℕ × ℕ)) : Type 0 where
   pub lawful : AreObjects objects
@@ -32,7 +48,7 @@ pub record AreObjectsOf (rule : Numbers) (limit : ℕ) (clusters : List (List Ce
   pub named : AllZip (λ cluster code. IsCode rule cluster limit code) clusters codes
   pub counts : (code : List ℕ) → count_of objects code ≡ count_by (is_code code) codes
 
--- the period that a code tells: 1 for a still life
+-- the period in a code: 1 for a still life
 abbrev pub period_of_kind : Kind → ℕ → ℕ
 period_of_kind Still number = 1
 period_of_kind Oscillator number = number

@@ -1,4 +1,4 @@
-//! Escaped spaceships: nothing else in the pattern can ever catch up with them, so they may be removed from the board:
+//! Escaped spaceships: nothing else in the pattern can ever catch up with them, so they may be removed from the board.
 //!
 //! ```text
 //! O O . . . . . . .     The depth of a cell is the sum of its column and its row. In two generations the rest gets at
@@ -8,8 +8,8 @@
 //! . . . . O O O . .
 //! ```
 //!
-//! A spaceship is kept as it was when it was removed, with the time. Its later positions come from whole periods, each of
-//! which displaces it by the same vector, and from single generations for the remainder.
+//! A spaceship is kept as it was when it was removed, with the time. Its later positions come from whole periods, each
+//! of which displaces it by the same vector, and from single generations for the remainder.
 
 ghost use Rattle.std.specs.Prelude.{◌≡◌, ◌≢◌, ◌+◌, ◌≤◌, ◌^◌, [], IfOk, IfSome, IsTrue, true, unsigned_abs};
 ghost use Rattle.std.specs.Prelude.{◌+ℤ◌, ◌*ℤ◌, ◌≤ℤ◌, pos};
@@ -39,8 +39,8 @@ use plane_core::plane::rule::Rule;
 use plane_core::plane::transform::PlaceError;
 use std::alloc::Global;
 
-/// The longest period of a spaceship that is removed from the board, in generations. All that soups of Life leave recur
-/// within four.
+/// The longest period of a spaceship that is removed from the board, in generations. All spaceships that soups of Life
+/// leave recur within four.
 const SHORT: u32 = 8;
 
 /// A spaceship that was removed from a board.
@@ -48,14 +48,15 @@ const SHORT: u32 = 8;
 pub(crate) struct Spaceship {
     /// Its cells when it was removed.
     pub(crate) cells: Pattern,
-    /// How many generations had been made on the board by then.
+    /// The number of generations that had been made on the board by then.
     pub(crate) since: u32,
     /// How it recurs.
     pub(crate) recurrence: Recurrence,
 }
 
-/// The laws of spaceships. Under a slow rule, what a spaceship is ahead of never comes within two cells of it, and a pattern from
-/// which a spaceship is taken away that is ahead of all the rest goes on as the rest and the spaceship do alone.
+/// The laws of spaceships. Under a slow rule, a pattern that a spaceship is ahead of never comes within two cells of
+/// it. If a spaceship is ahead of all the rest of a pattern, the pattern evolves as the rest and the spaceship do
+/// alone.
 pub fn spaceships_are_never_caught()
     ensures ahead { SpaceshipsStayAhead }
     ensures alone { SpaceshipsRunAlone }
@@ -83,8 +84,7 @@ pub(crate) fn spaceship_of(
     ensures small { IfOk result (λ found. IfSome found HasSmallNumbers) }
 {
     part.recall_order();
-    // Few clusters that change are spaceships, so this is asked first, and for a short time.
-    if part.surely_changes(rule, limit.min(SHORT)) {
+    if is_unlikely(rule, limit, part, memo) {
         return Ok(None);
     }
     let Some(envelope) = memo.envelope(alloc, rule, limit, part)? else {
@@ -110,7 +110,17 @@ pub(crate) fn spaceship_of(
     }))
 }
 
-/// The orientation that turns the way of a spaceship to the right and down.
+/// Guesses whether a part of a board is no spaceship: the memo doesn't know it, and it doesn't recur within a few generations.
+/// Few clusters that change are spaceships, so this is asked first. What the memo knows isn't run: most of it is a spaceship
+/// that isn't ahead yet.
+fn is_unlikely(rule: &Rule, limit: u32, part: &Pattern, memo: &Memo) -> bool {
+    if memo.knows(rule, limit, part) {
+        return false;
+    }
+    part.surely_changes(rule, limit.min(SHORT))
+}
+
+/// Returns the orientation that turns the direction of a spaceship to the right and down.
 fn way_of(recurrence: Recurrence) -> Orientation {
     if recurrence.dx >= 0 {
         if recurrence.dy >= 0 {
@@ -125,7 +135,8 @@ fn way_of(recurrence: Recurrence) -> Orientation {
     }
 }
 
-/// Whether what recurs like this, turned by the orientation, gets at least a cell deeper in two generations.
+/// Checks whether a pattern that recurs like this, turned by the orientation, gets at least one cell deeper in two
+/// generations.
 fn is_fast(way: Orientation, recurrence: Recurrence) -> bool
     ensures { IsTrue result
         → pos recurrence.period ≤ℤ (pos 2 *ℤ depth (turned_cell way (cell_at recurrence.dx recurrence.dy))) }
@@ -141,7 +152,7 @@ fn is_fast(way: Orientation, recurrence: Recurrence) -> bool
     i64::from(period) <= 2 * least_depth(way, step)
 }
 
-/// Whether the box of all phases begins far enough past the frontier.
+/// Checks whether the box of all phases begins far enough past the frontier.
 fn begins_past(way: Orientation, frontier: i32, envelope: &EnvelopeBounds) -> bool
     ensures { IsTrue result → BeginsPast way frontier envelope.now }
 {
@@ -149,14 +160,14 @@ fn begins_past(way: Orientation, frontier: i32, envelope: &EnvelopeBounds) -> bo
     twice_least(frontier, recurrence.period) <= 2 * least_depth(way, bounds)
 }
 
-/// Twice how deep a spaceship with this period lies at least, if it is ahead of all that lies up to the frontier.
+/// Returns twice the least depth of a spaceship with this period that is ahead of everything up to the frontier.
 fn twice_least(frontier: i32, period: u32) -> i64
     ensures { result ≡ ((pos 2 *ℤ frontier) +ℤ pos (period + 10)) }
 {
     2 * i64::from(frontier) + i64::from(period) + 10
 }
 
-/// How deep the cells of a box lie at least, turned by the orientation: by column and row together.
+/// Returns the least depth of the cells of a box, turned by the orientation: column and row together.
 fn least_depth(way: Orientation, bounds: Bounds) -> i64
     ensures least { (c : Cell) → IsWithin bounds c → result ≤ℤ depth (turned_cell way c) }
     ensures small { unsigned_abs result ≤ 2 ^ 33 }
@@ -175,7 +186,7 @@ fn least_depth(way: Orientation, bounds: Bounds) -> i64
     }
 }
 
-/// Both together.
+/// Returns the sum of both.
 fn sum(one: i32, other: i32) -> i64
     ensures sum { result ≡ one +ℤ other }
     ensures small { unsigned_abs result ≤ 2 ^ 33 }
@@ -205,7 +216,7 @@ pub(crate) fn at_time(
     }
 }
 
-/// So many steps.
+/// Returns `count` times `step`.
 fn steps(count: u32, step: i32) -> i32
     requires few { count ≤ 1000000 }
     requires small { unsigned_abs step ≤ 64 }

@@ -1,4 +1,5 @@
-//! The board that a worker keeps from one pattern to the next, so that its words needn't be allocated and cleared anew.
+//! The board that a worker keeps from one pattern to the next, so that its memory needn't be allocated and cleared
+//! again.
 //!
 //! ```text
 //! first soups      a small board, which is made in no time
@@ -24,7 +25,7 @@ pub(crate) struct SpareBoard {
 /// The size of a board.
 #[derive(Clone, Copy)]
 enum Size {
-    /// Enough for most patterns, and made fast.
+    /// Enough for most patterns, and quick to make.
     Small,
     /// For all patterns, once one of them had no room on a small board.
     Large,

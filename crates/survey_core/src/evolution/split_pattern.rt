@@ -10,15 +10,14 @@
 //! spaceship than half their sum.
 
 ghost use Rattle.std.specs.Prelude.{◌≡◌, ◌+◌, ◌≤◌, All, IfOk, OnOk, false, true};
-ghost use Rattle.plane_core.specs.plane.Cells.{InOrder};
 ghost use Rattle.plane_core.specs.plane.Frontiers.{is_slow};
-ghost use Rattle.plane_core.specs.plane.Generations.{lies_within};
+ghost use Rattle.plane_core.specs.plane.Generations.{lies_within, next};
 ghost use Rattle.survey_core.specs.evolution.SplitPatterns.{AreCandidates, IsSplitAt, IsSplit, IsNoneOf, IsTraced, latest_time};
 ghost use Rattle.survey_core.specs.evolution.SplitPatterns.{whole_at, whole_of};
 ghost use Rattle.survey_core.specs.UnderWay.{survey_reach};
 
 use crate::evolution::escaped_spaceships::{Spaceship, at_time, spaceship_of};
-use crate::patterns::{are_same, pattern_of};
+use crate::patterns::{are_same, next};
 use crate::shapes::memo::Memo;
 use memory::OutOfMemory;
 use plane_core::engine::board::Board;
@@ -31,8 +30,8 @@ use std::alloc::Global;
 /// comes near the edge of the plane.
 pub(crate) const LATEST_TIME: u32 = 800_000;
 
-/// How often spaceships are looked for, in generations. A search costs as much as a leap or two, and a spaceship that isn't
-/// found yet costs a window in every leap.
+/// How often spaceships are looked for, in generations. A search costs as much as a leap or two, and a spaceship that
+/// isn't found costs a window in every leap.
 const EVERY: u32 = 64;
 
 /// The shortest period of a spaceship that can escape, in generations.
@@ -43,7 +42,7 @@ const SHORTEST_PERIOD: u32 = 4;
 pub(crate) struct SplitPattern {
     pub(crate) board: Board,
     pub(crate) spaceships: Vec<Spaceship>,
-    /// How many generations were made on the board.
+    /// The number of generations that were made on the board.
     pub(crate) time: u32,
 }
 
@@ -93,10 +92,24 @@ impl SplitPattern {
         }
         Ok(())
     }
+
+    /// Returns the next generation of the whole pattern.
+    pub(crate) fn next(&self, alloc: Global, rule: &Rule) -> Result<Pattern, OutOfMemory>
+        requires is_split { IsSplit rule.now self.now }
+        requires near { lies_within survey_reach (whole_of rule.now self.now) ≡ true }
+        ensures { IfOk result (λ pattern. pattern ≡ next rule.now (whole_of rule.now self.now)) }
+    {
+        let spaceships = self.spaceships.as_slice();
+        let Some(board) = self.board.next_pattern(alloc)? else {
+            let pattern = whole(alloc, rule, self.time, &self.board, spaceships)?;
+            return next(alloc, rule, &pattern);
+        };
+        with_spaceships(alloc, rule, self.time + 1, board, spaceships)
+    }
 }
 
-/// Removes each of the clusters that is ahead of all the rest, one after another. After that another cluster, which was
-/// behind one of these, may be ahead.
+/// Removes the clusters that are ahead of all the rest, one after another. When one is removed, another cluster that
+/// was behind it may be ahead.
 fn remove_ahead(
     alloc: Global,
     rule: &Rule,
@@ -154,21 +167,31 @@ pub(crate) fn whole(
     board: &Board,
     spaceships: &[Spaceship],
 ) -> Result<Pattern, OutOfMemory>
-    requires order { InOrder board.now.cells }
     requires traced { All (IsTraced rule.now time) spaceships.now }
     requires early { time ≤ latest_time + 10001 }
-    requires near { lies_within survey_reach (whole_at rule.now time board.now.cells spaceships.now) ≡ true }
     ensures { IfOk result (λ pattern. pattern ≡ whole_at rule.now time board.now.cells spaceships.now) }
 {
-    let pattern = board.pattern(alloc)?;
-    if spaceships.is_empty() {
-        return Ok(pattern);
-    }
-    let mut cells = Vec::from_slice(alloc, pattern.cells())?;
-    drop(pattern);
+    let cells = board.pattern(alloc)?;
+    with_spaceships(alloc, rule, time, cells, spaceships)
+}
+
+/// Adds spaceships, as they are at `time`, to the cells of a board.
+fn with_spaceships(
+    alloc: Global,
+    rule: &Rule,
+    time: u32,
+    board: Pattern,
+    spaceships: &[Spaceship],
+) -> Result<Pattern, OutOfMemory>
+    requires traced { All (IsTraced rule.now time) spaceships.now }
+    requires early { time ≤ latest_time + 10001 }
+    ensures { IfOk result (λ pattern. pattern ≡ whole_at rule.now time board spaceships.now) }
+{
+    board.recall_order();
+    let mut whole = board;
     for spaceship in spaceships {
-        let spaceship = at_time(alloc, rule, spaceship, time)?;
-        cells.extend_from_slice(spaceship.cells())?;
+        let there = at_time(alloc, rule, spaceship, time)?;
+        whole = whole.united(&there)?;
     }
-    pattern_of(alloc, cells.as_slice())
+    Ok(whole)
 }

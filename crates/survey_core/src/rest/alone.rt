@@ -1,6 +1,7 @@
 //! Clusters that are run alone, each by itself, a generation at a time.
 //!
-//! What becomes of a cluster next is kept, so that it isn't made anew each time that the cluster is itself again:
+//! Each keeps the generation after its first, so that it needn't be made again whenever the cluster returns to the
+//! first:
 //!
 //! ```text
 //! cluster    first    latest, after 1, 2, 3 .. generations
@@ -8,20 +9,28 @@
 //!            .O.      .O.           .O.
 //!            .O.      .O.           .O.
 //! ```
-ghost use Rattle.std.specs.Prelude.{◌≡◌, ◌↔◌, All, IfNone, IfOk, IfSome, IsTrue, List, OnOk, map, true};
-ghost use Rattle.plane_core.specs.plane.Cells.{InOrder};
-ghost use Rattle.plane_core.specs.clusters.Clusters.{Partition};
+ghost use Rattle.std.specs.Prelude.{◌≡◌, ◌↔◌, ◌<◌, ◌≤◌, All, AllPairs, IfNone, IfOk, IfSome, IsTrue, List, OnOk, length, map, true};
+ghost use Rattle.plane_core.specs.plane.Cells.{InOrder, king_distance};
+ghost use Rattle.plane_core.specs.clusters.Clusters.{LieApart, Partition};
 ghost use Rattle.plane_core.specs.plane.Generations.{lies_within, next};
 ghost use Rattle.plane_core.specs.declared.plane.cell.Cell.{Cell};
-ghost use Rattle.survey_core.specs.rest.Alone.{clusters_of, latest_of, stepped};
+ghost use Rattle.survey_core.specs.rest.Alone.{LiesApartFrom, clusters_of, latest_of, stepped};
 ghost use Rattle.survey_core.specs.rest.Groups.{union_of};
 
 use crate::patterns::{are_same, next, pattern_of};
+use crate::shapes::envelope_bounds::{are_boxes_apart, box_round};
 use memory::OutOfMemory;
 use plane_core::plane::cell::Cell;
 use plane_core::plane::pattern::Pattern;
 use plane_core::plane::rule::Rule;
 use std::alloc::Global;
+
+/// The most clusters that are compared with each other. With more, a step of the whole costs less.
+const MOST_COMPARED: usize = 8;
+
+/// The most cells of a cluster that is compared with another cell by cell. Larger ones are compared only by their
+/// boxes.
+const MOST_CELLS: usize = 32;
 
 /// A cluster that is run alone.
 #[derive(Drop)]
@@ -29,12 +38,12 @@ pub(crate) struct Alone {
     pub(crate) cluster: Pattern,
     /// Its next generation.
     pub(crate) first: Pattern,
-    /// The cluster so many generations later.
+    /// The cluster as it is now.
     pub(crate) latest: Pattern,
 }
 
 impl Alone {
-    /// The next generation, which is known if the cluster is itself again. A still life always is.
+    /// Returns the next generation, which is known if the cluster has recurred. A still life always has.
     fn next(&self, alloc: Global, rule: &Rule) -> Result<Pattern, OutOfMemory>
         requires first { self.now.first ≡ next rule.now self.now.cluster }
         requires near { lies_within 999999 self.now.latest ≡ true }
@@ -64,7 +73,7 @@ pub(crate) fn step_each(
     Ok(())
 }
 
-/// Whether each of the clusters is itself again.
+/// Checks whether each of the clusters has recurred.
 pub(crate) fn have_recurred(clusters: &[Alone]) -> bool
     ensures { IsTrue result ↔ (latest_of clusters.now ≡ clusters_of clusters.now) }
 {
@@ -77,7 +86,84 @@ pub(crate) fn have_recurred(clusters: &[Alone]) -> bool
     true
 }
 
-/// What the clusters are together as they are now, or `None` if two of them share a cell.
+/// Returns `true` only if each two of the clusters now lie more than two cells apart. `false` says nothing. Call this
+/// only with a few clusters.
+pub(crate) fn lie_apart(clusters: &[Alone]) -> bool
+    ensures { IsTrue result → AllPairs LieApart (latest_of clusters.now) }
+{
+    if clusters.len() > MOST_COMPARED {
+        return false;
+    }
+    for place in 0..clusters.len() {
+        let apart = lies_apart(clusters, place);
+        if !apart {
+            return false;
+        }
+    }
+    true
+}
+
+/// Returns `true` only if the cluster at `place` lies more than two cells apart from those before it.
+fn lies_apart(clusters: &[Alone], place: usize) -> bool
+    requires { place < length clusters.now }
+    ensures { IsTrue result → LiesApartFrom place place clusters.now }
+{
+    for other in 0..place {
+        let apart = are_apart(&clusters[other].latest, &clusters[place].latest);
+        if !apart {
+            return false;
+        }
+    }
+    true
+}
+
+/// Returns `true` only if two patterns lie more than two cells apart. Mostly their boxes do. If not, cells are
+/// compared, unless there are many.
+fn are_apart(one: &Pattern, other: &Pattern) -> bool
+    ensures { IsTrue result → LieApart one.now other.now }
+{
+    if are_boxes_apart(box_round(one), box_round(other)) {
+        return true;
+    }
+    if one.population().max(other.population()) > MOST_CELLS {
+        return false;
+    }
+    are_cells_apart(one.cells(), other.cells())
+}
+
+/// Checks whether each of the cells is at king distance 3 or more from each of the others.
+fn are_cells_apart(cells: &[Cell], others: &[Cell]) -> bool
+    ensures { IsTrue result → LieApart cells.now others.now }
+{
+    for cell in cells {
+        let apart = is_apart(*cell, others);
+        if !apart {
+            return false;
+        }
+    }
+    true
+}
+
+/// Checks whether the cell is at king distance 3 or more from each of the others.
+fn is_apart(cell: Cell, others: &[Cell]) -> bool
+    ensures { IsTrue result → All (λ other. 3 ≤ king_distance cell other) others.now }
+{
+    for other in others {
+        if king_distance(cell, *other) < 3 {
+            return false;
+        }
+    }
+    true
+}
+
+/// Returns how far two cells are apart: the greater of the distances in columns and in rows.
+fn king_distance(one: Cell, other: Cell) -> u32
+    ensures { result ≡ king_distance one other }
+{
+    one.x.abs_diff(other.x).max(one.y.abs_diff(other.y))
+}
+
+/// Returns the union of the clusters as they are now, or `None` if two of them share a cell.
 pub(crate) fn joined(alloc: Global, clusters: &[Alone]) -> Result<Option<Pattern>, OutOfMemory>
     requires order { All InOrder (latest_of clusters.now) }
     requires near { All (λ part. lies_within 999999 part ≡ true) (latest_of clusters.now) }

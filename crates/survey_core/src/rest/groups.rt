@@ -1,7 +1,6 @@
 //! Clusters that may come near each other share a group, and each group is run by itself. At first each cluster is a
-//! group of its own, numbered by its place; for each near pair the number of the one group is turned into that of the
-//! other. So what is in one group stays in one group. Here the second and fourth come near each other, and then the
-//! fourth and the first:
+//! group of its own, numbered by its place. For each near pair, the number of one group becomes that of the other. Here
+//! the second and the fourth come near each other, and then the fourth and the first:
 //!
 //! ```text
 //! clusters    block   glider   block   blinker
@@ -10,7 +9,7 @@
 //! 3 and 0     0       0        2       0
 //! ```
 //!
-//! A group of one has nothing to meet, so only the others are run.
+//! A cluster that is alone in its group isn't run.
 
 ghost use Rattle.std.specs.Prelude.{◌≢◌, ◌<◌, ◌≤◌, ℕ, IfOk, get_or, length, map};
 ghost use Rattle.survey_core.specs.rest.Grouping.{AreGroups, AreNumbers, AreRenamed, Coarser, PairIsRight};
@@ -19,12 +18,12 @@ use crate::shapes::envelope_bounds::{EnvelopeBounds, stay_apart};
 use memory::OutOfMemory;
 use std::alloc::Global;
 
-/// How many clusters are grouped at the most. More are one group: each pair is looked at, and with so many that takes
-/// longer than running them side by side. A soup leaves some hundred.
+/// The most clusters that are grouped. More are one group, since looking at every pair would take longer than running
+/// them side by side. A soup leaves about a hundred.
 const MOST_GROUPED: usize = 4096;
 
-/// The groups of clusters with these envelopes: for each the number of its group. Those of different groups stay apart up
-/// to the horizon.
+/// Returns the number of the group of each cluster, from the envelopes. Clusters of different groups stay apart up to
+/// the horizon.
 pub(crate) fn groups(
     alloc: Global,
     horizon: u32,
@@ -38,14 +37,16 @@ pub(crate) fn groups(
         return Ok(groups);
     }
     for place in 0..envelopes.len() {
-        // A group of its own, before it is joined with others.
+        // Each is a group of its own before it is joined with others.
         groups[place] = place;
         join(horizon, envelopes, place, groups.as_mut_slice());
     }
     Ok(groups)
 }
 
-/// Joins the group of the cluster at this place with those of the clusters before it that it may meet.
+/// Joins the group of the cluster at `place` with those of the clusters before it that it may meet.
+// Inlined, its loop would spill what it needs for each pair.
+#[inline(never)]
 fn join(horizon: u32, envelopes: &[EnvelopeBounds], place: usize, groups: &mut [usize])
     requires horizon { horizon ≤ 4096 }
     requires place { place < length envelopes.now }
@@ -54,8 +55,9 @@ fn join(horizon: u32, envelopes: &[EnvelopeBounds], place: usize, groups: &mut [
     ensures coarser { Coarser groups.old groups.new }
     ensures apart { (j : ℕ) → j < place → PairIsRight horizon envelopes.now groups.new place j }
 {
+    let one = envelopes[place];
     for other in 0..place {
-        let apart = stay_apart(horizon, &envelopes[place], &envelopes[other]);
+        let apart = stay_apart(horizon, &one, &envelopes[other]);
         if apart {
             continue;
         }
@@ -64,7 +66,7 @@ fn join(horizon: u32, envelopes: &[EnvelopeBounds], place: usize, groups: &mut [
     }
 }
 
-/// Gives the one group the number of the other.
+/// Renumbers the group `from` as `to`.
 fn rename(groups: &mut [usize], from: usize, to: usize)
     ensures { AreRenamed from to groups.old groups.new }
 {

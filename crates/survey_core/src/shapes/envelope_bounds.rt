@@ -1,5 +1,5 @@
 //! The envelope of a cluster that recurs: the least box of all its phases, which moves along with it. This is the
-//! glider's, with the four phases in it, and where it lies a cycle of four generations later:
+//! glider's, with its four phases, and its place a cycle of four generations later:
 //!
 //! ```text
 //! .O..    ....    ....    ....    cycle 0    cycle 1
@@ -9,31 +9,25 @@
 //!                                      +---+
 //! ```
 //!
-//! Two clusters stay apart if their envelopes, one of them grown by 2, do so in every cycle up to the horizon. Only the
-//! step of the one against the other counts. Once the one lies past a side of the other, and no step leads back over
-//! that side, they never meet again, and no later cycle is looked at. What doesn't move has cycles of any length; two
-//! that move with different periods are taken to come near each other, and are run.
+//! Two clusters stay apart if their envelopes, one of them grown by 2, do so in every cycle up to the horizon. Only
+//! their relative displacement counts. Once one lies past a side of the other, and no step leads back over that side,
+//! they never meet again, and no later cycle is looked at. A cluster that stays in place has cycles of any length. Two
+//! that move with different periods are taken to come near each other, and are run. Two still lifes stay apart whatever
+//! their boxes are, since they don't change, and clusters lie apart from the start.
 
-ghost use Rattle.std.specs.Prelude.{◌≡◌, ◌≢◌, ◌↔◌, ◌+◌, ◌*◌, ◌/◌, ◌-ℤ◌, ◌+ℤ◌, ◌<◌, ◌≤◌, ◌<ℤ◌, ◌≤ℤ◌, ◌⊎◌, ◌^◌};
-ghost use Rattle.std.specs.Prelude.{[], pos};
-ghost use Rattle.std.specs.Prelude.{All, IfNone, IfOk, IfSome, IsTrue, true, unsigned_abs};
+ghost use Rattle.std.specs.Prelude.{◌≡◌, ◌↔◌, ◌+◌, ◌*◌, ◌/◌, ◌-ℤ◌, ◌+ℤ◌, ◌<◌, ◌≤◌, ◌<ℤ◌, ◌≤ℤ◌, ◌⊎◌, ◌^◌};
+ghost use Rattle.std.specs.Prelude.{pos};
+ghost use Rattle.std.specs.Prelude.{ℕ, All, IsTrue, List, get_or, length, unsigned_abs};
 ghost use Rattle.std.specs.Int.{int_max, int_min};
 ghost use Rattle.plane_core.specs.plane.Bounds.{IsWithin};
-ghost use Rattle.plane_core.specs.plane.Cells.{InOrder};
-ghost use Rattle.plane_core.specs.plane.Generations.{lies_within};
-ghost use Rattle.survey_core.specs.shapes.RecurringShapes.{RecursWithin};
-ghost use Rattle.survey_core.specs.shapes.Envelopes.{IsEnvelope, Serves, SpaceshipsMoveByCycles, StayApart, StayClear};
-ghost use Rattle.survey_core.specs.shapes.Envelopes.{gap_stays, gaps_of, is_past};
-ghost use Rattle.survey_core.specs.UnderWay.{survey_reach};
+ghost use Rattle.plane_core.specs.declared.plane.cell.Cell.{Cell};
+ghost use Rattle.survey_core.specs.shapes.Envelopes.{IsStillLife, Serves, SpaceshipsMoveByCycles, StayApart, StayClear};
+ghost use Rattle.survey_core.specs.shapes.Envelopes.{gap_stays, gaps_of, is_clear, is_past};
 
-use crate::patterns::next;
+use code_core::cycle::Cycle;
 use code_core::recurrence::Recurrence;
-use memory::OutOfMemory;
-use plane_core::generation::StepError;
 use plane_core::plane::bounds::Bounds;
 use plane_core::plane::pattern::Pattern;
-use plane_core::plane::rule::Rule;
-use std::alloc::Global;
 
 /// How a cluster recurs, and a box in which all its phases lie.
 #[derive(Clone, Copy)]
@@ -43,39 +37,26 @@ pub(crate) struct EnvelopeBounds {
 }
 
 impl EnvelopeBounds {
-    /// The envelope of a pattern, or `None` if it doesn't recur within so many generations.
-    pub(crate) fn find(
-        alloc: Global,
-        rule: &Rule,
-        limit: u32,
-        pattern: &Pattern,
-    ) -> Result<Option<EnvelopeBounds>, OutOfMemory>
-        requires least { 1 ≤ limit }
-        requires most { limit ≤ 64 }
-        requires order { InOrder pattern.now }
-        requires some { pattern.now ≢ [] }
-        requires near { lies_within survey_reach pattern.now ≡ true }
-        ensures envelope { IfOk result (λ found. IfSome found (IsEnvelope rule.now limit pattern.now)) }
-        ensures never { IfOk result (λ found. IfNone found (¬ RecursWithin rule.now limit pattern.now)) }
+    /// Returns the envelope of a pattern with these phases.
+    pub(crate) fn of(pattern: &Pattern, cycle: &Cycle) -> EnvelopeBounds
+        ensures recurrence { result.recurrence ≡ cycle.now.recurrence }
+        ensures within { (g : ℕ) (none : List Cell) → g < length cycle.now.phases.items
+            → All (IsWithin result.bounds) (get_or cycle.now.phases.items g none) }
     {
-        let recurrence = match Recurrence::find(alloc, pattern, rule, limit) {
-            Ok(Some(recurrence)) => recurrence,
-            Ok(None) => return Ok(None),
-            Err(StepError::Memory(error)) => return Err(error),
-            Err(StepError::Edge) => unreachable!(),
-        };
-        let mut phase = pattern.copy(alloc)?;
+        let phases = cycle.phases.as_slice();
         let mut bounds = box_round(pattern);
-        for age in 0..recurrence.period - 1 {
-            phase = next(alloc, rule, &phase)?;
-            bounds = bounds.joined(box_round(&phase));
+        for phase in phases {
+            bounds = bounds.joined(box_round(phase));
         }
-        Ok(Some(EnvelopeBounds { recurrence, bounds }))
+        EnvelopeBounds {
+            recurrence: cycle.recurrence,
+            bounds,
+        }
     }
 }
 
-/// The least box round the pattern. For the empty pattern it is any box.
-fn box_round(pattern: &Pattern) -> Bounds
+/// Returns the bounding box of the pattern. For the empty pattern it is any box.
+pub(crate) fn box_round(pattern: &Pattern) -> Bounds
     ensures { All (IsWithin result) pattern.now }
 {
     match pattern.bounds() {
@@ -89,12 +70,18 @@ fn box_round(pattern: &Pattern) -> Bounds
     }
 }
 
-/// Whether patterns with these envelopes are seen to stay apart up to the horizon.
+/// Returns `true` only if patterns with these envelopes stay apart up to the horizon.
 pub(crate) fn stay_apart(horizon: u32, one: &EnvelopeBounds, other: &EnvelopeBounds) -> bool
     requires { horizon ≤ 4096 }
     ensures { IsTrue result → StayApart horizon one.now other.now }
 {
-    // How many generations a cycle has for both, if there is such a number.
+    if are_still_lives(one, other) {
+        return true;
+    }
+    if are_still_and_apart(one, other) {
+        return true;
+    }
+    // The generations of a cycle of both, if there is such a number.
     let period = if is_still(one) {
         other.recurrence.period
     } else {
@@ -106,8 +93,53 @@ pub(crate) fn stay_apart(horizon: u32, one: &EnvelopeBounds, other: &EnvelopeBou
     are_clear_for(one, other, cycles_in(horizon, period))
 }
 
-/// How many cycles begin up to the horizon. Most objects recur after 1, 2 or 4 generations, and then nothing need be
-/// divided.
+/// Returns `true` only if neither pattern moves, and at least two empty columns or rows lie between the boxes. Nearly
+/// all pairs other than two still lifes are seen to stay apart by this.
+fn are_still_and_apart(one: &EnvelopeBounds, other: &EnvelopeBounds) -> bool
+    ensures { IsTrue result → (horizon : ℕ) → StayApart horizon one.now other.now }
+{
+    if !is_still(one) {
+        return false;
+    }
+    if !is_still(other) {
+        return false;
+    }
+    are_boxes_apart(one.bounds, other.bounds)
+}
+
+/// Checks whether both are still lives. They never change, so they stay apart even if their boxes overlap. Half of all
+/// pairs are such.
+fn are_still_lives(one: &EnvelopeBounds, other: &EnvelopeBounds) -> bool
+    ensures { IsTrue result → (horizon : ℕ) → StayApart horizon one.now other.now }
+{
+    if !is_still_life(one) {
+        return false;
+    }
+    is_still_life(other)
+}
+
+/// Checks whether the pattern is a still life.
+fn is_still_life(envelope: &EnvelopeBounds) -> bool
+    ensures { IsTrue result → IsStillLife envelope.now }
+{
+    envelope.recurrence.period == 1 && is_still(envelope)
+}
+
+/// Checks whether there are at least two empty columns or rows between the boxes. Clusters come in the order of their
+/// first rows, so nearly all that come earlier lie above, which is asked first.
+pub(crate) fn are_boxes_apart(one: Bounds, other: Bounds) -> bool
+    ensures { result ≡ is_clear one other (pos 0) (pos 0) }
+{
+    let above = is_past(other.bottom, 0, one.top, 0);
+    if above {
+        return true;
+    }
+    let gaps = Gaps::between(one, other, Offset { x: 0, y: 0 });
+    gaps.right | gaps.left | gaps.below | gaps.above
+}
+
+/// Returns how many cycles begin up to the horizon. Most objects recur after 1, 2 or 4 generations, and then no
+/// division is needed.
 #[inline(always)]
 fn cycles_in(horizon: u32, period: u32) -> u32
     requires horizon { horizon ≤ 4096 }
@@ -122,22 +154,24 @@ fn cycles_in(horizon: u32, period: u32) -> u32
     }
 }
 
-/// Whether cycles of so many generations suit the envelope.
+/// Checks whether cycles of `period` generations suit the envelope.
 fn serves(period: u32, envelope: &EnvelopeBounds) -> bool
     ensures { IsTrue result → Serves period envelope.now }
 {
     period == envelope.recurrence.period || is_still(envelope)
 }
 
-/// Whether the pattern recurs in its place.
+/// Checks whether the pattern recurs in place.
 fn is_still(envelope: &EnvelopeBounds) -> bool
     ensures { IsTrue result ↔ ((envelope.now.recurrence.dx ≡ pos 0) × (envelope.now.recurrence.dy ≡ pos 0)) }
 {
     envelope.recurrence.dx == 0 && envelope.recurrence.dy == 0
 }
 
-/// Whether the boxes are clear of each other for so many cycles. Once they part, or where neither moves against the
-/// other, no later cycle is looked at.
+/// Returns `true` only if the boxes are clear of each other for `cycles` cycles. Once they part, or if neither moves
+/// relative to the other, no later cycle is looked at.
+// Inlined, it would take the registers that the loop over pairs needs.
+#[inline(never)]
 fn are_clear_for(one: &EnvelopeBounds, other: &EnvelopeBounds, cycles: u32) -> bool
     requires { cycles ≤ 4097 }
     ensures { IsTrue result → StayClear cycles one.now other.now }
@@ -158,7 +192,7 @@ fn are_clear_for(one: &EnvelopeBounds, other: &EnvelopeBounds, cycles: u32) -> b
     true
 }
 
-/// By how much the one is moved against the other.
+/// How far the other box has moved relative to the one.
 #[derive(Clone, Copy)]
 struct Offset {
     x: i64,
@@ -166,7 +200,7 @@ struct Offset {
 }
 
 impl Offset {
-    /// The offset a step later.
+    /// Returns the offset after another step.
     fn moved(self, step: Offset) -> Offset
         requires across { unsigned_abs self.x + unsigned_abs step.x ≤ 2 ^ 46 }
         requires down { unsigned_abs self.y + unsigned_abs step.y ≤ 2 ^ 46 }
@@ -180,7 +214,7 @@ impl Offset {
     }
 }
 
-/// The step of the other against the one in a cycle.
+/// Returns how far `other` moves relative to `one` in a cycle.
 fn step(one: &EnvelopeBounds, other: &EnvelopeBounds) -> Offset
     ensures x { result.x ≡ other.now.recurrence.dx -ℤ one.now.recurrence.dx }
     ensures y { result.y ≡ other.now.recurrence.dy -ℤ one.now.recurrence.dy }
@@ -193,7 +227,7 @@ fn step(one: &EnvelopeBounds, other: &EnvelopeBounds) -> Offset
     }
 }
 
-/// By how much the other is greater.
+/// Returns `other` - `one`.
 pub(crate) fn difference(one: i32, other: i32) -> i64
     ensures step { result ≡ other -ℤ one }
     ensures small { unsigned_abs result ≤ 2 ^ 33 }
@@ -201,7 +235,7 @@ pub(crate) fn difference(one: i32, other: i32) -> i64
     i64::from(other) - i64::from(one)
 }
 
-/// On which sides of a box another one lies, moved, with at least two empty columns or rows between them.
+/// The sides of a box beyond which another one lies, moved, with at least two empty columns or rows between them.
 #[derive(Clone, Copy)]
 struct Gaps {
     right: bool,
@@ -211,7 +245,7 @@ struct Gaps {
 }
 
 impl Gaps {
-    /// The gaps between the one box and the other, moved.
+    /// Returns the gaps between `one` and `other` moved by `offset`.
     fn between(one: Bounds, other: Bounds, offset: Offset) -> Gaps
         requires across { unsigned_abs offset.x ≤ 2 ^ 46 }
         requires down { unsigned_abs offset.y ≤ 2 ^ 46 }
@@ -225,7 +259,7 @@ impl Gaps {
         }
     }
 
-    /// Whether there is a gap over which no step leads back.
+    /// Checks whether there is a gap over which no step leads back.
     fn stay(self, step: Offset) -> bool
         ensures { result ≡ gap_stays self step.x step.y }
     {
@@ -236,7 +270,7 @@ impl Gaps {
     }
 }
 
-/// Whether what begins here, moved by `s`, begins more than two past the end, moved by `t`.
+/// Checks whether `begin`, moved by `s`, lies more than two past `end`, moved by `t`.
 fn is_past(end: i32, t: i64, begin: i32, s: i64) -> bool
     requires end { unsigned_abs t ≤ 2 ^ 46 }
     requires begin { unsigned_abs s ≤ 2 ^ 46 }
@@ -245,7 +279,7 @@ fn is_past(end: i32, t: i64, begin: i32, s: i64) -> bool
     two_past(placed(end, t)) < placed(begin, s)
 }
 
-/// Where a column or row comes to lie.
+/// Returns where a column or row comes to lie.
 fn placed(at: i32, by: i64) -> i64
     requires { unsigned_abs by ≤ 2 ^ 46 }
     ensures place { result ≡ at +ℤ by }
@@ -254,7 +288,7 @@ fn placed(at: i32, by: i64) -> i64
     i64::from(at) + by
 }
 
-/// The second column or row further on.
+/// Returns the second column or row further on.
 fn two_past(at: i64) -> i64
     requires { unsigned_abs at ≤ 2 ^ 47 }
     ensures { result ≡ at +ℤ pos 2 }
@@ -262,8 +296,8 @@ fn two_past(at: i64) -> i64
     at + 2
 }
 
-/// A law of all patterns that recur after p generations, moved by a shift: after n times p and r generations they
-/// are what they are after r, moved by n times the shift.
+/// The law that a pattern with a recurrence of p generations and a displacement is, after n times p and r generations,
+/// what it is after r, moved by n times the displacement.
 #[tactic(auto, using(crate::proofs::lemmas::shapes::EnvelopeLemmas::after_cycles))]
 pub fn spaceships_move_by_cycles()
     ensures { SpaceshipsMoveByCycles }

@@ -8,17 +8,20 @@
 //!                            OO
 //! ```
 //!
-//! A hash of the cells, counted from the first one, chooses the slot, so a shape finds its slot wherever it lies. An entry
-//! is about a cluster if rule and limit are the same, and if some displacement turns the shape into the cluster. Then the
-//! cluster recurs as the shape does and has its apgcode, and its envelope is that of the shape, displaced. Otherwise the
-//! cluster is run and named, and replaces the entry.
+//! The slot is chosen by a hash of the cells relative to the first one, so a shape finds its slot wherever it lies. An
+//! entry is about a cluster if rule and limit are the same, and if some displacement turns the shape into the cluster.
+//! Then the cluster recurs as the shape does and has its apgcode, and its envelope is that of the shape, displaced.
+//! Otherwise the cluster is run and named, and replaces the entry.
 //!
-//! Which slot is chosen and what is kept are free choices: a memo that forgets makes a survey slower, and nothing else.
+//! Which slot is chosen and what is kept are free choices: a memo that forgets makes a survey slower, and changes no
+//! finding.
 
-ghost use Rattle.std.specs.Prelude.{◌≡◌, ◌≢◌, ◌+ℤ◌, ◌≤◌, [], All, IfNone, IfOk, IfSome, IsTrue, true};
+ghost use Rattle.std.specs.Prelude.{◌≡◌, ◌≢◌, ◌++◌, ◌+ℤ◌, ◌≤◌, [], All, IfNone, IfOk, IfSome, IsTrue, List, length, take, true};
+ghost use Rattle.plane_core.specs.declared.plane.cell.Cell.{Cell};
 ghost use Rattle.plane_core.specs.plane.Cells.{InOrder};
-ghost use Rattle.plane_core.specs.plane.Generations.{lies_within};
+ghost use Rattle.plane_core.specs.plane.Generations.{NeverRecurs, lies_within};
 ghost use Rattle.code_core.specs.Names.{IsCode};
+ghost use Rattle.code_core.specs.Recurrences.{IsCycle};
 ghost use Rattle.survey_core.specs.shapes.Memos.{IsAbout};
 ghost use Rattle.survey_core.specs.shapes.RecurringShapes.{RecursWithin};
 ghost use Rattle.survey_core.specs.shapes.Envelopes.{AreEnvelopes, IsEnvelope};
@@ -27,7 +30,8 @@ ghost use Rattle.survey_core.specs.UnderWay.{survey_reach};
 use crate::shapes::envelope_bounds::EnvelopeBounds;
 use crate::shapes::slot::slot_of;
 use code_core::apgcode::Apgcode;
-use code_core::name::name;
+use code_core::cycle::{Cycle, follow};
+use code_core::name::{name, name_of};
 use memory::OutOfMemory;
 use plane_core::generation::StepError;
 use plane_core::plane::bounds::Bounds;
@@ -36,14 +40,14 @@ use plane_core::plane::rule::Rule;
 use std::alloc::Global;
 use std::marker::Model;
 
-/// How many slots a memo has. Soups leave some hundred shapes again and again, and some thousand only once.
+/// The number of slots of a memo. Soups leave some hundred shapes again and again, and some thousand only once.
 const SLOTS: usize = 4096;
 
-/// How many cells a shape that is kept has at the most. Larger ones hardly ever come twice, and would take memory.
+/// The most cells of a shape that is kept. Larger ones hardly ever come twice, and would take memory.
 const MOST_CELLS: usize = 64;
 
 /// A table of the shapes of clusters that recur, with what is known of each. It serves any rule and profile, one after
-/// another, and changes no finding: only how long a survey takes.
+/// another. It changes no finding, only how long a survey takes.
 pub(crate) struct Memo {
     slots: Vec<Option<Known>>,
 }
@@ -91,8 +95,8 @@ impl Drop for Known {
 }
 
 impl Memo {
-    /// A memo that knows nothing yet, with room for 4,096 shapes: half a megabyte, and some three if all of them are
-    /// large. If there is no memory for it, it has no room.
+    /// Returns a memo that knows nothing yet, with room for 4,096 shapes: half a megabyte, and about three if all of
+    /// them are large. If there is no memory for it, it has no room.
     pub(crate) fn new(alloc: Global) -> Memo {
         let Ok(mut slots) = Vec::with_capacity(alloc, SLOTS) else {
             return Memo::without_room(alloc);
@@ -105,7 +109,7 @@ impl Memo {
         Memo { slots }
     }
 
-    /// A memo without room, which remembers no shape. It takes no memory.
+    /// Returns a memo without room, which remembers no shape. It takes no memory.
     pub(crate) fn without_room(alloc: Global) -> Memo {
         Memo {
             slots: Vec::new(alloc),
@@ -129,12 +133,59 @@ impl Memo {
             (λ found. IfSome found (λ envelopes. AreEnvelopes rule.now limit patterns.now envelopes.items)) }
         ensures never { IfOk result (λ found. IfNone found (¬ All (RecursWithin rule.now limit) patterns.now)) }
     {
-        // A large pattern takes long to be followed, and mostly a small one says no by a quick test.
-        if self.any_surely_changes(rule, limit, patterns) {
+        let known = self.recalled_envelopes(alloc, rule, limit, patterns)?;
+        let (_, others) = patterns.split_at(known.len());
+        // A large pattern takes long to follow, and mostly a small one fails a quick test.
+        if self.any_surely_changes(rule, limit, others) {
             return Ok(None);
         }
-        let mut envelopes = Vec::new(alloc);
+        self.other_envelopes(alloc, rule, limit, others, known)
+    }
+
+    /// Returns the envelopes of the first patterns, up to one that isn't remembered. Mostly all are.
+    fn recalled_envelopes(
+        &self,
+        alloc: Global,
+        rule: &Rule,
+        limit: u32,
+        patterns: &[Pattern],
+    ) -> Result<Vec<EnvelopeBounds>, OutOfMemory>
+        ensures few { IfOk result (λ envelopes. length envelopes.items ≤ length patterns.now) }
+        ensures envelopes { IfOk result (λ envelopes. AreEnvelopes rule.now limit
+            (take (length envelopes.items) patterns.now) envelopes.items) }
+    {
+        let mut envelopes = Vec::with_capacity(alloc, patterns.len())?;
         for pattern in patterns {
+            let Some(envelope) = self.recalled_envelope(rule, limit, pattern) else {
+                return Ok(envelopes);
+            };
+            envelopes.push(envelope)?;
+        }
+        Ok(envelopes)
+    }
+
+    /// Adds the envelopes of the other patterns to the known ones. `None` if one of them doesn't recur within `limit`
+    /// generations.
+    fn other_envelopes(
+        &mut self,
+        alloc: Global,
+        rule: &Rule,
+        limit: u32,
+        others: &[Pattern],
+        known: Vec<EnvelopeBounds>,
+    ) -> Result<Option<Vec<EnvelopeBounds>>, OutOfMemory>
+        requires least { 1 ≤ limit }
+        requires most { limit ≤ 64 }
+        requires order { All InOrder others.now }
+        requires some { All (λ pattern. pattern ≢ []) others.now }
+        requires near { All (λ pattern. lies_within survey_reach pattern ≡ true) others.now }
+        ensures envelopes { (first : List (List Cell)) → AreEnvelopes rule.now limit first known.items
+            → IfOk result (λ found. IfSome found
+            (λ envelopes. AreEnvelopes rule.now limit (first ++ others.now) envelopes.items)) }
+        ensures never { IfOk result (λ found. IfNone found (¬ All (RecursWithin rule.now limit) others.now)) }
+    {
+        let mut envelopes = known;
+        for pattern in others {
             let Some(envelope) = self.envelope(alloc, rule, limit, pattern)? else {
                 return Ok(None);
             };
@@ -178,14 +229,32 @@ impl Memo {
         if let Some(envelope) = self.recalled_envelope(rule, limit, pattern) {
             return Ok(Some(envelope));
         }
-        let Some(envelope) = EnvelopeBounds::find(alloc, rule, limit, pattern)? else {
+        let Some(cycle) = cycle_of(alloc, rule, limit, pattern)? else {
             return Ok(None);
         };
+        let envelope = EnvelopeBounds::of(pattern, &cycle);
+        self.keep(alloc, rule, limit, pattern, &cycle, envelope)?;
+        Ok(Some(envelope))
+    }
+
+    /// Names a pattern with these phases, and keeps what is known of it in its slot, unless it is large.
+    fn keep(
+        &mut self,
+        alloc: Global,
+        rule: &Rule,
+        limit: u32,
+        pattern: &Pattern,
+        cycle: &Cycle,
+        envelope: EnvelopeBounds,
+    ) -> Result<(), OutOfMemory>
+        requires cycle { IsCycle rule.now pattern.now limit cycle.now.phases.items cycle.now.recurrence }
+        requires envelope { IsEnvelope rule.now limit pattern.now envelope }
+    {
         let slot = slot_of(pattern, self.slots.len());
         if slot >= self.slots.len() || pattern.population() > MOST_CELLS {
-            return Ok(Some(envelope));
+            return Ok(());
         }
-        let code = code_of(alloc, rule, limit, pattern)?;
+        let code = name_of(alloc, pattern, cycle)?;
         let shape = pattern.copy(alloc)?;
         self.slots[slot] = Some(Known {
             rule: *rule,
@@ -194,31 +263,25 @@ impl Memo {
             envelope,
             code,
         });
-        Ok(Some(envelope))
+        Ok(())
     }
 
-    /// Returns the apgcode of a pattern that recurs within `limit` generations, 1 to 64.
-    pub(crate) fn code(
-        &self,
-        alloc: Global,
-        rule: &Rule,
-        limit: u32,
-        pattern: &Pattern,
-    ) -> Result<Apgcode, OutOfMemory>
-        requires least { 1 ≤ limit }
-        requires most { limit ≤ 64 }
-        requires some { pattern.now ≢ [] }
-        requires near { lies_within survey_reach pattern.now ≡ true }
-        requires recurs { RecursWithin rule.now limit pattern.now }
-        ensures { IfOk result (IsCode rule.now pattern.now limit) }
+    /// Returns the apgcode of a pattern, if it is remembered.
+    pub(crate) fn known_code(&self, rule: &Rule, limit: u32, pattern: &Pattern) -> Option<&Apgcode>
+        ensures { IfSome result (λ code. IsCode rule.now pattern.now limit code.now) }
     {
-        match self.recalled(rule, limit, pattern) {
-            Some((known, _)) => known.code.copy(alloc),
-            None => code_of(alloc, rule, limit, pattern),
-        }
+        let Some((known, _)) = self.recalled(rule, limit, pattern) else {
+            return None;
+        };
+        Some(&known.code)
     }
 
-    /// The envelope of a pattern, if it is remembered: that of the shape, moved, if 32 bits can say its numbers.
+    /// Checks whether a pattern is remembered.
+    pub(crate) fn knows(&self, rule: &Rule, limit: u32, pattern: &Pattern) -> bool {
+        self.recalled(rule, limit, pattern).is_some()
+    }
+
+    /// Returns the envelope of a pattern, if it is remembered: that of the shape, moved, if its numbers fit in 32 bits.
     fn recalled_envelope(
         &self,
         rule: &Rule,
@@ -246,7 +309,8 @@ impl Memo {
         Some(EnvelopeBounds { recurrence, bounds })
     }
 
-    /// What is known of a pattern, if it is remembered, and the shift that makes the shape into the pattern.
+    /// Returns what is known of a pattern, if it is remembered, and the displacement that turns the shape into the
+    /// pattern.
     fn recalled(&self, rule: &Rule, limit: u32, pattern: &Pattern) -> Option<(&Known, (i32, i32))>
         ensures { IfSome result (λ found. IsAbout rule.now limit pattern.now found.1 found.0.now) }
     {
@@ -264,7 +328,7 @@ impl Memo {
     }
 }
 
-/// The first and the last column or row, moved.
+/// Returns the first and the last column or row, moved.
 fn moved(first: i32, last: i32, by: i32) -> Option<(i32, i32)>
     ensures first { IfSome result (λ to. to.0 ≡ first +ℤ by) }
     ensures last { IfSome result (λ to. to.1 ≡ last +ℤ by) }
@@ -273,7 +337,7 @@ fn moved(first: i32, last: i32, by: i32) -> Option<(i32, i32)>
 }
 
 /// Returns the apgcode of a pattern that recurs within `limit` generations, 1 to 64.
-fn code_of(
+pub(crate) fn code_of(
     alloc: Global,
     rule: &Rule,
     limit: u32,
@@ -289,6 +353,28 @@ fn code_of(
     match name(alloc, pattern, rule, limit) {
         Ok(Some(code)) => Ok(code),
         Ok(None) => unreachable!(),
+        Err(StepError::Memory(error)) => Err(error),
+        Err(StepError::Edge) => unreachable!(),
+    }
+}
+
+/// Follows a pattern until it recurs. `None` if it doesn't within `limit` generations.
+fn cycle_of(
+    alloc: Global,
+    rule: &Rule,
+    limit: u32,
+    pattern: &Pattern,
+) -> Result<Option<Cycle>, OutOfMemory>
+    requires least { 1 ≤ limit }
+    requires most { limit ≤ 64 }
+    requires some { pattern.now ≢ [] }
+    requires near { lies_within survey_reach pattern.now ≡ true }
+    ensures cycle { IfOk result (λ found. IfSome found
+        (λ cycle. IsCycle rule.now pattern.now limit cycle.phases.items cycle.recurrence)) }
+    ensures never { IfOk result (λ found. IfNone found (NeverRecurs rule.now pattern.now limit)) }
+{
+    match follow(alloc, pattern, rule, limit) {
+        Ok(found) => Ok(found),
         Err(StepError::Memory(error)) => Err(error),
         Err(StepError::Edge) => unreachable!(),
     }

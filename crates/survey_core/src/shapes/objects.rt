@@ -1,18 +1,19 @@
-//! The objects of a finding, counted: each code once, in ASCII order, with how many there are.
+//! The objects of a finding, counted: each apgcode once, in ASCII order, with its count.
 ghost use Rattle.std.specs.Prelude.{◌≡◌, ◌+◌, ◌<◌, ◌≤◌, ◌↔◌, ◌≢◌, [], ℕ, All, IfOk, IsTrue, List, length};
-ghost use Rattle.std.specs.Prelude.{sum, true};
+ghost use Rattle.std.specs.Prelude.{◌^◌, OnOk, sum, true};
 ghost use Rattle.std.specs.Map.{values_of};
+ghost use Rattle.std.specs.Slice.Iter.{iter_rest};
 ghost use Rattle.std.specs.Prelude.{unwrap_or};
 ghost use Rattle.plane_core.specs.plane.Generations.{lies_within};
 ghost use Rattle.code_core.specs.Apgcodes.{kind_in};
 ghost use Rattle.code_core.specs.Names.{IsCode};
 ghost use Rattle.code_core.specs.declared.apgcode.Kind.TheVariants.{Ship};
-ghost use Rattle.survey_core.specs.shapes.Objects.{AreObjects, AreObjectsOf, IsCommonMultiple};
+ghost use Rattle.survey_core.specs.shapes.Objects.{AreObjects, AreObjectsOf, IsCommonMultiple, IsCounted, IsOneMore};
 ghost use Rattle.survey_core.specs.shapes.Objects.{StayForGood};
 ghost use Rattle.survey_core.specs.shapes.RecurringShapes.{RecursWithin};
 ghost use Rattle.survey_core.specs.UnderWay.{survey_reach};
 
-use crate::shapes::memo::Memo;
+use crate::shapes::memo::{Memo, code_of};
 use code_core::apgcode::{Apgcode, Kind};
 use memory::OutOfMemory;
 use plane_core::plane::pattern::Pattern;
@@ -20,9 +21,10 @@ use plane_core::plane::rule::Rule;
 use std::alloc::Global;
 use std::collections::BTreeMap;
 use std::marker::Model;
+use std::slice::Iter;
 
-/// The objects of a finding: their codes in ASCII order, each once, and beside each code how many there are, at least
-/// 1.
+/// The objects of a finding: their apgcodes in ASCII order, each once, with the number of objects that have it, at
+/// least 1.
 #[derive(Debug, Drop)]
 pub struct Objects {
     counted: Vec<(Apgcode, u64)>,
@@ -40,7 +42,7 @@ impl Model for Objects {
 }
 
 impl Objects {
-    /// The codes in ASCII order, each once, with how many objects have it.
+    /// Returns the apgcodes in ASCII order, each once, with the number of objects that have it.
     pub fn as_slice(&self) -> &[(Apgcode, u64)]
         ensures objects { result.now ≡ self.now }
         ensures lawful { AreObjects self.now }
@@ -48,7 +50,14 @@ impl Objects {
         self.counted.as_slice()
     }
 
-    /// The objects of clusters that all recur within so many generations.
+    /// Returns an iterator over the apgcodes in ASCII order, each with the number of objects that have it.
+    pub fn iter(&self) -> Iter<'_, (Apgcode, u64)>
+        ensures { iter_rest result ≡ self.now }
+    {
+        self.as_slice().iter()
+    }
+
+    /// Counts the objects of clusters that all recur within `limit` generations.
     pub(crate) fn of_clusters(
         alloc: Global,
         rule: &Rule,
@@ -66,16 +75,14 @@ impl Objects {
     {
         let mut counts = BTreeMap::new(alloc);
         for cluster in clusters {
-            let code = memo.code(alloc, rule, limit, cluster)?;
-            let before = counts.get(&code).copied().unwrap_or(0);
-            counts.insert(code, before + 1)?;
+            count_cluster(alloc, rule, limit, cluster, memo, &mut counts)?;
         }
         let counted = counts.into_iter().collect(alloc)?;
         Ok(Objects { counted })
     }
 
-    /// Whether the objects stay for good: no spaceship is among them, and the least common multiple of their periods
-    /// is at most the horizon.
+    /// Checks whether the objects stay for good: none of them is a spaceship, and the least common multiple of their
+    /// periods is at most the horizon.
     pub(crate) fn stay_for_good(&self, horizon: u32) -> bool
         ensures { IsTrue result ↔ StayForGood horizon self.now }
     {
@@ -92,7 +99,49 @@ impl Objects {
     }
 }
 
-/// Whether none of the objects is a spaceship.
+/// Counts a cluster under its apgcode. A cluster that the memo knows isn't named again.
+fn count_cluster(
+    alloc: Global,
+    rule: &Rule,
+    limit: u32,
+    cluster: &Pattern,
+    memo: &Memo,
+    counts: &mut BTreeMap<Apgcode, u64>,
+) -> Result<(), OutOfMemory>
+    requires least { 1 ≤ limit }
+    requires most { limit ≤ 64 }
+    requires some { cluster.now ≢ [] }
+    requires near { lies_within survey_reach cluster.now ≡ true }
+    requires recurs { RecursWithin rule.now limit cluster.now }
+    requires few { sum (values_of counts.old.entries) < 2 ^ 63 }
+    ensures { OnOk result (IsCounted rule.now limit cluster.now counts.old.entries counts.new.entries) }
+{
+    if let Some(code) = memo.known_code(rule, limit, cluster) {
+        return count_one(alloc, code, counts);
+    }
+    let code = code_of(alloc, rule, limit, cluster)?;
+    count_one(alloc, &code, counts)
+}
+
+/// Counts one more object with an apgcode. Only the first one takes a copy of it.
+fn count_one(
+    alloc: Global,
+    code: &Apgcode,
+    counts: &mut BTreeMap<Apgcode, u64>,
+) -> Result<(), OutOfMemory>
+    requires few { sum (values_of counts.old.entries) < 2 ^ 63 }
+    ensures { OnOk result (IsOneMore code.now counts.old.entries counts.new.entries) }
+{
+    if let Some(count) = counts.get_mut(code) {
+        *count += 1;
+        return Ok(());
+    }
+    let first = code.copy(alloc)?;
+    counts.insert(first, 1)?;
+    Ok(())
+}
+
+/// Checks whether none of the objects is a spaceship.
 fn none_is_spaceship(objects: &[(Apgcode, u64)]) -> bool
     ensures { IsTrue result ↔ All (λ object. kind_in object.0 ≢ Ship) objects.now }
 {
@@ -105,7 +154,8 @@ fn none_is_spaceship(objects: &[(Apgcode, u64)]) -> bool
     true
 }
 
-/// Whether the number, which isn't 0, is a multiple of the period of each object. The period of a still life is 1.
+/// Checks whether `multiple`, which isn't 0, is a multiple of the period of each object. The period of a still life is
+/// 1.
 fn is_common_multiple(objects: &[(Apgcode, u64)], multiple: u32) -> bool
     requires { 1 ≤ multiple }
     ensures { IsTrue result ↔ IsCommonMultiple objects.now multiple }

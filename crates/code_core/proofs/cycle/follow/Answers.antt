@@ -11,11 +11,6 @@ pub returns-then-touches_edge : goal.returns-then-touches_edge
 returns-then-touches_edge c =
     ends_at_once _ c.args.rule.now c.args.pattern.now c.args.limit c.requires.least (sym c.touches_edge.ensures ∙ c.if-touches_edge.true)
 
-pub returns-then-surely_changes : goal.returns-then-surely_changes
-returns-then-surely_changes c =
-    ends_without _ c.args.rule.now c.args.pattern.now c.args.limit (c.surely_changes.ensures.new c.if-surely_changes.true)
-    (λ g low new. c.surely_changes.ensures.inside c.if-surely_changes.true g (omega arith)) (sym c.touches_edge.ensures ∙ c.if-touches_edge.false)
-
 pub loop-age-init : goal.loop-age-init
 loop-age-init c = rw c.new-phases.ensures.items (follows-none c.args.rule.now c.args.pattern.now c.in_ok-latest.latest c.in_ok-latest.ensures)
 

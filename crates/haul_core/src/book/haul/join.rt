@@ -1,4 +1,4 @@
-//! How two hauls are joined: the joined haul is made beside them, so that nothing has changed if memory runs out.
+//! Joins two hauls. The joined haul is made beside them, so nothing has changed if memory runs out.
 
 ghost use Rattle.std.specs.Prelude.{◌≡◌, ◌++◌, List, IfErr, IfNone, IfOk, IfSome, OnOk, map, nat_eq};
 ghost use Rattle.std.specs.List.{IsDistinct};
@@ -20,7 +20,7 @@ use thiserror::Error;
 /// Why two hauls were not joined.
 #[derive(Clone, Copy, PartialEq, Eq, Error)]
 pub enum JoinError {
-    /// One of them is not closed.
+    /// One of them isn't closed.
     Open,
     /// They are of different jobs.
     OtherJob,
@@ -49,31 +49,32 @@ impl fmt::Debug for JoinError {
 }
 
 impl Haul {
-    /// The two hauls as one. It is closed, and has taken what the first has and then what the second has. It has as
-    /// many workers as the one that has more, and may have more than 2^24 numbers.
+    /// Joins two hauls into one. It is closed, and has taken what the first has taken and then what the second has. It
+    /// has the larger number of workers, and may have more than 2^24 numbers.
     ///
     /// # Errors
     ///
-    /// Both hauls, as they were, and the first of these that holds:
+    /// Both hauls, unchanged, and the first of these that holds:
     ///
-    /// - [`JoinError::Open`] if one of them is not closed.
+    /// - [`JoinError::Open`] if one of them isn't closed.
     /// - [`JoinError::OtherJob`] if they are of different jobs.
     /// - [`JoinError::Overlap`] if a number is in both sets.
     /// - [`JoinError::Memory`] if memory runs out.
     pub fn join(self, other: Haul) -> Result<Haul, (Haul, Haul, JoinError)>
-        // One haul of both, and what stands for it.
+        // One haul of both, and which arrivals lead to it.
         ensures can { OnOk result (CanJoin self other) }
         ensures joined { IfOk result (IsJoined self other) }
         ensures stands { (before after : List Arrival) → StandsFor before self → StandsFor after other
             → IfOk result (StandsFor (joined_arrivals self.terms before other.terms after)) }
 
-        // Which error it is, and what comes back.
+        // Which error it is, and that both hauls come back.
         ensures hinders { IfErr result (λ refused. Hinders self other refused.2) }
         ensures kept { IfErr result (λ refused. (refused.0 ≡ self) × (refused.1 ≡ other)) }
     {
         match one_of(&self, &other) {
             Ok(joined) => {
-                // By calls: dropped at the end of the function, the two hauls cost the prover many times as much.
+                // By calls: if they are dropped at the end of the function, the two hauls take the prover many times as
+                // long.
                 drop(self);
                 drop(other);
                 Ok(joined)
@@ -84,7 +85,7 @@ impl Haul {
 }
 
 /// The law that the census of a joined haul has the sums of the two censuses: of soups, of unsettled ones, of those
-/// that stay for good, of objects, and of the total of each code; and of each code the least three samples of both.
+/// that stay for good, of objects, and of the total of each code. The samples of a code are the three lowest of both.
 pub fn joined_hauls_add_up()
     ensures { JoinedHaulsAddUp }
 {
@@ -92,7 +93,7 @@ pub fn joined_hauls_add_up()
     findings_are_determined();
 }
 
-/// The two hauls as one, or why they can't be joined.
+/// Returns the two hauls as one, or why they can't be joined.
 fn one_of(first: &Haul, second: &Haul) -> Result<Haul, JoinError>
     ensures can { OnOk result (CanJoin first.now second.now) }
     ensures joined { IfOk result (IsJoined first.now second.now) }
@@ -107,7 +108,7 @@ fn one_of(first: &Haul, second: &Haul) -> Result<Haul, JoinError>
     }
 }
 
-/// Why the hauls can't be joined, if they can't, apart from memory.
+/// Returns why the hauls can't be joined, memory apart, or `None`.
 fn hindrance(first: &Haul, second: &Haul) -> Option<JoinError>
     ensures some { IfSome result (Hinders first.now second.now) }
     ensures none { IfNone result (CanJoin first.now second.now) }
@@ -124,7 +125,7 @@ fn hindrance(first: &Haul, second: &Haul) -> Option<JoinError>
     None
 }
 
-/// The two hauls as one.
+/// Returns the two hauls as one.
 fn joined(first: &Haul, second: &Haul) -> Result<Haul, OutOfMemory>
     requires { CanJoin first.now second.now }
     ensures { IfOk result (IsJoined first.now second.now) }
@@ -147,7 +148,7 @@ fn joined(first: &Haul, second: &Haul) -> Result<Haul, OutOfMemory>
     })
 }
 
-/// What the first has taken, and then what the second has.
+/// Returns what the first has taken, and then what the second has.
 fn all_taken(
     alloc: Global,
     first: &[(u8, u64)],
@@ -160,7 +161,7 @@ fn all_taken(
     Ok(taken)
 }
 
-/// The worker of each number.
+/// Returns the worker of each number.
 fn by_number(alloc: Global, taken: &[(u8, u64)]) -> Result<IndexMap<u64, u8>, OutOfMemory>
     requires { IsDistinct nat_eq (numbers_in taken.now) }
     ensures { IfOk result (λ worker_of. worker_of.entries ≡ map (λ t. (t.1, t.0)) taken.now) }

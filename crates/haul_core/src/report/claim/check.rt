@@ -1,4 +1,4 @@
-//! How a claim is checked: the soup is surveyed, and what was found is compared with what the claim says.
+//! Checks a claim: the soup is surveyed, and the finding is compared with what the claim says.
 
 ghost use Rattle.std.specs.Prelude.{◌≡◌, ◌==◌, ◌↔◌, All, IfErr, IfOk, IsTrue, MatchResult, None, Some, if◌then◌else◌};
 ghost use Rattle.memory.specs.Witness.{out_of_memory};
@@ -20,28 +20,28 @@ use survey_core::job::{Job, is_same_job};
 use survey_core::shapes::objects::Objects;
 use survey_core::surveyor::Surveyor;
 
-/// Why a claim did not become a report.
+/// Why a claim didn't become a report.
 #[derive(Debug, Drop)]
 pub enum CheckError {
     /// The claim is of another job.
     OtherJob,
-    /// This was found, and the claim says something else.
+    /// The finding is `found`, and the claim says something else.
     Disagrees { found: Finding },
     /// Memory ran out.
     Memory(OutOfMemory),
 }
 
 impl Claim {
-    /// Surveys the soup that the claim is about, and turns the claim into a report if it is of this job and says what was
-    /// found. A claim of version 1 has no mark, so it is compared without one.
+    /// Surveys the soup that the claim is about, and turns the claim into a report if it is of this job and agrees with
+    /// the finding. A claim of version 1 has no mark, so it is compared without one.
     ///
     /// # Errors
     ///
-    /// The claim, as it was, and the first of these that holds:
+    /// The claim, unchanged, and the first of these that holds:
     ///
     /// - [`CheckError::OtherJob`] if the claim has another seed, profile or rule.
     /// - [`CheckError::Memory`] if memory runs out, before anything is compared.
-    /// - [`CheckError::Disagrees`] with what was found, if the claim says something else.
+    /// - [`CheckError::Disagrees`] with the finding, if the claim says something else.
     pub fn check(self, alloc: Global, job: &Job) -> Result<Report, (Claim, CheckError)>
         ensures { IsCheckedClaim self job.now result }
     {
@@ -49,7 +49,8 @@ impl Claim {
         self.check_by(alloc, &mut surveyor, job)
     }
 
-    /// Checks the claim as [`check`](Claim::check) does, by a surveyor that may have seen other soups. It is faster.
+    /// Checks the claim as [`check`](Claim::check) does, with a surveyor that may have surveyed other soups. This is
+    /// faster.
     ///
     /// # Errors
     ///
@@ -82,7 +83,7 @@ impl Claim {
     }
 }
 
-/// Whether a claim says what the finding does.
+/// Checks whether a claim agrees with the finding.
 fn agrees(claim: &Claim, finding: &Finding) -> bool
     ensures { IsTrue result ↔ Agrees claim.now finding.now }
 {
@@ -101,7 +102,7 @@ fn agrees(claim: &Claim, finding: &Finding) -> bool
     }
 }
 
-/// Whether a claim of this version says this of a soup that settled.
+/// Checks whether a claim of this version agrees with the finding of a soup that settled.
 fn agrees_on_settled(
     version: u8,
     said: &SettledClaim,
@@ -122,7 +123,7 @@ fn agrees_on_settled(
         && are_same_counts(said.counts.as_slice(), objects.as_slice())
 }
 
-/// Whether the counts are those of the objects.
+/// Checks whether the counts are those of the objects.
 fn are_same_counts(counts: &[(ClaimedCode, u64)], objects: &[(Apgcode, u64)]) -> bool
     ensures { IsTrue result ↔ (counts.now ≡ objects.now) }
 {
@@ -138,7 +139,7 @@ fn are_same_counts(counts: &[(ClaimedCode, u64)], objects: &[(Apgcode, u64)]) ->
     true
 }
 
-/// Whether a count is that of the object.
+/// Checks whether a count is that of the object.
 fn is_same_count(count: &(ClaimedCode, u64), object: &(Apgcode, u64)) -> bool
     ensures { IsTrue result ↔ (count.now ≡ object.now) }
 {
@@ -158,7 +159,7 @@ pub fn reports_are_claims(report: &Report)
     codes_have_shape(report.finding());
 }
 
-/// Each code of a finding has the shape of one.
+/// Recalls that each code of a finding has the shape of an apgcode.
 fn codes_have_shape(finding: &Finding)
     ensures { HaveShape finding.now }
 {
@@ -168,7 +169,7 @@ fn codes_have_shape(finding: &Finding)
     }
 }
 
-/// Each of these codes has the shape of one.
+/// Recalls that each of these codes has the shape of an apgcode.
 fn have_shape(objects: &[(Apgcode, u64)])
     ensures { All (λ object. HasCodeShape object.0) objects.now }
 {

@@ -1,4 +1,4 @@
-//! The codes that a claim names, whether there are such objects or not.
+//! The codes that a claim names, whether or not there are such objects.
 
 ghost use Rattle.std.specs.Prelude.{◌≡◌, IfOk};
 ghost use Rattle.code_core.specs.Apgcodes.{HasCodeShape};
@@ -9,7 +9,7 @@ use std::marker::Model;
 
 /// A text that may be the name of an object: 1 to 400 bytes, each one of `a` to `z`, `0` to `9` and `_`.
 ///
-/// A claim names objects by such texts, whether there are such objects or not. Contracts see a code as its bytes.
+/// A claim may name objects that don't exist. Contracts see a code as its bytes.
 #[derive(Debug, Drop)]
 pub struct ClaimedCode {
     bytes: Vec<u8>,
@@ -27,7 +27,7 @@ impl Model for ClaimedCode {
 }
 
 impl ClaimedCode {
-    /// The bytes of the text.
+    /// Returns the bytes of the text.
     pub fn bytes(&self) -> &[u8]
         ensures bytes { result.now ≡ self.now }
         ensures shape { HasCodeShape self.now }
@@ -35,7 +35,7 @@ impl ClaimedCode {
         self.bytes.as_slice()
     }
 
-    /// The code with these bytes.
+    /// Returns the code with these bytes.
     pub(crate) fn make(alloc: Global, bytes: &[u8]) -> Result<ClaimedCode, OutOfMemory>
         requires { HasCodeShape bytes.now }
         ensures { IfOk result (λ code. code ≡ bytes.now) }

@@ -1,4 +1,4 @@
-//! Pieces of a report line: a text is cut at a byte, and each field is read from its whole text.
+//! The fields of a report line: a text is cut at a byte, and each field is read from its whole text.
 
 ghost use Rattle.std.specs.Prelude.{◌≡◌, ◌≢◌, ◌↔◌, ◌<◌, ◌≤◌, ◌^◌, ◌++◌, ◌==◌, ℕ, IsTrue, List, MatchOption, codes};
 ghost use Rattle.std.specs.Prelude.{decimal, option_map, position};
@@ -20,13 +20,13 @@ use ranges::range_list::first_decimal;
 use survey_core::profile::Profile;
 use survey_core::seed::Seed;
 
-/// The greatest limit of a profile. No other number of a profile, and no checkpoint, is greater.
+/// The highest limit of a profile. No other number of a profile, and no checkpoint, is higher.
 const MOST_GENERATIONS: u64 = 100_000;
 
-/// How long an apgcode may be: none is longer, by the law `codes_have_their_shape`.
+/// The most bytes of an apgcode, by the law `codes_have_their_shape`.
 const MOST_CODE_BYTES: usize = 400;
 
-/// The front of a text up to the first such byte, and the text after the byte, if there is one.
+/// Returns the text before the first byte `byte`, and the text after it, if there is such a byte.
 pub(crate) fn cut_at(byte: u8, text: &[u8]) -> (&[u8], Option<&[u8]>)
     ensures { Cuts byte text.now result.0.now (option_map (λ remainder. remainder.now) result.1) }
 {
@@ -36,14 +36,14 @@ pub(crate) fn cut_at(byte: u8, text: &[u8]) -> (&[u8], Option<&[u8]>)
     }
 }
 
-/// The first place of a byte in a text.
+/// Returns the first place of a byte in a text.
 fn place_of(byte: u8, text: &[u8]) -> Option<usize>
     ensures { result ≡ position (λ b. b == byte) text.now }
 {
     text.iter().position(|own| *own == byte)
 }
 
-/// The number below 2^64 whose decimal the text is.
+/// Returns the number below 2^64 whose decimal is the text.
 #[tactic(auto, using(crate::proofs::FieldLemmas::whole_decimal, crate::proofs::FieldLemmas::no_decimal, crate::proofs::FieldLemmas::longer_decimal))]
 pub(crate) fn number_in(text: &[u8]) -> Option<u64>
     ensures { Tells IsNumber decimal text.now result }
@@ -56,14 +56,14 @@ pub(crate) fn number_in(text: &[u8]) -> Option<u64>
     }
 }
 
-/// The number below 2^64 whose decimal stands after a name.
+/// Returns the number below 2^64 whose decimal follows the name.
 pub(crate) fn number_after(name: &[u8], field: &[u8]) -> Option<u64>
     ensures { Tells IsNumber (λ n. name.now ++ decimal n) field.now result }
 {
     number_in(after(name, field)?)
 }
 
-/// What stands after a name at the prefix of a field, if it stands there.
+/// Returns what follows the name, if the field begins with it.
 fn after<'a>(name: &[u8], field: &'a [u8]) -> Option<&'a [u8]>
     ensures { MatchOption result ((remainder : List ℕ) → field.now ≢ name.now ++ remainder)
         (λ remainder. field.now ≡ name.now ++ remainder.now) }
@@ -71,7 +71,7 @@ fn after<'a>(name: &[u8], field: &'a [u8]) -> Option<&'a [u8]>
     field.strip_prefix(name)
 }
 
-/// The worker that a field names.
+/// Returns the worker that a field gives.
 pub(crate) fn worker_in(field: &[u8]) -> Option<u8>
     ensures { Tells IsWorker (λ n. codes "worker=" ++ decimal n) field.now result }
 {
@@ -80,7 +80,7 @@ pub(crate) fn worker_in(field: &[u8]) -> Option<u8>
     if known { Some(number as u8) } else { None }
 }
 
-/// The version that a field names.
+/// Returns the version that a field gives.
 pub(crate) fn version_in(field: &[u8]) -> Option<u8>
     ensures { Tells IsVersion decimal field.now result }
 {
@@ -89,14 +89,14 @@ pub(crate) fn version_in(field: &[u8]) -> Option<u8>
     if known { Some(number as u8) } else { None }
 }
 
-/// Whether n is one of the numbers from the least to the most.
+/// Checks whether n is at least `least` and at most `most`.
 fn is_from_to(least: u64, most: u64, n: u64) -> bool
     ensures { IsTrue result ↔ (least ≤ n × n ≤ most) }
 {
     least <= n && n <= most
 }
 
-/// The number of a soup that a field names.
+/// Returns the number of a soup that a field gives.
 pub(crate) fn soup_in(field: &[u8]) -> Option<u64>
     ensures { Tells (λ n. n < 2 ^ 40) (λ n. codes "soup=" ++ decimal n) field.now result }
 {
@@ -108,7 +108,7 @@ pub(crate) fn soup_in(field: &[u8]) -> Option<u64>
     }
 }
 
-/// The checkpoint that a field names.
+/// Returns the checkpoint that a field gives.
 pub(crate) fn checkpoint_in(field: &[u8]) -> Option<u32>
     ensures { Tells (λ n. n ≤ 100000) (λ n. codes "at=" ++ decimal n) field.now result }
 {
@@ -120,7 +120,7 @@ pub(crate) fn checkpoint_in(field: &[u8]) -> Option<u32>
     }
 }
 
-/// What a field says of a soup: that it didn't settle, or at which checkpoint it did.
+/// Returns what a field says about a soup: that it didn't settle, or at which checkpoint it did.
 #[tactic(auto, using(crate::proofs::FieldLemmas::no_state))]
 pub(crate) fn state_in(field: &[u8]) -> Option<Option<u32>>
     ensures { Tells IsState state_field field.now result }
@@ -131,14 +131,14 @@ pub(crate) fn state_in(field: &[u8]) -> Option<Option<u32>>
     Some(Some(checkpoint_in(field)?))
 }
 
-/// The profile that a field names.
+/// Returns the profile that a field gives.
 pub(crate) fn profile_in(field: &[u8]) -> Option<Profile>
     ensures { Tells IsProfile profile_field field.now result }
 {
     profile_of(after(b"profile=", field)?)
 }
 
-/// The profile whose four numbers these are.
+/// Returns the profile with these four numbers.
 fn profile_of(text: &[u8]) -> Option<Profile>
     ensures { Tells IsProfile numbers_text text.now result }
 {
@@ -152,7 +152,7 @@ fn profile_of(text: &[u8]) -> Option<Profile>
     }
 }
 
-/// The number up to 100,000 at the prefix of a text, and the text after the comma that follows it.
+/// Returns the number up to 100,000 at the beginning of a text, and the text after the comma that follows it.
 fn first_number(text: &[u8]) -> Option<(u32, &[u8])>
     ensures { BeginsNumber text.now (option_map (λ first. (first.0, first.1.now)) result) }
 {
@@ -163,7 +163,7 @@ fn first_number(text: &[u8]) -> Option<(u32, &[u8])>
     Some((number, remainder))
 }
 
-/// The number up to 100,000 whose decimal the text is.
+/// Returns the number up to 100,000 whose decimal is the text.
 fn small_number_in(text: &[u8]) -> Option<u32>
     ensures { Tells IsSmall decimal text.now result }
 {
@@ -175,7 +175,7 @@ fn small_number_in(text: &[u8]) -> Option<u32>
     }
 }
 
-/// The code that a field names, and how many objects have it.
+/// Returns the code that a field names, and how many objects have it.
 pub(crate) fn count_in(field: &[u8]) -> Option<(&[u8], u64)>
     ensures { Tells IsCount count_field field.now (option_map (λ object. (object.0.now, object.1)) result) }
 {
@@ -192,7 +192,7 @@ pub(crate) fn count_in(field: &[u8]) -> Option<(&[u8], u64)>
     Some((code, count))
 }
 
-/// The rule that a field names.
+/// Returns the rule that a field gives.
 pub(crate) fn rule_in(field: &[u8]) -> Option<Rule>
     ensures { Tells IsRule (λ rule. codes "rule=" ++ rule_text rule) field.now result }
 {
@@ -205,7 +205,7 @@ pub(crate) fn rule_in(field: &[u8]) -> Option<Rule>
     }
 }
 
-/// The seed that a field names.
+/// Returns the seed that a field gives.
 pub(crate) fn seed_in(field: &[u8]) -> Option<Seed>
     ensures { Tells IsSeed (λ seed. codes "seed=" ++ seed) field.now result }
 {
@@ -218,7 +218,7 @@ pub(crate) fn seed_in(field: &[u8]) -> Option<Seed>
     }
 }
 
-/// Whether objects stay for good, as a field says.
+/// Returns what a field says about whether objects stay for good.
 #[tactic(auto, unfolding(crate::specs::ReportLines::mark_field), using(crate::proofs::FieldLemmas::two_marks))]
 pub(crate) fn mark_in(field: &[u8]) -> Option<bool>
     ensures { Tells IsAnyMark mark_field field.now result }
@@ -232,7 +232,7 @@ pub(crate) fn mark_in(field: &[u8]) -> Option<bool>
     }
 }
 
-/// Whether a text is a code that a field may name: 1 to 400 bytes, each one of `a` to `z`, `0` to `9` and `_`.
+/// Checks whether a text is a code that a field may name: 1 to 400 bytes, each one of `a` to `z`, `0` to `9` and `_`.
 pub(crate) fn is_code(text: &[u8]) -> bool
     ensures { IsTrue result ↔ HasCodeShape text.now }
 {
@@ -240,14 +240,14 @@ pub(crate) fn is_code(text: &[u8]) -> bool
     1 <= length && length <= MOST_CODE_BYTES && are_code_bytes(text)
 }
 
-/// Whether all bytes may stand in a code.
+/// Checks whether a code may consist of these bytes.
 fn are_code_bytes(text: &[u8]) -> bool
     ensures { result ≡ list_all is_code_byte text.now }
 {
     text.iter().all(|byte| is_code_byte(*byte))
 }
 
-/// Whether the byte may stand in a code.
+/// Checks whether a code may have the byte.
 #[tactic(auto, unfolding(code_core::specs::Tokens::is_character))]
 fn is_code_byte(byte: u8) -> bool
     ensures { result ≡ is_code_byte byte }

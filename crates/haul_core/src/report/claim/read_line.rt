@@ -1,4 +1,4 @@
-//! How a report line is read: in one pass without memory for the first fault, and then, if there is none, with its
+//! Reads a report line: in one pass without memory for the first fault, and then, if there is no fault, with its
 //! counts.
 
 ghost use Rattle.std.specs.Prelude.{◌≡◌, ◌↔◌, ◌-◌, ℕ, IfNone, IfOk, IfSome, IsErrOf, IsTrue, MatchResult, length};
@@ -22,10 +22,10 @@ use std::alloc::Global;
 use std::fmt;
 use thiserror::Error;
 
-/// Why a line is not read as that of a claim.
+/// Why a line can't be read as that of a claim.
 #[derive(Clone, Copy, PartialEq, Eq, Error)]
 pub enum LineError {
-    /// The field that begins at `place` can't stand there, or a field is missing there, at the line's end. Places count
+    /// The field that begins at `place` isn't allowed there, or a field is missing at the end of the line. Places count
     /// bytes from 0.
     BadLine { place: usize },
     /// Memory ran out.
@@ -61,11 +61,11 @@ impl Claim {
     ///
     /// # Errors
     ///
-    /// - [`LineError::BadLine`] if the line is not that of a claim, whether there is memory or not. Its place is where
-    ///   the first field that is wrong begins; if all are right, but one is missing, it is the length of the line.
+    /// - [`LineError::BadLine`] if the line isn't that of a claim, whether there is memory or not. Its place is where
+    ///   the first wrong field begins. If no field is wrong but one is missing, it is the length of the line.
     /// - [`LineError::Memory`] if memory runs out.
     pub fn read_line(alloc: Global, line: &[u8]) -> Result<Claim, LineError>
-        // What is read has the line as its one line, and each claim is read from its line.
+        // The line of the claim that is read is this line, and the line of each claim can be read.
         ensures lawful { IfOk result IsClaim }
         ensures line { IfOk result (λ read. claim_line read ≡ line.now) }
         ensures complete { (claim : Claimed) → IsClaim claim → claim_line claim ≡ line.now
@@ -83,7 +83,7 @@ impl Claim {
     }
 }
 
-/// The place of the first fault of a line, if it is not that of a claim.
+/// Returns the place of the first fault of a line, if it isn't the line of a claim.
 fn fault_in(line: &[u8]) -> Option<usize>
     ensures fault { IfSome result (IsFirstFaultOf line.now) }
     ensures refused { IfSome result (λ _. ¬ IsClaimLine line.now) }
@@ -95,7 +95,7 @@ fn fault_in(line: &[u8]) -> Option<usize>
     }
 }
 
-/// The place of the first fault among the counts of a line.
+/// Returns the place of the first fault among the counts of a line.
 fn fault_in_counts(line: &[u8], counts: Option<&[u8]>) -> Option<usize>
     requires { (start : Before) × HasReadStart line.now start (option_map (λ remainder. remainder.now) counts) }
     ensures fault { IfSome result (IsFirstFaultOf line.now) }
@@ -115,14 +115,14 @@ fn fault_in_counts(line: &[u8], counts: Option<&[u8]>) -> Option<usize>
     None
 }
 
-/// The place in a line where this text, which ends the line, begins.
+/// Returns the place in a line where this text, which ends the line, begins.
 fn place_of(line: &[u8], there: &[u8]) -> usize
     ensures { result ≡ length line.now - length there.now }
 {
     line.len().saturating_sub(there.len())
 }
 
-/// The claim of a line that has no fault.
+/// Returns the claim of a line that has no fault.
 fn claim_in(alloc: Global, line: &[u8]) -> Result<Claim, OutOfMemory>
     requires { IsClaimLine line.now }
     ensures lawful { IfOk result IsClaim }
@@ -134,7 +134,7 @@ fn claim_in(alloc: Global, line: &[u8]) -> Result<Claim, OutOfMemory>
     }
 }
 
-/// The claim of a line that has no fault, with its counts.
+/// Returns the claim of a line that has no fault, with its counts.
 fn with_counts(
     alloc: Global,
     line: &[u8],
@@ -161,7 +161,7 @@ fn with_counts(
     Ok(claim_of(start, read))
 }
 
-/// What a line with this start and these counts says.
+/// Returns the claim of a line with this start and these counts.
 fn claim_of(start: LineStart, counts: Vec<(ClaimedCode, u64)>) -> Claim
     requires { IsClaim (claimed start counts.items) }
     ensures claim { result ≡ claimed start counts.items }
@@ -184,7 +184,7 @@ fn claim_of(start: LineStart, counts: Vec<(ClaimedCode, u64)>) -> Claim
     }
 }
 
-/// The code and the number of a count that may stand after this code.
+/// Returns the code and the number of a count that may follow the code `last`.
 fn count_after<'a>(last: Option<&[u8]>, field: &'a [u8]) -> Option<(&'a [u8], u64)>
     ensures { Tells (MayFollow (option_map (λ own. own.now) last.entry)) count_field field.now
         (option_map (λ object. (object.0.now, object.1)) result) }
@@ -197,7 +197,7 @@ fn count_after<'a>(last: Option<&[u8]>, field: &'a [u8]) -> Option<(&'a [u8], u6
     }
 }
 
-/// Whether a code comes after the last one in ASCII order.
+/// Checks whether a code comes after the last one in ASCII order.
 fn is_after(last: Option<&[u8]>, code: &[u8]) -> bool
     ensures { IsTrue result ↔ IsAfter (option_map (λ own. own.now) last.entry) code.now }
 {
@@ -207,7 +207,7 @@ fn is_after(last: Option<&[u8]>, code: &[u8]) -> bool
     }
 }
 
-/// The laws of lines: a line is that of one claim at most, a line with a fault is that of none, and a line has its
+/// The laws of lines: a line is that of at most one claim, a line with a fault is that of none, and a line has its
 /// first fault at one place.
 #[tactic(auto, using(crate::proofs::OneClaim::one_claim))]
 pub fn lines_tell_claims()

@@ -1,4 +1,4 @@
-//! What a report line says before its counts: the seven fields of the head, and one or two on the soup.
+//! The part of a report line before its counts: the seven fields of the head, and one or two about the soup.
 //!
 //! ```text
 //! report 2 rule=b3s23 profile=64,512,101,30300 seed= worker=1 soup=5 at=404 good=no xp2_7*3 xs4_33*2
@@ -25,7 +25,7 @@ pub(crate) struct LineStart {
     pub(crate) job: Job,
     pub(crate) worker: u8,
     pub(crate) number: u64,
-    /// What it says of a soup that settled.
+    /// When the soup settled, if it did.
     pub(crate) settled: Option<WhenSettled>,
 }
 
@@ -36,8 +36,8 @@ pub(crate) struct WhenSettled {
     pub(crate) for_good: Option<bool>,
 }
 
-/// What a line says before its counts, and the text of the counts, if there are any. If no lawful claim has such a
-/// line, the answer is the text from the first fault on.
+/// Returns what a line says before its counts, and the text of the counts, if there are any. If no claim has such a
+/// line, the error is the text from the first fault on.
 pub(crate) fn start_in(line: &[u8]) -> Result<(LineStart, Option<&[u8]>), &[u8]>
     ensures ok { IfOk result (λ read. HasReadStart line.now read.0 (option_map (λ remainder. remainder.now) read.1)) }
     ensures err { IfErr result (λ there. IsFirstFaultOf line.now (length line.now - length there.now)) }
@@ -48,7 +48,7 @@ pub(crate) fn start_in(line: &[u8]) -> Result<(LineStart, Option<&[u8]>), &[u8]>
     }
 }
 
-/// The start of a line whose head has been read.
+/// Returns the start of a line whose head has been read.
 fn after_head<'a>(
     line: &'a [u8],
     head: LineStart,
@@ -74,7 +74,7 @@ fn after_head<'a>(
     }
 }
 
-/// The fields of the head, and the text after them.
+/// Returns the fields of the head, and the text after them.
 fn head_in(line: &[u8]) -> Result<(LineStart, Option<&[u8]>), &[u8]>
     ensures ok { IfOk result (λ read. HasHead line.now 7 read.0 (option_map (λ remainder. remainder.now) read.1)) }
     ensures err { IfErr result (λ there. IsFirstFaultOf line.now (length line.now - length there.now)) }
@@ -95,7 +95,7 @@ fn head_in(line: &[u8]) -> Result<(LineStart, Option<&[u8]>), &[u8]>
     Ok((head, remainder))
 }
 
-/// Some head, with which reading begins.
+/// Returns some head, to begin with.
 fn blank() -> LineStart
     ensures { IsHead result }
 {
@@ -115,7 +115,7 @@ fn blank() -> LineStart
     }
 }
 
-/// The head with what the field at this place says. There is none if the field says nothing that may stand there.
+/// Returns the head with what the field at this place says, or `None` if the field isn't allowed there.
 fn with_field(mut head: LineStart, place: usize, field: &[u8]) -> Option<LineStart>
     requires place { place < 7 }
     requires head { IsHead head }
@@ -137,7 +137,7 @@ fn with_field(mut head: LineStart, place: usize, field: &[u8]) -> Option<LineSta
     Some(head)
 }
 
-/// The start of a line whose soup settled: in version 2 a mark follows.
+/// Returns the start of a line whose soup settled. In version 2 a mark follows.
 fn settled_in<'a>(
     line: &'a [u8],
     head: LineStart,
@@ -164,7 +164,7 @@ fn settled_in<'a>(
     Ok((with_state(head, checkpoint, Some(for_good)), more))
 }
 
-/// The start of a line whose soup settled then.
+/// Returns the start of a line whose soup settled at this checkpoint.
 fn with_state(head: LineStart, checkpoint: u32, for_good: Option<bool>) -> LineStart
     ensures { result ≡ record head { settled = Some (record { checkpoint = checkpoint; for_good = for_good }) } }
 {
@@ -175,7 +175,7 @@ fn with_state(head: LineStart, checkpoint: u32, for_good: Option<bool>) -> LineS
     LineStart { settled, ..head }
 }
 
-/// The empty text at the end of a line.
+/// Returns the empty text at the end of a line.
 fn end_of(line: &[u8]) -> &[u8]
     ensures { result.now ≡ [] }
 {

@@ -14,17 +14,17 @@ use Rattle.std.proofs.lemmas.List.Quantifiers.{Any-push, any-set}
 use Rattle.plane_core.specs.declared.plane.bounds.Bounds.{Bounds}
 use Rattle.plane_core.specs.declared.plane.cell.Cell.{Cell}
 use Rattle.plane_core.specs.declared.engine.frame.Frame.{Frame}
-use Rattle.plane_core.specs.declared.engine.window_origin.WindowOrigin.{WindowOrigin}
+use Rattle.plane_core.specs.declared.engine.leap_window.LeapWindow.{LeapWindow}
 use Rattle.plane_core.specs.plane.Bounds.{IsRoundBoth, IsWithin, box_at, enlarged, widened}
 use Rattle.plane_core.specs.engine.ActiveBoxes.{AreWider, HoldDifferences, HoldsDifference, IsInOne, IsInReach, IsNearOne}
 use Rattle.plane_core.specs.plane.Cells.{distance, has, is_within, king_distance}
 use Rattle.plane_core.specs.plane.Bounds.{AreSidesWithin}
 use Rattle.plane_core.specs.engine.Frames.{IsFrame}
-use Rattle.plane_core.specs.engine.WindowOrigins.{IsInnerCell, IsOnBoard}
+use Rattle.plane_core.specs.engine.LeapWindows.{IsInnerCell, IsOnBoard}
 use Rattle.plane_core.proofs.lemmas.plane.CaseLemmas.{less_or_not, same_or_not}
 
 -- windows that lie on the board aren't far from the origin
-pub in_reach : (at : Frame) → IsFrame at → (p : WindowOrigin) → IsOnBoard at p → IsInReach p
+pub in_reach : (at : Frame) → IsFrame at → (p : LeapWindow) → IsOnBoard at p → IsInReach p
 in_reach at frame p on = record {
   left = near at.left p.left on.x frame.left on.left (few_columns frame.word_columns on.word_columns);
   top = near at.top p.top on.y frame.top on.top (few_rows frame.rows on.rows);
@@ -36,7 +36,7 @@ in_reach at frame p on = record {
     few_columns : at.word_columns ≤ 2 ^ 16 → on.x / 64 + 1 < at.word_columns → on.x ≤ 2 ^ 22
     few_columns few inside = omega (arith, few, inside)
 
-    few_rows : at.rows ≤ 2 ^ 22 → on.y + 40 ≤ at.rows → on.y ≤ 2 ^ 22
+    few_rows : at.rows ≤ 2 ^ 22 → on.y + p.rows ≤ at.rows → on.y ≤ 2 ^ 22
     few_rows few inside = omega (arith, few, inside)
 
 -- a cell near a cell that is near the box is near the box
@@ -264,16 +264,16 @@ widened_sides n c b e h = record {
 -- ---- the boxes of changes
 
 -- the boxes hold what differs in the first n windows
-abbrev pub HoldFirst : ℕ → List WindowOrigin → List Cell → List Cell → List Bounds → Type 0
-HoldFirst n places one other boxes = (k : ℕ) (p : WindowOrigin) (c : Cell) → k < n → IsInnerCell (get_or places k p) c → has one c ≢ has other c
+abbrev pub HoldFirst : ℕ → List LeapWindow → List Cell → List Cell → List Bounds → Type 0
+HoldFirst n places one other boxes = (k : ℕ) (p : LeapWindow) (c : Cell) → k < n → IsInnerCell (get_or places k p) c → has one c ≢ has other c
     → IsInOne boxes c
 
-pub hold_all : (places : List WindowOrigin) (one other : List Cell) (boxes : List Bounds) → HoldFirst (length places) places one other boxes
+pub hold_all : (places : List LeapWindow) (one other : List Cell) (boxes : List Bounds) → HoldFirst (length places) places one other boxes
     → HoldDifferences places one other boxes
 hold_all places one other boxes first c covered ne =
-    first covered.0 covered.1 c covered.2 (subst (λ (p : WindowOrigin). IsInnerCell p c) (sym covered.3) covered.4) ne
+    first covered.0 covered.1 c covered.2 (subst (λ (p : LeapWindow). IsInnerCell p c) (sym covered.3) covered.4) ne
 
-pub hold_more : (n : ℕ) (places : List WindowOrigin) (one other : List Cell) (boxes new : List Bounds) (found : Option Bounds) (d : WindowOrigin)
+pub hold_more : (n : ℕ) (places : List LeapWindow) (one other : List Cell) (boxes new : List Bounds) (found : Option Bounds) (d : LeapWindow)
     → n < length places → HoldsDifference (get_or places n d) one other found → ((c : Cell) → IsInOne boxes c → IsInOne new c)
     → ((c : Cell) → IsSomeAnd found (λ b. IsWithin b c) → IsInOne new c) → HoldFirst n places one other boxes
     → HoldFirst (n + 1) places one other new
@@ -283,7 +283,7 @@ hold_more n places one other boxes new found d less difference kept added first 
     either (inl before) = kept c (first k q c before inner ne)
     either (inr after) =
         let at : k ≡ n = omega arith in
-        added c (difference c (subst (λ (p : WindowOrigin). IsInnerCell p c)
+        added c (difference c (subst (λ (p : LeapWindow). IsInnerCell p c)
         (ap (λ (m : ℕ). get_or places m q) at ∙ get_or_default places n q d less) inner) ne)
 
 -- ---- wider boxes

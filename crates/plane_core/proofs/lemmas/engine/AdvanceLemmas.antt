@@ -8,7 +8,7 @@ use Rattle.std.proofs.lemmas.List.Elements.{All-nil}
 use Rattle.plane_core.specs.declared.plane.bounds.Bounds.{Bounds}
 use Rattle.plane_core.specs.declared.plane.cell.Cell.{Cell}
 use Rattle.plane_core.specs.declared.engine.frame.Frame.{Frame}
-use Rattle.plane_core.specs.declared.engine.window_origin.WindowOrigin.{WindowOrigin}
+use Rattle.plane_core.specs.declared.engine.leap_window.LeapWindow.{LeapWindow}
 use Rattle.plane_core.specs.declared.engine.row_spans.RowSpan.{RowSpan}
 use Rattle.plane_core.specs.plane.Bounds.{IsWithin}
 use Rattle.plane_core.specs.engine.ActiveBoxes.{AreCovered, HoldAll, HoldDifferences, IsNearOne, IsQuiet, box_bound}
@@ -17,7 +17,7 @@ use Rattle.plane_core.specs.engine.Frames.{FillsFrame, IsFrame, LieOn, Shows, bo
 use Rattle.plane_core.specs.plane.Generations.{after, lies_within}
 use Rattle.plane_core.specs.engine.Boards.{IsBoard, IsSpannedBoard}
 use Rattle.plane_core.specs.engine.OnBoard.{cells_on}
-use Rattle.plane_core.specs.engine.WindowOrigins.{IsCovered, IsInnerCell, IsOnBoard, compared_with}
+use Rattle.plane_core.specs.engine.LeapWindows.{IsCovered, IsInnerCell, IsOnBoard, compared_with}
 use Rattle.plane_core.specs.plane.Bounds.{AreSidesWithin}
 use Rattle.plane_core.specs.plane.Rules.{Numbers}
 use Rattle.plane_core.specs.engine.RowSpans.{AreWidened, HoldCovered, LieInSpans}
@@ -46,7 +46,7 @@ within_unless b c h = record {
     off x y low high = omega (arith, ints)
 
 -- an inner part lies on the board
-inner_on : (at : Frame) (p : WindowOrigin) (c : Cell) → IsOnBoard at p → IsInnerCell p c → IsWithin (bounds_of at) c
+inner_on : (at : Frame) (p : LeapWindow) (c : Cell) → IsOnBoard at p → IsInnerCell p c → IsWithin (bounds_of at) c
 inner_on at p c on inner =
     let l = on.left in
     let t = on.top in
@@ -60,14 +60,14 @@ inner_on at p c on inner =
     }
 
 -- what lives after a leap lies on the board: in an inner part, or where it was alive before
-stays_on : (rule : Numbers) (at : Frame) (places : List WindowOrigin) (S : List Cell) (n : ℕ) → ((c : Cell) → IsCovered places c → IsWithin (bounds_of at) c)
+stays_on : (rule : Numbers) (at : Frame) (places : List LeapWindow) (S : List Cell) (n : ℕ) → ((c : Cell) → IsCovered places c → IsWithin (bounds_of at) c)
     → IsStillOutside rule places S n → LieOn at S → LieOn at (after rule S n)
 stays_on rule at places S n inside still on c e =
     within_unless (bounds_of at) c (λ out. out (on c (sym (still c (λ covered. out (inside c covered))) ∙ e)))
 
 -- what windows on the board cover lies on it
-pub covered_on : (at : Frame) (places : List WindowOrigin) → All (IsOnBoard at) places → (c : Cell) → IsCovered places c → IsWithin (bounds_of at) c
-covered_on at places on c (k, p, low, same, inner) = inner_on at p c (subst (λ (q : WindowOrigin). IsOnBoard at q) same (on k p low)) inner
+pub covered_on : (at : Frame) (places : List LeapWindow) → All (IsOnBoard at) places → (c : Cell) → IsCovered places c → IsWithin (bounds_of at) c
+covered_on at places on c (k, p, low, same, inner) = inner_on at p c (subst (λ (q : LeapWindow). IsOnBoard at q) same (on k p low)) inner
 
 -- ---- a leap
 
@@ -79,7 +79,7 @@ odd_or_even n = go (same_or_not (n % 2) 0)
     go (inr odd) = inr (omega arith)
 
 -- what lies in no inner part stays as it is
-pub still_for_leap : (rule : Numbers) (S : List Cell) (boxes : List Bounds) (places : List WindowOrigin) (n : ℕ) → InOrder S → AreRightFor rule S boxes n
+pub still_for_leap : (rule : Numbers) (S : List Cell) (boxes : List Bounds) (places : List LeapWindow) (n : ℕ) → InOrder S → AreRightFor rule S boxes n
     → AreCovered places boxes → 1 ≤ n → n ≤ 4 → IsStillOutside rule places S n
 still_for_leap rule S boxes places n o right covered low high = elim (odd_or_even n) [
   | inl even ↦ still_outside-quiet rule S boxes places n o (right.even even) covered low high even
@@ -87,7 +87,7 @@ still_for_leap rule S boxes places n o right covered low high = elim (odd_or_eve
 ]
 
 -- so a board whose windows were put back has gone on, with what differs as its boxes, and spans that hold the windows
-pub has_gone_on : (rule : Numbers) (at : Frame) (n : ℕ) (old new : List ℕ) (boxes later : List Bounds) (before wide : List RowSpan) (places : List WindowOrigin)
+pub has_gone_on : (rule : Numbers) (at : Frame) (n : ℕ) (old new : List ℕ) (boxes later : List Bounds) (before wide : List RowSpan) (places : List LeapWindow)
     → IsReady rule at n old boxes before → AreCovered places boxes → 1 ≤ n → n ≤ 4 → All (IsOnBoard at) places → AreWidened before wide
     → HoldCovered at wide places → HasLeapt at rule n places old new → All (AreSidesWithin box_bound) later
     → HoldDifferences places (after rule (cells_on at old) n) (compared_with rule (cells_on at old) n) later

@@ -8,13 +8,13 @@ use Rattle.std.proofs.lemmas.Int.{by_lt_z, clamps, ints}
 use Rattle.plane_core.specs.declared.plane.bounds.Bounds.{Bounds}
 use Rattle.plane_core.specs.declared.plane.cell.Cell.{Cell}
 use Rattle.plane_core.specs.declared.engine.cover.Spans.{Spans}
-use Rattle.plane_core.specs.declared.engine.window_origin.WindowOrigin.{WindowOrigin}
+use Rattle.plane_core.specs.declared.engine.leap_window.LeapWindow.{LeapWindow}
 use Rattle.plane_core.specs.plane.Bounds.{IsRoundBoth, IsWithin, enlarged}
 use Rattle.plane_core.specs.engine.ActiveBoxes.{IsInOne, box_bound, rectangle_bound}
 use Rattle.plane_core.specs.plane.Cells.{distance}
 use Rattle.plane_core.specs.engine.Covers.{AreSideBySide, IsInRow}
 use Rattle.plane_core.specs.plane.Bounds.{AreSidesWithin}
-use Rattle.plane_core.specs.engine.WindowOrigins.{IsCovered, IsInnerCell}
+use Rattle.plane_core.specs.engine.LeapWindows.{IsCovered, IsInnerCell}
 use Rattle.plane_core.proofs.lemmas.engine.ActiveBoxLemmas.{any_swap_remove}
 use Rattle.plane_core.proofs.lemmas.Between.{BeginsAt}
 
@@ -76,31 +76,34 @@ joined_held boxes new i other one b less is removed first second c (inr some) =
 -- ---- windows side by side
 
 -- a cell of a row of spans and one more lies in the row, or in the window over the span more
-pub row_more : (first : ℤ) (n : ℕ) (row : ℤ) (p : WindowOrigin) (c : Cell) → BeginsAt p (first +ℤ pos (56 * n)) row
-    → IsInRow (record { first = first; count = n + 1 }) row c → IsInRow (record { first = first; count = n }) row c ⊎ IsInnerCell p c
+pub row_more : (first : ℤ) (n : ℕ) (row : ℤ) (p : LeapWindow) (c : Cell) → BeginsAt p (first +ℤ pos (56 * n)) row
+    → IsInRow (record { first = first; count = n + 1 }) row p.rows c → IsInRow (record { first = first; count = n }) row p.rows c ⊎ IsInnerCell p c
 row_more first n row p c at h =
-    by_lt_z {P = IsInRow (record { first = first; count = n }) row c ⊎ IsInnerCell p c} c.x (first +ℤ pos (56 * n))
+    by_lt_z {P = IsInRow (record { first = first; count = n }) row p.rows c ⊎ IsInnerCell p c} c.x (first +ℤ pos (56 * n))
     (λ less. inl (record { left = h.left; right = less; top = h.top; bottom = h.bottom }))
     (λ not_less. inr (record {
       left = from (first +ℤ pos (56 * n)) p.left c.x at.left not_less;
       top = from row p.top c.y at.top h.top;
-      right = to (first +ℤ pos (56 * n)) p.left c.x 56 at.left (further first c.x n h.right);
-      bottom = to row p.top c.y 32 at.top h.bottom;
+      right = to (first +ℤ pos (56 * n)) p.left c.x at.left (further first c.x n h.right);
+      bottom = under row p.top c.y p.rows at.top h.bottom;
     }))
   where
     from : (a p x : ℤ) → p ≡ a -ℤ pos 4 → a ≤ℤ x → (p +ℤ pos 4) ≤ℤ x
     from a p x e h = omega (arith, ints)
 
-    to : (a p x : ℤ) (m : ℕ) → p ≡ a -ℤ pos 4 → x <ℤ (a +ℤ pos m) → x ≤ℤ (p +ℤ pos (m + 3))
-    to a p x m e h = omega (arith, ints)
+    to : (a p x : ℤ) → p ≡ a -ℤ pos 4 → x <ℤ (a +ℤ pos 56) → x ≤ℤ (p +ℤ pos 59)
+    to a p x e h = omega (arith, ints)
+
+    under : (a p y : ℤ) (rows : ℕ) → p ≡ a -ℤ pos 4 → (y +ℤ pos 8) <ℤ (a +ℤ pos rows) → (y +ℤ pos 4) <ℤ (p +ℤ pos rows)
+    under a p y rows e h = omega (arith, ints)
 
     further : (a x : ℤ) (n : ℕ) → x <ℤ (a +ℤ pos (56 * (n + 1))) → x <ℤ ((a +ℤ pos (56 * n)) +ℤ pos 56)
     further a x n h = omega (arith, ints)
 
 -- a cell of the rectangle lies in the spans across it
-pub in_row : (rectangle : Bounds) (across : Spans) (row : ℤ) (c : Cell) → AreSideBySide rectangle.left rectangle.right 56 across
-    → IsWithin rectangle c → row ≤ℤ c.y → c.y <ℤ (row +ℤ pos 32) → IsInRow across row c
-in_row rectangle across row c beside within low high = record {
+in_row : (rectangle : Bounds) (across : Spans) (row : ℤ) (rows : ℕ) (c : Cell) → AreSideBySide rectangle.left rectangle.right 56 across
+    → IsWithin rectangle c → row ≤ℤ c.y → (c.y +ℤ pos 8) <ℤ (row +ℤ pos rows) → IsInRow across row rows c
+in_row rectangle across row rows c beside within low high = record {
   left = before across.first rectangle.left c.x beside.start within.left;
   right = after c.x rectangle.right (across.first +ℤ pos (56 * across.count)) within.right beside.end;
   top = low;
@@ -113,26 +116,25 @@ in_row rectangle across row c beside within low high = record {
     after : (x b e : ℤ) → x ≤ℤ b → b <ℤ e → x <ℤ e
     after x b e h k = omega (arith, ints)
 
--- what is laid in the rows so far, and in one more
-pub rows_more : (rectangle : Bounds) (across : Spans) (first row : ℤ) (n : ℕ) (old new : List WindowOrigin) → row ≡ first +ℤ pos (32 * n)
-    → AreSideBySide rectangle.left rectangle.right 56 across
-    → ((c : Cell) → IsWithin rectangle c → c.y <ℤ (first +ℤ pos (32 * n)) → IsCovered old c) → ((c : Cell) → IsCovered old c → IsCovered new c)
-    → ((c : Cell) → IsInRow across row c → IsCovered new c) → (c : Cell) → IsWithin rectangle c → c.y <ℤ (first +ℤ pos (32 * (n + 1)))
+-- what is laid in the rows so far, and in one row of windows more
+pub rows_more : (rectangle : Bounds) (across : Spans) (first row : ℤ) (laid rows more : ℕ) (old new : List LeapWindow) → row ≡ first +ℤ pos laid
+    → 8 ≤ rows → more ≡ laid + (rows - 8) → AreSideBySide rectangle.left rectangle.right 56 across
+    → ((c : Cell) → IsWithin rectangle c → c.y <ℤ (first +ℤ pos laid) → IsCovered old c) → ((c : Cell) → IsCovered old c → IsCovered new c)
+    → ((c : Cell) → IsInRow across row rows c → IsCovered new c) → (c : Cell) → IsWithin rectangle c → c.y <ℤ (first +ℤ pos more)
     → IsCovered new c
-rows_more rectangle across first row n old new is beside before kept laid c within high =
-    by_lt_z {P = IsCovered new c} c.y (first +ℤ pos (32 * n)) (λ less. kept c (before c within less))
-    (λ not_less. laid c (in_row rectangle across row c beside within (low first row c.y n is not_less) (further first row c.y n is high)))
+rows_more rectangle across first row laid rows more old new is some sum beside before kept here c within high =
+    by_lt_z {P = IsCovered new c} c.y (first +ℤ pos laid) (λ less. kept c (before c within less))
+    (λ not_less. here c (in_row rectangle across row rows c beside within (low c.y not_less) (further c.y high)))
   where
-    low : (a r y : ℤ) (n : ℕ) → r ≡ a +ℤ pos (32 * n) → (a +ℤ pos (32 * n)) ≤ℤ y → r ≤ℤ y
-    low a r y n e h = omega (arith, ints)
+    low : (y : ℤ) → (first +ℤ pos laid) ≤ℤ y → row ≤ℤ y
+    low y h = omega (arith, ints, is)
 
-    further : (a r y : ℤ) (n : ℕ) → r ≡ a +ℤ pos (32 * n) → y <ℤ (a +ℤ pos (32 * (n + 1))) → y <ℤ (r +ℤ pos 32)
-    further a r y n e h = omega (arith, ints)
+    further : (y : ℤ) → y <ℤ (first +ℤ pos more) → (y +ℤ pos 8) <ℤ (row +ℤ pos rows)
+    further y h = omega (arith, ints, is, some, sum)
 
 -- a row of the rectangle lies above the end of its last windows
-pub below_end : (y bottom first : ℤ) (count n : ℕ) → y ≤ℤ bottom → bottom <ℤ (first +ℤ pos (32 * count)) → count ≤ n
-    → y <ℤ (first +ℤ pos (32 * n))
-below_end y bottom first count n h k le = omega (arith, ints)
+pub below_end : (y bottom first : ℤ) (length laid : ℕ) → y ≤ℤ bottom → length ≡ distance first bottom → length < laid → y <ℤ (first +ℤ pos laid)
+below_end y bottom first length laid h is less = omega (arith, ints)
 
 -- and none lies above the first of them
 pub none_above : (y top first : ℤ) → first ≤ℤ top → top ≤ℤ y → ¬ (y <ℤ (first +ℤ pos 0))
@@ -175,16 +177,10 @@ side_by_side_is first last begin size length some is at = record {
 -- ---- how far spans reach
 
 pub spans_begin : (first last : ℤ) (size : ℕ) (spans : Spans) → AreSideBySide first last size spans → size ≤ 64 → unsigned_abs first ≤ rectangle_bound
-    → unsigned_abs spans.first ≤ 2 ^ 25
+    → unsigned_abs spans.first ≤ 2 ^ 24
 spans_begin first last size spans is low near =
     let s = is.start in
     let n = is.near in
-    omega (arith, ints)
-
-pub few_rows : (first last : ℤ) (spans : Spans) → AreSideBySide first last 32 spans → unsigned_abs first ≤ rectangle_bound
-    → unsigned_abs last ≤ rectangle_bound → spans.count ≤ 2 ^ 20
-few_rows first last spans is near far =
-    let s = is.small in
     omega (arith, ints)
 
 pub few_columns : (first last : ℤ) (spans : Spans) → AreSideBySide first last 56 spans → unsigned_abs first ≤ rectangle_bound
@@ -193,11 +189,7 @@ few_columns first last spans is near far =
     let s = is.small in
     omega (arith, ints)
 
-pub row_near : (first row : ℤ) (i count : ℕ) → i < count → count ≤ 2 ^ 20 → unsigned_abs first ≤ 2 ^ 25 → row ≡ first +ℤ pos (32 * i)
-    → unsigned_abs row ≤ 2 ^ 26
-row_near first row i count low few near is = omega (arith, ints, is)
-
-pub wider_bound : (first : ℤ) → unsigned_abs first ≤ 2 ^ 25 → unsigned_abs first ≤ 2 ^ 26
+pub wider_bound : (first : ℤ) → unsigned_abs first ≤ 2 ^ 24 → unsigned_abs first ≤ 2 ^ 26
 wider_bound first near = omega arith
 
 -- ---- numbers that fit
@@ -212,16 +204,16 @@ pub fits_column : (first : ℤ) (i count : ℕ) → i < count → count ≤ 2 ^ 
     → FitsSigned w32 (to_z w32 (of_z w32 first) +ℤ to_z w32 (of_z w32 (pos 56 *ℤ to_z w32 i)))
 fits_column first i count low few near = omega (arith, ints)
 
-pub fits_rows : (i count : ℕ) → i < count → count ≤ 2 ^ 20 → FitsSigned w32 (pos 32 *ℤ to_z w32 i)
-fits_rows i count low few = omega (arith, ints)
+pub few_rows : (first last : ℤ) (length : ℕ) → length ≡ distance first last → unsigned_abs first ≤ 2 ^ 24 → unsigned_abs last ≤ rectangle_bound → length ≤ 2 ^ 25
+few_rows first last length is near far = omega (arith, ints)
 
-pub fits_row : (first : ℤ) (i count : ℕ) → i < count → count ≤ 2 ^ 20 → unsigned_abs first ≤ 2 ^ 25
-    → FitsSigned w32 (to_z w32 (of_z w32 first) +ℤ to_z w32 (of_z w32 (pos 32 *ℤ to_z w32 i)))
-fits_row first i count low few near = omega (arith, ints)
+pub row_is : (first : ℤ) (laid : ℕ) → laid ≤ 2 ^ 25 → unsigned_abs first ≤ 2 ^ 24
+    → to_z w32 (of_z w32 (to_z w32 (of_z w32 first) +ℤ to_z w32 laid)) ≡ first +ℤ pos laid
+row_is first laid few near = omega (arith, ints)
 
-pub row_is : (first : ℤ) (i count : ℕ) → i < count → count ≤ 2 ^ 20 → unsigned_abs first ≤ 2 ^ 25
-    → to_z w32 (of_z w32 (to_z w32 (of_z w32 first) +ℤ to_z w32 (of_z w32 (pos 32 *ℤ to_z w32 i)))) ≡ first +ℤ pos (32 * i)
-row_is first i count low few near = omega (arith, ints)
+pub row_near : (first : ℤ) (laid : ℕ) → laid ≤ 2 ^ 25 → unsigned_abs first ≤ 2 ^ 24
+    → unsigned_abs (to_z w32 (of_z w32 (to_z w32 (of_z w32 first) +ℤ to_z w32 laid))) ≤ 2 ^ 26
+row_near first laid few near = omega (arith, ints)
 
 pub fits_less : (x : ℤ) → unsigned_abs x ≤ box_bound → FitsSigned w32 (to_z w32 (of_z w32 x) -ℤ pos 4)
 fits_less x near = omega (arith, ints)

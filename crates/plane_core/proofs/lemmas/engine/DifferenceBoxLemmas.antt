@@ -1,20 +1,20 @@
 -- The box round a change: each inner cell in which two patterns differ has its column and its row in it.
-use Rattle.std.proofs.Common.{◌≡◌, ◌≢◌, ◌+◌, ◌-◌, ◌^◌, ◌<◌, ◌≤◌, ℕ, zero, suc, ℤ, pos, ◌+ℤ◌, ◌-ℤ◌, ◌≤ℤ◌, bit_and, min, w64, unsigned_abs}
+use Rattle.std.proofs.Common.{◌≡◌, ◌≢◌, ◌+◌, ◌-◌, ◌^◌, ◌<◌, ◌≤◌, ℕ, zero, suc, ℤ, pos, ◌+ℤ◌, ◌-ℤ◌, ◌<ℤ◌, ◌≤ℤ◌, w64, unsigned_abs}
 use Rattle.std.proofs.Common.{arith, refl, ap, ◌∙◌, sym, inl, inr, ◌⊎◌, List}
 use Rattle.std.specs.Int.{bit_at, leading_zeros, trailing_zeros}
 use Rattle.std.proofs.lemmas.Int.{ints}
 use Rattle.std.proofs.lemmas.Nat.{leading_top}
-use Rattle.std.proofs.lemmas.Nat.Bits.{bit_at-lt, bit_at-trailing_zeros, bit_at_above, bit_at_and, bit_at_mask_inside}
+use Rattle.std.proofs.lemmas.Nat.Bits.{bit_at-lt, bit_at-trailing_zeros, bit_at_above}
 use Rattle.plane_core.specs.declared.plane.bounds.Bounds.{Bounds}
 use Rattle.plane_core.specs.declared.plane.cell.Cell.{Cell}
 use Rattle.plane_core.specs.declared.engine.difference_box.DifferenceMask.{DifferenceMask}
 use Rattle.plane_core.specs.declared.engine.difference_box.BitSpan.{BitSpan}
-use Rattle.plane_core.specs.declared.engine.window_origin.WindowOrigin.{WindowOrigin}
+use Rattle.plane_core.specs.declared.engine.leap_window.LeapWindow.{LeapWindow}
 use Rattle.plane_core.specs.plane.Bounds.{IsWithin}
 use Rattle.plane_core.specs.engine.ActiveBoxes.{HasBits, IsInReach, box_bound}
 use Rattle.plane_core.specs.plane.Cells.{cell_at, has}
 use Rattle.plane_core.specs.plane.Bounds.{AreSidesWithin}
-use Rattle.plane_core.specs.engine.WindowOrigins.{MarksDifferences, IsInnerCell}
+use Rattle.plane_core.specs.engine.LeapWindows.{MarksDifferences, IsInnerCell}
 use Rattle.plane_core.proofs.lemmas.plane.CaseLemmas.{less_or_not}
 
 -- ---- the bits of a word
@@ -58,26 +58,24 @@ spans word some small = record { first = first; last = last; order = last low.0 
 
 -- ---- where two patterns differ
 
--- the cell's column and row in the window are both in the change, less what lies outside of the inner part
-pub record IsMarked (p : WindowOrigin) (d : DifferenceMask) (c : Cell) : Type 0 where
+-- the cell's column and row in the window are both in the change
+pub record IsMarked (p : LeapWindow) (d : DifferenceMask) (c : Cell) : Type 0 where
   pub column : ℕ
   pub row : ℕ
   pub across : c.x ≡ p.left +ℤ pos column
   pub down : c.y ≡ p.top +ℤ pos row
-  pub in_columns : bit_at (bit_and d.columns 0x0ffffffffffffff0) column ≡ 1
-  pub in_rows : bit_at (bit_and d.rows 0x0000000ffffffff0) row ≡ 1
+  pub in_columns : bit_at d.columns column ≡ 1
+  pub in_rows : bit_at d.rows row ≡ 1
 
-pub marked : (p : WindowOrigin) (one other : List Cell) (d : DifferenceMask) (c : Cell) → MarksDifferences p one other d → IsInnerCell p c
+pub marked : (p : LeapWindow) (one other : List Cell) (d : DifferenceMask) (c : Cell) → MarksDifferences p one other d → IsInnerCell p c
     → has one c ≢ has other c → IsMarked p d c
 marked p one other d c holds inner ne = record {
   column = i;
   row = r;
   across = across;
   down = down;
-  in_columns = kept d.columns 0x0ffffffffffffff0 i (either (zero_or_one d.columns i) (λ e. holds.columns i r left right top bottom e))
-      (bit_at_mask_inside 4 60 i left right);
-  in_rows = kept d.rows 0x0000000ffffffff0 r (either (zero_or_one d.rows r) (λ e. holds.rows i r left right top bottom e))
-      (bit_at_mask_inside 4 36 r top bottom);
+  in_columns = either (zero_or_one d.columns i) (λ e. holds.columns i r left right top bottom e);
+  in_rows = either (zero_or_one d.rows r) (λ e. holds.rows i r left right top bottom e);
 }
   where
     i : ℕ
@@ -86,15 +84,18 @@ marked p one other d c holds inner ne = record {
     r : ℕ
     r = unsigned_abs (c.y -ℤ p.top)
 
-    offset : (a b : ℤ) (m n : ℕ) → (a +ℤ pos m) ≤ℤ b → b ≤ℤ (a +ℤ pos n)
-        → (b ≡ a +ℤ pos (unsigned_abs (b -ℤ a))) × (m ≤ unsigned_abs (b -ℤ a)) × (unsigned_abs (b -ℤ a) < n + 1)
+    offset : (a b : ℤ) (m n : ℕ) → (a +ℤ pos m) ≤ℤ b → (b +ℤ pos 4) <ℤ (a +ℤ pos n)
+        → (b ≡ a +ℤ pos (unsigned_abs (b -ℤ a))) × (m ≤ unsigned_abs (b -ℤ a)) × (unsigned_abs (b -ℤ a) + 4 < n)
     offset a b m n h k = (omega (arith, ints), omega (arith, ints), omega (arith, ints))
 
-    x : (c.x ≡ p.left +ℤ pos i) × (4 ≤ i) × (i < 60)
-    x = offset p.left c.x 4 59 inner.left inner.right
+    before : (x l : ℤ) → x ≤ℤ (l +ℤ pos 59) → (x +ℤ pos 4) <ℤ (l +ℤ pos 64)
+    before x l h = omega (arith, ints)
 
-    y : (c.y ≡ p.top +ℤ pos r) × (4 ≤ r) × (r < 36)
-    y = offset p.top c.y 4 35 inner.top inner.bottom
+    x : (c.x ≡ p.left +ℤ pos i) × (4 ≤ i) × (i + 4 < 64)
+    x = offset p.left c.x 4 64 inner.left (before c.x p.left inner.right)
+
+    y : (c.y ≡ p.top +ℤ pos r) × (4 ≤ r) × (r + 4 < p.rows)
+    y = offset p.top c.y 4 p.rows inner.top inner.bottom
 
     across : c.x ≡ p.left +ℤ pos i
     across = x.0
@@ -106,12 +107,12 @@ marked p one other d c holds inner ne = record {
     left = x.1
 
     right : i < 60
-    right = x.2
+    right = let h = x.2 in omega (arith, h)
 
     top : 4 ≤ r
     top = y.1
 
-    bottom : r < 36
+    bottom : r + 4 < p.rows
     bottom = y.2
 
     is : cell_at (p.left +ℤ pos i) (p.top +ℤ pos r) ≡ c
@@ -122,27 +123,24 @@ marked p one other d c holds inner ne = record {
     either (inl e) same = absurd (ne (sym (ap (λ (c : Cell). has one c) is) ∙ same e ∙ ap (λ (c : Cell). has other c) is))
     either (inr e) same = e
 
-    kept : (a m i : ℕ) → bit_at a i ≡ 1 → bit_at m i ≡ 1 → bit_at (bit_and a m) i ≡ 1
-    kept a m i h k = bit_at_and a m i ∙ (λ t. min (h t) (k t))
-
 -- a word without a bit marks no cell
-pub marked_none_across : (p : WindowOrigin) (d : DifferenceMask) (c : Cell) → ((i : ℕ) → bit_at (bit_and d.columns 0x0ffffffffffffff0) i ≡ 0)
+pub marked_none_across : (p : LeapWindow) (d : DifferenceMask) (c : Cell) → ((i : ℕ) → bit_at d.columns i ≡ 0)
     → ¬ IsMarked p d c
 marked_none_across p d c none m = let e = none m.column in let h = m.in_columns in absurd (omega arith)
 
-pub marked_none_down : (p : WindowOrigin) (d : DifferenceMask) (c : Cell) → ((i : ℕ) → bit_at (bit_and d.rows 0x0000000ffffffff0) i ≡ 0)
+pub marked_none_down : (p : LeapWindow) (d : DifferenceMask) (c : Cell) → ((i : ℕ) → bit_at d.rows i ≡ 0)
     → ¬ IsMarked p d c
 marked_none_down p d c none m = let e = none m.row in let h = m.in_rows in absurd (omega arith)
 
 -- the box from the first bits to the last
-pub record IsFrom (p : WindowOrigin) (across down : BitSpan) (b : Bounds) : Type 0 where
+pub record IsFrom (p : LeapWindow) (across down : BitSpan) (b : Bounds) : Type 0 where
   pub left : b.left ≡ p.left +ℤ pos across.first
   pub top : b.top ≡ p.top +ℤ pos down.first
   pub right : b.right ≡ p.left +ℤ pos across.last
   pub bottom : b.bottom ≡ p.top +ℤ pos down.last
 
-pub marked_within : (p : WindowOrigin) (d : DifferenceMask) (across down : BitSpan) (b : Bounds) (c : Cell)
-    → HasBits (bit_and d.columns 0x0ffffffffffffff0) across → HasBits (bit_and d.rows 0x0000000ffffffff0) down → IsFrom p across down b
+pub marked_within : (p : LeapWindow) (d : DifferenceMask) (across down : BitSpan) (b : Bounds) (c : Cell)
+    → HasBits d.columns across → HasBits d.rows down → IsFrom p across down b
     → IsMarked p d c → IsWithin b c
 marked_within p d across down b c columns rows from m = record {
   left = low b.left p.left c.x across.first m.column from.left m.across (columns.first m.column m.in_columns);
@@ -157,7 +155,7 @@ marked_within p d across down b c columns rows from m = record {
     high : (l a x : ℤ) (i j : ℕ) → l ≡ a +ℤ pos i → x ≡ a +ℤ pos j → j ≤ i → x ≤ℤ l
     high l a x i j e f h = omega (arith, ints)
 
-pub sides_from : (p : WindowOrigin) (m n : ℕ) (across down : BitSpan) (b : Bounds) → IsInReach p → HasBits m across → HasBits n down
+pub sides_from : (p : LeapWindow) (m n : ℕ) (across down : BitSpan) (b : Bounds) → IsInReach p → HasBits m across → HasBits n down
     → IsFrom p across down b → AreSidesWithin box_bound b
 sides_from p m n across down b reach columns rows from = record {
   left = side b.left p.left across.first from.left reach.left (let o = columns.order in let h = columns.high in omega arith);

@@ -37,8 +37,8 @@ fits_next_word_column x low = record { fits = omega arith }
 pub fits_window_end : (y n : ℕ) → y < 2 ^ 32 → n ≤ 64 → Fits w64 (y + n)
 fits_window_end y n low few = record { fits = omega arith }
 
-pub window_low : (at : Frame) (y : ℕ) → IsFrame at → y + 40 ≤ at.rows → y < 2 ^ 32
-window_low at y frame inside = let h = frame.rows in omega arith
+pub window_low : (at : Frame) (y n : ℕ) → IsFrame at → y + n ≤ at.rows → y < 2 ^ 32
+window_low at y n frame inside = let h = frame.rows in omega arith
 
 pub fits_row_below : (at : Frame) (y : ℕ) → IsFrame at → y < at.rows → Fits w64 (y + 1)
 fits_row_below at y frame inside = let h = frame.rows in record { fits = omega arith }

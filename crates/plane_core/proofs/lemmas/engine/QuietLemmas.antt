@@ -4,11 +4,11 @@ use Rattle.std.proofs.Common.{arith, refl, ap, ◌∙◌, sym, subst, inl, inr}
 use Rattle.std.proofs.lemmas.Bool.{eq-eqb, false≢true, ne_eqb}
 use Rattle.plane_core.specs.declared.plane.bounds.Bounds.{Bounds}
 use Rattle.plane_core.specs.declared.plane.cell.Cell.{Cell}
-use Rattle.plane_core.specs.declared.engine.window_origin.WindowOrigin.{WindowOrigin}
+use Rattle.plane_core.specs.declared.engine.leap_window.LeapWindow.{LeapWindow}
 use Rattle.plane_core.specs.engine.ActiveBoxes.{AreCovered, HoldAll, HoldDifferences, IsInOne, IsNearOne, IsQuiet}
 use Rattle.plane_core.specs.plane.Cells.{InOrder, has, king_distance}
 use Rattle.plane_core.specs.plane.Generations.{after}
-use Rattle.plane_core.specs.engine.WindowOrigins.{compared_with}
+use Rattle.plane_core.specs.engine.LeapWindows.{compared_with}
 use Rattle.plane_core.specs.plane.Rules.{Numbers}
 use Rattle.plane_core.proofs.lemmas.plane.CaseLemmas.{same_or_not}
 use Rattle.plane_core.proofs.lemmas.engine.ActiveBoxLemmas.{near_further, near_itself, near_wider}
@@ -61,7 +61,7 @@ pub quiet-start : (rule : Numbers) (S : List Cell) (boxes : List Bounds) → Hol
 quiet-start rule S boxes all c far = still-early rule S boxes 2 2 c all (omega arith) far
 
 -- what lies in no inner part stays as it is for up to four generations
-pub still_outside-held : (rule : Numbers) (S : List Cell) (boxes : List Bounds) (places : List WindowOrigin) (n : ℕ) → HoldAll boxes S
+pub still_outside-held : (rule : Numbers) (S : List Cell) (boxes : List Bounds) (places : List LeapWindow) (n : ℕ) → HoldAll boxes S
     → AreCovered places boxes → n ≤ 4 → IsStillOutside rule places S n
 still_outside-held rule S boxes places n all covered le c out =
     still-early rule S boxes 4 n c all le (λ near. out (covered c near))
@@ -95,7 +95,7 @@ still-even rule S boxes n c o quiet (inl two) far =
 still-even rule S boxes n c o quiet (inr four) far =
     ap (λ (m : ℕ). has (after rule S m) c) four ∙ still-four rule S boxes c o quiet far
 
-pub still_outside-quiet : (rule : Numbers) (S : List Cell) (boxes : List Bounds) (places : List WindowOrigin) (n : ℕ) → InOrder S
+pub still_outside-quiet : (rule : Numbers) (S : List Cell) (boxes : List Bounds) (places : List LeapWindow) (n : ℕ) → InOrder S
     → IsQuiet rule S boxes → AreCovered places boxes → 1 ≤ n → n ≤ 4 → n % 2 ≡ 0 → IsStillOutside rule places S n
 still_outside-quiet rule S boxes places n o quiet covered low high even c out =
     still-even rule S boxes n c o quiet (even_leap n low high even) (λ near. out (covered c near))
@@ -116,7 +116,7 @@ pub compared-odd : (rule : Numbers) (S : List Cell) (n : ℕ) → n % 2 ≡ 1 �
 compared-odd rule S n odd =
     ap (λ (b : Bool). cond {A = List Cell} b (after rule S (n - 2)) []) (ne_eqb (n % 2) 0 (λ e. absurd (omega arith)))
 
-pub quiet-next : (rule : Numbers) (S : List Cell) (boxes new : List Bounds) (places : List WindowOrigin) (n : ℕ) → InOrder S
+pub quiet-next : (rule : Numbers) (S : List Cell) (boxes new : List Bounds) (places : List LeapWindow) (n : ℕ) → InOrder S
     → IsQuiet rule S boxes → AreCovered places boxes → 1 ≤ n → n ≤ 4 → n % 2 ≡ 0
     → HoldDifferences places (after rule S n) (compared_with rule S n) new → IsQuiet rule (after rule S n) new
 quiet-next rule S boxes new places n o quiet covered low high even differ =
@@ -145,7 +145,7 @@ quiet-next rule S boxes new places n o quiet covered low high even differ =
     both d far = still-even rule S boxes n d o quiet which far ∙ sym (before d which far)
 
 -- after an odd number of generations the new boxes, of the cells that are alive then, hold all
-pub boxed-next : (rule : Numbers) (S : List Cell) (boxes new : List Bounds) (places : List WindowOrigin) (n : ℕ) → HoldAll boxes S
+pub boxed-next : (rule : Numbers) (S : List Cell) (boxes new : List Bounds) (places : List LeapWindow) (n : ℕ) → HoldAll boxes S
     → AreCovered places boxes → n ≤ 4 → n % 2 ≡ 1 → HoldDifferences places (after rule S n) (compared_with rule S n) new
     → HoldAll new (after rule S n)
 boxed-next rule S boxes new places n all covered le odd differ c h =

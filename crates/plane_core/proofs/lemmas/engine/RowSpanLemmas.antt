@@ -9,14 +9,14 @@ use Rattle.std.proofs.lemmas.List.{get_or_default, take_more}
 use Rattle.std.proofs.lemmas.Nat.Bits.{bit_at-lt, bit_at-zero}
 use Rattle.plane_core.specs.declared.plane.cell.Cell.{Cell}
 use Rattle.plane_core.specs.declared.engine.frame.Frame.{Frame}
-use Rattle.plane_core.specs.declared.engine.window_origin.WindowOrigin.{WindowOrigin}
+use Rattle.plane_core.specs.declared.engine.leap_window.LeapWindow.{LeapWindow}
 use Rattle.plane_core.specs.declared.engine.row_spans.Hull.{Hull}
 use Rattle.plane_core.specs.declared.engine.row_spans.RowSpan.{RowSpan}
 use Rattle.plane_core.specs.plane.Cells.{has}
 use Rattle.plane_core.specs.engine.Frames.{Shows, board_cell, word_of}
 use Rattle.plane_core.specs.plane.Generations.{after}
 use Rattle.plane_core.specs.engine.OnBoard.{cells_on}
-use Rattle.plane_core.specs.engine.WindowOrigins.{IsInnerCell}
+use Rattle.plane_core.specs.engine.LeapWindows.{IsInnerCell}
 use Rattle.plane_core.specs.plane.Rules.{Numbers}
 use Rattle.plane_core.specs.engine.RowSpans.{AreSpans, AreWidened, HoldCovered, HoldsSpans, HasRow, IsInHull, IsInSpan, LieInSpans, span_of}
 use Rattle.plane_core.proofs.lemmas.plane.CaseLemmas.{less_or_not, same_or_not}
@@ -64,18 +64,19 @@ held_more at old new cs k d low wide before here s r i hs hr hi e =
     c = board_cell at s r i
 
 -- the inner part of a window lies in two word columns
-pub inner_held : (at : Frame) (p : WindowOrigin) (x y : ℕ) (mid new : List RowSpan) → p.left ≡ at.left +ℤ pos x → p.top ≡ at.top +ℤ pos y
-    → ((r : ℕ) → HasRow (record { from = y + 4; end = y + 36 }) r → IsInSpan mid (x / 64) r) → AreWidened mid new
-    → ((r : ℕ) → HasRow (record { from = y + 4; end = y + 36 }) r → IsInSpan new (x / 64 + 1) r) → HoldInner at new p
-inner_held at p x y mid new left top first wide second s r i hs hr hi inner = go (same_or_not s (x / 64))
+pub inner_held : (at : Frame) (p : LeapWindow) (x y end : ℕ) (mid new : List RowSpan) → p.left ≡ at.left +ℤ pos x → p.top ≡ at.top +ℤ pos y
+    → end + 4 ≡ p.rows
+    → ((r : ℕ) → HasRow (record { from = y + 4; end = y + end }) r → IsInSpan mid (x / 64) r) → AreWidened mid new
+    → ((r : ℕ) → HasRow (record { from = y + 4; end = y + end }) r → IsInSpan new (x / 64 + 1) r) → HoldInner at new p
+inner_held at p x y end mid new left top height first wide second s r i hs hr hi inner = go (same_or_not s (x / 64))
   where
     low : y + 4 ≤ r
     low = let h = inner.top in omega (arith, ints)
 
-    high : r < y + 36
+    high : r < y + end
     high = let h = inner.bottom in omega (arith, ints)
 
-    here : HasRow (record { from = y + 4; end = y + 36 }) r
+    here : HasRow (record { from = y + 4; end = y + end }) r
     here = record { low = low; high = high }
 
     go : (s ≡ x / 64) ⊎ (s ≢ x / 64) → IsInSpan new s r
@@ -87,12 +88,12 @@ inner_held at p x y mid new left top first wide second s r i hs hr hi inner = go
         subst (λ (t : ℕ). IsInSpan new t r) is (second r here)
 
 -- one place more
-pub places_more : (at : Frame) (old new : List RowSpan) (places : List WindowOrigin) (done : ℕ) (d : WindowOrigin) → done < length places → AreWidened old new
-    → ((k : ℕ) (p : WindowOrigin) → k < done → HoldInner at old (slice_index_or places k p)) → HoldInner at new (slice_index_or places done d)
-    → (k : ℕ) (p : WindowOrigin) → k < done + 1 → HoldInner at new (slice_index_or places k p)
+pub places_more : (at : Frame) (old new : List RowSpan) (places : List LeapWindow) (done : ℕ) (d : LeapWindow) → done < length places → AreWidened old new
+    → ((k : ℕ) (p : LeapWindow) → k < done → HoldInner at old (slice_index_or places k p)) → HoldInner at new (slice_index_or places done d)
+    → (k : ℕ) (p : LeapWindow) → k < done + 1 → HoldInner at new (slice_index_or places k p)
 places_more at old new places done d low wide before here k p near s r i hs hr hi inner = elim (same_or_not k done) [
   | inl same ↦
-      here s r i hs hr hi (subst (λ (q : WindowOrigin). IsInnerCell q (board_cell at s r i))
+      here s r i hs hr hi (subst (λ (q : LeapWindow). IsInnerCell q (board_cell at s r i))
       (ap (λ (m : ℕ). slice_index_or places m p) same ∙ get_or_default places done p d low) inner)
   | inr apart ↦ wide s r (before k p (omega (arith, near, apart)) s r i hs hr hi inner)
 ]
@@ -100,7 +101,7 @@ places_more at old new places done d low wide before here k p near s r i hs hr h
 -- ---- a leap
 
 -- what lives after a leap lies in the spans: in an inner part, or where it was alive before
-pub spans_after : (rule : Numbers) (at : Frame) (places : List WindowOrigin) (S : List Cell) (n : ℕ) (old new : List RowSpan) → LieInSpans at old S
+pub spans_after : (rule : Numbers) (at : Frame) (places : List LeapWindow) (S : List Cell) (n : ℕ) (old new : List RowSpan) → LieInSpans at old S
     → AreWidened old new → HoldCovered at new places → IsStillOutside rule places S n → LieInSpans at new (after rule S n)
 spans_after rule at places S n old new live wide covered still s r i hs hr hi e = elim (in_or_not (span_of new s) r) [
   | inl inside ↦ inside

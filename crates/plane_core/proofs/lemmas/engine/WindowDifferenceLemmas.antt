@@ -5,6 +5,7 @@ use Rattle.std.proofs.Common.{arith, refl, ap, ◌∙◌, sym, subst, bit_and, b
 use Rattle.std.specs.Int.{bit_at}
 use Rattle.std.proofs.lemmas.Nat.Bits.{bit_at_and, bit_at_xor, bit_at-lt, bit_at-zero}
 use Rattle.std.proofs.lemmas.Bool.{eqb-true}
+use Rattle.std.proofs.lemmas.Nat.{div-add-mod', div_below, mod_below}
 use Rattle.std.proofs.lemmas.Simd.{tops_compared, length-zip2, get_or-sel_l, get_or-zip2, get_or-replicate}
 use Rattle.plane_core.specs.declared.engine.difference_box.DifferenceMask.{DifferenceMask}
 use Rattle.plane_core.specs.engine.WindowDifferences.{DiffersOnlyIn}
@@ -87,24 +88,24 @@ not_marked places rows j i q lp lr low one none = split (other_than (slice_index
 -- ---- vector after vector
 
 -- in the first vectors the windows differ only in these columns
-abbrev pub DifferInColumns : List (List ℕ) → List (List ℕ) → List ℕ → ℕ → Type 0
-DifferInColumns one other columns count = (k : ℕ) → k < count → (j i : ℕ) → j < 4 → 4 ≤ i → i < 60 → 4 ≤ j * 10 + k → j * 10 + k < 36
+abbrev pub DifferInColumns : ℕ → List (List ℕ) → List (List ℕ) → List ℕ → ℕ → Type 0
+DifferInColumns n one other columns count = (k : ℕ) → k < count → (j i : ℕ) → j < 4 → 4 ≤ i → i < 60 → 4 ≤ j * n + k → j * n + k + 4 < 4 * n
     → bit_of columns j i ≡ 0 → bit_at (lane_at one k j) i ≡ bit_at (lane_at other k j) i
 
 -- and only in these rows
-abbrev pub DifferInRows : List (List ℕ) → List (List ℕ) → List ℕ → ℕ → Type 0
-DifferInRows one other rows count = (k : ℕ) → k < count → (j i : ℕ) → j < 4 → 4 ≤ i → i < 60 → 4 ≤ j * 10 + k → j * 10 + k < 36
-    → bit_of rows j (j * 10 + k) ≡ 0 → bit_at (lane_at one k j) i ≡ bit_at (lane_at other k j) i
+abbrev pub DifferInRows : ℕ → List (List ℕ) → List (List ℕ) → List ℕ → ℕ → Type 0
+DifferInRows n one other rows count = (k : ℕ) → k < count → (j i : ℕ) → j < 4 → 4 ≤ i → i < 60 → 4 ≤ j * n + k → j * n + k + 4 < 4 * n
+    → bit_of rows j (j * n + k) ≡ 0 → bit_at (lane_at one k j) i ≡ bit_at (lane_at other k j) i
 
 -- the places of vector k hold all its inner places in which the windows differ
-abbrev pub HoldPlaces : List (List ℕ) → List (List ℕ) → List ℕ → ℕ → Type 0
-HoldPlaces one other places k = (j i : ℕ) → j < 4 → 4 ≤ i → i < 60 → 4 ≤ j * 10 + k → j * 10 + k < 36
+abbrev pub HoldPlaces : ℕ → List (List ℕ) → List (List ℕ) → List ℕ → ℕ → Type 0
+HoldPlaces n one other places k = (j i : ℕ) → j < 4 → 4 ≤ i → i < 60 → 4 ≤ j * n + k → j * n + k + 4 < 4 * n
     → bit_of places j i ≡ 0 → bit_at (lane_at one k j) i ≡ bit_at (lane_at other k j) i
 
-pub columns_more : (one other : List (List ℕ)) (columns places more : List ℕ) (k : ℕ) → DifferInColumns one other columns k → HoldPlaces one other places k
+pub columns_more : (n : ℕ) (one other : List (List ℕ)) (columns places more : List ℕ) (k : ℕ) → DifferInColumns n one other columns k → HoldPlaces n one other places k
     → ((j i : ℕ) → j < 4 → bit_of more j i ≡ 0 → bit_of columns j i ≡ 0) → ((j i : ℕ) → j < 4 → bit_of more j i ≡ 0 → bit_of places j i ≡ 0)
-    → DifferInColumns one other more (k + 1)
-columns_more one other columns places more k before here old new m low j i lane a b d e none = split (less_or_not m k)
+    → DifferInColumns n one other more (k + 1)
+columns_more n one other columns places more k before here old new m low j i lane a b d e none = split (less_or_not m k)
   where
     split : (m < k) ⊎ (k ≤ m) → bit_at (lane_at one m j) i ≡ bit_at (lane_at other m j) i
     split (inl less) = before m less j i lane a b d e (old j i lane none)
@@ -112,32 +113,38 @@ columns_more one other columns places more k before here old new m low j i lane 
         let is : k ≡ m = omega arith in
         subst (λ (q : ℕ). bit_at (lane_at one q j) i ≡ bit_at (lane_at other q j) i) is (here j i lane a b (omega arith) (omega arith) (new j i lane none))
 
-pub rows_more : (one other : List (List ℕ)) (rows places marks more : List ℕ) (k : ℕ) → DifferInRows one other rows k → HoldPlaces one other places k
-    → ((j i : ℕ) → j < 4 → bit_of marks j (j * 10 + k) ≡ 0 → bit_of places j i ≡ 0)
+pub rows_more : (n : ℕ) (one other : List (List ℕ)) (rows places marks more : List ℕ) (k : ℕ) → DifferInRows n one other rows k → HoldPlaces n one other places k
+    → ((j i : ℕ) → j < 4 → bit_of marks j (j * n + k) ≡ 0 → bit_of places j i ≡ 0)
     → ((j i : ℕ) → j < 4 → bit_of more j i ≡ 0 → bit_of rows j i ≡ 0) → ((j i : ℕ) → j < 4 → bit_of more j i ≡ 0 → bit_of marks j i ≡ 0)
-    → DifferInRows one other more (k + 1)
-rows_more one other rows places marks more k before here mark old new m low j i lane a b d e none = split (less_or_not m k)
+    → DifferInRows n one other more (k + 1)
+rows_more n one other rows places marks more k before here mark old new m low j i lane a b d e none = split (less_or_not m k)
   where
     split : (m < k) ⊎ (k ≤ m) → bit_at (lane_at one m j) i ≡ bit_at (lane_at other m j) i
-    split (inl less) = before m less j i lane a b d e (old j (j * 10 + m) lane none)
+    split (inl less) = before m less j i lane a b d e (old j (j * n + m) lane none)
     split (inr last) =
         let is : k ≡ m = omega arith in
-        let at : bit_of more j (j * 10 + k) ≡ 0 = ap (λ (q : ℕ). bit_of more j (j * 10 + q)) is ∙ none in
+        let at : bit_of more j (j * n + k) ≡ 0 = ap (λ (q : ℕ). bit_of more j (j * n + q)) is ∙ none in
         subst (λ (q : ℕ). bit_at (lane_at one q j) i ≡ bit_at (lane_at other q j) i) is
-        (here j i lane a b (omega arith) (omega arith) (mark j i lane (new j (j * 10 + k) lane at)))
+        (here j i lane a b (omega arith) (omega arith) (mark j i lane (new j (j * n + k) lane at)))
 
-pub differs_only : (one other : List (List ℕ)) (columns rows : List ℕ) (change : DifferenceMask) → DifferInColumns one other columns 10
-    → DifferInRows one other rows 10
+pub differs_only : (n : ℕ) (one other : List (List ℕ)) (columns rows : List ℕ) (change : DifferenceMask) → DifferInColumns n one other columns n
+    → DifferInRows n one other rows n
     → ((j i : ℕ) → j < 4 → bit_at change.columns i ≡ 0 → bit_of columns j i ≡ 0) → ((j i : ℕ) → j < 4 → bit_at change.rows i ≡ 0 → bit_of rows j i ≡ 0)
-    → DiffersOnlyIn change one other
-differs_only one other columns rows change by_columns by_rows all_columns all_rows = record {
-  columns =
-      λ r i a b d e none.
-      by_columns (r % 10) (omega arith) (r / 10) i (omega arith) d e (omega arith) (omega arith) (all_columns (r / 10) i (omega arith) none);
+    → DiffersOnlyIn n change one other
+differs_only n one other columns rows change by_columns by_rows all_columns all_rows = record {
+  columns = λ r i a b d e none.
+      let some : 0 < n = omega (arith, b) in
+      let low : r < 4 * n = omega (arith, b) in
+      let lane : r / n < 4 = div_below r n 4 some low in
+      let whole : r / n * n + r % n ≡ r = div-add-mod' r n in
+      by_columns (r % n) (mod_below r n some) (r / n) i lane d e (omega (arith, whole, a)) (omega (arith, whole, b)) (all_columns (r / n) i lane none);
   rows = λ r i a b d e none.
-      let whole : r ≡ r / 10 * 10 + r % 10 = omega arith in
-      by_rows (r % 10) (omega arith) (r / 10) i (omega arith) d e (omega arith) (omega arith)
-      (ap (λ (q : ℕ). bit_of rows (r / 10) q) (sym whole) ∙ all_rows (r / 10) r (omega arith) none);
+      let some : 0 < n = omega (arith, b) in
+      let low : r < 4 * n = omega (arith, b) in
+      let lane : r / n < 4 = div_below r n 4 some low in
+      let whole : r / n * n + r % n ≡ r = div-add-mod' r n in
+      by_rows (r % n) (mod_below r n some) (r / n) i lane d e (omega (arith, whole, a)) (omega (arith, whole, b))
+      (ap (λ (q : ℕ). bit_of rows (r / n) q) whole ∙ all_rows (r / n) r lane none);
 }
 
 -- ---- the code's words

@@ -14,20 +14,24 @@ use Rattle.plane_core.specs.declared.plane.bounds.Bounds.{Bounds}
 use Rattle.plane_core.specs.declared.plane.cell.Cell.{Cell}
 use Rattle.plane_core.specs.declared.engine.window_origin.WindowOrigin.{WindowOrigin}
 use Rattle.plane_core.specs.plane.Bounds.{AreSidesWithin, IsLeastBox, IsWithin}
-use Rattle.plane_core.specs.plane.Cells.{InOrder, cell_at, distance, has, is_within, plane_bound, same_cell}
-use Rattle.plane_core.specs.plane.Generations.{touches_edge}
+use Rattle.plane_core.specs.plane.Cells.{cell_at, distance, has, is_within, plane_bound, same_cell}
+use Rattle.plane_core.specs.plane.Generations.{lies_within}
 use Rattle.plane_core.specs.engine.LoneWindows.{IsInland}
-use Rattle.plane_core.specs.windows.LonePatterns.{Holds, IsInWindow}
+use Rattle.plane_core.specs.windows.LonePatterns.{FillsRows, Holds, IsInWindow}
 use Rattle.plane_core.specs.windows.Windows.{IsShownInside, row_at}
 use Rattle.plane_core.proofs.lemmas.plane.CaseLemmas.{same_or_not}
+use Rattle.plane_core.proofs.lemmas.plane.CoordinateLemmas.{AreApart, taken, within_apart, within_low}
 use Rattle.plane_core.proofs.lemmas.plane.CellLemmas.{passed_within, same_cell-itself, same_cell-same}
 use Rattle.plane_core.proofs.lemmas.plane.SearchLemmas.{has-list_all}
 use Rattle.plane_core.proofs.lemmas.plane.SetLemmas.{has-all, has-append, has-head}
-use Rattle.plane_core.proofs.lemmas.plane.SpeedLemmas.{inside_edge}
 use Rattle.plane_core.proofs.lemmas.windows.WindowLemmas.{same_cell_at}
 use Rattle.plane_core.proofs.lemmas.Between.{IsSpot, ShowsRows}
 
 -- ---- a window round a box
+
+-- the window that begins here
+abbrev pub window_at : ℤ → ℤ → WindowOrigin
+window_at left top = record { left = left; top = top }
 
 pub record IsPlacedRound (b : Bounds) (width height : ℕ) (p : WindowOrigin) : Type 0 where
   pub left : p.left ≡ b.left -ℤ pos ((63 - width) / 2)
@@ -80,11 +84,12 @@ place_has_cells b width height p S is least c e = inside (has-all (IsWithin b) S
           south = omega (arith, ints);
         }
 
--- a window far inside the plane
-pub inside_edge_of : (p : WindowOrigin) (S : List Cell) → IsInland p → ((c : Cell) → has S c ≡ true → IsInWindow 16 p.left p.top c) → touches_edge S ≡ false
-inside_edge_of p S far inside = inside_edge S 999000 (omega arith) (has-list_all (is_within 999000) S near)
+-- a pattern in a window far inside the plane lies far inside too
+pub inland_within : (p : WindowOrigin) (S : List Cell) → IsInland p → ((c : Cell) → has S c ≡ true → IsInWindow 16 p.left p.top c)
+    → lies_within 951000 S ≡ true
+inland_within p S far inside = has-list_all (is_within 951000) S near
   where
-    near : (c : Cell) → has S c ≡ true → is_within 999000 c ≡ true
+    near : (c : Cell) → has S c ≡ true → is_within 951000 c ≡ true
     near c e =
         let h = inside c e in
         let far_left = far.left in
@@ -93,8 +98,8 @@ inside_edge_of p S far inside = inside_edge S 999000 (omega arith) (has-list_all
         let t = h.north in
         let r = h.east in
         let b = h.south in
-        and_from (leb (unsigned_abs c.x) 999000) (leb (unsigned_abs c.y) 999000) (le-leb (unsigned_abs c.x) 999000 (omega (arith, ints)))
-        (le-leb (unsigned_abs c.y) 999000 (omega (arith, ints)))
+        and_from (leb (unsigned_abs c.x) 951000) (leb (unsigned_abs c.y) 951000) (le-leb (unsigned_abs c.x) 951000 (omega (arith, ints)))
+        (le-leb (unsigned_abs c.y) 951000 (omega (arith, ints)))
 
 -- ---- rows
 
@@ -167,12 +172,48 @@ pub shown_taken : (p : WindowOrigin) (rows : List ℕ) (cs : List Cell) (i : ℕ
     → ShowsRows p rows (take (i + 1) cs)
 shown_taken p rows cs i d low shown = subst (λ (S : List Cell). ShowsRows p rows S) (sym (take_more cs i d low)) shown
 
+-- ---- where a cell of a window stands in it
+
+abbrev pub IsAcross : (origin : WindowOrigin) → (cell : Cell) → Type 0
+IsAcross origin cell = AreApart cell.x origin.left (unsigned_abs (cell.x -ℤ origin.left))
+
+abbrev pub IsDown : (origin : WindowOrigin) → (cell : Cell) → Type 0
+IsDown origin cell = AreApart cell.y origin.top (unsigned_abs (cell.y -ℤ origin.top))
+
+pub apart_across : (origin : WindowOrigin) (cell : Cell) → FitsSigned w32 cell.x → FitsSigned w32 origin.left → IsInWindow 16 origin.left origin.top cell → IsAcross origin cell
+apart_across origin cell x left inside = within_apart cell.x origin.left x left inside.west inside.east
+
+pub apart_down : (origin : WindowOrigin) (cell : Cell) → FitsSigned w32 cell.y → FitsSigned w32 origin.top → IsInWindow 16 origin.left origin.top cell → IsDown origin cell
+apart_down origin cell y top inside = within_apart cell.y origin.top y top inside.north inside.south
+
+pub low_across : (origin : WindowOrigin) (cell : Cell) → FitsSigned w32 cell.x → FitsSigned w32 origin.left → IsInWindow 16 origin.left origin.top cell
+    → unsigned_abs (taken cell.x origin.left) < 64
+low_across origin cell x left inside = within_low cell.x origin.left inside.west inside.east (apart_across origin cell x left inside)
+
+pub low_down : (origin : WindowOrigin) (cell : Cell) → FitsSigned w32 cell.y → FitsSigned w32 origin.top → IsInWindow 16 origin.left origin.top cell
+    → unsigned_abs (taken cell.y origin.top) < 64
+low_down origin cell y top inside = within_low cell.y origin.top inside.north inside.south (apart_down origin cell y top inside)
+
+pub spot_of : (origin : WindowOrigin) (cell : Cell) → FitsSigned w32 cell.x → FitsSigned w32 origin.left → FitsSigned w32 cell.y → FitsSigned w32 origin.top
+    → IsInWindow 16 origin.left origin.top cell → IsSpot origin cell (unsigned_abs (taken cell.x origin.left)) (unsigned_abs (taken cell.y origin.top))
+spot_of origin cell x left y top inside = record { across_is = (apart_across origin cell x left inside).is; down_is = (apart_down origin cell y top inside).is }
+
+abbrev pub default_cell : Cell
+default_cell = record { x = pos 0; y = pos 0 }
+
+pub inside_at : (origin : WindowOrigin) (cells : List Cell) (k : ℕ) → ((c : Cell) → has cells c ≡ true → IsInWindow 16 origin.left origin.top c) → k < length cells
+    → IsInWindow 16 origin.left origin.top (get_or cells k default_cell)
+inside_at origin cells k all low = all _ (has-at cells k _ low)
+
+pub in_rows : (n long : ℕ) → long ≡ 64 → n < 64 → n < long
+in_rows n long is low = omega arith
+
 -- ---- rows in vectors
 
 -- the window of rows
-pub shown_packed : (p : WindowOrigin) (rows : List ℕ) (x : List (List ℕ)) (S : List Cell) → InOrder S → ((c : Cell) → has S c ≡ true → IsInWindow 16 p.left p.top c)
-    → ShowsRows p rows S → ((r : ℕ) → r < 64 → row_at 16 x r ≡ slice_index rows r) → Holds 16 p.left p.top x S
-shown_packed p rows x S order inside shown same = record { in_order = order; inside = inside; shown = held }
+pub shown_packed : (p : WindowOrigin) (rows : List ℕ) (x : List (List ℕ)) (S : List Cell) → FillsRows p.left p.top rows S
+    → ((r : ℕ) → r < 64 → row_at 16 x r ≡ slice_index rows r) → Holds 16 p.left p.top x S
+shown_packed p rows x S fills same = record { in_order = fills.in_order; inside = fills.inside; shown = held }
   where
     held : IsShownInside 16 p.left p.top 0 x S
-    held r i a b c d = let low : r < 64 = omega arith in shown r i low (omega arith) ∙ ap (λ (m : ℕ). bit_at m i == 1) (sym (same r low))
+    held r i a b c d = let low : r < 64 = omega arith in fills.shown r i low (omega arith) ∙ ap (λ (m : ℕ). bit_at m i == 1) (sym (same r low))

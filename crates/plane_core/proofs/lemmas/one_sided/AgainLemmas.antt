@@ -9,8 +9,9 @@ use Rattle.std.proofs.lemmas.Nat.Bits.{bit_at-lt, bit_at-trailing_zeros, bit_at-
 use Rattle.plane_core.specs.declared.plane.cell.Cell.{Cell}
 use Rattle.plane_core.specs.plane.Bounds.{shifted}
 use Rattle.plane_core.specs.plane.Cells.{has, moved_by}
-use Rattle.plane_core.specs.plane.Generations.{after, next}
-use Rattle.plane_core.specs.windows.LonePatterns.{AreAlike, HasChanged, Holds, IsColumns, IsFirstRow, IsInWindow, IsRimClear, AreVectors}
+use Rattle.plane_core.specs.plane.Generations.{NeverRecurs, after, next}
+use Rattle.plane_core.specs.windows.LonePatterns.{AreAlike, Holds, IsColumns, IsFirstRow, IsRimClear, AreVectors}
+use Rattle.plane_core.specs.one_sided.FollowedPatterns.{IsFollowed}
 use Rattle.plane_core.specs.plane.Rules.{Numbers}
 use Rattle.plane_core.specs.windows.Windows.{IsNextWindow, row_at}
 use Rattle.plane_core.proofs.lemmas.plane.CaseLemmas.{less_or_not, same_or_not}
@@ -243,36 +244,20 @@ alike_held n left top x y S T alike hx hy = same_lists S T hx.in_order hy.in_ord
             ap (has S) l.place ∙ hx.shown r i (omega arith) (let k = l.row in omega arith) (omega arith) (let k = l.column in omega arith)
             ∙ ap (λ (m : ℕ). m == 1) (alike r i l.row ∙ l.bit)
 
-pub changed-none : (rule : Numbers) (n : ℕ) (left top : ℤ) (x : List (List ℕ)) (S : List Cell) → Holds n left top x S → HasChanged rule n left top S 0
-changed-none rule n left top x S h = record {
-  new = λ p dx dy some none. absurd (omega arith);
-  inside = λ g low c e. h.inside c (sym (ap (λ (T : List Cell). has T c) (ap (λ (m : ℕ). after rule S m) (still g low) ∙ after-none rule S)) ∙ e);
-}
-  where
-    still : (g : ℕ) → g ≤ 0 → g ≡ 0
-    still g low = omega arith
+pub new-none : (rule : Numbers) (S : List Cell) → NeverRecurs rule S 0
+new-none rule S p dx dy some none = absurd (omega arith)
 
 -- one generation more
-pub changed-more : (rule : Numbers) (n : ℕ) (left top : ℤ) (y : List (List ℕ)) (S : List Cell) (g : ℕ) → HasChanged rule n left top S g
-    → Holds n left top y (after rule S (g + 1)) → ((dx dy : ℤ) → after rule S (g + 1) ≢ shifted dx dy S) → HasChanged rule n left top S (g + 1)
-changed-more rule n left top y S g before h other = record {
-  new = λ p dx dy some low. new p dx dy some low (same_or_not p (g + 1));
-  inside = λ p low. inside p low (same_or_not p (g + 1));
-}
+pub new-more : (rule : Numbers) (S : List Cell) (g : ℕ) → NeverRecurs rule S g → ((dx dy : ℤ) → after rule S (g + 1) ≢ shifted dx dy S)
+    → NeverRecurs rule S (g + 1)
+new-more rule S g before other p dx dy some low = new p some low (same_or_not p (g + 1))
   where
-    new : (p : ℕ) (dx dy : ℤ) → 1 ≤ p → p ≤ g + 1 → (p ≡ g + 1) ⊎ (p ≢ g + 1) → after rule S p ≢ shifted dx dy S
-    new p dx dy some low (inl same) back = other dx dy (sym (ap (after rule S) same) ∙ back)
-    new p dx dy some low (inr apart) back = before.new p dx dy some (omega arith) back
+    new : (p : ℕ) → 1 ≤ p → p ≤ g + 1 → (p ≡ g + 1) ⊎ (p ≢ g + 1) → after rule S p ≢ shifted dx dy S
+    new p some low (inl same) back = other dx dy (sym (ap (after rule S) same) ∙ back)
+    new p some low (inr apart) back = before p dx dy some (omega arith) back
 
-    inside : (p : ℕ) → p ≤ g + 1 → (p ≡ g + 1) ⊎ (p ≢ g + 1) → (c : Cell) → has (after rule S p) c ≡ true → IsInWindow n left top c
-    inside p low (inl same) c e = h.inside c (sym (ap (λ (m : ℕ). has (after rule S m) c) same) ∙ e)
-    inside p low (inr apart) c e = before.inside p (omega arith) c e
-
-pub changed-fewer : (rule : Numbers) (n : ℕ) (left top : ℤ) (S : List Cell) (m g : ℕ) → g ≤ m → HasChanged rule n left top S m → HasChanged rule n left top S g
-changed-fewer rule n left top S m g low h = record {
-  new = λ p dx dy some few. h.new p dx dy some (omega arith);
-  inside = λ p few. h.inside p (omega arith);
-}
+pub new-fewer : (rule : Numbers) (S : List Cell) (m g : ℕ) → g ≤ m → NeverRecurs rule S m → NeverRecurs rule S g
+new-fewer rule S m g low new p dx dy some few = new p dx dy some (omega arith)
 
 unmoved : (S : List Cell) → shifted (pos 0) (pos 0) S ≡ S
 unmoved [] = refl
@@ -282,19 +267,15 @@ unmoved (c ∷ cs) = λ i. same_cell_at _ _ _ _ (still c.x) (still c.y) i ∷ un
     still a = omega (arith, ints)
 
 -- a generation that was there before: all that follow were there before too
-pub changed-ever : (rule : Numbers) (n : ℕ) (left top : ℤ) (S : List Cell) (m h g : ℕ) → h < m → after rule S h ≡ after rule S m
-    → HasChanged rule n left top S m
-    → HasChanged rule n left top S g
-changed-ever rule n left top S m h g less back changed = record {
-  new = λ p dx dy some low e. let q = earlier p in changed.new q.0 dx dy (q.2 some) (omega (arith, q.1)) (sym q.3 ∙ e);
-  inside = λ p low c e. let q = earlier p in changed.inside q.0 (omega (arith, q.1)) c (sym (ap (λ (T : List Cell). has T c) q.3) ∙ e);
-}
+pub new-ever : (rule : Numbers) (S : List Cell) (m h g : ℕ) → h < m → after rule S h ≡ after rule S m → NeverRecurs rule S m → NeverRecurs rule S g
+new-ever rule S m h g less back new p dx dy some low e =
+    let q = earlier p in new q.0 dx dy (q.2 some) (omega (arith, q.1)) (sym q.3 ∙ e)
   where
     -- it isn't the start
     late : 1 ≤ h
     late = elim (less_or_not 0 h) [
       | inl past ↦ past
-      | inr first ↦ absurd (changed.new m (pos 0) (pos 0) (omega arith) (omega arith)
+      | inr first ↦ absurd (new m (pos 0) (pos 0) (omega arith) (omega arith)
           (sym back ∙ ap (after rule S) (nothing h first) ∙ after-none rule S ∙ sym (unmoved S)))
     ]
       where
@@ -319,22 +300,17 @@ changed-ever rule n left top S m h g less back changed = record {
 pub record IsChanging (rule : Numbers) (n : ℕ) (start now kept : List (List ℕ)) (columns made : ℕ) : Type 0 where
   pub whole : AreVectors n now
   pub columns_are : IsColumns n now columns
-  pub held : (S : List Cell) (left top : ℤ) → Holds n left top start S → Holds n left top now (after rule S made)
+  pub followed : IsFollowed rule n start now made
   pub earlier : (h : ℕ) × (h ≤ made) × ((S : List Cell) (left top : ℤ) → Holds n left top start S → Holds n left top kept (after rule S h))
-  pub changed : (S : List Cell) (left top : ℤ) → Holds n left top start S → HasChanged rule n left top S made
 
-pub changing_start : (rule : Numbers) (n : ℕ) (start : List (List ℕ)) (columns : ℕ) → AreVectors n start → IsColumns n start columns
-    → IsChanging rule n start start start columns 0
-changing_start rule n start columns whole are = record {
+pub changing_start : (rule : Numbers) (n : ℕ) (start now : List (List ℕ)) (columns made : ℕ) → IsFollowed rule n start now made → AreVectors n now
+    → IsColumns n now columns → IsChanging rule n start now now columns made
+changing_start rule n start now columns made followed whole are = record {
   whole = whole;
   columns_are = are;
-  held = λ S left top h. first S left top h;
-  earlier = (0, omega arith, λ S left top h. first S left top h);
-  changed = λ S left top h. changed-none rule n left top start S h;
+  followed = followed;
+  earlier = (made, omega arith, followed.held);
 }
-  where
-    first : (S : List Cell) (left top : ℤ) → Holds n left top start S → Holds n left top start (after rule S 0)
-    first S left top h = subst (λ (T : List Cell). Holds n left top start T) (sym (after-none rule S)) h
 
 -- a generation more, which isn't the start again
 pub changing_more : (rule : Numbers) (n : ℕ) (start now kept later : List (List ℕ)) (columns columns_later made : ℕ) (again : Bool) → 0 < n
@@ -344,33 +320,29 @@ pub changing_more : (rule : Numbers) (n : ℕ) (start now kept later : List (Lis
 changing_more rule n start now kept later columns columns_later made again some before clear step whole are may not = record {
   whole = whole;
   columns_are = are;
-  held = held;
+  followed = record {
+    held = held;
+    new = λ S left top h. new-more rule S made (before.followed.new S left top h)
+        (λ dx dy e. false≢true (sym not ∙ may S left top dx dy h (subst (λ (T : List Cell). Holds n left top later T) e (held S left top h))));
+  };
   earlier = let e = before.earlier in (e.0, omega (arith, e.1), e.2);
-  changed = λ S left top h. changed-more rule n left top later S made (before.changed S left top h) (held S left top h)
-      (λ dx dy e. false≢true (sym not ∙ may S left top dx dy h (subst (λ (T : List Cell). Holds n left top later T) e (held S left top h))));
 }
   where
     held : (S : List Cell) (left top : ℤ) → Holds n left top start S → Holds n left top later (after rule S (made + 1))
     held S left top h = subst (λ (T : List Cell). Holds n left top later T) (sym (after-more rule S made))
-        (next_held rule n left top now later (after rule S made) some before.whole clear step (before.held S left top h))
+        (next_held rule n left top now later (after rule S made) some before.whole clear step (before.followed.held S left top h))
 
 -- it is kept
 pub changing_keeps : (rule : Numbers) (n : ℕ) (start now kept : List (List ℕ)) (columns made : ℕ) → IsChanging rule n start now kept columns made
     → IsChanging rule n start now now columns made
-changing_keeps rule n start now kept columns made c = record {
-  whole = c.whole;
-  columns_are = c.columns_are;
-  held = c.held;
-  earlier = (made, omega arith, c.held);
-  changed = c.changed;
-}
+changing_keeps rule n start now kept columns made c = changing_start rule n start now columns made c.followed c.whole c.columns_are
 
 -- it is the one that was kept
 pub changing_ends : (rule : Numbers) (n : ℕ) (left top : ℤ) (start now kept : List (List ℕ)) (columns made most : ℕ) (S : List Cell)
     → IsChanging rule n start now kept columns (made + 1) → (h : ℕ) → h ≤ made
     → ((S : List Cell) (left top : ℤ) → Holds n left top start S → Holds n left top kept (after rule S h)) → AreAlike n now kept → Holds n left top start S
-    → HasChanged rule n left top S most
+    → NeverRecurs rule S most
 changing_ends rule n left top start now kept columns made most S c h low old alike holds =
-    changed-ever rule n left top S (made + 1) h most (omega arith)
-    (sym (alike_held n left top now kept (after rule S (made + 1)) (after rule S h) alike (c.held S left top holds) (old S left top holds)))
-    (c.changed S left top holds)
+    new-ever rule S (made + 1) h most (omega arith)
+    (sym (alike_held n left top now kept (after rule S (made + 1)) (after rule S h) alike (c.followed.held S left top holds) (old S left top holds)))
+    (c.followed.new S left top holds)

@@ -12,7 +12,7 @@ use Rattle.plane_core.specs.clusters.Clusters.{IsCluster, Leads, Linked}
 use Rattle.plane_core.specs.one_sided.Floods.{AreNear, IsFlooded}
 use Rattle.plane_core.specs.windows.Rows.{ShowsInRows, bit_in}
 use Rattle.plane_core.specs.engine.Frames.{board_cell, word_of}
-use Rattle.plane_core.specs.windows.LonePatterns.{Holds, IsInWindow}
+use Rattle.plane_core.specs.windows.LonePatterns.{FillsRows, IsInWindow}
 use Rattle.plane_core.specs.engine.OnBoard.{cells_on}
 use Rattle.plane_core.specs.windows.Windows.{IsShownInside, row_at}
 use Rattle.plane_core.proofs.lemmas.plane.CaseLemmas.{same_or_not}
@@ -21,7 +21,7 @@ use Rattle.plane_core.proofs.lemmas.clusters.ClusterLemmas.{linked-has}
 use Rattle.plane_core.proofs.lemmas.engine.OnBoardLemmas.{bit_of_cell, cells_in_order, placed, shows_cells}
 use Rattle.plane_core.proofs.lemmas.plane.SetLemmas.{has-filter, in_order-filter, same_lists}
 use Rattle.plane_core.proofs.lemmas.windows.WindowLemmas.{in_window}
-use Rattle.plane_core.proofs.lemmas.Between.{HoldsCluster}
+use Rattle.plane_core.proofs.lemmas.Between.{FloodsCluster}
 
 -- ---- the cluster
 
@@ -143,16 +143,13 @@ flooded_cluster rows flood left top row column cells is shows o = record {
         ∙ (λ t. linked-has cells (in_window left top column row) d a t && spot-flooded flood left top d s t)
 
 -- and the window with the flood's rows holds it
-pub flooded_held : (rows flood : List ℕ) (alone : List (List ℕ)) (left top : ℤ) (row column : ℕ) (cells : List Cell) → IsFlooded rows flood row column
-    → ShowsInRows left top rows cells → InOrder cells → ((r : ℕ) → r < 64 → row_at 16 alone r ≡ slice_index flood r)
-    → Holds 16 left top alone (cluster_in flood left top cells)
+pub flooded_held : (rows flood : List ℕ) (left top : ℤ) (row column : ℕ) (cells : List Cell) → IsFlooded rows flood row column
+    → ShowsInRows left top rows cells → InOrder cells → FillsRows left top flood (cluster_in flood left top cells)
 unfolding cluster_in
-flooded_held rows flood alone left top row column cells is shows o packed = record {
+flooded_held rows flood left top row column cells is shows o = record {
   in_order = in_order-filter (is_flooded flood left top) cells o;
   inside = λ c e. lies c (and_parts (has cells c) _ (sym (has-filter (is_flooded flood left top) cells c) ∙ e)).1;
-  shown = λ r i a b d e. has-filter (is_flooded flood left top) cells (in_window left top i r)
-      ∙ both r i (same_or_not (bit_in flood r i) 1)
-      ∙ ap (λ (w : ℕ). bit_at w i == 1) (sym (packed r (omega arith)));
+  shown = λ r i low near. has-filter (is_flooded flood left top) cells (in_window left top i r) ∙ both r i (same_or_not (bit_in flood r i) 1);
 }
   where
     lies : (c : Cell) → is_flooded flood left top c ≡ true → IsInWindow 16 left top c
@@ -188,15 +185,14 @@ pub shown_rows : (window : List (List ℕ)) (rows : List ℕ) (left top : ℤ) (
 shown_rows window rows left top depth cells few unpacked shown r i a b d e =
     shown r i (omega arith) (omega arith) (omega arith) (omega arith) ∙ ap (λ (w : ℕ). bit_at w i == 1) (sym (unpacked r (omega arith)))
 
-pub cluster_held : (window alone : List (List ℕ)) (rows flood : List ℕ) (row column : ℕ) → ((r : ℕ) → r < 64 → slice_index rows r ≡ row_at 16 window r)
-    → ((r : ℕ) → r < 64 → row_at 16 alone r ≡ slice_index flood r) → IsFlooded rows flood row column
-    → (depth : ℕ) → depth ≤ 2 → HoldsCluster 16 window alone depth
-cluster_held window alone rows flood row column unpacked packed is depth few cells left top o shown =
+pub cluster_flooded : (window : List (List ℕ)) (rows flood : List ℕ) (row column : ℕ) → ((r : ℕ) → r < 64 → slice_index rows r ≡ row_at 16 window r)
+    → IsFlooded rows flood row column → (depth : ℕ) → depth ≤ 2 → FloodsCluster window flood depth
+cluster_flooded window rows flood row column unpacked is depth few cells left top o shown =
     let shows = shown_rows window rows left top depth cells few unpacked shown in (
       cluster_in flood left top cells,
       record {
         is = flooded_cluster rows flood left top row column cells is shows o;
-        held = flooded_held rows flood alone left top row column cells is shows o packed;
+        held = flooded_held rows flood left top row column cells is shows o;
       },
     )
 

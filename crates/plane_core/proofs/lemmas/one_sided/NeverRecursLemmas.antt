@@ -49,10 +49,10 @@ pub record IsLit (n : ℕ) (left top : ℤ) (x : List (List ℕ)) (c : Cell) (i 
   pub place : c ≡ in_window left top i r
   pub bit : bit_at (row_at n x r) i ≡ 1
 
-natural : (a b : ℤ) → b ≤ℤ a → a ≡ b +ℤ pos (unsigned_abs (a -ℤ b))
+pub natural : (a b : ℤ) → b ≤ℤ a → a ≡ b +ℤ pos (unsigned_abs (a -ℤ b))
 natural a b low = omega (arith, ints)
 
-below : (a b : ℤ) (m : ℕ) → b ≤ℤ a → a <ℤ (b +ℤ pos m) → unsigned_abs (a -ℤ b) < m
+pub below : (a b : ℤ) (m : ℕ) → b ≤ℤ a → a <ℤ (b +ℤ pos m) → unsigned_abs (a -ℤ b) < m
 below a b m low high = omega (arith, ints)
 
 -- each live cell is one of these
@@ -75,10 +75,10 @@ lit n left top x S c h e =
       },
     )
 
-outside : (n : ℕ) (left top : ℤ) (x : List (List ℕ)) (S : List Cell) (c : Cell) → Holds n left top x S → (IsInWindow n left top c → ⊥) → has S c ≡ false
+pub outside : (n : ℕ) (left top : ℤ) (x : List (List ℕ)) (S : List Cell) (c : Cell) → Holds n left top x S → (IsInWindow n left top c → ⊥) → has S c ≡ false
 outside n left top x S c h out = false_unless (has S c) (λ e. out (h.inside c e))
 
-not_lit : (m : ℕ) → m ≡ 0 → false ≡ (m == 1)
+pub not_lit : (m : ℕ) → m ≡ 0 → false ≡ (m == 1)
 not_lit m none = ap (λ (k : ℕ). k == 1) (sym none)
 
 -- the window's rows and columns go on without end, with no cell in them

@@ -9,11 +9,11 @@ use borrow.Author.Tests.{leb-true, ltb-true}
 use Rattle.std.proofs.lemmas.Bool.{and_parts}
 use Rattle.plane_core.specs.declared.plane.cell.Cell.{Cell}
 use Rattle.plane_core.specs.declared.engine.frame.Frame.{Frame}
-use Rattle.plane_core.specs.declared.engine.window_origin.WindowOrigin.{WindowOrigin}
+use Rattle.plane_core.specs.declared.engine.leap_window.LeapWindow.{LeapWindow}
 use Rattle.plane_core.specs.plane.Bounds.{AreSidesWithin}
 use Rattle.plane_core.specs.plane.Cells.{on_plane, plane_bound}
 use Rattle.plane_core.specs.engine.Frames.{IsFrame, bounds_of}
-use Rattle.plane_core.specs.engine.WindowOrigins.{IsOnBoard}
+use Rattle.plane_core.specs.engine.LeapWindows.{IsOnBoard}
 
 abbrev pub passed : ℤ → ℤ
 passed z = to_z w32 (of_z w32 z)
@@ -75,7 +75,7 @@ apart_by a b n fa fb is small = record {
     all : taken a b ≡ pos n
     all = ap passed whole ∙ to_z_pos w32 n (omega (arith, small))
 
-pub column_apart : (at : Frame) (p : WindowOrigin) → IsFrame at → (on : IsOnBoard at p) → AreApart p.left at.left on.x
+pub column_apart : (at : Frame) (p : LeapWindow) → IsFrame at → (on : IsOnBoard at p) → AreApart p.left at.left on.x
 column_apart at p frame on =
     let word_column = on.word_columns in
     let few = frame.word_columns in
@@ -83,7 +83,7 @@ column_apart at p frame on =
     let is = on.left in
     apart_by p.left at.left on.x (small_fits p.left (omega (arith, ints))) (small_fits at.left (omega (arith, near))) is (omega (arith, word_column, few))
 
-pub row_apart : (at : Frame) (p : WindowOrigin) → IsFrame at → (on : IsOnBoard at p) → AreApart p.top at.top on.y
+pub row_apart : (at : Frame) (p : LeapWindow) → IsFrame at → (on : IsOnBoard at p) → AreApart p.top at.top on.y
 row_apart at p frame on =
     let row = on.rows in
     let few = frame.rows in

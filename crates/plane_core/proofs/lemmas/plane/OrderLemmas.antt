@@ -13,36 +13,17 @@ none_below a b none low = omega (arith, none, low)
 pub itself : (a : ℕ) → a ≤ a
 itself a = omega arith
 
-pub one_at_least : (n : ℕ) → 0 < n → 1 ≤ n
-one_at_least n some = omega (arith, some)
-
 pub some_of : (n : ℕ) → n ≢ 0 → 0 < n
 some_of n some = omega (arith, some)
 
 pub last_low : (n : ℕ) → 0 < n → n - 1 < n
 last_low n some = omega (arith, some)
 
--- a number below the last one
-pub next_low : (k n : ℕ) → k < n - 1 → k + 1 < n
-next_low k n low = omega (arith, low)
-
-pub this_low : (k n : ℕ) → k < n - 1 → k < n
-this_low k n low = omega (arith, low)
-
-pub next_later : (k : ℕ) → k ≤ k + 1
-next_later k = omega arith
-
 pub past_too : (k m : ℕ) → k ≤ m → k ≤ m + 1
 past_too k m past = omega (arith, past)
 
 pub fits_next : (n m : ℕ) → n < m → Fits w64 m → Fits w64 (n + 1)
 fits_next n m low fits = let h = fits.fits in record { fits = omega (arith, low, h) }
-
-pub from_next : (k m : ℕ) → k + 1 ≤ m → k ≤ m
-from_next k m later = omega (arith, later)
-
-pub not_next : (k m : ℕ) → k + 1 ≤ m → m ≢ k
-not_next k m later is = omega (arith, later, is)
 
 pub at_end : (k n : ℕ) → k ≤ n → n ≤ k → k ≡ n
 at_end k n low high = omega (arith, low, high)

@@ -1,5 +1,5 @@
 -- The rows of a window, one after another and in vectors.
-use Rattle.std.proofs.Common.{Fits, w64, zero, suc, length, length-set, ◌∷◌, ◌≡◌, ◌≢◌, ◌+◌, ◌*◌, ◌/◌, ◌%◌, ◌<◌, ◌⊎◌, ℕ, List, [], arith, ap, ◌∙◌, sym, inl, inr, get_or, set, slice_index}
+use Rattle.std.proofs.Common.{Fits, w64, zero, suc, length, length-set, ◌∷◌, ◌≡◌, ◌≢◌, ◌+◌, ◌*◌, ◌/◌, ◌%◌, ◌<◌, ◌≤◌, ◌⊎◌, ℕ, List, [], arith, ap, ◌∙◌, sym, inl, inr, get_or, set, slice_index}
 use Rattle.std.proofs.lemmas.List.{get_or-set_other, get_or-set_same}
 use Rattle.std.proofs.lemmas.Nat.{div-add-mod', div_below, mod-mul-add, mod_below}
 use Rattle.plane_core.specs.windows.Windows.{lane_at, row_at}
@@ -97,7 +97,7 @@ other_rows n k j m rows a b c d small low apart =
     off q e = apart (sym (mod-mul-add j n m low) ∙ ap (λ (r : ℕ). r % n) e ∙ mod-mul-add q n k small)
 
 -- the rows of the vector itself
-module _ (n k : ℕ) (rows v : List ℕ) (small : k < n) (long : length rows ≡ 4 * n) where
+module _ (n k : ℕ) (rows v : List ℕ) (small : k < n) (long : 4 * n ≤ length rows) where
   abbrev pub one : List ℕ
   one = set rows k (get_or v 0 0)
 

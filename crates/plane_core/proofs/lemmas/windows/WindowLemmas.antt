@@ -1,6 +1,6 @@
 -- A generation of a window is one of the cells that it shows.
 use Rattle.std.proofs.Common.{◌≡◌, ◌==◌, ◌+◌, ◌-◌, ◌*◌, ◌/◌, ◌%◌, ◌<◌, ◌≤◌, ℕ, ℤ, pos, negsuc, ◌+ℤ◌, zero, suc, Bool, true, false, cond, List, []}
-use Rattle.std.proofs.Common.{arith, refl, ap, ◌∙◌, sym, subst, slice_index, length, get_or, set, inl, inr, ◌⊎◌}
+use Rattle.std.proofs.Common.{arith, refl, ap, ◌∙◌, sym, subst, slice_index, length, length-set, get_or, set, inl, inr, ◌⊎◌}
 use Rattle.std.specs.Int.{bit_at}
 use Rattle.std.proofs.lemmas.Bool.{eqb-true, eq-eqb, ne_eqb}
 use Rattle.std.proofs.lemmas.List.{get_or-set_same, get_or-set_other}
@@ -8,12 +8,13 @@ use Rattle.std.proofs.lemmas.Int.{ints}
 use Rattle.std.proofs.lemmas.Nat.{div-mul-add, mod-mul-add, div-add-mod', div_below, mod_below}
 use Rattle.std.proofs.lemmas.Nat.Bits.{bit_at-lt, bit_at-zero}
 use Rattle.plane_core.specs.declared.plane.cell.Cell.{Cell}
+use Rattle.plane_core.specs.declared.windows.lane_sums.RowSums.{RowSums}
 use Rattle.plane_core.specs.declared.windows.lane_sums.Sum.{Sum}
 use Rattle.plane_core.specs.plane.Cells.{InOrder, cell_at, has, moved_by}
 use Rattle.plane_core.specs.plane.Generations.{around, lives_by, next, after}
-use Rattle.plane_core.specs.windows.LaneSums.{sum_of, row_sum, AnswersRows}
+use Rattle.plane_core.specs.windows.LaneSums.{sum_of, row_sum, AnswersRows, AreBeside}
 use Rattle.plane_core.specs.plane.Rules.{Numbers}
-use Rattle.plane_core.specs.windows.Windows.{lane_at, row_at, row_above, row_below, IsNextRow, IsNextWindow, IsShownInside}
+use Rattle.plane_core.specs.windows.Windows.{lane_at, row_at, row_above, row_below, IsNextRow, IsNextWindow, IsShownInside, IsVectorMade}
 use Rattle.plane_core.specs.windows.Words.{one_if}
 use Rattle.plane_core.proofs.lemmas.plane.NeighbourhoodLemmas.{row_total, neighbourhood_total-around}
 use Rattle.plane_core.proofs.lemmas.plane.CaseLemmas.{less_or_not}
@@ -150,6 +151,36 @@ pub made_more : (rule : Numbers) (n : ℕ) (x y : List (List ℕ)) (next : List 
     → AreMade rule n x (set y k next) (k + 1)
 made_more rule n x y next k =
     vectors_more (λ m j w. IsNextRow rule (row_above n x (j * n + m)) (row_at n x (j * n + m)) (row_below n x (j * n + m)) w) y next k
+
+-- the vectors before vector k are made, and the sums above it and its own are known
+pub record AreMadeTo (rule : Numbers) (n : ℕ) (x y : List (List ℕ)) (up : Sum) (here : RowSums) (k : ℕ) : Type 0 where
+  pub low : k < n
+  pub long : length y ≡ n
+  pub above : AreAbove n x up k
+  pub own : AreHere n x here.all k
+  pub beside : AreBeside here (get_or x k [])
+  pub made : AreMade rule n x y k
+  pub rest : (m : ℕ) → k ≤ m → get_or y m [] ≡ get_or x m []
+
+-- a vector more
+pub made_to_next : (rule : Numbers) (n : ℕ) (x y z : List (List ℕ)) (up : Sum) (here below : RowSums) (k later : ℕ) → later ≡ k + 1
+    → k + 1 < n → AreMadeTo rule n x y up here k → IsVectorMade rule k up here below y z → AreMadeTo rule n x z here.all below later
+made_to_next rule n x y z up here below k later next low before one =
+    subst (λ (m : ℕ). AreMadeTo rule n x z here.all below m) (sym next)
+    (subst (λ (w : List (List ℕ)). AreMadeTo rule n x w here.all below (k + 1)) (sym one.is) (record {
+      low = low;
+      long = length-set y k one.next ∙ before.long;
+      above = above_step n x here.all k before.own;
+      own = here_at n x below.all (k + 1) low sums;
+      beside = subst (AreBeside below) (before.rest (k + 1) (omega arith)) one.beside;
+      made = made_more rule n x y one.next k (omega (arith, before.low, before.long)) before.made
+          (made_next rule n x up here.all below.all (get_or y k []) one.next k before.low before.above before.own (below_step n x below.all k low sums)
+          (before.rest k (omega arith)) one.answers);
+      rest = λ m far. get_or-set_other y k m one.next [] (λ e. omega (arith, e, far)) ∙ before.rest m (omega (arith, far));
+    }))
+  where
+    sums : AreOfVector x below.all (k + 1)
+    sums j i lane inside = one.sums j i lane inside ∙ ap (λ (v : List ℕ). row_sum (slice_index v j) i) (before.rest (k + 1) (omega arith))
 
 -- all vectors are all rows
 pub all_made : (rule : Numbers) (n : ℕ) (x y : List (List ℕ)) → 0 < n → AreMade rule n x y n → IsNextWindow rule n x y

@@ -6,8 +6,8 @@
 //!                      a leap of 4
 //! ```
 //!
-//! What holds after an odd number of generations isn't known by the active boxes: a blinker outside all boxes is the same
-//! after two generations and not after one. So an odd leap is made first, while the boxes hold all live cells.
+//! The active boxes say nothing about an odd number of generations: a blinker outside all boxes is the same after two
+//! generations and not after one. So an odd leap is made first, while the boxes hold all live cells.
 ghost use Rattle.std.specs.Prelude.{◌≡◌, ◌%◌, ◌≤◌, ℕ, IfOk, IsTrue, true};
 ghost use Rattle.plane_core.specs.plane.Generations.{after};
 
@@ -23,7 +23,7 @@ impl Board {
     ///
     /// # Errors
     ///
-    /// `OutOfMemory` if memory runs out. Then nothing is known of what the board shows.
+    /// `OutOfMemory` if memory runs out. Then nothing is known about what the board shows.
     pub fn advance(&mut self, most: u32) -> Result<u32, OutOfMemory>
         ensures rule { self.new.rule ≡ self.old.rule }
         ensures most { IfOk result (λ made. made ≤ most) }
@@ -39,7 +39,7 @@ impl Board {
             if still {
                 return Ok(made + (most - made) / 2 * 2);
             }
-            // Four, or else two.
+            // Four, or otherwise two.
             let count = (most - made).min(4) / 2 * 2;
             let leapt = self.leap(count)?;
             if leapt == 0 {
@@ -73,13 +73,13 @@ impl Board {
         cover(
             self.boxes.as_slice(),
             &mut self.next_boxes,
-            &mut self.origins,
+            &mut self.windows,
         )?;
-        let origins = self.origins.as_slice();
+        let windows = self.windows.as_slice();
         let inside = run_all(
             self.words.as_slice(),
             self.at,
-            origins,
+            windows,
             &self.logic,
             count as usize,
             &mut self.held,
@@ -93,7 +93,7 @@ impl Board {
             self.words.as_mut_slice(),
             self.spans.as_mut_slice(),
             self.at,
-            origins,
+            windows,
             self.held.as_slice(),
         );
         swap(&mut self.boxes, &mut self.next_boxes);

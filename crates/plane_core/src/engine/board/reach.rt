@@ -1,13 +1,13 @@
 //! How far the pattern of a board reaches in a diagonal direction, without some of its cells.
 //!
-//! Of each word column only the rows of its span are looked at, from the outermost one inwards, and only for as long as a row
+//! In each word column, only the rows of its span are read, from the outermost one inwards, and only as long as a row
 //! could have a cell that is deeper than the deepest so far:
 //!
 //! ```text
 //! . . . . . . . O
 //! . . . . . . O .
 //! . . . O . . . .     To the right and down. The last row is read first, and has cell d. A row above can only do
-//! . . . . . . . .     better if it reaches further to the right, by more than the rows that lie between.
+//! . . . . . . . .     better if it reaches further to the right, by more than the rows between them.
 //! . . . d . . . .
 //! ```
 ghost use Rattle.std.specs.Prelude.{◌≡◌, ◌==◌, ◌-◌, ◌<◌, ◌≤◌, ◌+ℤ◌, ℕ, IfSome, pos};
@@ -31,8 +31,9 @@ use crate::plane::orientation::Orientation;
 use crate::plane::pattern::Pattern;
 
 impl Board {
-    /// How far the pattern reaches in a diagonal direction without these cells: turned by the orientation, none of its
-    /// other cells has a column and a row that are more than this together. `None` if it has no other cell.
+    /// Returns how far the pattern reaches in a diagonal direction without these cells. When the pattern is turned by
+    /// the orientation, the sum of column and row of each of its other cells is at most this number. Returns `None` if
+    /// it has no other cell.
     pub fn frontier_without(&self, way: Orientation, cells: &Pattern) -> Option<i32>
         ensures { IfSome result (λ m. LiesUpTo way m (without self.now.cells cells.now)) }
     {
@@ -53,7 +54,7 @@ impl Board {
     }
 }
 
-/// The depth of the deepest cell that was found so far or stands in these rows of a word column.
+/// Returns the depth of the deepest cell that was found so far or is in these rows of a word column.
 fn deepest_in_word_column(
     at: Frame,
     words: &[u64],
@@ -87,7 +88,8 @@ fn deepest_in_word_column(
     }
 }
 
-/// How many of the rows of a word column, from the outermost on, could have a cell that is deeper than the deepest so far.
+/// Returns how many rows of a word column, from the outermost on, could have a cell that is deeper than the deepest so
+/// far.
 fn rows_to_see(
     at: Frame,
     word_column: usize,
@@ -118,8 +120,8 @@ fn rows_to_see(
     count.min(outermost.abs_diff(deepest) as usize)
 }
 
-/// The first step inwards, from this one on, to a row of a word column that has a live cell; or if there is none, the end, or
-/// what lies past it.
+/// Returns the first step inwards, from this one on, to a row of a word column that has a live cell, or the end or more
+/// if there is none.
 fn next_live(
     at: Frame,
     words: &[u64],
@@ -149,7 +151,7 @@ fn next_live(
     step
 }
 
-/// The row so many steps inwards from the outermost of these rows.
+/// Returns the row that is this many steps inwards from the outermost of these rows.
 #[inline(always)]
 fn row_inwards(rows: RowSpan, way: Direction, step: usize) -> usize
     requires { step < rows.end - rows.from }
@@ -164,7 +166,7 @@ fn row_inwards(rows: RowSpan, way: Direction, step: usize) -> usize
     }
 }
 
-/// The depth of the deepest cell that was found so far or stands in this row of a word column.
+/// Returns the depth of the deepest cell that was found so far or is in this row of a word column.
 fn deepest_in_row(
     at: Frame,
     words: &[u64],
@@ -195,7 +197,7 @@ fn deepest_in_row(
     Some(found.unwrap_or(depth).max(depth))
 }
 
-/// How deep the cell in this column of a row of a word column lies.
+/// Returns the depth of the cell in this column of a row of a word column.
 #[inline(always)]
 fn depth_at(at: Frame, word_column: usize, row: usize, column: usize, way: Direction) -> i32
     requires frame { IsFrame at }
@@ -208,7 +210,7 @@ fn depth_at(at: Frame, word_column: usize, row: usize, column: usize, way: Direc
     way.depth(along(at.corner(word_column, row), column))
 }
 
-/// The bit of a cell, if it stands in the 64 columns from this cell on, in its row.
+/// Returns the bit of a cell, if it is in the 64 columns from the first cell on, in the same row.
 fn bit_of(cell: Cell, first: Cell) -> u64
     ensures { (i : ℕ) → i < 64 → (bit_at result i == 1) ≡ same_cell (cell_at (first.x +ℤ pos i) first.y) cell }
 {

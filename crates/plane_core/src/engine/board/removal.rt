@@ -1,11 +1,11 @@
-//! Cells that are taken off a board.
+//! Removes cells from a board.
 //!
-//! What lay near them may change from now on, so the boxes are made to hold them first:
+//! What was near them may change from now on, so the boxes are widened first:
 //!
 //! ```text
 //! +-----+                    +-----+
 //! |.OO. |      O             |.OO. |
-//! |OO.. |     O      ->      |OO.. |   +---+     A box more, or one that is wider, until the next leap has seen what
+//! |OO.. |     O      ->      |OO.. |   +---+     One more box, or a wider one, until the next leap has seen what
 //! |.O.. |     OOO            |.O.. |   |   |     changes in it.
 //! +-----+                    +-----+   +---+
 //! ```
@@ -22,11 +22,11 @@ use crate::plane::pattern::Pattern;
 use memory::OutOfMemory;
 
 impl Board {
-    /// Takes these cells off the board. Those that aren't alive on it are passed over.
+    /// Removes these cells from the board. Cells that aren't alive on it are ignored.
     ///
     /// # Errors
     ///
-    /// `OutOfMemory` if memory runs out. Then the board shows what it did.
+    /// `OutOfMemory` if memory runs out. The board then shows the same pattern as before.
     pub fn take_out(&mut self, cells: &Pattern) -> Result<(), OutOfMemory>
         ensures rule { self.new.rule ≡ self.old.rule }
         ensures cells { OnOk result (self.new.cells ≡ without self.old.cells cells.now) }
@@ -39,7 +39,7 @@ impl Board {
     }
 }
 
-/// Takes cells off a board, those that lie on it.
+/// Removes those of the cells that are on the board.
 fn take_off(at: Frame, words: &mut [u64], cells: &[Cell])
     requires frame { IsFrame at }
     requires long { FillsFrame at words.old }

@@ -1,11 +1,11 @@
-//! Sixty-four rows that are read from a board round the middle of a box:
+//! A view: sixty-four rows that are read from a board around the middle of a box.
 //!
 //! ```text
 //! board
 //! +-------------------------------------+
 //! |        view                         |
-//! |        +----------+                 |     What changes lies in the boxes of the board, so this is where to look
-//! |        |   +--+   |        +-+      |     for it. Of a box that is larger than a view the middle is looked at.
+//! |        +----------+                 |     Everything that changes is in the boxes of the board, so a test looks there.
+//! |        |   +--+   |        +-+      |     If a box is larger than a view, the view shows its middle.
 //! |        |   +--+   |        +-+      |
 //! |        |    box   |       box       |
 //! |        +----------+                 |
@@ -21,7 +21,7 @@ use crate::engine::frame::Frame;
 use crate::engine::window_io::read_rows;
 use crate::plane::bounds::Bounds;
 
-/// What is seen, and where it lies: a board of its own, of one word column.
+/// The rows of a view, and where they are: a board of its own with one word column.
 #[derive(Clone, Copy)]
 pub(crate) struct View {
     pub(crate) at: Frame,
@@ -29,7 +29,7 @@ pub(crate) struct View {
 }
 
 impl Board {
-    /// The view in whose middle the middle of the box lies, if it lies on the board, with a word column to its right.
+    /// Returns the view around the middle of the box, if it is on the board, with a word column to its right.
     pub(crate) fn view(&self, bounds: Bounds) -> Option<View>
         ensures frame { IfSome result (λ view. IsViewFrame view.at) }
         ensures shown { IfSome result
@@ -61,13 +61,14 @@ impl Board {
     }
 }
 
-/// How far the sides of the box are apart, those that are further from one another.
+/// Returns the longer side of the box: the distance of its columns or of its rows.
 pub(crate) fn longer_side(bounds: Bounds) -> u32 {
     let across = bounds.left.abs_diff(bounds.right);
     across.max(bounds.top.abs_diff(bounds.bottom))
 }
 
-/// Where on a board that starts here a view begins that has the middle of these ends in its middle, if all lie on it.
+/// Returns where on a board that begins here a view begins that has the middle of these ends in its middle, if all of
+/// it is on the board.
 #[tactic(auto, using(crate::proofs::lemmas::engine::FrameFits::middle_low))]
 fn first_of(from: i32, to: i32, start: i32) -> Option<usize>
     ensures { IfSome result (λ first. first < 2 ^ 32) }

@@ -1,8 +1,6 @@
 use Rattle.std.proofs.Common.{◌≡◌, ◌∙◌, ◌+◌, ◌-◌, ◌%◌, ◌≤◌, ℕ, All, List, ap, arith, refl, subst, sym}
 use Rattle.plane_core.specs.declared.plane.cell.Cell.{Cell}
 use Rattle.plane_core.specs.plane.Generations.{after, lies_within}
-use Rattle.plane_core.specs.plane.Cells.{InOrder}
-use Rattle.plane_core.proofs.lemmas.plane.RunLemmas.{in_order-after}
 use Rattle.survey_core.specs.declared.evolution.escaped_spaceships.Spaceship.{Spaceship}
 use Rattle.survey_core.specs.evolution.SplitPatterns.{IsTraced, whole_at, whole_of}
 use Rattle.survey_core.proofs.lemmas.evolution.SplitPatternLemmas.{board_later, split_later, traced_later, whole_later}
@@ -63,26 +61,12 @@ overflow_add-time c = omega (arith, c.requires.is_split.1.early, c.in_ok-made.en
 pub overflow_sub-generations : goal.overflow_sub-generations
 overflow_sub-generations c = part_within c.args.generations c.in_ok-made.made c.in_ok-made.ensures.most
 
-pub whole-requires-clause-order : goal.whole-requires-clause-order
-whole-requires-clause-order c =
-    let h = c.args.split in
-    subst InOrder (sym c.in_ok-made.ensures.after) (in_order-after h.board.rule h.board.cells c.in_ok-made.made c.requires.is_split.1.off.in_order)
-
 pub whole-requires-clause-traced : goal.whole-requires-clause-traced
 whole-requires-clause-traced c =
     let h = c.args.split in
     let rule = c.args.rule.now in
     subst (λ (spaceships : List Spaceship). All (IsTraced rule (h.time + c.in_ok-made.made)) spaceships) (sym c.as_slice.ensures.value)
     (traced_later rule h.time c.in_ok-made.made h.board.cells h.spaceships.items c.requires.is_split.1)
-
-pub whole-requires-clause-near : goal.whole-requires-clause-near
-whole-requires-clause-near c =
-    let h = c.args.split in
-    let rule = c.args.rule.now in
-    let made = c.in_ok-made.made in
-    (λ i. lies_within survey_reach (whole_at rule (h.time + made) c.advance.new.self.cells (c.as_slice.ensures.value i)))
-    ∙ ap (lies_within survey_reach) (whole_later rule h made c.advance.new.self.cells c.requires.is_split c.in_ok-made.ensures.after)
-    ∙ c.requires.near made (part_within c.args.generations made c.in_ok-made.ensures.most)
 
 pub whole-requires-clause-early : goal.whole-requires-clause-early
 whole-requires-clause-early c = omega (arith, c.requires.is_split.1.early, c.in_ok-made.ensures.most, c.requires.few)

@@ -1,23 +1,24 @@
 -- A board and the spaceships that have left it, as the code keeps them.
 use Rattle.std.proofs.Common.{◌≡◌, ◌∙◌, ◌+◌, ◌*◌, ◌/◌, ◌%◌, ◌<◌, ◌≤◌, ℕ, ◌==◌, Bool, true, false, ◌||◌, not}
 use Rattle.std.proofs.Common.{unsigned_abs}
-use Rattle.std.proofs.Common.{List, [], ◌∷◌, ◌++◌, All, arith, ap, refl, sym, subst, get_or, length, map}
+use Rattle.std.proofs.Common.{List, [], ◌∷◌, ◌++◌, All, arith, ap, refl, sym, subst, flat_map, get_or, length, map, take}
 use Rattle.std.specs.Cmp.{both_ways}
 use Rattle.std.specs.List.{list_all, list_any}
-use Rattle.std.proofs.lemmas.Bool.{and_from, eqb-true, or_right}
-use Rattle.std.proofs.lemmas.List.{get_or_append_left, get_or_push, length-append}
-use Rattle.std.proofs.lemmas.List.Elements.{All-cons, All-map, All-push}
-use Rattle.std.proofs.lemmas.List.Folds.{list_any_at}
+use Rattle.std.proofs.lemmas.Bool.{and_from, eqb-true}
+use Rattle.std.proofs.lemmas.List.{flat_map_more, get_or_append_left, get_or_push, length-append, map_more}
+use Rattle.std.proofs.lemmas.List.Elements.{All-push}
 use Rattle.plane_core.specs.declared.plane.cell.Cell.{Cell}
-use Rattle.plane_core.specs.plane.Cells.{InOrder, has, is_within, on_plane, plane_bound}
+use Rattle.plane_core.specs.plane.Cells.{InOrder, has, is_within, on_plane, plane_bound, set_of}
 use Rattle.plane_core.specs.clusters.Clusters.{IsCluster, Linked}
 use Rattle.plane_core.specs.plane.Frontiers.{is_slow}
-use Rattle.plane_core.specs.plane.Generations.{after, lies_within}
+use Rattle.plane_core.specs.plane.Generations.{after, lies_within, next}
 use Rattle.plane_core.specs.plane.Rules.{Numbers}
 use Rattle.plane_core.specs.plane.Without.{without}
 use Rattle.plane_core.proofs.lemmas.clusters.ClusterLemmas.{linked-sym, linked-trans}
+use Rattle.plane_core.proofs.lemmas.plane.GenerationLemmas.{after-none}
+use Rattle.plane_core.proofs.lemmas.plane.SpeedLemmas.{after-suc}
 use Rattle.plane_core.proofs.lemmas.plane.SearchLemmas.{has-list_all, list_all-has}
-use Rattle.plane_core.proofs.lemmas.plane.SetLemmas.{has-filter, same_lists}
+use Rattle.plane_core.proofs.lemmas.plane.SetLemmas.{has-append, has-filter, has-set_of, in_order-set_of, is_set_of, same_lists}
 use Rattle.code_core.specs.declared.recurrence.Recurrence.{Recurrence}
 use Rattle.survey_core.specs.declared.evolution.split_pattern.SplitPattern.{SplitPattern}
 use Rattle.survey_core.specs.declared.evolution.escaped_spaceships.Spaceship.{Spaceship}
@@ -27,7 +28,7 @@ use Rattle.survey_core.specs.evolution.SplitPatterns.{whole_at, whole_of}
 use Rattle.survey_core.specs.evolution.EscapedSpaceships.{IsForemost, IsPartOf}
 use Rattle.survey_core.specs.shapes.Envelopes.{IsEnvelope}
 use Rattle.survey_core.specs.UnderWay.{survey_reach}
-use Rattle.survey_core.proofs.lemmas.PlaneLemmas.{within_later, within_more}
+use Rattle.survey_core.proofs.lemmas.PlaneLemmas.{within_later}
 use Rattle.survey_core.proofs.lemmas.evolution.SpaceshipLemmas.{cluster_part, no_faster}
 use Rattle.survey_core.proofs.lemmas.evolution.RemovedLemmas.{all_off_later, all_off_more, has-whole, none_off, whole-none}
 
@@ -94,20 +95,22 @@ board_near reach rule t board spaceships near =
     has-list_all (is_within reach) board (λ c e. list_all-has (is_within reach) (whole_at rule t board spaceships) near c
     (has-whole rule t board spaceships c ∙ ap (λ (b : Bool). b || list_any (λ (spaceship : Spaceship). has (spaceship_at rule t spaceship) c) spaceships) e))
 
-spaceship_near : (reach : ℕ) (rule : Numbers) (t : ℕ) (board : List Cell) (spaceships : List Spaceship) (k : ℕ) (d : Spaceship) → k < length spaceships
-    → lies_within reach (whole_at rule t board spaceships) ≡ true → lies_within reach (spaceship_at rule t (get_or spaceships k d)) ≡ true
-spaceship_near reach rule t board spaceships k d low near =
-    has-list_all (is_within reach) (spaceship_at rule t (get_or spaceships k d)) (λ c e. list_all-has (is_within reach) (whole_at rule t board spaceships) near c
-    (has-whole rule t board spaceships c ∙ or_right (has board c) _ (list_any_at (λ (spaceship : Spaceship). has (spaceship_at rule t spaceship) c) spaceships k d low e)))
+-- a set of cells, with others
+set_of-more : (cells others : List Cell) → set_of (set_of cells ++ others) ≡ set_of (cells ++ others)
+set_of-more cells others = is_set_of (set_of (set_of cells ++ others)) (cells ++ others) (in_order-set_of (set_of cells ++ others))
+    (λ c. has-set_of (set_of cells ++ others) c ∙ has-append (set_of cells) others c ∙ ap (λ (b : Bool). b || has others c) (has-set_of cells c)
+    ∙ sym (has-append cells others c))
 
-pub parts_near : (near far : ℕ) (rule : Numbers) (t : ℕ) (board : List Cell) (spaceships : List Spaceship) (parts : List (List Cell)) → near ≤ far
-    → parts ≡ board ∷ map (spaceship_at rule t) spaceships → lies_within near (whole_at rule t board spaceships) ≡ true
-    → All (λ (part : List Cell). lies_within far part ≡ true) parts
-parts_near near far rule t board spaceships parts low are within = subst (All (λ (part : List Cell). lies_within far part ≡ true)) (sym are)
-    (All-cons (λ (part : List Cell). lies_within far part ≡ true) board (map (spaceship_at rule t) spaceships)
-    (within_more near far board low (board_near near rule t board spaceships within))
-    (All-map (λ (part : List Cell). lies_within far part ≡ true) (spaceship_at rule t) spaceships
-    (λ k d there. within_more near far (spaceship_at rule t (get_or spaceships k d)) low (spaceship_near near rule t board spaceships k d there within))))
+-- a spaceship more is added
+pub whole_more : (rule : Numbers) (t : ℕ) (board : List Cell) (spaceships : List Spaceship) (n : ℕ) (spaceship : Spaceship) (whole there : List Cell)
+    → n < length spaceships → spaceship ≡ get_or spaceships n spaceship → whole ≡ whole_at rule t board (take n spaceships)
+    → there ≡ spaceship_at rule t spaceship → set_of (whole ++ there) ≡ whole_at rule t board (take (n + 1) spaceships)
+whole_more rule t board spaceships n spaceship whole there low is before at =
+    let place : Spaceship → List Cell = spaceship_at rule t in
+    let earlier : List (List Cell) = map place (take n spaceships) in
+    (λ i. set_of (before i ++ (at ∙ ap place is) i)) ∙ set_of-more (flat_map (λ (part : List Cell). part) (board ∷ earlier)) (place (get_or spaceships n spaceship))
+    ∙ ap set_of (flat_map_more (λ (part : List Cell). part) [] (board ∷ earlier) (place (get_or spaceships n spaceship))
+    ∙ ap (λ (parts : List (List Cell)). flat_map (λ (part : List Cell). part) (board ∷ parts)) (sym (map_more place spaceships n spaceship low)))
 
 -- where no spaceship is, the board is all
 pub whole-empty : (rule : Numbers) (t : ℕ) (board : List Cell) (spaceships : List Spaceship) (is_empty : Bool) → is_empty ≡ (length spaceships == 0)
@@ -169,6 +172,15 @@ pub whole_later : (rule : Numbers) (split : SplitPattern) (n : ℕ) (b : List Ce
     → whole_at rule (split.time + n) b split.spaceships.items ≡ after rule (whole_of rule split) n
 whole_later rule split n b is at =
     whole_gone_on rule split.time n split.board.cells b (whole_of rule split) split.spaceships.items is.1 refl (board_later rule split n b is at)
+
+-- a generation later
+pub next_whole : (rule : Numbers) (split : SplitPattern) (b : List Cell) → IsSplit rule split → b ≡ next split.board.rule split.board.cells
+    → whole_at rule (split.time + 1) b split.spaceships.items ≡ next rule (whole_of rule split)
+next_whole rule split b is at =
+    whole_later rule split 1 b is (at ∙ sym (one split.board.rule split.board.cells)) ∙ one rule (whole_of rule split)
+  where
+    one : (r : Numbers) (cells : List Cell) → after r cells 1 ≡ next r cells
+    one r cells = after-suc r cells 0 ∙ ap (next r) (after-none r cells)
 
 -- ---- candidates
 

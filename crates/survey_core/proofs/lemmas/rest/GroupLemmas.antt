@@ -208,12 +208,12 @@ member_place rule k (h ∷ gs) (part ∷ parts) g c m =
 abbrev pub AddUp : Numbers → List Cell → List (List Cell) → ℕ → Type 0
 AddUp rule whole parts g = (c : Cell) → has (after rule whole g) c ≡ list_any (λ part. has (after rule part g) c) parts
 
-list_any-none : (p : List Cell → Bool) (parts : List (List Cell)) → All (λ part. p part ≡ false) parts → list_any p parts ≡ false
+pub list_any-none : (p : List Cell → Bool) (parts : List (List Cell)) → All (λ part. p part ≡ false) parts → list_any p parts ≡ false
 list_any-none p [] none = refl
 list_any-none p (part ∷ parts) none =
     ap (λ (a : Bool). a || list_any p parts) (none 0 part (omega arith)) ∙ list_any-none p parts (λ k d low. none (suc k) d (omega arith))
 
-next_at : (rule : Numbers) (S : List Cell) (g : ℕ) (c : Cell) → has (after rule S (suc g)) c ≡ lives rule (after rule S g) c
+pub next_at : (rule : Numbers) (S : List Cell) (g : ℕ) (c : Cell) → has (after rule S (suc g)) c ≡ lives rule (after rule S g) c
 next_at rule S g c = ap (λ (T : List Cell). has T c) (after-suc rule S g) ∙ has-next rule (after rule S g) c
 
 -- where nothing is near, nothing is alive in the next generation: in no part, and not in the whole

@@ -1,6 +1,6 @@
 -- Groups as they are joined.
 use Rattle.std.proofs.Common.{◌≡◌, ◌≢◌, ◌==◌, ◌∙◌, ◌<◌, ap, sym, refl, subst, ℕ, Bool, true, false, List, arith, cond, get_or, inl, inr, length, IfNone, IfSome}
-use Rattle.std.proofs.Common.{[], ◌∷◌, ◌+◌, eq-or-lt_of_le, get_or-set_other, get_or-set_same, nat_lt, set, ◌≤◌}
+use Rattle.std.proofs.Common.{[], ◌∷◌, ◌+◌, AllPairs, eq-or-lt_of_le, get_or-set_other, get_or-set_same, nat_lt, set, ◌≤◌}
 use Rattle.std.specs.Bool.{then_some}
 use Rattle.std.proofs.lemmas.Bool.{cases_eq, eqb-true, ltb-false, ltb-true}
 use Rattle.std.proofs.lemmas.Bool.Decides.{Decides-eqb}
@@ -10,7 +10,7 @@ use Rattle.plane_core.specs.plane.Cells.{InOrder, king_distance}
 use Rattle.plane_core.specs.clusters.Clusters.{AreClusters, LieApart}
 use Rattle.plane_core.specs.plane.Generations.{after}
 use Rattle.plane_core.specs.plane.Rules.{Numbers}
-use Rattle.plane_core.proofs.lemmas.clusters.ClusterLaws.{partition_law}
+use Rattle.plane_core.proofs.lemmas.clusters.ClusterLaws.{apart_law, partition_law}
 use Rattle.plane_core.proofs.lemmas.plane.PartLemmas.{turned}
 use Rattle.survey_core.specs.declared.shapes.envelope_bounds.EnvelopeBounds.{EnvelopeBounds}
 use Rattle.survey_core.specs.rest.Grouping.{AreGroups, AreNumbers, AreRenamed, Coarser, PairIsRight}
@@ -145,8 +145,8 @@ first_of (s ∷ ss) i low = s
 
 -- envelopes of different groups stay apart, whichever stands first
 pub groups_stay_apart : (rule : Numbers) (limit horizon : ℕ) (parts : List (List Cell)) (envelopes : List EnvelopeBounds) (groups : List ℕ)
-    → AreEnvelopes rule limit parts envelopes → AreGroups horizon envelopes groups → GroupsStayApart rule groups parts horizon
-groups_stay_apart rule limit horizon parts envelopes groups are right i j d g one other ne low = go (nat_lt i j) refl
+    → AllPairs LieApart parts → AreEnvelopes rule limit parts envelopes → AreGroups horizon envelopes groups → GroupsStayApart rule groups parts horizon
+groups_stay_apart rule limit horizon parts envelopes groups apart are right i j d g one other ne low = go (nat_lt i j) refl
   where
     in_envelopes : (k : ℕ) → k < length parts → k < length envelopes
     in_envelopes k there = subst (λ (n : ℕ). k < n) (sym are.count) there
@@ -154,11 +154,17 @@ groups_stay_apart rule limit horizon parts envelopes groups are right i j d g on
     any : EnvelopeBounds
     any = get_or envelopes i (first_of envelopes i (in_envelopes i one))
 
+    begun : (a b : ℕ) → b < a → a < length parts → b < length parts → LieApart (get_or parts a d) (get_or parts b d)
+    begun a b lt low_a low_b c f h k =
+        let far : 3 ≤ king_distance f c = apart b a d lt low_a f c k h in
+        let same : king_distance f c ≡ king_distance c f = turned f c in
+        omega arith
+
     later_first : (a b : ℕ) → b < a → a < length parts → b < length parts → get_or groups a 0 ≢ get_or groups b 0
         → LieApart (after rule (get_or parts a d) g) (after rule (get_or parts b d) g)
     later_first a b lt low_a low_b differ =
         right.apart a b lt (in_envelopes a low_a) any differ rule limit (get_or parts a d) (get_or parts b d) (are.each a d any low_a)
-        (are.each b d any low_b) g low
+        (are.each b d any low_b) (begun a b lt low_a low_b) g low
 
     go : (b : Bool) → nat_lt i j ≡ b → LieApart (after rule (get_or parts i d) g) (after rule (get_or parts j d) g)
     go true e = λ c f h k.
@@ -182,7 +188,7 @@ rest_by_groups rule profile cells clusters envelopes groups order are found righ
       let is = found.each k d (first_of envelopes k there) low in
       ((get_or envelopes k (first_of envelopes k there)).recurrence, is.recurs);
   apart = whole_keeps rule cells groups clusters profile.horizon order (right.numbers.count ∙ found.count)
-      (groups_stay_apart rule profile.period profile.horizon clusters envelopes groups found right) (partition_law cells clusters are)
+      (groups_stay_apart rule profile.period profile.horizon clusters envelopes groups (apart_law cells clusters are) found right) (partition_law cells clusters are)
       (λ i there. each (get_or groups i 0) (subst (λ (n : ℕ). get_or groups i 0 < n) found.count
       (right.numbers.below i 0 (subst (λ (n : ℕ). i < n) (sym (right.numbers.count ∙ found.count)) there))));
 }
@@ -192,7 +198,7 @@ pub groups_of_rest : (rule : Numbers) (profile : Settling) (cells : List Cell) (
     → RestsAs rule profile cells clusters → (k : ℕ) → GroupKeeps rule groups clusters profile.horizon k
 groups_of_rest rule profile cells clusters envelopes groups order found right rest k =
     group_keeps rule cells groups clusters profile.horizon order (right.numbers.count ∙ found.count)
-    (groups_stay_apart rule profile.period profile.horizon clusters envelopes groups found right) (partition_law cells clusters rest.parts) rest.apart k
+    (groups_stay_apart rule profile.period profile.horizon clusters envelopes groups (apart_law cells clusters rest.parts) found right) (partition_law cells clusters rest.parts) rest.apart k
 
 -- what is given if a test is passed
 pub some_if : {X : Type 0} (b : Bool) (x : X) (P : X → Type 0) → (b ≡ true → P x) → IfSome (then_some b x) P

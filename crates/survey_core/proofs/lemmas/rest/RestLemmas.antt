@@ -65,13 +65,6 @@ apart_more rule cells clusters g whole alone is_whole is_alone before now k low 
   | inr less ↦ before k (omega arith)
 ]
 
--- what keeping apart says of a whole and of clusters that were run
-pub apart_now : (rule : Numbers) (cells : List Cell) (clusters : List (List Cell)) (g : ℕ) (whole : List Cell) (alone : List (List Cell))
-    → whole ≡ after rule cells g → alone ≡ map (λ part. after rule part g) clusters → KeepApart rule cells clusters g → Partition whole alone
-apart_now rule cells clusters g whole alone is_whole is_alone apart =
-    subst (λ (parts : List (List Cell)). Partition whole parts) (sym is_alone)
-    (subst (λ (w : List Cell). Partition w (map (λ part. after rule part g) clusters)) (sym is_whole) apart)
-
 -- where all clusters recur and keep apart, the pattern is at rest; its clusters are the only ones that may say so
 pub same_clusters : (rule : Numbers) (profile : Settling) (cells : List Cell) (clusters : List (List Cell)) → AreClusters cells clusters
     → IsAtRest rule profile cells → RestsAs rule profile cells clusters

@@ -13,7 +13,6 @@ use Rattle.survey_core.specs.rest.Groups.{members}
 use Rattle.survey_core.specs.UnderWay.{survey_reach}
 use Rattle.survey_core.proofs.lemmas.rest.GroupLemmas.{members_one}
 use Rattle.survey_core.proofs.lemmas.PlaneLemmas.{within_later}
-use Rattle.survey_core.proofs.lemmas.rest.RestLemmas.{alone_at_once}
 
 -- where all are, each is
 pub back_at : (list : List Alone) (i : ℕ) (alone : Alone) → i < length list → alone ≡ get_or list i alone → latest_of list ≡ clusters_of list
@@ -55,9 +54,6 @@ latest_is rule g clusters list is = ap latest_of is ∙ latest_alone rule g clus
 pub clusters_are : (rule : Numbers) (g : ℕ) (clusters : List (List Cell)) (list : List Alone) → list ≡ map (alone_at rule g) clusters
     → clusters_of list ≡ clusters
 clusters_are rule g clusters list is = ap clusters_of is ∙ clusters_alone rule g clusters
-
-pub latest_at_once : (rule : Numbers) (clusters : List (List Cell)) (list : List Alone) → list ≡ map (alone_at rule 0) clusters → latest_of list ≡ clusters
-latest_at_once rule clusters list is = latest_is rule 0 clusters list is ∙ alone_at_once rule clusters
 
 -- a generation later
 pub later_is : (rule : Numbers) (g : ℕ) (clusters : List (List Cell)) (list later : List Alone) → list ≡ map (alone_at rule g) clusters

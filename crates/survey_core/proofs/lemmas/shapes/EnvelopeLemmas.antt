@@ -1,21 +1,27 @@
 -- Envelopes: where a pattern that recurs lies in each cycle, and boxes that stay clear of each other.
 use Rattle.std.proofs.Common.{◌≡◌, ◌∙◌, ◌+◌, ◌*◌, ◌/◌, ◌%◌, ◌<◌, ◌≤◌, ◌+ℤ◌, ◌-ℤ◌, ◌≤ℤ◌, ◌<ℤ◌, ap, sym, refl, subst, ℕ, ℤ, pos, zero, suc, List, [], ◌∷◌}
-use Rattle.std.proofs.Common.{All, Bool, arith, get_or, inl, inr, ◌⊎◌, ◌&&◌, ◌||◌, true, zero-add, eq-or-lt_of_le, int_le, int_lt, length, mul_comm, take, unsigned_abs, ◌++◌, FitsSigned, to_z, of_z, w32, w64}
+use Rattle.std.proofs.Common.{All, Bool, arith, false, get_or, inl, inr, ◌⊎◌, ◌&&◌, ◌||◌, true, zero-add, eq-or-lt_of_le, int_le, int_lt, length, mul_comm, take, unsigned_abs, ◌++◌, FitsSigned, to_z, of_z, w32, w64}
 use Rattle.std.proofs.lemmas.Int.{ints, to_z-of_z}
 use Rattle.std.proofs.lemmas.List.Elements.{All-map, recursion_from_All}
 use Rattle.std.proofs.lemmas.Bool.{and_parts, cases_lt, or_cases, or_left, or_right}
-use Rattle.std.proofs.lemmas.List.{get_or_append_left, get_or_push, length-append, take_more}
+use Rattle.std.proofs.lemmas.List.{append_assoc, get_or_append_left, get_or_default, get_or_push, length-append, length-take-le, take_more}
 use Rattle.std.proofs.Math.Nat.{div-add-mod, le-div_iff_mul-le, suc-mul, zero-mul}
 use Rattle.plane_core.specs.declared.plane.bounds.Bounds.{Bounds}
 use Rattle.plane_core.specs.declared.plane.cell.Cell.{Cell}
 use Rattle.plane_core.specs.plane.Bounds.{IsWithin, shifted}
-use Rattle.plane_core.specs.plane.Cells.{cell_at, distance, king_distance, moved_by}
+use Rattle.plane_core.specs.plane.Cells.{InOrder, cell_at, distance, king_distance, moved_by}
+use Rattle.plane_core.specs.clusters.Clusters.{LieApart}
 use Rattle.plane_core.specs.plane.Generations.{after}
 use Rattle.plane_core.specs.plane.Rules.{Numbers}
 use Rattle.plane_core.proofs.lemmas.plane.SetLemmas.{has-all}
+use Rattle.plane_core.proofs.lemmas.plane.CaseLemmas.{same_or_not}
+use Rattle.plane_core.proofs.lemmas.plane.GenerationLemmas.{after-none}
+use Rattle.code_core.specs.declared.recurrence.Recurrence.{Recurrence}
+use Rattle.code_core.specs.Recurrences.{IsCycle, Recurs}
+use Rattle.code_core.proofs.LeastLemmas.{phase_at, phase_count}
 use Rattle.code_core.proofs.MovedCodes.{after-shifted}
 use Rattle.survey_core.specs.declared.shapes.envelope_bounds.EnvelopeBounds.{EnvelopeBounds}
-use Rattle.survey_core.specs.shapes.Envelopes.{AreEnvelopes, IsEnvelope, Serves, SpaceshipsMoveByCycles, StayApart, StayClear, gap_stays, gaps_of, is_clear, is_past, times}
+use Rattle.survey_core.specs.shapes.Envelopes.{AreEnvelopes, IsEnvelope, IsStillLife, Serves, SpaceshipsMoveByCycles, StayApart, StayClear, gap_stays, gaps_of, is_clear, is_past, times}
 use Rattle.survey_core.proofs.lemmas.FindingLemmas.{after-then}
 use Rattle.survey_core.proofs.lemmas.rest.ForGoodLemmas.{after_remainder, shifted-none}
 
@@ -163,10 +169,26 @@ clear_apart one other n c d clear v w = elim (or_cases _ _ clear) [
     down : 3 ≤ distance c.y d.y → 3 ≤ king_distance c d
     down h = omega arith
 
+-- a pattern that doesn't move, with this box
+abbrev resting : Bounds → EnvelopeBounds
+resting b = record { recurrence = record { period = 1; dx = pos 0; dy = pos 0 }; bounds = b }
+
+-- cells of boxes that are clear of each other
+pub clear_is_far : (one other : Bounds) (c d : Cell) → is_clear one other (pos 0) (pos 0) ≡ true → IsWithin one c → IsWithin other d → 3 ≤ king_distance c d
+clear_is_far one other c d clear v w = clear_apart (resting one) (resting other) 0 c d clear (same one c v) (same other d w)
+  where
+    same : (b : Bounds) (e : Cell) → IsWithin b e → IsWithin (carried 0 (resting b)) e
+    same b e h = record {
+      left = omega (arith, ints, h.left);
+      top = omega (arith, ints, h.top);
+      right = omega (arith, ints, h.right);
+      bottom = omega (arith, ints, h.bottom);
+    }
+
 -- boxes that are clear in all cycles up to the horizon
 pub apart_by_cycles : (horizon p : ℕ) (one other : EnvelopeBounds) → 1 ≤ p → Serves p one → Serves p other → StayClear (horizon / p + 1) one other
     → StayApart horizon one other
-apart_by_cycles horizon p one other some s t clear rule limit cells others is that g low c d in_one in_other =
+apart_by_cycles horizon p one other some s t clear rule limit cells others is that apart g low c d in_one in_other =
     let whole : g ≡ g / p * p + g % p = sym (div-add-mod g p) ∙ ap (λ (m : ℕ). m + g % p) (mul_comm p (g / p)) in
     let inside : g % p < p = omega arith in
     let below : g / p * p ≤ horizon = omega (arith, whole) in
@@ -178,6 +200,34 @@ apart_by_cycles horizon p one other some s t clear rule limit cells others is th
     (has-all (IsWithin (carried (g / p) other)) (after rule others g) d
     (recursion_from_All (IsWithin (carried (g / p) other)) (after rule others g)
     (subst (λ (m : ℕ). All (IsWithin (carried (g / p) other)) (after rule others m)) (sym whole) (in_cycle rule limit others other p (g / p) (g % p) that t inside))) in_other)
+
+-- boxes of two patterns that don't move, if they are clear of each other at the start
+pub still_apart : (horizon : ℕ) (one other : EnvelopeBounds) → (one.recurrence.dx ≡ pos 0) × (one.recurrence.dy ≡ pos 0)
+    → (other.recurrence.dx ≡ pos 0) × (other.recurrence.dy ≡ pos 0) → is_clear one.bounds other.bounds (pos 0) (pos 0) ≡ true → StayApart horizon one other
+still_apart horizon one other s t clear =
+    apart_by_cycles horizon 1 one other (omega arith) (inr s) (inr t)
+    (λ n low. (λ i. is_clear one.bounds other.bounds (across n i) (down n i)) ∙ clear)
+  where
+    across : (n : ℕ) → times n (other.recurrence.dx -ℤ one.recurrence.dx) ≡ pos 0
+    across n = (λ i. times n (t.0 i -ℤ s.0 i)) ∙ times-none n
+
+    down : (n : ℕ) → times n (other.recurrence.dy -ℤ one.recurrence.dy) ≡ pos 0
+    down n = (λ i. times n (t.1 i -ℤ s.1 i)) ∙ times-none n
+
+-- a still life stays as it is
+still_life_stays : (rule : Numbers) (limit : ℕ) (cells : List Cell) (envelope : EnvelopeBounds) → IsEnvelope rule limit cells envelope
+    → IsStillLife envelope → (g : ℕ) → after rule cells g ≡ cells
+still_life_stays rule limit cells envelope is still g =
+    let back : after rule cells 1 ≡ cells = subst (λ (p : ℕ). after rule cells p ≡ cells) still.0
+    (is.recurs.back ∙ (λ i. shifted (still.1 i) (still.2 i) cells) ∙ shifted-none cells) in
+    let none : g % 1 ≡ 0 = omega arith in
+    after_remainder rule cells 1 g back ∙ ap (after rule cells) none ∙ after-none rule cells
+
+-- so two of them stay apart, if they are
+pub still_lives_stay_apart : (horizon : ℕ) (one other : EnvelopeBounds) → IsStillLife one → IsStillLife other → StayApart horizon one other
+still_lives_stay_apart horizon one other s t rule limit cells others is that apart g low =
+    subst (λ (S : List Cell). LieApart S (after rule others g)) (sym (still_life_stays rule limit cells one is s g))
+    (subst (LieApart cells) (sym (still_life_stays rule limit others other that t g)) apart)
 
 -- ---- the loop over cycles
 
@@ -265,16 +315,33 @@ clear_from_here one other n cycles x y s t is_s is_t is_x is_y before part m low
 
 -- ---- the box of all phases
 
-pub phases_more : (rule : Numbers) (cells : List Cell) (age : ℕ) (phase : List Cell) (bounds box both : Bounds)
-    → ((c : Cell) → IsWithin bounds c → IsWithin both c) → ((c : Cell) → IsWithin box c → IsWithin both c)
-    → phase ≡ after rule cells (age + 1) → All (IsWithin box) phase → ((g : ℕ) → g ≤ age → All (IsWithin bounds) (after rule cells g))
-    → (g : ℕ) → g ≤ age + 1 → All (IsWithin both) (after rule cells g)
-phases_more rule cells age phase bounds box both first second at now before g low = elim (eq-or-lt_of_le low) [
+-- a phase more
+pub phases_more : (phases : List (List Cell)) (n : ℕ) (bounds both box : Bounds) (phase : List Cell) → n < length phases → phase ≡ get_or phases n phase
+    → ((c : Cell) → IsWithin bounds c → IsWithin both c) → ((c : Cell) → IsWithin box c → IsWithin both c) → All (IsWithin box) phase
+    → ((g : ℕ) (none : List Cell) → g < n → All (IsWithin bounds) (get_or phases g none))
+    → (g : ℕ) (none : List Cell) → g < n + 1 → All (IsWithin both) (get_or phases g none)
+phases_more phases n bounds both box phase there is first second now before g none low = elim (same_or_not g n) [
   | inl same ↦
-      subst (λ (h : ℕ). All (IsWithin both) (after rule cells h)) (sym same)
-      (subst (All (IsWithin both)) at (λ k d there. second (get_or phase k d) (now k d there)))
-  | inr less ↦ λ k d there. first (get_or (after rule cells g) k d) (before g (omega arith) k d there)
+      let at : phase ≡ get_or phases g none =
+      is ∙ get_or_default phases n phase none there ∙ ap (λ (m : ℕ). get_or phases m none) (sym same) in
+      subst (All (IsWithin both)) at (λ k d here. second (get_or phase k d) (now k d here))
+  | inr apart ↦ λ k d here. first (get_or (get_or phases g none) k d) (before g none (omega arith) k d here)
 ]
+
+-- the envelope of a pattern with these phases
+pub envelope_of : (rule : Numbers) (limit : ℕ) (cells : List Cell) (phases : List (List Cell)) (r : Recurrence) (envelope : EnvelopeBounds) → InOrder cells
+    → IsCycle rule cells limit phases r → envelope.recurrence ≡ r
+    → ((g : ℕ) (none : List Cell) → g < length phases → All (IsWithin envelope.bounds) (get_or phases g none)) → IsEnvelope rule limit cells envelope
+envelope_of rule limit cells found r envelope order cycle back within = record {
+  in_order = order;
+  recurs = subst (Recurs rule cells limit) (sym back) cycle.recurs;
+  within = λ g low.
+      let early : g < r.period = subst (λ (q : Recurrence). g < q.period) back low in
+      let count : length found ≡ r.period = ap length cycle.phases ∙ phase_count rule cells r.period in
+      let at : get_or found g [] ≡ after rule cells g =
+      ap (λ (each : List (List Cell)). get_or each g []) cycle.phases ∙ phase_at rule cells r.period g [] early in
+      subst (All (IsWithin envelope.bounds)) at (within g [] (omega (arith, early, count)));
+}
 
 -- ---- the envelopes of some patterns, one after another
 
@@ -307,7 +374,45 @@ envelopes_more rule limit parts i part envelopes envelope items low at are is ma
     (subst (λ (prefix : List (List Cell)). AreEnvelopes rule limit prefix (envelopes ++ envelope ∷ [])) (sym (take_more parts i part low))
     (envelopes_push rule limit (take i parts) envelopes (get_or parts i part) envelope are (subst (λ (p : List Cell). IsEnvelope rule limit p envelope) at is)))
 
+-- the envelopes of the first patterns, as many as there are envelopes
+pub first_envelopes : (rule : Numbers) (limit : ℕ) (parts : List (List Cell)) (i : ℕ) (envelopes : List EnvelopeBounds) → i ≤ length parts
+    → AreEnvelopes rule limit (take i parts) envelopes → AreEnvelopes rule limit (take (length envelopes) parts) envelopes
+first_envelopes rule limit parts i envelopes low are =
+    subst (λ (n : ℕ). AreEnvelopes rule limit (take n parts) envelopes) (sym (are.count ∙ length-take-le i parts low)) are
+
+pub few_envelopes : (rule : Numbers) (limit : ℕ) (parts : List (List Cell)) (i : ℕ) (envelopes : List EnvelopeBounds) → i ≤ length parts
+    → AreEnvelopes rule limit (take i parts) envelopes → length envelopes ≤ length parts
+few_envelopes rule limit parts i envelopes low are = subst (λ (n : ℕ). n ≤ length parts) (sym (are.count ∙ length-take-le i parts low)) low
+
+-- one envelope more after those of other patterns
+pub envelopes_after : (rule : Numbers) (limit : ℕ) (before parts : List (List Cell)) (i : ℕ) (part : List Cell) (envelopes : List EnvelopeBounds)
+    (envelope : EnvelopeBounds) (items : List EnvelopeBounds) → i < length parts → part ≡ get_or parts i part
+    → AreEnvelopes rule limit (before ++ take i parts) envelopes → IsEnvelope rule limit part envelope
+    → items ≡ envelopes ++ envelope ∷ [] → AreEnvelopes rule limit (before ++ take (i + 1) parts) items
+envelopes_after rule limit before parts i part envelopes envelope items low at are is made =
+    subst (AreEnvelopes rule limit (before ++ take (i + 1) parts)) (sym made)
+    (subst (λ (prefix : List (List Cell)). AreEnvelopes rule limit prefix (envelopes ++ envelope ∷ []))
+    (append_assoc before (take i parts) (get_or parts i part ∷ []) ∙ ap (λ (more : List (List Cell)). before ++ more) (sym (take_more parts i part low)))
+    (envelopes_push rule limit (before ++ take i parts) envelopes (get_or parts i part) envelope are (subst (λ (p : List Cell). IsEnvelope rule limit p envelope) at is)))
+
+-- a gap above is a gap
+pub above_is_clear : (one other : Bounds) → is_past other.bottom (pos 0) one.top (pos 0) ≡ true → true ≡ is_clear one other (pos 0) (pos 0)
+above_is_clear one other is =
+    last_of_four (is_past one.right (pos 0) other.left (pos 0)) (is_past other.right (pos 0) one.left (pos 0))
+    (is_past one.bottom (pos 0) other.top (pos 0)) (is_past other.bottom (pos 0) one.top (pos 0)) is
+  where
+    last_of_four : (a b c d : Bool) → d ≡ true → true ≡ (a || b || c || d)
+    last_of_four true b c d is = refl
+    last_of_four false true c d is = refl
+    last_of_four false false true d is = refl
+    last_of_four false false false d is = sym is
+
 -- ---- numbers that come out of their bits
+
+pub past_at : (result : Bool) (end begin : ℤ) → FitsSigned w32 end → FitsSigned w32 begin
+    → result ≡ is_past (to_z w32 (of_z w32 end)) (pos 0) (to_z w32 (of_z w32 begin)) (pos 0) → result ≡ is_past end (pos 0) begin (pos 0)
+past_at result end begin end_fits begin_fits is =
+    is ∙ (λ i. is_past (to_z-of_z w32 end end_fits i) (pos 0) (to_z-of_z w32 begin begin_fits i) (pos 0))
 
 pub past_by : (result : Bool) (end begin s : ℤ) → FitsSigned w32 end → FitsSigned w32 begin → FitsSigned w64 s
     → result ≡ is_past (to_z w32 (of_z w32 end)) (pos 0) (to_z w32 (of_z w32 begin)) (to_z w64 (of_z w64 s))

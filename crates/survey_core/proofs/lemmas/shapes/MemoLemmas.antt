@@ -1,5 +1,5 @@
 -- What is known of a shape holds of each pattern that it is about.
-use Rattle.std.proofs.Common.{◌≡◌, ◌∙◌, ◌+ℤ◌, refl, sym, subst, ℕ, ℤ, Bool, false, not, true, List, All, arith}
+use Rattle.std.proofs.Common.{◌≡◌, ◌∙◌, ◌+ℤ◌, Err, IfNone, IfOk, None, Ok, Option, Result, Some, refl, sym, subst, ℕ, ℤ, Bool, false, not, true, List, All, arith}
 use Rattle.std.proofs.lemmas.Int.{ints}
 use Rattle.std.proofs.lemmas.List.Elements.{All-map}
 use Rattle.plane_core.specs.declared.plane.bounds.Bounds.{Bounds}
@@ -81,3 +81,10 @@ same_rules one other differs told same = (rules_decide one other).0 (not_false (
     not_false : (b : Bool) → not b ≡ false → b ≡ true
     not_false true e = refl
     not_false false e = sym e
+
+-- what is said of the others is said of all, of which they are a part
+pub none_of_part : {X E : Type 0} (result : Result (Option X) E) (P Q : Type 0) → (Q → P) → IfOk result (λ found. IfNone found (¬ P))
+    → IfOk result (λ found. IfNone found (¬ Q))
+none_of_part (Ok None) P Q part never = λ all. never (part all)
+none_of_part (Ok (Some x)) P Q part never = tt
+none_of_part (Err e) P Q part never = tt

@@ -1,14 +1,14 @@
 -- Counting objects by their codes, and multiples of their periods.
 use Rattle.std.proofs.Common.{◌≡◌, ◌∙◌, ap, sym, refl, subst, ℕ, ◌+◌, ◌*◌, ◌/◌, ◌%◌, ◌<◌, ◌≤◌, ◌↔◌, add-zero, zero-add, mul_comm, nat_eq, Bool, true}
-use Rattle.std.proofs.Common.{false, sum, IsTrue, cond, List, [], ◌∷◌, ◌++◌, take, get_or, count_by, length, Option, Some, IfSome, unwrap_or, arith}
+use Rattle.std.proofs.Common.{false, sum, IsTrue, cond, List, [], ◌∷◌, ◌++◌, take, get_or, count_by, length, None, Option, Some, IfSome, unwrap_or, arith}
 use Rattle.std.proofs.Common.{if◌then◌else◌}
 use Rattle.std.specs.BTreeMap.{BTreeMap, IsOrdered, insert_entry}
 use Rattle.std.specs.Cmp.Lexicographic.{nat_list_cmp_total, slice_cmp}
 use Rattle.std.specs.FinMap.{nat_cmp-IsAntisymmetric, slice_cmp-IsAntisymmetric}
 use Rattle.std.specs.List.{AllZip}
-use Rattle.std.specs.Map.{lookup, values_of}
+use Rattle.std.specs.Map.{lookup, set_value, values_of}
 use Rattle.std.specs.Option.{option_map}
-use Rattle.std.proofs.lemmas.Map.Entries.{sum_by-insert_entry}
+use Rattle.std.proofs.lemmas.Map.Entries.{sum_by-insert_entry, sum_by-set_value}
 use Rattle.std.proofs.lemmas.Iterator.Adapters.{option_map_id}
 use Rattle.std.specs.Ordering.{is_eq, nat_cmp, ordering_reverse}
 use Rattle.std.specs.declared.cmp.Ordering.{Ordering}
@@ -21,7 +21,7 @@ use Rattle.std.proofs.Math.Nat.{div-add-mod, mul-mod_left}
 use Rattle.plane_core.specs.declared.plane.cell.Cell.{Cell}
 use Rattle.plane_core.specs.plane.Rules.{Numbers}
 use Rattle.code_core.specs.Names.{IsCode}
-use Rattle.survey_core.specs.shapes.Objects.{AreObjects, IsMultiple, count_of, is_code}
+use Rattle.survey_core.specs.shapes.Objects.{AreObjects, CountsAreSome, IsMultiple, IsOneMore, count_of, is_code}
 
 -- a multiple of n is what n divides without a rest
 pub multiple_then : (m n : ℕ) → IsTrue (nat_eq (m % n) 0) ↔ IsMultiple m n
@@ -38,10 +38,6 @@ never_of_none m n some none (k, is) = none_left k m n some none is
     none_left k m n some none is = grind (arith, some, none, is)
 
 -- ---- codes
-
--- no code has a count of 0
-abbrev pub CountsAreSome : List (List ℕ × ℕ) → Type 0
-CountsAreSome objects = (code : List ℕ) → IfSome (lookup (is_code code) objects) (λ n. 1 ≤ n)
 
 -- two texts that compare as equal are one
 pub same_code : (a b : List ℕ) → slice_cmp nat_cmp a b ≡ Equal → a ≡ b
@@ -98,6 +94,36 @@ number_more old new k before ordered is at =
     let newer : sum (values_of new) ≡ sum (values_of (insert_entry (slice_cmp nat_cmp) old.entries k (before + 1))) =
     ap (λ (es : List (List ℕ × ℕ)). sum (values_of es)) is in
     omega (arith, put)
+
+-- a first object of a code
+pub first_counted : (old : BTreeMap (List ℕ) ℕ) (new : List (List ℕ × ℕ)) (k : List ℕ) → IsOrdered (slice_cmp nat_cmp) old
+    → lookup (is_code k) old.entries ≡ None
+    → ((q : List ℕ) → lookup (is_code q) new ≡ cond (is_code k q) (Some 1) (lookup (is_code q) old.entries))
+    → new ≡ insert_entry (slice_cmp nat_cmp) old.entries k 1 → IsOneMore k old.entries new
+first_counted old new k ordered none updates is = record {
+  counts = counted_more old.entries new k 0 updates before;
+  some = some_more old.entries new k 0 updates;
+  number = number_more old new k 0 ordered is before;
+}
+  where
+    before : 0 ≡ count_of old.entries k
+    before = sym (ap (λ (o : Option ℕ). unwrap_or o 0) none)
+
+-- and one object more of a code that there is
+pub once_more : (old new : List (List ℕ × ℕ)) (k : List ℕ) (before : ℕ) → lookup (is_code k) old ≡ Some before
+    → ((q : List ℕ) → lookup (is_code q) new ≡ cond (is_code k q) (Some (before + 1)) (lookup (is_code q) old))
+    → new ≡ set_value (is_code k) old (before + 1) → IsOneMore k old new
+once_more old new k before found updates is = record {
+  counts = counted_more old new k before updates at;
+  some = some_more old new k before updates;
+  number =
+      let put = sum_by-set_value (λ n. n) (is_code k) old before (before + 1) found in
+      let newer : sum (values_of new) ≡ sum (values_of (set_value (is_code k) old (before + 1))) = ap (λ (es : List (List ℕ × ℕ)). sum (values_of es)) is in
+      omega (arith, put);
+}
+  where
+    at : before ≡ count_of old k
+    at = sym (ap (λ (o : Option ℕ). unwrap_or o 0) found)
 
 -- the entries of a map whose counts are not 0
 pub entries_are_objects : (counts : BTreeMap (List ℕ) ℕ) → IsOrdered (slice_cmp nat_cmp) counts → CountsAreSome counts.entries → AreObjects counts.entries

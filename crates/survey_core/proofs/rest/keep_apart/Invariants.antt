@@ -1,5 +1,4 @@
 use Rattle.std.proofs.Common.{◌≡◌, ◌≤◌, ℕ, map}
-use Rattle.plane_core.specs.plane.Generations.{after}
 use Rattle.survey_core.specs.rest.Alone.{alone_at, clusters_of}
 use Rattle.survey_core.specs.rest.Groups.{union_of}
 use Rattle.survey_core.specs.rest.Rest.{KeepApart}
@@ -7,7 +6,6 @@ use Rattle.survey_core.proofs.rest.keep_apart.Given as goal
 
 abbrev pub invariant-loop : goal.invariant-loop
 invariant-loop l = record {
-  whole : l.whole ≡ after l.rule (union_of (clusters_of l.fn.clusters)) l.counter;
   alone : l.clusters ≡ map (alone_at l.rule l.counter) (clusters_of l.fn.clusters);
   apart : (k : ℕ) → k ≤ l.counter → KeepApart l.rule (union_of (clusters_of l.fn.clusters)) (clusters_of l.fn.clusters) k;
 }

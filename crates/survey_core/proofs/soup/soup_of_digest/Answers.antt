@@ -10,7 +10,7 @@ use Rattle.survey_core.proofs.soup.soup_of_digest.Goals as goal
 use Rattle.survey_core.proofs.soup.soup_of_digest.Goals.{then-is_alive_at+in_ok-push, else-is_alive_at}
 
 pub loop-place-init : goal.loop-place-init
-loop-place-init c = c.new-cells.ensures.items ∙ sym (live_cells_none c.args.digest.now)
+loop-place-init c = c.in_ok-cells.ensures.items ∙ sym (live_cells_none c.args.digest.now)
 
 pub loop-place-preserved : goal.loop-place-preserved
 loop-place-preserved c = elim c.if-is_alive_at.branch [

@@ -4,11 +4,11 @@ use Rattle.plane_core.proofs.lemmas.engine.LeapLemmas.{run_odd, run_even}
 use Rattle.plane_core.proofs.engine.leap.run.Goals as goal
 
 pub returns-then-count-eq1 : goal.returns-then-count-eq1
-returns-then-count-eq1 c =
-    run_odd (rule_of c.args.rule.now) c.args.count c.args.window.now c.generations.new.window c.difference_of.result c.requires.few
+returns-then-count-eq1 g c =
+    run_odd g.row.N (rule_of c.args.rule.now) c.args.count c.args.window.now c.generations.new.window c.difference_of.result c.requires.few
     (omega arith) c.generations.ensures c.difference_of.ensures
 
 pub returns : goal.returns
-returns c =
-    run_even (rule_of c.args.rule.now) c.args.count c.args.window.now c.generations-2.new.window c.generations-3.new.window
+returns g c =
+    run_even g.row.N (rule_of c.args.rule.now) c.args.count c.args.window.now c.generations-2.new.window c.generations-3.new.window
     c.difference_of-2.result (omega arith) c.requires.few (omega arith) c.generations-2.ensures c.generations-3.ensures c.difference_of-2.ensures

@@ -8,16 +8,16 @@ use Rattle.plane_core.proofs.lemmas.engine.WindowDifferenceLemmas.{no_difference
 use Rattle.plane_core.proofs.engine.window_difference.differing.Goals as goal
 
 -- the places of the inner part are set in the mask
-inner : (first last k j i : ℕ) → (4 ≤ k → first ≡ inner_mask) → (k < 6 → last ≡ inner_mask) → k < 10 → j < 4 → 4 ≤ i → i < 60 → 4 ≤ j * 10 + k
-    → j * 10 + k < 36 → bit_of (first ∷ inner_mask ∷ inner_mask ∷ last ∷ []) j i ≡ 1
-inner first last k zero i above below small low a b d e = ap (λ (w : ℕ). bit_at w i) (above (omega arith)) ∙ bit_at_mask_inside 4 60 i a b
-inner first last k (suc zero) i above below small low a b d e = bit_at_mask_inside 4 60 i a b
-inner first last k (suc (suc zero)) i above below small low a b d e = bit_at_mask_inside 4 60 i a b
-inner first last k (suc (suc (suc zero))) i above below small low a b d e =
-    ap (λ (w : ℕ). bit_at w i) (below (omega arith)) ∙ bit_at_mask_inside 4 60 i a b
-inner first last k (suc (suc (suc (suc j)))) i above below small low a b d e = absurd (omega arith)
+inner : (n first last k j i : ℕ) → (4 ≤ k → first ≡ inner_mask) → (k + 4 < n → last ≡ inner_mask) → j < 4 → 4 ≤ i → i < 60 → 4 ≤ j * n + k
+    → j * n + k + 4 < 4 * n → bit_of (first ∷ inner_mask ∷ inner_mask ∷ last ∷ []) j i ≡ 1
+inner n first last k zero i above below low a b d e = ap (λ (w : ℕ). bit_at w i) (above (omega (arith, d))) ∙ bit_at_mask_inside 4 60 i a b
+inner n first last k (suc zero) i above below low a b d e = bit_at_mask_inside 4 60 i a b
+inner n first last k (suc (suc zero)) i above below low a b d e = bit_at_mask_inside 4 60 i a b
+inner n first last k (suc (suc (suc zero))) i above below low a b d e =
+    ap (λ (w : ℕ). bit_at w i) (below (omega (arith, e))) ∙ bit_at_mask_inside 4 60 i a b
+inner n first last k (suc (suc (suc (suc j)))) i above below low a b d e = absurd (omega (arith, low))
 
 pub returns : goal.returns
-returns c j i low a b d e none =
+returns g c j i low a b d e none =
     no_difference c.args.one c.args.other _ j i c.fits-one.0 c.fits-other.0 refl low
-    (inner _ _ c.args.k j i (λ h. c.inner_if.ensures (le-leb 4 c.args.k h)) (λ h. c.inner_if-2.ensures (lt-ltb c.args.k 6 h)) c.requires low a b d e) none
+    (inner g.row.N _ _ c.args.k j i (λ h. c.inner_if.ensures (le-leb 4 c.args.k h)) (λ h. c.inner_if-2.ensures (lt-ltb (c.args.k + 4) g.row.N h)) low a b d e) none

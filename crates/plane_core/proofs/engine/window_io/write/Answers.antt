@@ -14,7 +14,7 @@ loop-r-preserved c =
 
 pub returns : goal.returns
 returns c =
-    let all : c.loop-r.r ≡ 36 = omega arith in
+    let all : c.loop-r.r ≡ c.args.end = omega arith in
     subst (λ (r : ℕ). IsPutBack c.args.at c.args.x c.args.y r c.args.rows.now c.args.words.now c.loop-r.words) all c.loop-r.invariant
 
 pub bounds-rows-r : goal.bounds-rows-r

@@ -3,6 +3,7 @@ use Rattle.std.specs.Int.{bit_at}
 use Rattle.std.specs.List.{slice_index}
 use Rattle.std.proofs.lemmas.Nat.Bits.{bit_at-lt, shr_and_one}
 use Rattle.std.proofs.lemmas.Bool.{false≢true}
+use Rattle.plane_core.specs.one_sided.Floods.{HasGrown}
 use Rattle.plane_core.proofs.lemmas.one_sided.FloodLemmas.{all_flooded, begun_only, begun_start, none_lit, grown_more, grown_none}
 use Rattle.plane_core.proofs.one_sided.flood.flood.Goals as goal
 
@@ -17,45 +18,33 @@ lit w i some = omega (arith, bit_at-lt w i, shr_and_one w i, some)
 abbrev begun : ℕ → ℕ → List ℕ
 begun row column = slice_set (replicate 64 0) row (1 * 2 ^ column % 2 ^ 64)
 
+-- a pass down and a pass up
+both : (rows start flood down up : List ℕ) → HasGrown rows start flood → HasGrown rows flood down → HasGrown rows down up → HasGrown rows start up
+both rows start flood down up p q r = grown_more rows start down up (grown_more rows start flood down p q) r
+
 pub loop-init : goal.loop-init
-loop-init c =
-    let a = c.if-row-lt4.false in
-    let b = c.if-row-ge60.false in
-    record { least = omega arith; low = omega arith; high = omega arith; grown = grown_none c.args.rows.now (begun c.args.row c.args.column) }
+loop-init c = let a = c.if-row-lt4.false in record { first = omega arith; grown = grown_none c.args.rows.now (begun c.args.row c.args.column) }
 
 pub loop-preserved : goal.loop-preserved
 loop-preserved c = record {
-  least = c.earlier_first-first.ensures.low;
-  low = omega arith;
-  high = c.later_end-end.ensures.high;
-  grown = grown_more c.args.rows.now (begun c.args.row c.args.column) c.loop.flood c.grow-new.new.flood c.loop.invariant.grown c.grow-new.ensures;
+  first = c.grow_up-grown.ensures.low;
+  grown = both c.args.rows.now (begun c.args.row c.args.column) c.loop.flood c.grow_down-end.new.flood c.grow_up-grown.new.flood c.loop.invariant.grown
+      c.grow_down-end.ensures.grown c.grow_up-grown.ensures.grown;
 }
 
 pub returns-then-lies_inside : goal.returns-then-lies_inside
 returns-then-lies_inside c = λ e.
-    all_flooded c.args.rows.now (begun c.args.row c.args.column) c.grow-new.new.flood c.args.row c.args.column (begun_start (replicate 64 0) c.args.row c.args.column (within_64 _ c.if-row-ge60.false) (within_64 _ c.if-column-ge60.false))
+    all_flooded c.args.rows.now (begun c.args.row c.args.column) c.grow_up-grown.new.flood c.args.row c.args.column (begun_start (replicate 64 0) c.args.row c.args.column (within_64 _ c.if-row-ge60.false) (within_64 _ c.if-column-ge60.false))
     (lit (slice_index c.args.rows.now c.args.row) c.args.column c.if-rows-row-eq0.false) (record { above = c.if-row-lt4.false; below = c.if-row-ge60.false; west = c.if-column-lt4.false; east = c.if-column-ge60.false })
     (begun_only (replicate 64 0) c.args.row c.args.column (within_64 _ c.if-row-ge60.false) (within_64 _ c.if-column-ge60.false) none_lit)
-    (grown_more c.args.rows.now (begun c.args.row c.args.column) c.loop.flood c.grow-new.new.flood c.loop.invariant.grown c.grow-new.ensures)
-    (c.lies_inside.ensures c.if-lies_inside.true) (c.is_closed.ensures e)
+    (both c.args.rows.now (begun c.args.row c.args.column) c.loop.flood c.grow_down-end.new.flood c.grow_up-grown.new.flood c.loop.invariant.grown
+    c.grow_down-end.ensures.grown c.grow_up-grown.ensures.grown) (c.lies_inside.ensures c.if-lies_inside.true) (c.is_closed.ensures e)
 
 pub returns-else-lies_inside : goal.returns-else-lies_inside
 returns-else-lies_inside c = λ e. absurd (false≢true (sym c.if-lies_inside.false ∙ e))
 
 pub returns-then-row-lt4 : goal.returns-then-row-lt4
 returns-then-row-lt4 c = λ e. absurd (false≢true e)
-
-pub earlier_first-first-requires-clause-low : goal.earlier_first-first-requires-clause-low
-earlier_first-first-requires-clause-low c = c.loop.invariant.least
-
-pub later_end-end-requires-clause-high : goal.later_end-end-requires-clause-high
-later_end-end-requires-clause-high c = c.loop.invariant.high
-
-pub grow-new-requires-clause-first : goal.grow-new-requires-clause-first
-grow-new-requires-clause-first c = c.earlier_first-first.ensures.low
-
-pub grow-new-requires-clause-end : goal.grow-new-requires-clause-end
-grow-new-requires-clause-end c = c.later_end-end.ensures.high
 
 pub returns : goal.returns
 returns c = λ e. absurd (false≢true e)

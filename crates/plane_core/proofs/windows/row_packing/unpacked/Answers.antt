@@ -17,7 +17,7 @@ loop-k-preserved g c =
     record {
       long = length-set _ _ _ ∙ length-set _ _ _ ∙ length-set _ _ _ ∙ length-set _ _ _ ∙ c.loop-k.invariant.long;
       unpacked = unpacked_more n c.args.window.now rows _ vector k low c.loop-k.invariant.unpacked refl
-          (own_rows n k rows vector low (c.loop-k.invariant.long ∙ c.requires.rows))
+          (own_rows n k rows vector low (omega (arith, c.loop-k.invariant.long, c.requires.rows)))
           (λ j m lane less apart. other_rows n k j m rows _ _ _ _ low less apart);
     }
 

@@ -5,7 +5,7 @@ use Rattle.std.proofs.lemmas.Result.{IfOk-from_err}
 use Rattle.plane_core.specs.windows.RuleLogic.{rule_of}
 use Rattle.plane_core.specs.declared.plane.bounds.Bounds.{Bounds}
 use Rattle.plane_core.specs.declared.engine.frame.Frame.{Frame}
-use Rattle.plane_core.specs.declared.engine.window_origin.WindowOrigin.{WindowOrigin}
+use Rattle.plane_core.specs.declared.engine.leap_window.LeapWindow.{LeapWindow}
 use Rattle.plane_core.specs.declared.engine.row_spans.RowSpan.{RowSpan}
 use Rattle.plane_core.specs.engine.Boards.{Running}
 use Rattle.plane_core.specs.plane.Bounds.{AreSidesWithin}
@@ -26,15 +26,15 @@ nothing : (n : ℕ) → 0 ≤ n
 nothing n = omega arith
 
 -- the same lists by other names
-covered_by : (ps qs : List WindowOrigin) (bs cs : List Bounds) → qs ≡ ps → bs ≡ cs → AreCovered ps bs → AreCovered qs cs
-covered_by ps qs bs cs origins boxes covered =
-    subst (λ (xs : List WindowOrigin). AreCovered xs cs) (sym origins) (subst (λ (xs : List Bounds). AreCovered ps xs) boxes covered)
+covered_by : (ps qs : List LeapWindow) (bs cs : List Bounds) → qs ≡ ps → bs ≡ cs → AreCovered ps bs → AreCovered qs cs
+covered_by ps qs bs cs windows boxes covered =
+    subst (λ (xs : List LeapWindow). AreCovered xs cs) (sym windows) (subst (λ (xs : List Bounds). AreCovered ps xs) boxes covered)
 
-put_back : (at : Frame) (origins : List WindowOrigin) (hs held : List (List ℕ)) (ws old new : List ℕ) → hs ≡ held → ws ≡ old
-    → ArePutBack at origins hs (length origins) ws new → ArePutBack at origins held (length origins) old new
-put_back at origins hs held ws old new rows words put =
-    subst (λ (us : List ℕ). ArePutBack at origins held (length origins) us new) words
-    (subst (λ (xs : List (List ℕ)). ArePutBack at origins xs (length origins) ws new) rows put)
+put_back : (at : Frame) (windows : List LeapWindow) (hs held : List (List ℕ)) (ws old new : List ℕ) → hs ≡ held → ws ≡ old
+    → ArePutBack at windows hs (length windows) ws new → ArePutBack at windows held (length windows) old new
+put_back at windows hs held ws old new rows words put =
+    subst (λ (us : List ℕ). ArePutBack at windows held (length windows) us new) words
+    (subst (λ (xs : List (List ℕ)). ArePutBack at windows xs (length windows) ws new) rows put)
 
 pub returns-then-not-are_enough-clause-rule : goal.returns-then-not-are_enough-clause-rule
 returns-then-not-are_enough-clause-rule c = refl
@@ -94,20 +94,20 @@ gone_on c =
     let inside = c.self.inside in
     let rule = rule_of inside.logic in
     let old = inside.words.items in
-    let origins = c.as_slice-origins.result.now in
+    let windows = c.as_slice-windows.result.now in
     let held = c.run_all.new.held.items in
     let on = c.in_ok-inside.ensures.on_board c.if-not-inside.false in
-    let ran = subst (λ (ws : List ℕ). AreRun inside.at ws rule c.args.count origins held c.run_all.new.boxes.items) c.as_slice-2.ensures.value
+    let ran = subst (λ (ws : List ℕ). AreRun inside.at ws rule c.args.count windows held c.run_all.new.boxes.items) c.as_slice-2.ensures.value
     (c.in_ok-inside.ensures.run c.if-not-inside.false) in
     has_gone_on rule inside.at c.args.count old c.put_all.new.words inside.boxes.items c.run_all.new.boxes.items inside.spans.items
-    c.put_all.new.spans origins
+    c.put_all.new.spans windows
     (is_ready rule inside.at c.args.count old inside.boxes.items inside.holds_all inside.spans.items c.self.invariant
     (c.are_enough.ensures c.if-not-are_enough.false))
-    (covered_by _ origins _ inside.boxes.items c.as_slice-origins.ensures.value c.as_slice.ensures.value c.in_ok-cover.ensures)
+    (covered_by _ windows _ inside.boxes.items c.as_slice-windows.ensures.value c.as_slice.ensures.value c.in_ok-cover.ensures)
     c.requires.some c.requires.few on
     (subst (λ (ss : List RowSpan). AreWidened ss c.put_all.new.spans) c.as_mut_slice-2.ensures.value c.put_all.ensures.kept) c.put_all.ensures.covered
-    (leapt inside.at rule c.args.count origins held c.run_all.new.boxes.items old c.put_all.new.words ran
-    (put_back inside.at origins c.as_slice-3.result.now held c.as_mut_slice.result.now old c.put_all.new.words c.as_slice-3.ensures.value
+    (leapt inside.at rule c.args.count windows held c.run_all.new.boxes.items old c.put_all.new.words ran
+    (put_back inside.at windows c.as_slice-3.result.now held c.as_mut_slice.result.now old c.put_all.new.words c.as_slice-3.ensures.value
     c.as_mut_slice.ensures.value c.put_all.ensures.put))
     ran.sides (ran.differences (cells_on inside.at old) (cells_in_order inside.at old) (shows_cells inside.at old))
 
@@ -162,4 +162,5 @@ pub put_all-requires-clause-word_columns : goal.put_all-requires-clause-word_col
 put_all-requires-clause-word_columns c = ap length c.as_mut_slice-2.ensures.value ∙ c.self.invariant.spanned.word_columns
 
 pub put_all-requires-clause-each : goal.put_all-requires-clause-each
-put_all-requires-clause-each c = ap length c.as_slice-3.ensures.value ∙ (c.in_ok-inside.ensures.run c.if-not-inside.false).long
+put_all-requires-clause-each c =
+    rw (ap length c.as_slice-3.ensures.value) (c.in_ok-inside.ensures.run c.if-not-inside.false).long

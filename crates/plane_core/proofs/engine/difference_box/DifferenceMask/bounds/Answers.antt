@@ -7,11 +7,11 @@ use Rattle.plane_core.proofs.engine.difference_box.DifferenceMask.bounds.Goals a
 
 pub returns-in_default-clause-difference : goal.returns-in_default-clause-difference
 returns-in_default-clause-difference c = λ one other holds d inner ne.
-    absurd (marked_none_across c.args.origin c.args.self d c.in_default.ensures (marked c.args.origin one other c.args.self d holds inner ne))
+    absurd (marked_none_across c.args.window c.args.self d c.in_default.ensures (marked c.args.window one other c.args.self d holds inner ne))
 
 pub returns-in_default-span_of-clause-difference : goal.returns-in_default-span_of-clause-difference
 returns-in_default-span_of-clause-difference c = λ one other holds d inner ne.
-    absurd (marked_none_down c.args.origin c.args.self d c.in_default-span_of.ensures (marked c.args.origin one other c.args.self d holds inner ne))
+    absurd (marked_none_down c.args.window c.args.self d c.in_default-span_of.ensures (marked c.args.window one other c.args.self d holds inner ne))
 
 pub returns-clause-difference : goal.returns-clause-difference
 returns-clause-difference c =
@@ -20,11 +20,11 @@ returns-clause-difference c =
     let right : FitsSigned w32 c.column-2.result = search rules in
     let bottom : FitsSigned w32 c.row-2.result = search rules in
     simp to_z-of_z (λ one other holds d inner ne.
-    marked_within c.args.origin c.args.self c.in-Some.across c.in-Some-span_of.down
+    marked_within c.args.window c.args.self c.in-Some.across c.in-Some-span_of.down
     (record { left = c.column.result; top = c.row.result; right = c.column-2.result; bottom = c.row-2.result }) d
     c.in-Some.ensures c.in-Some-span_of.ensures
     (record { left = c.column.ensures; top = c.row.ensures; right = c.column-2.ensures; bottom = c.row-2.ensures })
-    (marked c.args.origin one other c.args.self d holds inner ne))
+    (marked c.args.window one other c.args.self d holds inner ne))
 
 pub returns-clause-sides : goal.returns-clause-sides
 returns-clause-sides c =
@@ -32,7 +32,7 @@ returns-clause-sides c =
     let top : FitsSigned w32 c.row.result = search rules in
     let right : FitsSigned w32 c.column-2.result = search rules in
     let bottom : FitsSigned w32 c.row-2.result = search rules in
-    simp to_z-of_z (sides_from c.args.origin _ _ c.in-Some.across c.in-Some-span_of.down
+    simp to_z-of_z (sides_from c.args.window _ _ c.in-Some.across c.in-Some-span_of.down
     (record { left = c.column.result; top = c.row.result; right = c.column-2.result; bottom = c.row-2.result })
     c.requires c.in-Some.ensures c.in-Some-span_of.ensures
     (record { left = c.column.ensures; top = c.row.ensures; right = c.column-2.ensures; bottom = c.row-2.ensures }))

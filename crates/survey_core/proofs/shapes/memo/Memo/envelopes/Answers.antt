@@ -1,72 +1,50 @@
-use Rattle.std.proofs.Common.{◌≡◌, ◌≢◌, ap, arith, length, refl, subst, sym, true, List, []}
-use Rattle.std.proofs.lemmas.List.{take_all}
-use Rattle.std.proofs.lemmas.Result.{IfOk-from_err}
+use Rattle.std.proofs.Common.{◌≡◌, ◌≢◌, ◌++◌, ◌∙◌, ap, drop, length, refl, rules, sym, subst, true, take, List, []}
+use Rattle.std.proofs.lemmas.List.{take-append-drop}
+use Rattle.std.proofs.lemmas.List.Elements.{All-drop}
+use Rattle.std.specs.Prelude.{All, IfOk, IfSome}
 use Rattle.plane_core.specs.declared.plane.cell.Cell.{Cell}
 use Rattle.plane_core.specs.plane.Cells.{InOrder}
 use Rattle.plane_core.specs.plane.Generations.{lies_within}
 use Rattle.survey_core.specs.shapes.RecurringShapes.{RecursWithin}
-use Rattle.survey_core.specs.shapes.Envelopes.{AreEnvelopes, IsEnvelope}
+use Rattle.survey_core.specs.shapes.Envelopes.{AreEnvelopes}
 use Rattle.survey_core.specs.UnderWay.{survey_reach}
-use Rattle.survey_core.proofs.lemmas.shapes.EnvelopeLemmas.{envelopes_more}
+use Rattle.survey_core.proofs.lemmas.shapes.MemoLemmas.{none_of_part}
+use Rattle.survey_core.proofs.shapes.memo.Memo.envelopes.Goals.{After-split_at}
 use Rattle.survey_core.proofs.shapes.memo.Memo.envelopes.Goals as goal
 
--- one that doesn't recur
-pub returns-in_default-clause-never : goal.returns-in_default-clause-never
-returns-in_default-clause-never c = λ all.
-    let never : ¬ RecursWithin c.args.rule.now c.args.limit c.pattern-item.result = rw c.in_default.is at c.in_ok-envelope.ensures.never in
-    never (subst (RecursWithin c.args.rule.now c.args.limit) (sym c.pattern-item.is)
-    (all c.loop-pattern.pattern-index c.pattern-item.result c.loop-pattern-test.true))
+-- what holds of all patterns holds of those that aren't remembered
+of_others : (c : After-split_at) (P : List Cell → Type 0) → All P c.args.patterns.now → All P c.split_at.result.1.now
+of_others c P all = subst (All P) (sym c.split_at.ensures.back) (All-drop P _ c.args.patterns.now all)
 
--- one envelope more
-pub loop-pattern-preserved : goal.loop-pattern-preserved
-loop-pattern-preserved c =
-    let found : IsEnvelope c.args.rule.now c.args.limit c.pattern-item.result c.in-Some.envelope = rw c.in-Some.is at c.in_ok-envelope.ensures.envelope in
-    envelopes_more c.args.rule.now c.args.limit c.args.patterns.now c.loop-pattern.pattern-index c.pattern-item.result c.loop-pattern.envelopes.items
-    c.in-Some.envelope c.push.new.self.items c.loop-pattern-test.true c.pattern-item.is c.loop-pattern.invariant found c.in_ok-push.ensures.items
+pub other_envelopes-requires-clause-order : goal.other_envelopes-requires-clause-order
+other_envelopes-requires-clause-order c = of_others (goal.at.other_envelopes-requires-clause-order c).After-split_at InOrder c.requires.order
+
+pub other_envelopes-requires-clause-some : goal.other_envelopes-requires-clause-some
+other_envelopes-requires-clause-some c =
+    of_others (goal.at.other_envelopes-requires-clause-some c).After-split_at (λ (pattern : List Cell). pattern ≢ []) c.requires.some
+
+pub other_envelopes-requires-clause-near : goal.other_envelopes-requires-clause-near
+other_envelopes-requires-clause-near c =
+    of_others (goal.at.other_envelopes-requires-clause-near c).After-split_at
+    (λ (pattern : List Cell). lies_within survey_reach pattern ≡ true) c.requires.near
 
 pub returns-then-any_surely_changes-clause-never : goal.returns-then-any_surely_changes-clause-never
-returns-then-any_surely_changes-clause-never c = c.if-any_surely_changes.ensures refl
+returns-then-any_surely_changes-clause-never c = λ all.
+    c.if-any_surely_changes.ensures refl
+    (of_others (goal.at.returns-then-any_surely_changes-clause-never c).After-split_at (RecursWithin c.args.rule.now c.args.limit) all)
 
-pub loop-pattern-init : goal.loop-pattern-init
-loop-pattern-init c = record {
-  count = ap length c.new-envelopes.ensures.items;
-  each = λ i d e low. absurd (omega arith);
-}
-
-pub envelope-requires-clause-order : goal.envelope-requires-clause-order
-envelope-requires-clause-order c =
-    subst InOrder (sym c.pattern-item.is)
-    (c.requires.order c.loop-pattern.pattern-index c.pattern-item.result c.loop-pattern-test.true)
-
-pub envelope-requires-clause-some : goal.envelope-requires-clause-some
-envelope-requires-clause-some c =
-    subst (λ (pattern : List Cell). pattern ≢ []) (sym c.pattern-item.is)
-    (c.requires.some c.loop-pattern.pattern-index c.pattern-item.result c.loop-pattern-test.true)
-
-pub envelope-requires-clause-near : goal.envelope-requires-clause-near
-envelope-requires-clause-near c =
-    subst (λ (pattern : List Cell). lies_within survey_reach pattern ≡ true) (sym c.pattern-item.is)
-    (c.requires.near c.loop-pattern.pattern-index c.pattern-item.result c.loop-pattern-test.true)
-
+-- those that are remembered, and then the others
 pub returns-clause-envelopes : goal.returns-clause-envelopes
 returns-clause-envelopes c =
-    subst (λ (parts : List (List Cell)). AreEnvelopes c.args.rule.now c.args.limit parts c.loop-pattern.envelopes.items)
-    (take_all c.loop-pattern.pattern-index c.args.patterns.now c.loop-pattern-test.false) c.loop-pattern.invariant
+    let count : c.len.result ≡ length c.in_ok-known.known.items = search rules in
+    let patterns : take (length c.in_ok-known.known.items) c.args.patterns.now ++ c.split_at.result.1.now ≡ c.args.patterns.now =
+    ap (λ (more : List (List Cell)). take (length c.in_ok-known.known.items) c.args.patterns.now ++ more)
+    (c.split_at.ensures.back ∙ ap (λ n. drop n c.args.patterns.now) count) ∙ take-append-drop (length c.in_ok-known.known.items) c.args.patterns.now in
+    subst (λ (parts : List (List Cell)). IfOk c.other_envelopes.result
+    (λ found. IfSome found (λ envelopes. AreEnvelopes c.args.rule.now c.args.limit parts envelopes.items))) patterns
+    (c.other_envelopes.ensures.envelopes (take (length c.in_ok-known.known.items) c.args.patterns.now) c.in_ok-known.ensures.envelopes)
 
-pub returns-in_err-envelope-clause-envelopes : goal.returns-in_err-envelope-clause-envelopes
-returns-in_err-envelope-clause-envelopes c = IfOk-from_err _ _ c.from_residual.ensures.0
-
-pub returns-in_err-envelope-clause-never : goal.returns-in_err-envelope-clause-never
-returns-in_err-envelope-clause-never c = IfOk-from_err _ _ c.from_residual.ensures.0
-
-pub returns-in_err-push-clause-envelopes : goal.returns-in_err-push-clause-envelopes
-returns-in_err-push-clause-envelopes c = IfOk-from_err _ _ c.from_residual-in_err-push.ensures.0
-
-pub returns-in_err-push-clause-never : goal.returns-in_err-push-clause-never
-returns-in_err-push-clause-never c = IfOk-from_err _ _ c.from_residual-in_err-push.ensures.0
-
-pub envelope-requires-clause-least : goal.envelope-requires-clause-least
-envelope-requires-clause-least c = c.requires.least
-
-pub envelope-requires-clause-most : goal.envelope-requires-clause-most
-envelope-requires-clause-most c = c.requires.most
+pub returns-clause-never : goal.returns-clause-never
+returns-clause-never c =
+    none_of_part c.other_envelopes.result _ _
+    (of_others (goal.at.returns-clause-never c).After-split_at (RecursWithin c.args.rule.now c.args.limit)) c.other_envelopes.ensures.never

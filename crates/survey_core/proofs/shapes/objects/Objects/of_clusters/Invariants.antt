@@ -2,8 +2,7 @@ use Rattle.std.proofs.Common.{◌≡◌, ℕ, List, length, sum, take}
 use Rattle.std.specs.List.{AllZip, count_by}
 use Rattle.std.specs.Map.{values_of}
 use Rattle.code_core.specs.Names.{IsCode}
-use Rattle.survey_core.specs.shapes.Objects.{count_of, is_code}
-use Rattle.survey_core.proofs.lemmas.shapes.ObjectLemmas.{CountsAreSome}
+use Rattle.survey_core.specs.shapes.Objects.{CountsAreSome, count_of, is_code}
 use Rattle.survey_core.proofs.shapes.objects.Objects.of_clusters.Given as goal
 
 abbrev pub invariant-loop-cluster : goal.invariant-loop-cluster

@@ -1,0 +1,11 @@
+use Rattle.plane_core.proofs.lemmas.plane.CoordinateLemmas.{moved_in_reach}
+use Rattle.plane_core.proofs.engine.leap_window.LeapWindow.column.Goals as goal
+
+pub overflow_cast-result : goal.overflow_cast-result
+overflow_cast-result c = (moved_in_reach c.args.self.left c.args.i c.requires.reach.left c.requires.i).step
+
+pub overflow_add-result : goal.overflow_add-result
+overflow_add-result c = (moved_in_reach c.args.self.left c.args.i c.requires.reach.left c.requires.i).fits
+
+pub returns : goal.returns
+returns c = (moved_in_reach c.args.self.left c.args.i c.requires.reach.left c.requires.i).is

@@ -1,0 +1,29 @@
+-- A pattern that is run alone in a window, generation by generation, until it is known not to recur.
+use Rattle.std.specs.Prelude.{ℕ, ℤ, List, ⊤}
+use Rattle.plane_core.specs.declared.one_sided.follow.Followed.{Followed}
+use Rattle.plane_core.specs.declared.one_sided.follow.Followed.TheVariants.{NeverAgain, PerhapsAgain, Outgrown}
+use Rattle.plane_core.specs.declared.plane.cell.Cell.{Cell}
+use Rattle.plane_core.specs.plane.Generations.{NeverRecurs, after}
+use Rattle.plane_core.specs.plane.Rules.{Numbers}
+use Rattle.plane_core.specs.windows.LonePatterns.{FillsRows, Holds}
+
+-- The second window holds the pattern of the first one some generations later, and it hasn't recurred in between.
+pub record IsFollowed (rule : Numbers) (n : ℕ) (start now : List (List ℕ)) (made : ℕ) : Type 0 where
+  pub held : (cells : List Cell) (left top : ℤ) → Holds n left top start cells → Holds n left top now (after rule cells made)
+  pub new : (cells : List Cell) (left top : ℤ) → Holds n left top start cells → NeverRecurs rule cells made
+
+-- what is known about the pattern in the first window from how following it ended
+abbrev pub EndsInWindow : Followed → Numbers → ℕ → List (List ℕ) → List (List ℕ) → ℕ → Type 0
+EndsInWindow NeverAgain rule n start now most = (cells : List Cell) (left top : ℤ) → Holds n left top start cells → NeverRecurs rule cells most
+EndsInWindow PerhapsAgain rule n start now most = ⊤
+EndsInWindow (Outgrown made) rule n start now most = IsFollowed rule n start now made
+
+-- the same of 64 rows
+pub record IsFollowedInRows (rule : Numbers) (start now : List ℕ) (made : ℕ) : Type 0 where
+  pub held : (cells : List Cell) (left top : ℤ) → FillsRows left top start cells → FillsRows left top now (after rule cells made)
+  pub new : (cells : List Cell) (left top : ℤ) → FillsRows left top start cells → NeverRecurs rule cells made
+
+abbrev pub EndsInRows : Followed → Numbers → List ℕ → List ℕ → ℕ → Type 0
+EndsInRows NeverAgain rule start now most = (cells : List Cell) (left top : ℤ) → FillsRows left top start cells → NeverRecurs rule cells most
+EndsInRows PerhapsAgain rule start now most = ⊤
+EndsInRows (Outgrown made) rule start now most = IsFollowedInRows rule start now made

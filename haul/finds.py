@@ -1,0 +1,157 @@
+"""Finds: the parts of objects that a search comes upon for the first time.
+
+A find is a part whose code no object of the haul had as a part before, and that isn't common. docs/HAUL.md says what the parts of an
+object are. The soups that one call of `census take` runs are a batch here.
+"""
+
+from __future__ import annotations
+
+import shlex
+from collections import defaultdict, deque
+from collections.abc import Iterable
+from dataclasses import dataclass, field
+from datetime import datetime, timezone
+
+from haul.codes import Kind, kind_of
+from haul.common import COMMON
+from haul.life import rule_of
+from haul.names import NAMES
+from haul.parts import Separator
+from haul.rle import LIFE
+from haul.text import STANDARD, Haul, Job
+
+# The separator remembers what it has run. After so many runs it forgets them, since a search goes on for weeks.
+MOST_RUNS = 20_000
+
+
+@dataclass(frozen=True)
+class Find:
+    """The code of a part that was found, and the lowest of the soups just taken that left it."""
+
+    code: str
+    soup: int
+
+    def fields(self, job: Job) -> list[str]:
+        """Returns what is told of the find: when that is, the code, the name or `-`, the soup, and a command that shows it."""
+        now = datetime.now(timezone.utc).strftime("%Y-%m-%dT%H:%M:%SZ")
+        return [now, self.code, NAMES.get(self.code, "-"), str(self.soup), command_of(job, self.soup)]
+
+
+def command_of(job: Job, soup: int) -> str:
+    """Returns the command for a shell that runs a soup and names what it leaves."""
+    # A value that begins with a hyphen has to be attached.
+    seed = ["--seed", job.seed] if not job.seed.startswith("-") else [f"--seed={job.seed}"]
+    profile = [] if job.profile == STANDARD else [
+        word for name, number in zip(("period", "horizon", "stride", "limit"), job.profile, strict=True) for word in (f"--{name}", str(number))
+    ]
+    return f"{shlex.join(['census', 'soup', *seed, str(soup)])} | {shlex.join(['census', 'name', '--rule', job.rule, *profile])}"
+
+
+@dataclass
+class Batch:
+    """The codes that came for the first time with a batch of soups, each with the lowest soup that left it."""
+
+    codes: deque[tuple[str, int]]
+    # The parts of those that have been separated, each with its lowest soup.
+    parts: dict[str, int] = field(default_factory=dict)
+
+    def add(self, part: str, soup: int) -> None:
+        self.parts[part] = min(soup, self.parts.get(part, soup))
+
+
+class Unread:
+    """The objects of the file whose parts aren't known yet, by their kinds."""
+
+    def __init__(self, codes: Iterable[str]) -> None:
+        self.codes: defaultdict[Kind | None, set[str]] = defaultdict(set)
+        self.add(codes)
+
+    def add(self, codes: Iterable[str]) -> None:
+        for code in codes:
+            self.codes[kind_of(code)].add(code)
+
+    def __contains__(self, code: str) -> bool:
+        kind = kind_of(code)
+        return kind in self.codes and code in self.codes[kind]
+
+    def holders(self, parts: Iterable[str]) -> list[set[str]]:
+        """Returns sets of codes, which aren't empty, of all objects that can have one of these parts beside others."""
+        kinds = {kind for part in parts if (kind := kind_of(part)) is not None}
+        return [codes for whole, codes in self.codes.items() if codes and whole is not None and any(can_hold(whole, kind) for kind in kinds)]
+
+    def holding(self, parts: Iterable[str]) -> int:
+        """Returns how many objects can have one of these parts beside others."""
+        return sum(map(len, self.holders(parts)))
+
+
+def can_hold(whole: Kind, part: Kind) -> bool:
+    """Checks whether an object of a kind can have a part of another kind beside others. The period of a part divides that of the
+    whole, a part moves exactly if the whole does, and a part of a still life has fewer cells than the whole."""
+    if whole.letter == "s":
+        return part.letter == "s" and part.number < whole.number
+    return (part.letter == "q") == (whole.letter == "q") and whole.number % part.period() == 0
+
+
+class Finder:
+    """Looks for finds, an object at a time, so that the search can do other things in between.
+
+    The objects that the file had at first are separated only when there is a part that may be in one of them. A part that is also
+    an object of its own in the file is known without that, and for most parts that is enough.
+    """
+
+    def __init__(self, job: Job, haul: Haul) -> None:
+        self.separator = Separator(rule_of(job.rule))
+        self.common = COMMON if job.rule == LIFE else frozenset()
+        # Under another rule or profile the first batch tells no finds: almost every part in it would be one.
+        self.is_silent = (job.rule != LIFE or job.profile != STANDARD) and haul.soups == 0
+        # The objects whose parts aren't known yet, although they were there before.
+        self.unread = Unread(haul.totals)
+        self.known: set[str] = set()
+        self.batches: deque[Batch] = deque()
+
+    def add(self, codes: Iterable[tuple[str, int]]) -> None:
+        """Takes the new codes of the next batch, each with its lowest soup, once they are in the file."""
+        batch = Batch(deque(codes))
+        if self.is_silent:
+            self.unread.add(code for code, _ in batch.codes)
+            self.is_silent = False
+        elif batch.codes:
+            self.batches.append(batch)
+
+    def left(self) -> int:
+        """Returns how many objects have to be separated still, as far as is known."""
+        codes = sum(len(batch.codes) for batch in self.batches)
+        first = self.batches[0].parts if self.batches and not self.batches[0].codes else {}
+        return codes + self.unread.holding(filter(self.is_new, first))
+
+    def is_done(self) -> bool:
+        return not self.batches
+
+    def step(self) -> list[Find]:
+        """Separates an object, and returns the finds of a batch if that was its last one. There is a batch."""
+        batch = self.batches[0]
+        if batch.codes:
+            code, soup = batch.codes.popleft()
+            for part in self.parts_of(code):
+                batch.add(part, soup)
+        if batch.codes:
+            return []
+        new = {part: soup for part, soup in batch.parts.items() if self.is_new(part)}
+        for codes in self.unread.holders(new):
+            # They may be in one of these objects.
+            self.known.update(self.parts_of(codes.pop()))
+            return []
+        self.known.update(batch.parts)
+        self.batches.popleft()
+        return sorted((Find(part, soup) for part, soup in new.items()), key=lambda find: (find.soup, find.code))
+
+    def is_new(self, part: str) -> bool:
+        """Checks whether a part is neither common nor known, and isn't an object that was there before. Such an object has no
+        other parts than itself, since a part has none."""
+        return part not in self.common and part not in self.known and part not in self.unread
+
+    def parts_of(self, code: str) -> tuple[str, ...]:
+        if len(self.separator.runs) > MOST_RUNS:
+            self.separator.runs.clear()
+            self.separator.known.clear()
+        return self.separator.separation_of(code).parts

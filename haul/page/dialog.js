@@ -1,0 +1,192 @@
+// An object, in a dialog with an address of its own.
+const dialog = document.getElementById('object');
+const LARGE_SIDE = 320, SOUP_PICTURE = 104, PART_SIDE = 40;
+let player = null;
+
+// ---- Facts
+const divisor = (a, b) => b ? divisor(b, a % b) : a;
+const speedWords = ({ dx, dy, period }) => {
+  const [far, less] = [Math.abs(dx), Math.abs(dy)].sort((a, b) => b - a), shared = divisor(far, period);
+  if (less && less !== far) return `(${far}, ${less})c/${period}`;
+  return `${far / shared === 1 ? '' : far / shared}c/${period / shared} ${less ? 'diagonal' : 'orthogonal'}`;
+};
+const fact = (name, value) => `<div><dt>${name}</dt><dd>${value}</dd></div>`;
+const boxWords = ({ width, height }) => `${width} by ${height}`;
+const factsOf = (object, known) => {
+  const cells = cellsOfCode(object.code), phases = known ? known.phases : cells ? [cells] : [];
+  let facts = fact('kind', kindWords({ ...object, period: known?.period ?? object.period }));
+  if (known && object.letter === 'q') facts += fact('displacement', `(${known.dx}, ${known.dy}) in ${known.period} generations, which is ${speedWords(known)}`);
+  if (phases.length) {
+    const sizes = phases.map(phase => phase.size), isSteady = new Set(sizes).size === 1;
+    facts += fact(phases.length > 1 && !isSteady ? 'cells in each phase' : 'cells', isSteady ? sizes[0] : sizes.join(', '));
+    const [box, all] = [boxWords(boxOf([phases[0]])), boxWords(boxOf(phases))];
+    facts += fact('bounding box', box === all ? box : `${box}, all phases ${all}`);
+  } else if (object.cells) facts += fact('cells', object.cells);
+  if (cells && !known) facts += fact('phases', `not known, since the drawing doesn’t recur as the code says`);
+  return facts;
+};
+const partsOf = (object, haul) => {
+  const made = object.made[haul.place];
+  if (made === STRICT) return fact('parts', 'none: it is strict');
+  if (made === NOT_SEPARATED) return fact('parts', 'not known: it couldn’t be separated');
+  const numbers = new Map();
+  made.forEach(code => numbers.set(code, (numbers.get(code) ?? 0) + 1));
+  return fact('parts', [...numbers].map(([code, count]) => {
+    const part = objects.get(code), text = part ? escaped(nameOf(part)) : code;
+    const picture = part ? pictureOfObject(part, PART_SIDE) : '';
+    return `<a class="part" href="${addressOf(code)}">${picture}<span>${count > 1 ? `${count} × ` : ''}${text}</span></a>`;
+  }).join(''));
+};
+const totalsOf = (object, haul) => ['objects', 'parts'].map(name => {
+  const way = object[name], total = way.totals[haul.place], ends = intervalOf(way, haul.place);
+  const rate = Number(total) ? ` (${oftenWords(total, haul.soups)}, ${perMillion(way.rates[haul.place])}${intervalWords(ends)})` : '';
+  const ratio = haul.place ? `; ${ratioWords(way, haul.place)}${differs(way, haul.place) ? ` ${MARK}` : ''}` : '';
+  return fact(name === 'objects' ? 'as an object' : 'with parts counted', `<strong>${whole(total)}</strong>${rate}${ratio}`);
+}).join('');
+
+// What doesn't depend on how often there is one: a block for each rule under which it differs.
+const PHASE_BUTTONS = '<div class="phases"><button type="button" data-act="phases">Pause</button>'
+  + '<button type="button" data-act="phase">Next phase</button><span class="phase">phase 0</span></div>';
+const phasesBlock = (object, haul) => {
+  const known = object.made[haul.place] !== null ? recurrenceIn(object, haul) : null, cells = cellsOfCode(object.code);
+  const phases = known ? known.phases : [cells], title = `${nameOf(object)}, ${kindWords(object)}`;
+  const picture = cells ? pictureOf(phases, LARGE_SIDE, title) : pictureOfObject(object, LARGE_SIDE);
+  const facts = factsOf(object, known) + partsOf(object, haul) + (isCompared ? '' : totalsOf(object, haul));
+  return `<div class="large"><div class="frame">${picture}</div>${phases.length > 1 ? PHASE_BUTTONS : ''}</div><dl class="facts">${facts}</dl>`;
+};
+const grouped = (values, textOf) => {
+  const groups = new Map();
+  for (const value of values) groups.set(textOf(value), [...groups.get(textOf(value)) ?? [], value]);
+  return groups;
+};
+const blocks = object => {
+  const having = hauls.filter(haul => object.made[haul.place] !== null), groups = grouped(having, haul => phasesBlock(object, haul));
+  const head = some => groups.size > 1 ? `<h3>${some.map(letterOf).join(' ')} ${some[0].rule}</h3>` : '';
+  return [...groups].map(([html, some]) => `<section class="phases-of">${head(some)}${html}</section>`).join('');
+};
+const rates = object => !isCompared ? ''
+  : hauls.map(haul => `<h3>${letterOf(haul)} ${haul.rule}</h3><dl class="facts">${totalsOf(object, haul)}</dl>`).join('');
+
+// ---- RLE, links, soups
+const rleBlock = object => {
+  const cells = cellsOfCode(object.code);
+  if (!cells) return '';
+  return `<details class="rle"><summary>RLE</summary><pre tabindex="0">${rleOf(cells, firstWith(object).rule)}</pre></details>`;
+};
+const linkOut = (address, text) => `<a href="${address}">${text}</a>`;
+const actions = object => `<p class="actions">${cellsOfCode(object.code) ? '<button type="button" data-act="rle">Copy RLE</button>' : ''}`
+  + (isLarge(object.code) ? '' : linkOut(catagolueObject(object.code, firstWith(object)), 'Catagolue')) + linkOut(lifeWiki(object), 'LifeWiki') + '</p>';
+const soupsOf = (object, haul) => {
+  const ofObject = object.objects.samples[haul.place];
+  return [...new Set([...ofObject, ...object.parts.samples[haul.place]])].map(number => ({ soup: soupOf(number, haul), isPart: !ofObject.includes(number) }));
+};
+const soupCard = (object, { soup, isPart }) => {
+  const { number, haul } = soup, address = addressOf(object.code, haul.letter + number);
+  return `<li><a class="soup" href="${address}" aria-label="Play soup ${number}">${pictureOf([soup.cells], SOUP_PICTURE)}</a>`
+    + `<span>${isCompared ? letterOf(haul) : ''} <a href="${address}">Soup ${number}</a>${isPart ? '<small>as a part</small>' : ''}`
+    + `<a class="elsewhere" href="${catagolueSoup(number, haul)}">on Catagolue</a></span></li>`;
+};
+const soupList = object => {
+  const soups = hauls.flatMap(haul => soupsOf(object, haul)).map(one => soupCard(object, one));
+  return `<h3>Sample soups</h3><ul class="soups">${soups.join('')}</ul><div id="player"></div>`;
+};
+
+// ---- The dialog
+const neighbour = (object, step) => {
+  const at = shownObjects.indexOf(object);
+  return at < 0 ? undefined : shownObjects[at + step];
+};
+const stepLink = (object, step, text, sign) => {
+  const other = neighbour(object, step);
+  return other ? `<a class="step" href="${addressOf(other.code)}" aria-label="${text} object" title="${escaped(nameOf(other))}">${sign}</a>` : '';
+};
+const objectHead = object => {
+  const mark = object.isUnsure ? ` <span class="tag">${NOT_SEPARATED}</span>` : '';
+  return `<header><div><h2 id="object-name" tabindex="-1">${escaped(object.label) || kindWords(object)}</h2><code>${object.code}</code>${mark}</div>`
+    + `<nav>${stepLink(object, -1, 'Previous', '‹')}${stepLink(object, 1, 'Next', '›')}`
+    + '<button type="button" data-act="close" aria-label="Close">×</button></nav></header>';
+};
+const objectBody = object => '<div class="body">' + blocks(object) + actions(object) + '<p class="copied" role="status"></p>'
+  + rleBlock(object) + rates(object) + soupList(object) + '</div>';
+
+const copy = async (text, what) => {
+  const said = dialog.querySelector('.copied');
+  try {
+    await navigator.clipboard.writeText(text);
+    said.textContent = `The ${what} is copied.`;
+  } catch {
+    said.innerHTML = `The browser doesn’t copy. This is the ${what}: <textarea readonly rows="6" aria-label="${what}"></textarea>`;
+    said.lastChild.value = text;
+    said.lastChild.select();
+  }
+};
+// What is drawn on a canvas doesn't follow the colours of the page by itself.
+matchMedia('(prefers-color-scheme: dark)').addEventListener('change', () => player?.draw());
+const endPlayer = () => { player?.end(); player = null; };
+const showPlayer = object => {
+  endPlayer();
+  const letter = open.soup[0], number = open.soup.slice(1), haul = hauls.find(one => one.letter === letter);
+  const box = byId('player'), isThere = haul !== undefined && soupsOf(object, haul).some(({ soup }) => String(soup.number) === number);
+  dialog.querySelectorAll('.soup').forEach(link => link.toggleAttribute('aria-current', isThere && link.getAttribute('href') === addressOf(object.code, open.soup)));
+  box.innerHTML = '';
+  if (!isThere) return;
+  const soup = soupOf(Number(number), haul);
+  box.innerHTML = `<h3>Soup ${soup.number}${isCompared ? ` of ${letter}, ${haul.rule}` : ''}</h3><div class="player"></div>`
+    + '<p class="actions"><button type="button" data-act="soup-rle">Copy RLE of the soup</button>'
+    + `<button type="button" data-act="command">Copy the command</button>${linkOut(catagolueSoup(soup.number, haul), 'Catagolue')}</p>`
+    + `<p><code class="command">${escaped(commandOf(soup))}</code></p>`;
+  player = new Player(box.querySelector('.player'), soup, object);
+  box.scrollIntoView({ block: 'nearest' });
+};
+
+const acts = {
+  close: () => dialog.close(),
+  rle: object => copy(rleOf(cellsOfCode(object.code), firstWith(object).rule), 'RLE'),
+  'soup-rle': () => copy(rleOf(player.soup.cells, player.soup.haul.rule), 'RLE of the soup'),
+  command: () => copy(commandOf(player.soup), 'command'),
+  phases: (_, button) => {
+    const svg = button.closest('.large').querySelector('svg'), isPlaying = watched.has(svg);
+    if (isPlaying) { unwatch(svg); showPhase(svg, 0); } else watched.set(svg, 0);
+    button.textContent = isPlaying ? 'Play' : 'Pause';
+  },
+  phase: (_, button) => {
+    const svg = button.closest('.large').querySelector('svg'), other = button.previousSibling;
+    const phase = (watched.get(svg) ?? Number(svg.dataset.phase ?? 0)) + 1;
+    watched.delete(svg);
+    showPhase(svg, phase);
+    svg.dataset.phase = phase;
+    other.textContent = 'Play';
+  },
+};
+dialog.addEventListener('click', event => {
+  const act = event.target.closest('button')?.dataset.act;
+  if (act in acts) acts[act](objects.get(open.code), event.target.closest('button'));
+  else if (event.target === dialog) dialog.close();
+});
+dialog.addEventListener('close', () => {
+  endPlayer();
+  dialog.replaceChildren();
+  if (!open.code) return;
+  Object.assign(open, { code: '', soup: '' });
+  writeAddress();
+});
+
+let shownCode = '';
+const showObject = () => {
+  const object = objects.get(open.code);
+  if (!object) { if (dialog.open) dialog.close(); return; }
+  if (!dialog.open || shownCode !== object.code) {
+    endPlayer();
+    dialog.innerHTML = objectHead(object) + objectBody(object);
+    shownCode = object.code;
+    dialog.querySelectorAll('.large svg[data-phases]').forEach(svg => {
+      showPhase(svg, 0);
+      watch(svg);
+      svg.closest('.large').querySelector('[data-act=phases]').textContent = watched.has(svg) ? 'Pause' : 'Play';
+    });
+    if (!dialog.open) dialog.showModal();
+    dialog.scrollTop = 0;
+    byId('object-name').focus();
+  }
+  showPlayer(object);
+};

@@ -1,0 +1,137 @@
+// Puts the page together: the controls, the list of the chosen objects, and what the address says.
+const byId = id => document.getElementById(id);
+const controls = byId('controls'), listBox = byId('list');
+let list = null, shownObjects = [];
+
+// ---- Controls
+const KIND_CHIPS = [['s', 'Still lifes'], ['p', 'Oscillators'], ['q', 'Spaceships']];
+const chip = (name, value, text, count, isOn) => `<button type="button" class="chip" data-name="${name}" data-value="${value}" `
+  + `aria-pressed="${isOn}">${text} <span class="count">${whole(count)}</span></button>`;
+const check = (name, text, isOn, isOff = false) => '<label class="chip check">'
+  + `<input type="checkbox" name="${name}" autocomplete="off"${isOn ? ' checked' : ''}${isOff ? ' disabled' : ''}> ${text}</label>`;
+
+// How many objects each chip would leave, whatever else is chosen among its like.
+const tallied = (some, keyOf) => some.reduce((tally, object) => tally.set(keyOf(object), (tally.get(keyOf(object)) ?? 0) + 1), new Map());
+const kindChips = () => {
+  const kinds = listed(choice.kind), periods = listed(choice.period), some = passing('kind', 'period');
+  const ofKind = tallied(some, object => object.letter), oscillators = some.filter(object => object.letter === 'p');
+  const ofPeriod = [...tallied(oscillators, object => object.period)].sort((a, b) => a[0] - b[0]);
+  const periodChips = ofPeriod.map(([period, count]) => chip('period', period, `p${period}`, count, periods.includes(String(period))));
+  return KIND_CHIPS.map(([letter, text]) => chip('kind', letter, text, ofKind.get(letter) ?? 0, kinds.includes(letter))
+    + (letter === 'p' && kinds.includes('p') ? periodChips.join('') : '')).join('');
+};
+const haulChips = () => {
+  if (!isCompared) return '';
+  const some = passing('in').map(wayOf);
+  return [['all', 'In all', isInAll], ...hauls.map(({ letter }) => [letter, `Only in ${letter}`, way => isOnlyIn(way, letter)])]
+    .map(([value, text, holds]) => chip('in', value, text, some.filter(holds).length, choice.in === value)).join('');
+};
+const chips = () => {
+  const byParts = choice.parts === '1';
+  return kindChips() + haulChips() + check('strict', 'Strict only', choice.strict === '1', byParts) + check('parts', 'Count parts', byParts);
+};
+const showControls = () => {
+  const focused = document.activeElement?.closest?.('#chips') ? document.activeElement : null;
+  const wanted = focused?.name ? `input[name=${focused.name}]` : `[data-name="${focused?.dataset.name}"][data-value="${focused?.dataset.value}"]`;
+  byId('chips').innerHTML = chips();
+  if (focused) byId('chips').querySelector(wanted)?.focus();
+  if (byId('query').value !== choice.q) byId('query').value = choice.q;
+  byId('sort').value = choice.sort;
+  for (const radio of controls.elements.view) radio.checked = radio.value === choice.view;
+};
+const sumOf = some => some.reduce((sum, object) => sum + wayOf(object).total, 0n);
+const COMPARED = ' Bars: objects per million soups; * differs from A: the intervals of 95 % don’t meet, as if objects came singly.';
+const showCount = () => {
+  const byParts = choice.parts === '1', kinds = byParts ? data.kindsOfParts : data.kinds;
+  const every = hauls.reduce((sum, haul) => sum + BigInt(byParts ? haul.parts : haul.objects), 0n);
+  const leftOut = data.least > 1 ? ` Kinds with fewer than ${whole(data.least)} are left out.` : '';
+  const count = `${whole(shownObjects.length)} of ${whole(kinds)} kinds, ${whole(sumOf(shownObjects))} of ${whole(every)} ${byParts ? 'parts' : 'objects'}.`;
+  byId('shown').textContent = count + leftOut + (isCompared ? COMPARED : '');
+};
+
+// ---- The list
+// What is said if nothing is chosen. Other choices may hide what the search finds.
+const noneWords = () => {
+  const found = passing('kind', 'period', 'strict', 'in').length;
+  const words = found ? `The other choices hide ${whole(found)} ${noun(found, 'object')} that the search finds.` : 'No object is found.';
+  return `<p class="none">${words} <button type="button" data-q="${found ? escaped(choice.q) : ''}">${found ? 'Show' : 'Show all'}</button></p>`;
+};
+const showList = () => {
+  list?.end();
+  shownObjects = chosen();
+  const view = VIEWS[choice.view], container = view.make(shownObjects.length);
+  listBox.replaceChildren(container);
+  list = new LongList(container, shownObjects, view);
+  if (!shownObjects.length) container.insertAdjacentHTML('afterend', noneWords());
+  showCount();
+};
+const show = () => { showControls(); showList(); refreshCharts(); };
+const choose = changes => {
+  Object.assign(choice, changes);
+  writeAddress();
+  const isBelow = byId('objects').getBoundingClientRect().top < 0;
+  show();
+  if (isBelow) byId('objects').scrollIntoView();
+};
+
+const toggled = (text, value) => {
+  const values = listed(text);
+  return (values.includes(value) ? values.filter(one => one !== value) : [...values, value]).join(',');
+};
+byId('chips').addEventListener('click', event => {
+  const pressed = event.target.closest('button');
+  if (!pressed) return;
+  const { name, value } = pressed.dataset;
+  if (name === 'in') choose({ in: choice.in === value ? '' : value });
+  else choose({ [name]: toggled(choice[name], value), ...name === 'kind' && value === 'p' ? { period: '' } : {} });
+});
+controls.addEventListener('change', ({ target }) => {
+  if (target.name === 'strict' || target.name === 'parts') choose({ [target.name]: target.checked ? '1' : '0' });
+  else if (target.name === 'view') choose({ view: target.value });
+  else if (target.id === 'sort') choose({ sort: target.value });
+});
+controls.addEventListener('submit', event => event.preventDefault());
+byId('query').addEventListener('input', event => choose({ q: event.target.value }));
+listBox.addEventListener('click', ({ target }) => {
+  if (target.dataset.q !== undefined) choose({ ...choice, kind: '', period: '', in: '', strict: '0', q: target.dataset.q });
+});
+
+// Phases play in the card that the pointer or the focus is on.
+const cardPicture = event => event.target.closest?.('.card, tr')?.querySelector('svg[data-phases]');
+for (const [begin, end] of [['pointerover', 'pointerout'], ['focusin', 'focusout']]) {
+  listBox.addEventListener(begin, event => watch(cardPicture(event)));
+  listBox.addEventListener(end, event => {
+    const svg = cardPicture(event);
+    if (svg && !svg.closest('.card, tr').contains(event.relatedTarget)) unwatch(svg);
+  });
+}
+
+// ---- The page as a whole
+const start = () => {
+  byId('sort').innerHTML = SORTS.map(([name, text]) => `<option value="${name}">${text}</option>`).join('');
+  const views = Object.keys(VIEWS).map(view => `<label class="chip"><input type="radio" name="view" value="${view}" autocomplete="off"> ${view}</label>`);
+  byId('view').insertAdjacentHTML('beforeend', views.join(''));
+  document.documentElement.style.setProperty('--hauls', hauls.length);
+  byId('objects').hidden = false;
+  const skip = document.querySelector('.skip');
+  skip.hidden = false;
+  skip.addEventListener('click', event => { event.preventDefault(); byId('objects').focus(); });
+  const bar = new ResizeObserver(() => document.documentElement.style.setProperty('--bar', `${controls.offsetHeight}px`));
+  bar.observe(controls);
+  readAddress();
+  showControls();
+  showList();
+  startCharts();
+  showObject();
+};
+let width = innerWidth;
+addEventListener('resize', () => { if (innerWidth !== width) { width = innerWidth; showList(); refreshCharts(); } });
+addEventListener('hashchange', () => {
+  const before = choiceText();
+  readAddress();
+  if (choiceText() !== before) show();
+  showObject();
+});
+addEventListener('beforeprint', () => list.fillAll());
+addEventListener('afterprint', () => showList());
+start();

@@ -1,0 +1,217 @@
+// Plays a soup in a view that fits what is alive, up to the checkpoint at which `census` says that it has settled.
+const SPEEDS = [[5, '5 generations per second'], [20, '20 per second'], [60, '60 per second'], [300, '300 per second'], [100000, 'as fast as it goes']];
+const FIRST_SPEED = 60, MOST_MILLISECONDS = 14;
+// A cell is at most as wide, and one that would be narrower than LEAST_DOT is drawn as a dot of that width.
+const WIDEST_CELL = 16, LEAST_DOT = 1.6, MARGIN = 3, AROUND = 20, ZOOM = 1.5, LEAST_RING = 9, GRID_FROM = 6;
+
+// The part of the plane that is in sight: its middle, and the width of a cell in points.
+class View {
+  constructor(canvas) {
+    Object.assign(this, { canvas, x: SOUP_SIDE / 2, y: SOUP_SIDE / 2, scale: WIDEST_CELL, fits: true });
+  }
+
+  size() { return { width: this.canvas.clientWidth || 300, height: this.canvas.clientHeight || 300 }; }
+
+  // Fits a box. While it stays inside and isn't much smaller than the view, the view doesn't move.
+  fit(box, now = false) {
+    const { width, height } = this.size();
+    const scale = Math.min(WIDEST_CELL, width / (box.width + 2 * MARGIN), height / (box.height + 2 * MARGIN));
+    const isInside = this.toScreen(box.left, box.top).every(place => place >= 0)
+      && this.toScreen(box.left + box.width, box.top + box.height).every((place, axis) => place <= (axis ? height : width));
+    if (!now && isInside && scale < this.scale * 1.6) return;
+    Object.assign(this, { scale, x: box.left + box.width / 2, y: box.top + box.height / 2 });
+  }
+
+  toScreen(x, y) {
+    const { width, height } = this.size();
+    return [(x - this.x) * this.scale + width / 2, (y - this.y) * this.scale + height / 2];
+  }
+
+  // Moves in on a box, with some of what is around it.
+  show(box) {
+    const { width, height } = this.size(), scale = Math.min(width, height) / (Math.max(box.width, box.height) + 2 * AROUND);
+    Object.assign(this, { scale: Math.min(WIDEST_CELL, scale), x: box.left + box.width / 2, y: box.top + box.height / 2, fits: false });
+  }
+
+  zoom(factor) { this.scale = Math.min(40, Math.max(.05, this.scale * factor)); this.fits = false; }
+  pan(dx, dy) { this.x -= dx / this.scale; this.y -= dy / this.scale; this.fits = false; }
+}
+
+// The box around a ring, and the one around two boxes.
+const ringBox = ({ left, top, width, height }) => {
+  const radius = Math.hypot(width, height) / 2;
+  return { left: left + width / 2 - radius, top: top + height / 2 - radius, width: 2 * radius, height: 2 * radius };
+};
+const joined = (one, other) => {
+  const left = Math.min(one.left, other.left), top = Math.min(one.top, other.top);
+  const right = Math.max(one.left + one.width, other.left + other.width);
+  const bottom = Math.max(one.top + one.height, other.top + other.height);
+  return { left, top, width: right - left, height: bottom - top };
+};
+const drawGrid = (pen, view, color) => {
+  if (view.scale < GRID_FROM) return;
+  const { width, height } = view.size(), [left, top] = view.toScreen(0, 0);
+  pen.strokeStyle = color;
+  pen.lineWidth = 1;
+  pen.beginPath();
+  for (let x = left % view.scale; x < width; x += view.scale) { pen.moveTo(x, 0); pen.lineTo(x, height); }
+  for (let y = top % view.scale; y < height; y += view.scale) { pen.moveTo(0, y); pen.lineTo(width, y); }
+  pen.stroke();
+};
+const drawPattern = (view, rows, rings) => {
+  const { canvas } = view, { width, height } = view.size(), sharp = devicePixelRatio || 1, pen = canvas.getContext('2d');
+  const color = name => getComputedStyle(canvas).getPropertyValue(name);
+  if (canvas.width !== Math.round(width * sharp) || canvas.height !== Math.round(height * sharp))
+    Object.assign(canvas, { width: Math.round(width * sharp), height: Math.round(height * sharp) });
+  pen.setTransform(sharp, 0, 0, sharp, 0, 0);
+  pen.clearRect(0, 0, width, height);
+  pen.fillStyle = color('--live');
+  const dot = Math.max(LEAST_DOT, view.scale);
+  for (const { y, xs } of rows) for (const x of xs) pen.fillRect(...view.toScreen(x, y), dot, dot);
+  drawGrid(pen, view, color('--grid'));
+  pen.strokeStyle = color('--ring');
+  pen.lineWidth = 2.5;
+  for (const box of rings) {
+    const [x, y] = view.toScreen(box.left + box.width / 2, box.top + box.height / 2);
+    pen.beginPath();
+    pen.arc(x, y, Math.max(LEAST_RING, Math.hypot(box.width, box.height) / 2 * view.scale + 5), 0, 2 * Math.PI);
+    pen.stroke();
+  }
+};
+
+// ---- What the player says below the picture
+const saidBy = (soup, evolution) => {
+  const { generation } = evolution, live = evolution.population();
+  if (!soup.ends) return `generation ${generation}, ${live} cells`;
+  const now = `generation ${generation} of ${soup.settled}, ${live} cells`;
+  if (generation < soup.settled) return now;
+  const right = soup.least === soup.most ? soup.least : `${soup.least} to ${soup.most}`;
+  return soup.least <= live && live <= soup.most ? `${now}: settled, as census says` : `${now}, but census says ${right}: this player is wrong`;
+};
+const ringWords = (object, count) => {
+  if (!count) return ` The page doesn’t find ${nameOf(object)} in it.`;
+  return count === 1 ? ` The ring is around the ${nameOf(object)}.` : ` ${count} rings are around each ${nameOf(object)}.`;
+};
+const noEnd = soup => {
+  if (soup.ends) return '';
+  if (soup.isAsked) return 'Census gives no end for this soup: it hasn’t settled, or it leaves an object that can’t be drawn.';
+  return 'The page doesn’t know when this soup settles: '
+    + `census was asked about the soups of the first ${whole(data.play)} objects (haul page --play). The command below tells it.`;
+};
+
+class Player {
+  constructor(box, soup, object) {
+    Object.assign(this, { soup, object, evolution: new Evolution(soup.cells, soup.haul.life), aim: 0, speed: FIRST_SPEED, isQuick: false, rings: [] });
+    box.innerHTML = this.html();
+    const [canvas] = box.getElementsByTagName('canvas');
+    this.view = new View(canvas);
+    this.said = box.querySelector('output');
+    [this.playButton, this.ringButton] = ['play', 'ring'].map(act => box.querySelector(`[data-act=${act}]`));
+    box.querySelector('.buttons').addEventListener('click', event => this.press(event.target.closest('button')?.dataset.act));
+    box.querySelector('select').addEventListener('change', event => { this.speed = Number(event.target.value); });
+    this.listenTo(canvas);
+    this.findRings();
+    this.sizes = new ResizeObserver(() => this.draw(true));
+    this.sizes.observe(canvas);
+  }
+
+  html() {
+    const button = (act, text, more = '') => `<button type="button" data-act="${act}"${more}>${text}</button>`;
+    const speeds = SPEEDS.map(([speed, text]) => `<option value="${speed}"${speed === FIRST_SPEED ? ' selected' : ''}>${text}</option>`).join('');
+    const label = `Soup ${this.soup.number} as it runs. The arrow keys move the view, + and - zoom.`, note = noEnd(this.soup);
+    return `<canvas tabindex="0" role="img" aria-label="${label}"></canvas><output aria-live="off"></output><div class="buttons">`
+      + button('play', 'Play') + button('step', 'Step') + button('back', 'Back') + button('end', 'To the end', this.soup.ends ? '' : ' disabled')
+      + `<label class="speed"><span class="hidden">Speed</span><select autocomplete="off">${speeds}</select></label>`
+      + `<span class="zooms">${button('out', '−', ' aria-label="Zoom out"')}${button('in', '+', ' aria-label="Zoom in"')}`
+      + `${button('fit', 'Fit all')}${button('ring', 'To the ring', ' hidden')}</span></div>${note ? `<p class="note">${note}</p>` : ''}`;
+  }
+
+  press(act) {
+    const acts = {
+      play: () => this.goTo(this.isPlaying() ? this.evolution.generation : this.last()),
+      step: () => this.goTo(this.evolution.generation + 1),
+      end: () => this.goTo(this.last(), true),
+      back: () => this.back(),
+      ring: () => { this.view.show(this.rings[0]); this.draw(); },
+      in: () => this.zoom(ZOOM),
+      out: () => this.zoom(1 / ZOOM),
+      fit: () => { this.view.fits = true; this.draw(true); },
+    };
+    acts[act]?.();
+  }
+
+  zoom(factor) { this.view.zoom(factor); this.draw(); }
+
+  back() {
+    this.aim = 0;
+    this.evolution.back();
+    this.findRings();
+    this.draw(true);
+  }
+
+  listenTo(canvas) {
+    canvas.addEventListener('pointerdown', event => canvas.setPointerCapture(event.pointerId));
+    canvas.addEventListener('pointermove', event => {
+      if (!canvas.hasPointerCapture(event.pointerId)) return;
+      this.view.pan(event.movementX, event.movementY);
+      this.draw();
+    });
+    const keys = { ArrowLeft: [40, 0], ArrowRight: [-40, 0], ArrowUp: [0, 40], ArrowDown: [0, -40] };
+    canvas.addEventListener('keydown', event => {
+      if (event.key in keys) this.view.pan(...keys[event.key]);
+      else if (event.key === '+' || event.key === '-') this.view.zoom(event.key === '+' ? ZOOM : 1 / ZOOM);
+      else return;
+      event.preventDefault();
+      this.draw();
+    });
+  }
+
+  last() { return this.soup.ends ? this.soup.settled : Infinity; }
+  isPlaying() { return this.evolution.generation < this.aim; }
+  isAtEnd() { return this.soup.ends && this.evolution.generation === this.soup.settled; }
+
+  // There are rings only at the end, which may be generation 0.
+  findRings() {
+    this.rings = this.isAtEnd() ? placesOf(this.object, this.soup.haul, this.evolution.cells()).map(cells => boxOf([cells])) : [];
+  }
+
+  // Goes on to a generation: at the chosen speed, or as fast as it goes.
+  goTo(generation, isQuick = false) {
+    const wasPlaying = this.isPlaying();
+    this.aim = Math.min(generation, this.last());
+    this.isQuick = isQuick;
+    if (wasPlaying) return;
+    this.before = performance.now();
+    this.owed = 1;
+    this.go();
+  }
+
+  go() {
+    const began = performance.now();
+    if (this.isEnded) return;
+    // How many generations are due by now. After a long frame no more than those of a tenth of a second are made up for.
+    const due = this.owed + (began - this.before) / 1000 * this.speed;
+    this.owed = this.isQuick ? Infinity : Math.min(due, Math.max(1, this.speed / 10));
+    this.before = began;
+    while (this.owed >= 1 && this.isPlaying() && performance.now() - began < MOST_MILLISECONDS) {
+      this.evolution.step();
+      this.owed -= 1;
+    }
+    this.findRings();
+    this.draw();
+    if (this.isPlaying()) requestAnimationFrame(() => this.go());
+  }
+
+  draw(now = false) {
+    const { rows } = this.evolution, isPlaying = this.isPlaying();
+    if (this.view.fits && rows.length) this.view.fit(this.rings.map(ringBox).reduce(joined, this.evolution.box()), now);
+    drawPattern(this.view, rows, this.rings);
+    // What it says is read out only when it stands still.
+    this.said.setAttribute('aria-live', isPlaying ? 'off' : 'polite');
+    this.said.textContent = saidBy(this.soup, this.evolution) + (this.isAtEnd() ? `.${ringWords(this.object, this.rings.length)}` : '');
+    this.playButton.textContent = isPlaying ? 'Pause' : 'Play';
+    this.ringButton.hidden = !this.rings.length;
+  }
+
+  end() { this.isEnded = true; this.sizes.disconnect(); }
+}

@@ -1,0 +1,103 @@
+"""The hauls of a page, side by side, each counted by its objects and by their parts."""
+
+from __future__ import annotations
+
+from dataclasses import dataclass, field
+
+from haul.by_parts import Objects
+from haul.compare import lettered, ranked
+from haul.ends import End, ends_of
+from haul.parts import Separation
+from haul.program import Census
+from haul.text import Haul
+
+# A page has room for so many hauls.
+MOST_SIDES = 8
+
+
+@dataclass
+class Side:
+    """One haul of a page."""
+
+    letter: str
+    objects: Objects
+    # The same haul, with each object replaced by its parts.
+    by_parts: Haul
+    # The sample soups about which `census` was asked; none for a soup that has no end that is known.
+    ends: dict[int, End | None] = field(default_factory=dict)
+
+    @property
+    def haul(self) -> Haul:
+        return self.objects.haul
+
+    def has(self, code: str) -> bool:
+        """Checks whether the haul has a code, as an object or as a part of one."""
+        return code in self.haul.totals or code in self.by_parts.totals
+
+    def separation_of(self, code: str) -> Separation:
+        return self.objects.separation_of(code)
+
+    def is_strict(self, code: str) -> bool:
+        """Checks whether the haul has an object that is strict, or that could not be separated."""
+        separation = self.separation_of(code) if self.has(code) else None
+        return separation is not None and (separation.is_strict() or not separation.is_separated)
+
+    def samples(self, code: str) -> list[int]:
+        """Returns the samples of a code, as an object and as a part."""
+        return sorted({*self.haul.samples.get(code, []), *self.by_parts.samples.get(code, [])})
+
+    def soups(self, codes: list[str]) -> list[int]:
+        """Returns the samples of several codes."""
+        return sorted({number for code in codes for number in self.samples(code)})
+
+
+@dataclass
+class Sides:
+    """All hauls of a page, and the codes on it."""
+
+    all: list[Side]
+    # An object is on the page if a haul has at least this number of it.
+    least: int
+    # How many objects have sample soups about which `census` is asked.
+    play: int
+    # The objects with a place, the most frequent first.
+    codes: list[str]
+    # These and the parts with a place.
+    known: list[str]
+
+    def ask(self, census: Census) -> None:
+        """Asks when the soups of the first objects have settled. The page begins with strict objects, so these are asked about first."""
+        asked = sorted(self.codes, key=lambda code: not self.is_strict(code))[: self.play]
+        for side in self.all:
+            numbers = side.soups(asked)
+            ends = ends_of(census, side.haul.job, numbers)
+            side.ends = {number: ends.get(number) for number in numbers}
+
+    def is_strict(self, code: str) -> bool:
+        """Checks whether an object is strict, or couldn't be separated, in one of the hauls that have it."""
+        return any(side.is_strict(code) for side in self.all)
+
+    def kinds(self) -> set[str]:
+        """Returns the codes of all objects, with or without a place on the page."""
+        return set().union(*(side.haul.totals for side in self.all))
+
+    def kinds_of_parts(self) -> set[str]:
+        return set().union(*(side.by_parts.totals for side in self.all))
+
+    def first_with(self, code: str) -> Side:
+        return next(side for side in self.all if side.has(code))
+
+
+def sides_of(hauls: list[Haul], least: int, play: int) -> Sides:
+    sides: list[Side] = []
+    for letter, haul in lettered(hauls):
+        objects = Objects(haul)
+        sides.append(Side(letter, objects, objects.by_parts()))
+    codes, parts = placed(hauls, least), placed([side.by_parts for side in sides], least)
+    return Sides(sides, least, play, codes, list(dict.fromkeys([*codes, *parts])))
+
+
+def placed(hauls: list[Haul], least: int) -> list[str]:
+    """Returns the codes with a place on the page, by descending rate. One haul has an order even if it has objects and no soup."""
+    codes = ranked(hauls, least)
+    return sorted(codes, key=lambda code: -hauls[0].totals[code]) if len(hauls) == 1 else codes

@@ -1,0 +1,93 @@
+"""The table that a page has for readers without JavaScript."""
+
+from __future__ import annotations
+
+from collections.abc import Iterator
+from html import escape
+from urllib.parse import quote
+
+from haul.codes import is_large, kind_of, text_of_code
+from haul.drawing import picture
+from haul.labels import label_of, marked
+from haul.life import read_wechsler
+from haul.names import NAMES
+from haul.page.data import cells_of
+from haul.page.sides import Side, Sides
+from haul.rates import one_in
+
+KINDS = {"s": "still life", "p": "oscillator of period", "q": "spaceship of period"}
+CATAGOLUE = "https://catagolue.hatsya.com"
+
+
+def table_of(sides: Sides) -> Iterator[str]:
+    """Yields the table, row by row, with each object that has a place on the page."""
+    letters = [f" in {side.letter}" if len(sides.all) > 1 else "" for side in sides.all]
+    heads = ["Picture", "Name and code", "What it is", "Cells"]
+    for letter in letters:
+        heads += [f"Total{letter}", f"≤ 1 in N soups{letter}", f"Sample soups{letter}"]
+    yield f'<p>{left_out(sides)}</p>\n<div class="scroll"><table class="all"><thead><tr>'
+    yield "".join(f'<th scope="col">{head}</th>' for head in heads) + "</tr></thead><tbody>\n"
+    for code in sides.codes:
+        yield row(sides, code)
+    yield "</tbody></table></div>\n"
+
+
+def left_out(sides: Sides) -> str:
+    """Writes how many objects have a row, and how many don't."""
+    kinds = len(sides.kinds())
+    text = f"{len(sides.codes):,} of {kinds:,} distinct objects, the most frequent first."
+    if kinds > len(sides.codes):
+        text += f" Of the others there are fewer than {sides.least:,}."
+    return text
+
+
+def row(sides: Sides, code: str) -> str:
+    separation = sides.first_with(code).separation_of(code)
+    label = marked(label_of(code, separation), separation)
+    cells = cells_of(code)
+    rule = sides.first_with(code).haul.job.rule
+    named = f"<b>{escape(label)}</b> {linked(code, rule)}" if label else linked(code, rule)
+    return (
+        f'<tr><td>{drawn(code)}</td><td>{named}</td><td>{kind_words(code)}</td>'
+        f'<td>{"" if cells is None else cells}</td>{"".join(counts(side, code) for side in sides.all)}</tr>\n'
+    )
+
+
+def counts(side: Side, code: str) -> str:
+    """Writes what a haul says of an object."""
+    haul = side.haul
+    if code not in haul.totals:
+        return "<td>0</td><td></td><td></td>"
+    total = haul.totals[code]
+    samples = " ".join(f'<a href="{soup_link(side, number)}">{number}</a>' for number in haul.samples[code])
+    return f"<td>{total:,}</td><td>{one_in(haul.soups, total):,}</td><td>{samples}</td>"
+
+
+def soup_link(side: Side, number: int) -> str:
+    """Returns the address of Catagolue's page of a soup."""
+    job = side.haul.job
+    return f"{CATAGOLUE}/hashsoup/C1/{quote(job.seed, safe='')}{number}/{job.rule}"
+
+
+def linked(code: str, rule: str) -> str:
+    if is_large(code):
+        return f"<code>{escape(code)}</code>"
+    return f'<a href="{CATAGOLUE}/object/{escape(code)}/{rule}"><code>{escape(code)}</code></a>'
+
+
+def drawn(code: str) -> str:
+    """Writes the picture of an object, or why there is none."""
+    text = text_of_code(code)
+    cells = read_wechsler(text) if text is not None else None
+    if cells is not None:
+        return picture(cells, NAMES.get(code, code))
+    # A haul can have a code that names nothing.
+    return "too large to draw" if is_large(code) else "can't be drawn"
+
+
+def kind_words(code: str) -> str:
+    """Writes what the prefix of a code says."""
+    known = kind_of(code)
+    if known is None:
+        return "an object"
+    return KINDS[known.letter] + ("" if known.letter == "s" else f" {known.period()}")

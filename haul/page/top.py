@@ -1,0 +1,152 @@
+"""What stands at the top of a page: what it shows, in a sentence and in tiles for each haul, and how to verify it."""
+
+from __future__ import annotations
+
+from html import escape
+
+from haul.page.shell import unsettled_command
+from haul.page.sides import Side, Sides
+from haul.rle import LIFE, header_rule
+from haul.text import Haul, Job
+from haul.words import counted, noun
+
+# More ranges than these are only counted.
+MOST_RANGES = 12
+NO_NUMBER = "–"
+
+NOTES = """\
+<p>An object is <em>strict</em> if it doesn't consist of smaller objects that would do the same each by itself, as the two blocks of a
+bi-block would. The parts are found by a definition of this project, not by apgsearch's code. Names are those of LifeWiki. A haul doesn't
+record how many soups contain an object, so only an upper bound is shown: “≤ 1 in 50 soups” means that at most one soup in 50 has one.</p>
+"""
+
+
+def title_of(sides: Sides) -> str:
+    first, *others = (side.haul for side in sides.all)
+    if not others:
+        where = "in Conway's Game of Life" if first.job.rule == LIFE else f"under {header_rule(first.job.rule)}"
+        return f"A census of {counted(first.soups, 'soup')} {where}"
+    rules = list(dict.fromkeys(header_rule(side.haul.job.rule) for side in sides.all))
+    if len(rules) == 1:
+        return f"{len(sides.all)} censuses under {rules[0]}, compared"
+    *before, last = rules
+    return f"Censuses under {', '.join(before)} and {last}, compared"
+
+
+def top_of(sides: Sides) -> str:
+    """Writes the top, from the line below the title on."""
+    is_compared = len(sides.all) > 1
+    about = compared(sides) if is_compared else f'<p>{sentence(sides.all[0].haul)}</p>\n{tiles(sides.all[0])}\n'
+    more = [verify(sides), *(unsettled(side, is_compared) for side in sides.all), counted_words(sides)]
+    return "".join([about, '<div class="more">', *more, "</div>\n"])
+
+
+def folded(summary: str, words: str) -> str:
+    return f"<details><summary>{summary}</summary>\n{words}</details>\n"
+
+
+def compared(sides: Sides) -> str:
+    """Writes the facts on hauls that are compared, in a table with a row for each."""
+    first = sides.all[0]
+    heads = ["Haul", *(name for name, _ in facts_of(first)), "seed", "numbers"]
+    rows = [[rule_of(side), *(value for _, value in facts_of(side)), seed_of(side.haul.job), ranges_words(side.haul)] for side in sides.all]
+    body = "".join(f'<tr><th scope="row">{head}</th>{"".join(f"<td>{cell}</td>" for cell in cells)}</tr>\n' for head, *cells in rows)
+    head = "".join(f'<th scope="col">{name}</th>' for name in heads)
+    return (
+        "<p>Random soups of 16 by 16 cells ran under each rule until they had settled, and the objects that they left were counted.</p>\n"
+        f'<div class="scroll" tabindex="0" role="region" aria-label="The hauls"><table class="hauls"><thead><tr>{head}</tr></thead><tbody>\n{body}</tbody></table></div>\n'
+    )
+
+
+def rule_of(side: Side) -> str:
+    return f'<span class="letter" data-haul="{side.letter}">{side.letter}</span> {header_rule(side.haul.job.rule)}'
+
+
+def seed_of(job: Job) -> str:
+    return f'<code class="seed">{escape(job.seed)}</code>' if job.seed else "empty"
+
+
+def sentence(haul: Haul) -> str:
+    seed = f"the seed {seed_of(haul.job)}" if haul.job.seed else "the empty seed"
+    return (
+        f"Random soups of 16 by 16 cells (numbers {ranges_words(haul)} of {seed}) ran under the rule <code>{haul.job.rule}</code> "
+        f"({header_rule(haul.job.rule)}) until they had settled, and the objects that they left were counted."
+    )
+
+
+def ranges_words(haul: Haul) -> str:
+    said = [f"{first} to {first + count - 1}" if count > 1 else f"{first}" for first, count in haul.ranges]
+    if len(said) > MOST_RANGES:
+        said[MOST_RANGES:] = [counted(len(said) - MOST_RANGES, "more range")]
+    return escape(", ".join(said) or "none")
+
+
+def tiles(side: Side) -> str:
+    """Writes the facts on a haul as tiles."""
+    return '<dl class="tiles">' + "".join(f"<div><dt>{name}</dt><dd>{value}</dd></div>" for name, value in facts_of(side)) + "</dl>"
+
+
+def facts_of(side: Side) -> list[tuple[str, str]]:
+    """Returns the facts on all objects of a haul, with or without a place on the page, by their names."""
+    haul = side.haul
+    strict = sum(side.separation_of(code).is_strict() for code in haul.totals)
+    return [
+        ("soups", f"{haul.soups:,} <small>of {haul.size():,}</small>" if haul.soups < haul.size() else f"{haul.soups:,}"),
+        ("objects", f"{haul.objects():,}"),
+        ("objects per soup", f"{haul.objects() / haul.soups:.2f}" if haul.soups else NO_NUMBER),
+        ("distinct objects", f"{len(haul.totals):,}"),
+        ("of these strict", f"{strict:,}"),
+        ("unsettled soups", f"{haul.unsettled:,}"),
+        ("settled for good", f"{haul.for_good:,}"),
+    ]
+
+
+def unsettled(side: Side, is_compared: bool) -> str:
+    """Writes by which command the unsettled soups of a haul are listed."""
+    haul = side.haul
+    if not haul.unsettled:
+        return ""
+    them = noun(haul.unsettled, "it", "them")
+    words = (
+        f"<p>What is in {noun(haul.unsettled, 'a soup that has', 'soups that have')} not settled isn't counted. This command runs the census again, and "
+        f"lists {them}:</p>\n<pre><code>{escape(unsettled_command(haul))}</code></pre>\n"
+    )
+    return folded(f"{side.letter + ': ' if is_compared else ''}{counted(haul.unsettled, 'unsettled soup')}", words)
+
+
+def verify(sides: Sides) -> str:
+    """Writes how the hauls can be verified. One with missing soups doesn't say which ones, so it can't be run again."""
+    hauls = [side.haul for side in sides.all]
+    name, these = ("all.haul", "the haul of this page") if len(hauls) == 1 else ("a.haul", "a haul of this page")
+    samples = f"<code>haul check --samples {name}</code>"
+    text = (
+        f"<p>If {these} is in the file <code>{name}</code>, <code>haul check {name}</code> runs the whole census again "
+        f"and compares, and {samples} runs only the sample soups."
+    )
+    missing = [side.letter for side in sides.all if side.haul.soups < side.haul.size()]
+    if missing:
+        which = "this haul" if len(hauls) == 1 else f"the haul {' and '.join(missing)}" if len(missing) == 1 else f"the hauls {', '.join(missing)}"
+        text += f" Soups are missing from {which}, so only {samples} works there."
+    return folded("How to verify it", text + "</p>\n")
+
+
+def counted_words(sides: Sides) -> str:
+    """Writes the definitions by which objects were counted."""
+    profiles: dict[tuple[int, int, int, int], list[str]] = {}
+    for side in sides.all:
+        profiles.setdefault(side.haul.job.profile, []).append(side.letter)
+    words = "".join(
+        f"<p>{', '.join(letters) + ': ' if len(profiles) > 1 else ''}{profile_words(profile)}</p>\n" for profile, letters in profiles.items()
+    )
+    return folded("How objects are counted", words + NOTES)
+
+
+def profile_words(profile: tuple[int, int, int, int]) -> str:
+    period, horizon, stride, limit = profile
+    each = f"{stride:,} generations" if stride > 1 else "generation"
+    checkpoints = f"one every {each}, up to generation {limit:,}" if limit >= stride else "the only one, at generation 0"
+    return (
+        f"A soup has settled at the first checkpoint ({checkpoints}) at which each of its objects recurs within "
+        f"{counted(period, 'generation')}, and for {counted(horizon, 'generation')} no object meets another. It is settled for "
+        "good if it has no spaceship and all its objects recur together within that time."
+    )

@@ -1,0 +1,108 @@
+"""What the tests of `haul search` share: a folder with a file, searches that run in it, and the processes that are left."""
+
+from __future__ import annotations
+
+import os
+import resource
+import signal
+import subprocess
+import sys
+import tempfile
+import time
+import unittest
+from contextlib import suppress
+from pathlib import Path
+
+from haul.tests.called import CENSUS, HAUL, census
+from haul.program import job_words, set_words
+from haul.text import Haul, read_one_haul
+
+# A soup of the empty seed that leaves a clock, and the code of that. 100,000 soups leave two.
+CLOCK_SOUP, CLOCK = 23473, "xp2_2a54"
+# A profile under which a soup takes no time.
+QUICK = ["--period=1", "--horizon=1", "--stride=1", "--limit=0"]
+
+
+def of_take(haul: Haul) -> bytes:
+    """What `census take` prints over the soups of a haul."""
+    return census("take", *job_words(haul.job), *set_words(haul.ranges), "--workers=4")
+
+
+class Searches(unittest.TestCase):
+    """Runs searches in a folder of its own, each of which must leave nothing running."""
+
+    def setUp(self) -> None:
+        folder = tempfile.TemporaryDirectory(ignore_cleanup_errors=True)
+        self.addCleanup(folder.cleanup)
+        self.folder = Path(folder.name)
+        self.file = self.folder / "mine.haul"
+
+    # Whether SIGHUP is ignored in the searches.
+    has_nohup = False
+
+    def start(self, *words: str, program: str = CENSUS, file: str = "mine.haul", most_bytes: int | None = None) -> subprocess.Popen[bytes]:
+        """Starts a search in a process group of its own, in which no file may be longer than `most_bytes`."""
+        def prepare() -> None:
+            # Tests that run in the background, or under `nohup`, ignore signals, and so would the program.
+            signal.signal(signal.SIGINT, signal.SIG_DFL)
+            signal.signal(signal.SIGHUP, signal.SIG_IGN if self.has_nohup else signal.SIG_DFL)
+            if most_bytes is not None:
+                resource.setrlimit(resource.RLIMIT_FSIZE, (most_bytes, most_bytes))
+
+        return subprocess.Popen([sys.executable, HAUL, "search", *words, "--census", program, file], cwd=self.folder, stdin=subprocess.DEVNULL,
+                                stdout=subprocess.PIPE, stderr=subprocess.PIPE, start_new_session=True,
+                                preexec_fn=prepare)
+
+    def search(self, *words: str, program: str = CENSUS, file: str = "mine.haul", most_bytes: int | None = None) -> tuple[int, str, str]:
+        """The status of a search, and what it prints on both streams."""
+        with self.start(*words, program=program, file=file, most_bytes=most_bytes) as running:
+            output, errors = running.communicate(timeout=120)
+        return running.returncode, output.decode(), errors.decode()
+
+    def stub(self, script: str, name: str = "stub") -> str:
+        """A program for a shell script, in which `real` is the census program."""
+        path = self.folder / name
+        path.write_text(f'#!/bin/bash\nreal() {{ exec "{CENSUS}" "$@"; }}\n{script}\n')
+        path.chmod(0o755)
+        return str(path)
+
+    def haul(self) -> Haul:
+        with self.file.open("rb") as file:
+            return read_one_haul(file)
+
+    def soups(self) -> int:
+        """How many soups the file has."""
+        return self.haul().soups if self.file.exists() else 0
+
+    def wait_for(self, soups: int) -> None:
+        """Waits until the file has so many soups."""
+        for _ in range(3000):
+            if self.soups() >= soups:
+                return
+            time.sleep(0.02)
+        self.fail(f"the file has {self.soups()} soups")
+
+    def assert_right(self) -> None:
+        """The file is what `census take` prints over its soups."""
+        self.assertEqual(self.file.read_bytes(), of_take(self.haul()))
+
+    def assert_left(self, *names: str) -> None:
+        """Nothing else is in the folder."""
+        self.assertEqual(sorted(os.listdir(self.folder)), sorted(names))
+
+    def running_here(self) -> list[int]:
+        """The processes whose folder is that of the test."""
+        found = []
+        for process in Path("/proc").glob("[0-9]*"):
+            with suppress(OSError):
+                state = (process / "stat").read_text().rpartition(")")[2].split()[0]
+                if state not in "ZX" and os.readlink(process / "cwd") == str(self.folder.resolve()):
+                    found.append(int(process.name))
+        return found
+
+    def assert_nothing_runs(self) -> None:
+        for _ in range(1000):
+            if not self.running_here():
+                return
+            time.sleep(0.02)
+        self.fail(f"left running: {self.running_here()}")

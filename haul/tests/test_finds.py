@@ -1,0 +1,406 @@
+"""Finds: which parts a search tells of, how, and what it calls for each. And its status line."""
+
+from __future__ import annotations
+
+import io
+import os
+import pty
+import signal
+import subprocess
+import sys
+import time
+import unittest
+from contextlib import redirect_stderr, suppress
+from unittest.mock import Mock, patch
+
+from haul.common import COMMON, LEAST
+from haul.find_calls import FindCalls
+from haul.finds import Find, Finder, Unread, command_of
+from haul.keeper import Keeper
+from haul.life import rule_of
+from haul.parts import Separator
+from haul.program import Census
+from haul.running import Waiter
+from haul.search import Dropped, Part, Plan, Search
+from haul.status_line import Status, StatusLine, duration, short
+from haul.stopping import Stopping
+from haul.tests.called import CENSUS, HAUL, TOP, census, run
+from haul.tests.searching import CLOCK, CLOCK_SOUP, Searches
+from haul.text import STANDARD, Haul, Job, read_one_haul
+
+LIFE, OTHER_RULE, OTHER_PROFILE = Job("a", "b3s23", STANDARD), Job("a", "b36s23", STANDARD), Job("a", "b3s23", (4, 8, 10, 30))
+# The last of them is two blocks. The tripole isn't common under Life, and the others are.
+TRIPOLE, BLINKER, BLOCK, BI_BLOCK = "xp2_31ago", "xp2_7", "xs4_33", "xs8_rr"
+
+
+def haul_of(job: Job, *codes: str) -> Haul:
+    return Haul(job, [(0, 100)] if codes else [], 100 if codes else 0, 0, 0, {code: 1 for code in sorted(codes)}, {code: [0] for code in sorted(codes)})
+
+
+def found(finder: Finder, *batches: list[tuple[str, int]]) -> list[Find]:
+    """The finds that are told after these batches."""
+    for batch in batches:
+        finder.add(batch)
+    finds: list[Find] = []
+    while not finder.is_done():
+        finds += finder.step()
+    return finds
+
+
+class Common(unittest.TestCase):
+    def test_the_list(self) -> None:
+        """It is made of the haul in examples/."""
+        rows = run("table", "--parts", "--csv", str(TOP / "examples" / "100000.haul"))[1].splitlines()[1:]
+        totals = {code: int(total) for _, code, total, *_ in (row.split(",") for row in rows)}
+        self.assertEqual(COMMON, {code for code, total in totals.items() if total >= LEAST})
+        self.assertEqual(LEAST, 3)
+
+
+class Finds(unittest.TestCase):
+    def test_what_is_common(self) -> None:
+        self.assertEqual(found(Finder(LIFE, haul_of(LIFE)), [(BLOCK, 5), (TRIPOLE, 6), (BI_BLOCK, 1)]), [Find(TRIPOLE, 6)])
+
+    def test_it_is_told_once(self) -> None:
+        self.assertEqual(found(Finder(LIFE, haul_of(LIFE)), [(TRIPOLE, 9), (BLOCK, 3)], [], [(TRIPOLE, 10)]), [Find(TRIPOLE, 9)])
+
+    def test_in_the_order_of_soups(self) -> None:
+        self.assertEqual(found(Finder(OTHER_RULE, haul_of(OTHER_RULE, BI_BLOCK)), [(BLINKER, 9), ("xs6_696", 3), (BLOCK, 1)]),
+                         [Find("xs6_696", 3), Find(BLINKER, 9)])
+
+    def test_parts_of_objects_that_were_there(self) -> None:
+        """A blinker that was there as a part of a traffic light is known, and so is one that was an object."""
+        for there in ("xp2_s01110szw222", BLINKER):
+            finder = Finder(OTHER_RULE, haul_of(OTHER_RULE, BLOCK, there))
+            self.assertEqual(found(finder, [(BLINKER, 9), ("xs6_696", 10)], [(BLINKER, 11)]), [Find("xs6_696", 10)])
+
+    def test_a_new_object_of_known_parts(self) -> None:
+        self.assertEqual(found(Finder(OTHER_RULE, haul_of(OTHER_RULE, BLOCK)), [(BI_BLOCK, 9)]), [])
+
+    def test_parts_of_a_new_object(self) -> None:
+        """The soup is the lowest of those that left the part."""
+        finder = Finder(OTHER_RULE, haul_of(OTHER_RULE, "xs6_696"))
+        self.assertEqual(found(finder, [(BI_BLOCK, 9), (BLOCK, 20)], [(BLOCK, 30)]), [Find(BLOCK, 9)])
+
+    def test_the_part_that_begins_a_haul(self) -> None:
+        """Under another rule or profile it tells nothing, and what it had is known."""
+        for job, finds in ((LIFE, [Find(TRIPOLE, 5)]), (OTHER_RULE, []), (OTHER_PROFILE, [])):
+            finder = Finder(job, haul_of(job))
+            self.assertEqual(found(finder, [(TRIPOLE, 5)]), finds)
+            self.assertEqual(found(finder, [(TRIPOLE, 9), ("xp3_695qc8zx33", 11)]), [Find("xp3_695qc8zx33", 11)])
+
+    def test_a_haul_without_objects(self) -> None:
+        """Its soups have begun the file, though they left nothing, so that later parts tell finds."""
+        self.assertEqual(found(Finder(OTHER_PROFILE, Haul(OTHER_PROFILE, [(0, 9)], 9, 9, 0, {}, {})), [(TRIPOLE, 9)]), [Find(TRIPOLE, 9)])
+
+    def test_what_is_common_under_another_profile(self) -> None:
+        self.assertEqual(found(Finder(OTHER_PROFILE, haul_of(OTHER_PROFILE, TRIPOLE)), [(BLOCK, 100), (BI_BLOCK, 101)]), [])
+
+    def test_objects_are_separated_only_if_need_be(self) -> None:
+        finder = Finder(LIFE, haul_of(LIFE, TRIPOLE, "xp2_s01110szw222", BI_BLOCK))
+        with patch.object(finder.separator, "separation_of", wraps=finder.separator.separation_of) as separated:
+            self.assertEqual(found(finder, [(TRIPOLE, 200), (BLOCK, 201)]), [])
+            self.assertEqual(separated.call_count, 2)
+            # An oscillator of period 3 is in none of the three, and a still life of seven cells may be in each of them.
+            self.assertEqual(found(finder, [("xp3_695qc8zx33", 11)]), [Find("xp3_695qc8zx33", 11)])
+            self.assertEqual(separated.call_count, 3)
+            finder.add([("xs7_2552", 11)])
+            self.assertEqual(finder.left(), 1)
+            self.assertEqual(finder.step(), [])
+            self.assertEqual(finder.left(), 2)
+            self.assertEqual(found(finder), [Find("xs7_2552", 11)])
+            self.assertEqual(separated.call_count, 7)
+
+    def test_which_objects_can_have_a_part(self) -> None:
+        """All objects with several parts in 100,000 soups, and some more kinds."""
+        with open(TOP / "examples" / "100000.haul", "rb") as file:
+            haul = read_one_haul(file)
+        separator = Separator(rule_of("b3s23"))
+        several = 0
+        for code in haul.totals:
+            parts = separator.separation_of(code).parts
+            for part in parts if len(parts) > 1 else ():
+                self.assertEqual(Unread([code]).holders([part]), [{code}])
+                several += 1
+        self.assertGreater(several, 4000)
+        for whole, part, can in (("xs8_0", "xs7_0", True), ("xs8_0", "xs8_1", False), ("xs8_0", "xp2_0", False), ("xp4_0", "xs99_0", True), ("xp4_0", "xp2_0", True),
+                                 ("xp4_0", "xp4_1", True), ("xp4_0", "xp3_0", False), ("xp4_0", "xq4_0", False), ("xq4_0", "xq4_1", True), ("xq8_0", "xq4_0", True),
+                                 ("xq4_0", "xs4_0", False), ("xq4_0", "xp2_0", False), ("what", "xs4_0", False), ("xs4_0", "what", False)):
+            self.assertEqual(Unread([whole]).holding([part]), int(can), (whole, part))
+        unread = Unread(["xs4_33", "what"])
+        self.assertTrue("xs4_33" in unread and "what" in unread and "xs4_0" not in unread and "xp2_7" not in unread)
+
+    def test_what_is_remembered_is_bounded(self) -> None:
+        with patch("haul.finds.MOST_RUNS", 3):
+            finder = Finder(LIFE, haul_of(LIFE))
+            self.assertEqual(len(found(finder, [(code, 1) for code in (TRIPOLE, "xp3_695qc8zx33", "xs8_rr", "xs6_696", "xp2_318c")])), 2)
+            self.assertLessEqual(len(finder.separator.runs), 5)
+
+
+class Fields(Searches):
+    def test_fields(self) -> None:
+        time_, *fields = Find(TRIPOLE, 17).fields(LIFE)
+        self.assertRegex(time_, r"^\d{4}-\d\d-\d\dT\d\d:\d\d:\d\dZ$")
+        self.assertEqual(fields, [TRIPOLE, "tripole", "17", "census soup --seed a 17 | census name --rule b3s23"])
+        self.assertEqual(Find("xs99_0", 1).fields(LIFE)[2], "-")
+
+    def test_commands_are_for_a_shell(self) -> None:
+        """Each shows what the soup leaves."""
+        (self.folder / "census").symlink_to(CENSUS)
+        for seed in ("", "a", "-a", "a'b", "$(x)", "`x`;\"\\"):
+            for job, words in ((Job(seed, "b3s23", STANDARD), ""), (Job(seed, "b36s23", (4, 8, 10, 300)), "--rule=b36s23 --period=4 --horizon=8 --stride=10 --limit=300")):
+                shown = subprocess.run(["bash", "-c", command_of(job, 7)], env=os.environ | {"PATH": f"{self.folder}:{os.environ['PATH']}"}, capture_output=True, check=True)
+                soup = census("soup", f"--seed={seed}", "7")
+                self.assertEqual(shown.stdout, subprocess.run([CENSUS, "name", *words.split()], input=soup, capture_output=True, check=True).stdout)
+
+    def test_a_search_tells_them(self) -> None:
+        words = ["--seed=", "--first", str(CLOCK_SOUP - 20), "--part", "10"]
+        self.assertEqual(self.search(*words, "--until", "20"), (0, "", ""))
+        status, output, errors = self.search("--until", "40", "--part", "10")
+        time_, *fields = output.removesuffix("\n").split("\t")
+        self.assertEqual((status, errors, fields), (0, "", [CLOCK, "clock", str(CLOCK_SOUP), f"census soup --seed '' {CLOCK_SOUP} | census name --rule b3s23"]))
+        self.assertLess(abs(time.time() - time.mktime(time.strptime(time_, "%Y-%m-%dT%H:%M:%SZ")) + time.timezone), 60)
+
+    def test_it_is_told_after_it_is_in_the_file(self) -> None:
+        with self.start("--seed=", "--first", str(CLOCK_SOUP), "--until", "1") as program:
+            assert program.stdout
+            self.assertIn(CLOCK, program.stdout.readline().decode())
+            self.assertIn(CLOCK, self.haul().totals)
+            program.communicate(timeout=60)
+
+
+    def test_it_is_not_told_if_it_is_not_in_the_file(self) -> None:
+        words = ["--seed=", "--first", str(CLOCK_SOUP), "--until", "1"]
+        self.assertEqual(self.search(*words, most_bytes=100), (5, "", "haul: mine.haul.new: File too large\n"))
+        self.assert_left("mine.haul.lock")
+
+
+class Calls(Searches):
+    """The program of `--finds`."""
+
+    ONE = ["--seed=", "--first", str(CLOCK_SOUP), "--until", "1"]
+
+    def test_its_arguments(self) -> None:
+        program = self.stub('for word; do echo "$word" >> said; done')
+        status, output, errors = self.search(*self.ONE, "--finds", program)
+        self.assertEqual((status, errors), (0, ""))
+        self.assertEqual((self.folder / "said").read_text().splitlines(), output.strip("\n").split("\t"))
+
+    def test_it_is_called_for_each(self) -> None:
+        """Under another rule there are many, and the calls come one after another."""
+        program = self.stub('[[ ! -e runs ]] || echo two >> said; touch runs; sleep 0.05; rm runs; echo "$2" >> said')
+        self.search("--seed=a", "--rule=b36s23", "--until", "10", "--part", "10")
+        status, output, _ = self.search("--until", "60", "--finds", program)
+        self.assertEqual(status, 0)
+        codes = [line.split("\t")[1] for line in output.splitlines()]
+        self.assertGreater(len(codes), 1)
+        self.assertEqual((self.folder / "said").read_text().splitlines(), codes)
+
+    def test_its_streams_are_closed(self) -> None:
+        program = self.stub("ls /proc/self/fd > /dev/null; [[ ! -e /proc/$$/fd/0 && ! -e /proc/$$/fd/1 ]] && touch closed; echo told >&2")
+        status, output, errors = self.search(*self.ONE, "--finds", program)
+        self.assertEqual((status, len(output.splitlines()), errors), (0, 1, "told\n"))
+        self.assertTrue((self.folder / "closed").exists())
+
+    def test_it_fails(self) -> None:
+        """A line says so, and that is all."""
+        for name, line in ((self.stub("exit 3"), "ended with status 3"), (self.stub("kill -9 $$", "dies"), "was ended by signal 9"),
+                           ("./nowhere", "No such file or directory"), (str(self.folder), "Permission denied")):
+            self.file.unlink(missing_ok=True)
+            status, output, errors = self.search(*self.ONE, "--finds", name)
+            self.assertEqual((status, len(output.splitlines()), errors), (0, 1, f"haul: {name}: {line}\n"))
+            self.assert_right()
+
+    def test_what_is_left_is_told(self) -> None:
+        """If that takes over five seconds."""
+        program = self.stub("sleep 5.5; touch done")
+        self.assertEqual(self.search(*self.ONE, "--finds", program)[::2],
+                         (0, f"haul: finds are still told: 1 call of {program}; Ctrl-C twice stops that\n"))
+        self.assertTrue((self.folder / "done").exists())
+
+    def test_what_it_leaves_running(self) -> None:
+        self.search(*self.ONE, "--finds", self.stub("sleep 1000 & exit 0"))
+        self.assert_nothing_runs()
+
+    def test_it_takes_long(self) -> None:
+        """It is ended, and the next one is called."""
+        said: list[str] = []
+        calls = FindCalls(Waiter(), self.stub(f"cd {self.folder}; echo $1 >> said; [[ $1 == b ]] || {{ sleep 1000 & sleep 1000; }}"), said.append)
+        for word in "ab":
+            calls.add([word])
+        with patch("haul.find_calls.MOST_SECONDS", 4.0):
+            began = time.monotonic()
+            while not calls.is_done():
+                calls.step()
+                calls.waiter.wait(0.02)
+        self.assertEqual(said, [f"{calls.program}: ended after 4 seconds"])
+        self.assertGreaterEqual(time.monotonic() - began, 4)
+        self.assertEqual((self.folder / "said").read_text().split(), ["a", "b"])
+        self.assert_nothing_runs()
+
+    def test_signals_while_it_runs(self) -> None:
+        """Ctrl-C doesn't reach it. The second one ends it, and so does a kill."""
+        program = self.stub("touch runs; sleep 1000 & sleep 1000")
+        for numbers in ([signal.SIGINT, signal.SIGINT], [signal.SIGTERM], [signal.SIGKILL]):
+            for name in ("runs", "mine.haul"):
+                (self.folder / name).unlink(missing_ok=True)
+            with self.start(*self.ONE, "--finds", program) as search:
+                while not (self.folder / "runs").exists():
+                    time.sleep(0.02)
+                for number in numbers:
+                    self.assertIsNone(search.poll())
+                    os.killpg(search.pid, number)
+                    time.sleep(0.3)
+                errors = search.communicate(timeout=60)[1].decode()
+            self.assertEqual(search.returncode, -numbers[-1])
+            self.assertEqual(errors, {
+                signal.SIGINT: f"haul: finds are still told: 1 call of {program}; Ctrl-C again stops that\nhaul: not all finds are told: 1 call of {program}\n",
+                signal.SIGTERM: f"haul: not all finds are told: 1 call of {program}\n", signal.SIGKILL: ""}[numbers[-1]])
+            self.assert_nothing_runs()
+            self.assert_right()
+
+
+class Telling(Searches):
+    """The status line."""
+
+    STATUS = Status(1234567, 20000, 30, 4, 1, 10.0, 40000)
+
+    def test_text(self) -> None:
+        self.assertEqual(self.STATUS.text(), "1,234,567 soups, 2,000 per second, 30 objects, 4 codes, 1 find, running for 0:00:10, 0:00:20 left")
+        self.assertEqual(Status(1, 0, 1, 1, 0, 0.0, 5).text(), "1 soup, 0 per second, 1 object, 1 code, 0 finds, running for 0:00:00, ? left")
+        self.assertTrue(Status(1, 0, 1, 1, 0, 0.0, None).text().endswith("running for 0:00:00"))
+
+    def test_a_search_that_goes_on(self) -> None:
+        """Its rate is that of the soups which this call has run."""
+        with patch("time.monotonic", return_value=1000.0) as now:
+            keeper = Keeper(str(self.file))
+            search = Search(Plan(100, 200, 30, 1, None), haul_of(LIFE, BLOCK, TRIPOLE), keeper, Census(CENSUS), Stopping())
+            search.add(Haul(LIFE, [(100, 30)], 30, 0, 0, {BLINKER: 7, BLOCK: 1}, {BLINKER: [100], BLOCK: [101]}))
+            search.part = Part(130, 30, Mock(**{"soups.return_value": 10}))
+            now.return_value = 1010.0
+            self.assertEqual(search.status(), Status(140, 40, 10, 3, 0, 10.0, 60))
+        os.close(keeper.lock)
+
+    def test_durations(self) -> None:
+        for seconds, text in ((0.9, "0:00:00"), (59, "0:00:59"), (3600 + 62, "1:01:02"), (86400, "24:00:00"), (10**6, "277:46:40")):
+            self.assertEqual(duration(seconds), text)
+
+    def test_short_numbers(self) -> None:
+        for number, text in ((0, "0"), (999, "999"), (1000, "1k"), (12345, "12.3k"), (999499, "999k"), (999500, "1M"), (10**6, "1M"), (12345678901, "12.3G"), (2**63, "9.22E")):
+            self.assertEqual(short(number), text)
+        week = Status(12345678901, 12000000000, 250123456789, 1234567, 123, 626400.0, 10**9)
+        self.assertEqual(week.short_text(), "12.3G soups 19.2k/s 250G objects 1.23M codes 123 finds 174:00:00 14:30:00 left")
+
+    def test_a_line_per_minute(self) -> None:
+        with patch("time.monotonic", return_value=100.0) as now, redirect_stderr(io.StringIO()) as said:
+            line = StatusLine()
+            self.assertEqual((line.is_due(), line.seconds_left()), (False, 60.0))
+            now.return_value = 160.0
+            self.assertTrue(line.is_due())
+            line.show(self.STATUS)
+            self.assertFalse(line.is_due())
+        self.assertEqual(said.getvalue(), f"haul: {self.STATUS.text()}\n")
+
+    def test_on_a_terminal(self) -> None:
+        """One line that is written again, no wider than the terminal, and wiped at the end."""
+        ours, its = pty.openpty()
+        with subprocess.Popen([sys.executable, HAUL, "search", "--seed=a", "--until", "9000", "--part", "600", "--census", CENSUS, "mine.haul"], cwd=self.folder,
+                              stdin=subprocess.DEVNULL, stdout=subprocess.DEVNULL, stderr=its):
+            os.close(its)
+            said = b""
+            with suppress(OSError):
+                while piece := os.read(ours, 65536):
+                    said += piece
+        os.close(ours)
+        self.assertTrue(said.endswith(b"\r\x1b[K"))
+        lines = [line for line in said.decode().split("\r\x1b[K") if line]
+        self.assertGreater(len(lines), 0)
+        for line in lines:
+            self.assertLessEqual(len(line), 79)
+            self.assertRegex(line, r"^\d[\d.k]* soups \d[\d.k]*/s \d[\d.k]* objects \d+ codes \d+ finds? 0:00:\d\d 0:00:\d\d left$")
+
+
+class Pace(Searches):
+    """When the file is written."""
+
+    def test_a_fiftieth_of_the_time(self) -> None:
+        with patch("time.monotonic", return_value=1000.0) as now:
+            keeper = Keeper(str(self.file))
+            search = Search(Plan(0, None, 10, 1, None), haul_of(LIFE), keeper, Census(CENSUS), Stopping())
+            self.assertTrue(search.may_keep())
+            search.writing, search.latest_writing = 1.0, 1.0
+            for at, may in ((1099.0, False), (1100.0, True)):
+                now.return_value = at
+                self.assertEqual(search.may_keep(), may)
+            # Ten minutes after the latest writing, less the time that writing takes.
+            search.writing, search.unkept, search.kept_at = 500.0, [[]], 1200.0
+            for at, must in ((1798.9, False), (1799.0, True)):
+                now.return_value = at
+                self.assertEqual((search.must_keep(), search.may_keep()), (must, must))
+            search.unkept = []
+            self.assertFalse(search.must_keep())
+        os.close(keeper.lock)
+
+    def test_how_long_writing_took(self) -> None:
+        """All of it counts. While it goes on, no signal ends the program."""
+        with patch("time.monotonic", return_value=1000.0) as now:
+            keeper, stopping = Keeper(str(self.file)), Stopping()
+            search = Search(Plan(0, None, 10, 1, None), haul_of(LIFE), keeper, Census(CENSUS), stopping)
+
+            def slow_write(_haul: Haul) -> None:
+                self.assertTrue(stopping.is_writing)
+                now.return_value += 2
+
+            with patch.object(keeper, "write", slow_write):
+                for writing in (2.0, 4.0):
+                    search.unkept = [[]]
+                    search.keep()
+                    self.assertEqual((search.writing, search.latest_writing, search.unkept, stopping.is_writing), (writing, 2.0, [], False))
+            for at, may in ((1299.0, False), (1300.0, True)):
+                now.return_value = at
+                self.assertEqual(search.may_keep(), may)
+            with patch.object(keeper, "write", side_effect=OSError), self.assertRaises(OSError):
+                search.unkept = [[]]
+                search.keep()
+            self.assertFalse(stopping.is_writing)
+        os.close(keeper.lock)
+
+    def test_a_signal_while_parts_wait(self) -> None:
+        """They are written, and the part that runs isn't."""
+        keeper, stopping = Keeper(str(self.file)), Stopping()
+        search = Search(Plan(0, None, 10, 1, None), haul_of(LIFE), keeper, Census(CENSUS), stopping)
+        begin_part = search.begin_part
+
+        def begin_the_last() -> Part | None:
+            if search.next == 30:
+                stopping.came(signal.SIGTERM)
+            return begin_part()
+
+        with patch.object(search, "may_keep", return_value=False), patch.object(search, "begin_part", begin_the_last), self.assertRaises(Dropped):
+            search.run()
+        self.assertEqual(self.soups(), 30)
+        self.assert_right()
+        self.assert_nothing_runs()
+        os.close(keeper.lock)
+
+    def test_parts_that_wait_in_memory(self) -> None:
+        """They are written together, at the end at the latest."""
+        keeper = Keeper(str(self.file))
+        search = Search(Plan(0, 60, 10, 2, None), haul_of(LIFE), keeper, Census(CENSUS), Stopping())
+        written: list[int] = []
+        write = keeper.write
+
+        def slow_write(haul: Haul) -> None:
+            written.append(haul.soups)
+            write(haul)
+            time.sleep(0.3)
+
+        with patch.object(keeper, "write", slow_write):
+            search.run()
+        self.assertEqual((written[0], written[-1]), (10, 60))
+        self.assertLessEqual(len(written), 3)
+        self.assert_right()
+        os.close(keeper.lock)
+
+
+if __name__ == "__main__":
+    unittest.main()

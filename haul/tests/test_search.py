@@ -1,0 +1,411 @@
+"""`haul search`: which soups it takes, what it refuses, and what the file has whatever happens."""
+
+from __future__ import annotations
+
+import io
+import os
+import random
+import signal
+import subprocess
+import sys
+import time
+import unittest
+from contextlib import redirect_stderr
+from pathlib import Path
+from unittest.mock import patch
+
+from haul.keeper import CantKeep, Keeper
+from haul.options import parsed
+from haul.stopping import Stopping
+from haul.tests.called import CENSUS, TOP, census, run
+from haul.tests.searching import QUICK, Searches
+from haul.text import NUMBER_LIMIT
+
+
+class Soups(Searches):
+    """Which soups are taken."""
+
+    def test_begins_with_a_random_seed(self) -> None:
+        seeds = set()
+        for _ in range(2):
+            self.assertEqual(self.search("--until", "30", *QUICK), (0, "", ""))
+            self.assertRegex(self.haul().job.seed, "^h_[A-Za-z0-9]{12}$")
+            seeds.add(self.haul().job.seed)
+            self.assertEqual(self.haul().ranges, [(0, 30)])
+            self.assert_right()
+            self.assert_left("mine.haul", "mine.haul.lock")
+            self.file.unlink()
+        self.assertEqual(len(seeds), 2)
+
+    def test_begins_as_it_is_told(self) -> None:
+        self.assertEqual(self.search("--seed", "", "--first", "7", "--until", "30"), (0, "", ""))
+        self.assertEqual(self.file.read_bytes(), census("take", "--first", "7", "--count", "30"))
+        self.file.unlink()
+        words = ["--seed=-a", "--rule=b36s23", "--period=3", "--horizon=20", "--stride=50", "--limit=500"]
+        self.assertEqual(self.search(*words, "--until", "30", "--part", "11", "--workers", "2")[0], 0)
+        self.assertEqual(self.file.read_bytes(), census("take", *words, "--count", "30"))
+
+    def test_goes_on(self) -> None:
+        """In parts of other sizes, and up to just as many soups as are asked for."""
+        for until, part in ((10, 100), (50, 7), (51, 1), (200, 40)):
+            self.assertEqual(self.search("--seed=a", "--until", str(until), "--part", str(part))[0], 0)
+            self.assertEqual(self.file.read_bytes(), census("take", "--seed=a", "--count", str(until)))
+
+    def test_goes_on_without_words(self) -> None:
+        words = ["--seed=b", "--rule=b36s23", "--stride=50", "--limit=500"]
+        self.file.write_bytes(census("take", *words, "--count", "5"))
+        self.assertEqual(self.search("--until", "20")[0], 0)
+        self.assertEqual(self.file.read_bytes(), census("take", *words, "--count", "20"))
+
+    def test_gaps_stay(self) -> None:
+        self.file.write_bytes(census("take", "--first", "3", "--count", "4", "--also", "20+5"))
+        self.assertEqual(self.search("--until", "15", "--first", "3")[0], 0)
+        self.assertEqual(self.file.read_bytes(), census("take", "--first", "3", "--count", "4", "--also", "20+11"))
+
+    def test_an_empty_haul(self) -> None:
+        self.assertEqual(self.search("--seed=a", "--until", "0")[0], 0)
+        self.assertEqual(self.file.read_bytes(), census("take", "--seed=a", "--count", "0"))
+        self.assertEqual(self.search("--first", "9", "--until", "2")[0], 0)
+        self.assertEqual(self.file.read_bytes(), census("take", "--seed=a", "--first", "9", "--count", "2"))
+
+    def test_as_many_as_there_are_or_fewer(self) -> None:
+        """It ends at once, and asks no program."""
+        self.file.write_bytes(census("take", "--count", "20"))
+        before = self.file.stat()
+        for until in ("20", "19", "0"):
+            self.assertEqual(self.search("--until", until, program="/nowhere/census"), (0, "", ""))
+        self.assertEqual((self.file.stat().st_ino, self.file.stat().st_mtime_ns), (before.st_ino, before.st_mtime_ns))
+
+    def test_the_last_soup(self) -> None:
+        for _ in range(2):
+            self.assertEqual(self.search("--seed=a", "--first", str(NUMBER_LIMIT - 25), "--part", "10", *QUICK)[0], 0)
+            self.assertEqual(self.file.read_bytes(), census("take", "--seed=a", "--first", str(NUMBER_LIMIT - 25), "--count", "25", *QUICK))
+        self.file.unlink()
+        self.assertEqual(self.search("--seed=a", "--first", str(NUMBER_LIMIT)), (0, "", ""))
+        self.assertEqual(self.file.read_bytes(), census("take", "--seed=a", "--count", "0"))
+
+    def test_how_the_program_is_called(self) -> None:
+        """By default with as many workers as there are processors."""
+        program = self.stub('echo "$@" >> calls; real "$@"')
+        self.search("--seed=a", "--until", "7", "--part", "4", *QUICK, program=program)
+        with patch("os.sched_getaffinity", return_value=range(100)):
+            from haul.search import processors
+            self.assertEqual(processors(), 16)
+        usual = min(16, len(os.sched_getaffinity(0)))
+        job = "--seed=a --rule=b3s23 --period=1 --horizon=1 --stride=1 --limit=0"
+        self.assertEqual((self.folder / "calls").read_text().splitlines(),
+                         [f"take {job} --first={first} --count={count} --workers={usual} --progress" for first, count in ((0, 4), (4, 3))])
+
+    def test_rights_and_links(self) -> None:
+        """The file keeps its rights, and a link to it stays a link."""
+        self.file.write_bytes(census("take", "--count", "5", *QUICK))
+        self.file.chmod(0o640)
+        (self.folder / "link").symlink_to("mine.haul")
+        self.assertEqual(self.search("--until", "9", file="link")[0], 0)
+        self.assertEqual((self.soups(), self.file.stat().st_mode & 0o777), (9, 0o640))
+        self.assertTrue((self.folder / "link").is_symlink())
+        self.assert_left("link", "mine.haul", "mine.haul.lock")
+
+
+class Refusals(Searches):
+    """What is refused. The file stays as it is."""
+
+    def refused(self, status: int, line: str, *words: str, file: str = "mine.haul") -> None:
+        before = self.file.read_bytes() if self.file.exists() else None
+        ended = self.search("--until", "50", *words, file=file)
+        self.assertEqual(ended, (status, "", f"haul: {line}\n"))
+        self.assertEqual(self.file.read_bytes() if self.file.exists() else None, before)
+
+    def test_no_haul(self) -> None:
+        for text, line in ((b"", "bad haul at line 1 column 1"), (b"x\n", "bad haul at line 1 column 1"),
+                           (2 * census("take", "--count", "0"), "bad haul at line 15 column 1: more than one haul")):
+            self.file.write_bytes(text)
+            self.refused(3, f"mine.haul: {line}")
+
+    def test_missing_soups(self) -> None:
+        lines = census("work", "--count", "2", "--worker", "1").splitlines(True)[0]
+        self.file.write_bytes(subprocess.run([CENSUS, "gather", "--count", "2"], input=lines, capture_output=True, check=False).stdout)
+        self.refused(3, "mine.haul: haul with missing soups")
+
+    def test_another_job(self) -> None:
+        self.file.write_bytes(census("take", "--seed=a", "--first=3", "--count=2"))
+        for word, line in (("--seed=b", "the seed is a, and not b"), ("--seed=", "the seed is a, and not "), ("--rule=b36s23", "the rule is b3s23, and not b36s23"),
+                           ("--period=4", "the period is 64, and not 4"), ("--horizon=100", "the horizon is 512, and not 100"),
+                           ("--stride=1", "the stride is 101, and not 1"), ("--limit=0", "the limit is 30300, and not 0"),
+                           ("--first=0", "the first soup is 3, and not 0")):
+            self.refused(3, f"mine.haul: {line}", word)
+        same = ["--seed=a", "--rule=b3s23", "--period=64", "--horizon=512", "--stride=101", "--limit=30300", "--first=3"]
+        self.assertEqual(self.search(*same, "--until", "4")[0], 0)
+        self.assert_right()
+
+    def test_no_regular_file(self) -> None:
+        os.mkfifo(self.folder / "pipe")
+        for name in ("/dev/null", "pipe", "."):
+            self.refused(3, f"{name}: not a regular file", file=name)
+        self.assert_left("pipe")
+        self.refused(5, "none/mine.haul.lock: No such file or directory", file="none/mine.haul")
+        self.assertFalse(os.path.exists("/dev/null.lock"))
+
+    def test_words(self) -> None:
+        for words, line in ((["-"], "FILE is the name of a file"), ([""], "an empty path"), (["--part=0", "x"], "0 is not in 1 to 16777216"),
+                            (["--part=16777217", "x"], "16777217 is not in 1 to 16777216"), (["--workers=17", "x"], "17 is not in 1 to 16"),
+                            (["--seed=a b", "x"], "no seed"), (["--seed=" + 65 * "a", "x"], "no seed"), (["--first=1099511627777", "x"], "is not in 0 to 1099511627776"),
+                            (["--period=0", "x"], "0 is not in 1 to 64"), (["--horizon=4097", "x"], "4097 is not in 0 to 4096"),
+                            (["--horizon=63", "x"], "the horizon is below the period"), (["--stride=0", "x"], "0 is not in 1 to 10000"),
+                            (["--limit=100001", "x"], "100001 is not in 0 to 100000"), (["--until=x", "x"], "x is no number"), (["--until=1"], "required: FILE")):
+            with redirect_stderr(io.StringIO()) as said, self.assertRaises(SystemExit) as ended:
+                parsed(["search", *words])
+            self.assertEqual(ended.exception.code, 2)
+            self.assertIn(line, said.getvalue())
+        self.assertEqual(run("search", "-")[0], 2)
+
+    def test_a_second_search(self) -> None:
+        (self.folder / "link").symlink_to("mine.haul")
+        with self.start("--seed=a", "--part", "20") as first:
+            self.wait_for(20)
+            for name in ("mine.haul", "link"):
+                with self.start(file=name) as second:
+                    errors = second.communicate(timeout=60)[1]
+                self.assertEqual((second.returncode, errors.decode()), (3, f"haul: {name}: another search keeps this file\n"))
+            first.send_signal(signal.SIGINT)
+            self.assertEqual(first.wait(60), 0)
+        self.assert_right()
+        # The lock is kept, and locks nothing now.
+        self.assertEqual(self.search("--until", "1")[0], 0)
+
+    def test_no_program(self) -> None:
+        for program, line in (("/nowhere/census", "no census at /nowhere/census"), (str(self.folder), f"no census at {self.folder}"),
+                              ("/bin/true", "no census at /bin/true"), (self.stub("echo x"), f"no census at {self.folder}/stub"),
+                              (self.stub("exec 1>&- 2>&-; sleep 0.2", "closes"), f"no census at {self.folder}/closes")):
+            self.assertEqual(self.search("--seed=a", program=program), (2, "", f"haul: {line}\n"))
+        self.assertFalse(self.file.exists())
+
+
+class Faults(Searches):
+    """The file is always a right haul, whatever fails."""
+
+    def test_a_program_that_fails(self) -> None:
+        """Its status and its line are passed on, and the parts before are in the file."""
+        for how, status, line in (("echo census: because >&2; exit 4", 4, "because"), ("exit 70", 5, "census ended with status 70"),
+                                  ("kill -9 $$", 5, "census was ended by signal 9"),
+                                  ("printf '\\r3 of 9 soups, 5 a second' >&2; kill -9 $$", 5, "census was ended by signal 9"), ("printf '\\r3 of 9 soups\\rcensus: why\\n' >&2; exit 5", 5, "why")):
+            self.file.unlink(missing_ok=True)
+            program = self.stub(f'case "$*" in *--first=40*) {how} ;; *) real "$@" ;; esac')
+            self.assertEqual(self.search("--seed=a", "--part", "20", program=program), (status, "", f"haul: {line}\n"))
+            self.assertEqual(self.soups(), 40)
+            self.assert_right()
+            self.assert_nothing_runs()
+
+    def test_a_wrong_answer(self) -> None:
+        """Another haul than the one that was asked for isn't added."""
+        for answer in ('real take --count 20 --seed a', 'real take --count 20 --seed b --first 20', 'real take --count 19 --seed a --first 20'):
+            self.file.unlink(missing_ok=True)
+            program = self.stub(f'case "$*" in *--first=20*) {answer} ;; *) real "$@" ;; esac')
+            self.assertEqual(self.search("--seed=a", "--part", "20", program=program), (2, "", f"haul: no census at {program}\n"))
+            self.assertEqual(self.soups(), 20)
+            self.assert_right()
+
+    def test_what_the_program_leaves_running(self) -> None:
+        program = self.stub(f'sleep 1000 & "{CENSUS}" "$@"')
+        self.assertEqual(self.search("--seed=a", "--until", "40", "--part", "20", program=program)[0], 0)
+        self.assert_right()
+        self.assert_nothing_runs()
+
+    def test_a_full_disk(self) -> None:
+        """By a limit on the size of files, over which the file grows."""
+        self.assertEqual(self.search("--seed=a", "--until", "5")[0], 0)
+        before = self.file.read_bytes()
+        limit = len(before) + 1000
+        self.assertEqual(self.search("--until", "400", "--part", "395", most_bytes=limit), (5, "", "haul: mine.haul.new: File too large\n"))
+        self.assertEqual(self.file.read_bytes(), before)
+        self.assert_left("mine.haul", "mine.haul.lock")
+        # A file that an earlier search has left doesn't matter.
+        (self.folder / "mine.haul.new").write_text("x" * 100000)
+        self.assertEqual(self.search("--until", "400")[0], 0)
+        self.assert_right()
+        self.assert_left("mine.haul", "mine.haul.lock")
+
+    def test_a_folder_that_refuses_new_files(self) -> None:
+        (self.folder / "mine.haul.new").mkdir()
+        status, _, errors = self.search("--seed=a", "--until", "5")
+        self.assertEqual((status, errors), (5, "haul: mine.haul.new: Is a directory\n"))
+        self.assertFalse(self.file.exists())
+
+    def test_nobody_reads(self) -> None:
+        """The part whose find can't be told is in the file."""
+        with self.start("--seed=", "--first=23473", "--part", "20") as program:
+            assert program.stdout
+            program.stdout.close()
+            program.wait(60)
+            assert program.stderr
+            self.assertEqual(program.stderr.read(), b"")
+        self.assertEqual(program.returncode, 5)
+        self.assertGreaterEqual(self.soups(), 20)
+        self.assert_right()
+        self.assert_nothing_runs()
+
+    def test_killed_at_drawn_moments(self) -> None:
+        """After it has begun to write, which it does again and again."""
+        draw = random.Random("kills")
+        for _ in range(8):
+            soups = self.soups()
+            with self.start("--seed=a", "--until", "100000", "--part", str(draw.choice([5, 20, 50]))) as program:
+                self.wait_for(soups + 1)
+                time.sleep(draw.uniform(0, 0.1))
+                program.kill()
+            self.assertEqual(program.returncode, -signal.SIGKILL)
+            self.assert_nothing_runs()
+            self.assert_right()
+        soups = self.soups() + 30
+        self.assertEqual(self.search("--until", str(soups))[0], 0)
+        self.assertEqual(self.file.read_bytes(), census("take", "--seed=a", "--count", str(soups), "--workers=4"))
+
+
+class Signals(Searches):
+    """A signal loses no more than the part that runs, and leaves nothing running."""
+
+    # In this program the part from soup 40 on goes on for long.
+    SLOW = 'case "$*" in *--first=40*) echo census >&2; touch slow; exec sleep 1000 ;; *) real "$@" ;; esac'
+
+    def slow(self) -> subprocess.Popen[bytes]:
+        """A search whose third part goes on for long."""
+        program = self.start("--seed=a", "--part", "20", program=self.stub(self.SLOW))
+        self.wait_for(20)
+        while not (self.folder / "slow").exists():
+            time.sleep(0.02)
+        return program
+
+    def test_the_first_interrupt(self) -> None:
+        """The part that runs is finished."""
+        with self.start("--seed=a", "--part", "300") as program:
+            self.wait_for(300)
+            os.killpg(program.pid, signal.SIGINT)
+            output, errors = program.communicate(timeout=60)
+        self.assertEqual((program.returncode, output), (0, b""))
+        self.assertRegex(errors.decode(), r"^haul: stops after this part, in about 0:00:\d\d; Ctrl-C again drops the part\n$")
+        self.assertEqual(self.soups() % 300, 0)
+        self.assertGreaterEqual(self.soups(), 600)
+        self.assert_right()
+        self.assert_left("mine.haul", "mine.haul.lock")
+
+    def test_signals_that_drop_the_part(self) -> None:
+        for numbers in ([signal.SIGTERM], [signal.SIGHUP], [signal.SIGINT, signal.SIGINT], [signal.SIGINT, signal.SIGTERM]):
+            with self.subTest(numbers=numbers):
+                self.file.unlink(missing_ok=True)
+                (self.folder / "slow").unlink(missing_ok=True)
+                with self.slow() as program:
+                    for number in numbers:
+                        os.killpg(program.pid, number)
+                        time.sleep(0.3)
+                    output, errors = program.communicate(timeout=60)
+                self.assertEqual((program.returncode, output), (-numbers[-1], b""))
+                self.assertEqual(len(errors.splitlines()), len(numbers) - 1)
+                # The parts in memory are written first.
+                self.assertEqual(self.soups(), 40)
+                self.assert_right()
+                self.assert_nothing_runs()
+
+    def test_a_kill(self) -> None:
+        with self.slow() as program:
+            program.kill()
+        self.assert_nothing_runs()
+        self.assert_right()
+
+    def test_a_signal_that_is_ignored(self) -> None:
+        """As `nohup` has it."""
+        program = self.stub('kill -HUP $(cut -d " " -f 4 /proc/$$/stat); sleep 0.3; real "$@"')
+        self.has_nohup = True
+        self.assertEqual(self.search("--seed=a", "--until", "20", program=program)[0], 0)
+        self.assert_right()
+
+
+class Stops(unittest.TestCase):
+    """What signals ask of the work."""
+
+    def test_what_is_noted(self) -> None:
+        interrupt, term = signal.SIGINT, signal.SIGTERM
+        for numbers, finishes, number in (([interrupt], True, None), ([interrupt, interrupt], True, interrupt), ([term], False, term),
+                                          ([interrupt, term], True, term), ([term, interrupt, interrupt], False, term)):
+            stopping = Stopping()
+            self.assertEqual([stopping.came(each) for each in numbers], [True] * len(numbers))
+            self.assertEqual((stopping.finishes, stopping.number), (finishes, number))
+            stopping.hear()
+            stopping.hear()
+
+    def test_work_that_doesnt_end(self) -> None:
+        """Another signal ends the program after ten seconds, unless the file is being replaced."""
+        with patch("time.monotonic", return_value=100.0) as now:
+            stopping = Stopping()
+            stopping.came(signal.SIGTERM)
+            for at, is_writing, may_go_on in ((109.9, False, True), (110.0, True, True), (110.0, False, False)):
+                now.return_value, stopping.is_writing = at, is_writing
+                self.assertEqual(stopping.came(signal.SIGTERM), may_go_on)
+
+    def test_it_is_ended(self) -> None:
+        script = (f"import os, sys, time; sys.path.insert(0, {str(TOP)!r})\nfrom haul import stopping\nfrom haul.children import children, status_of\n"
+                  "stopping.SECONDS_TO_END = 0.5\n"
+                  "def work():\n    children.heed(stopping.Stopping()); print('begun', flush=True); time.sleep(1000)\nstatus_of(work)")
+        with subprocess.Popen([sys.executable, "-c", script], stdout=subprocess.PIPE) as program:
+            assert program.stdout
+            program.stdout.readline()
+            program.terminate()
+            time.sleep(1)
+            self.assertIsNone(program.poll())
+            program.terminate()
+            self.assertEqual(program.wait(60), -signal.SIGTERM)
+
+
+class Keeping(Searches):
+    """How a file is replaced."""
+
+    def test_one_lock_for_two_names(self) -> None:
+        (self.folder / "link").symlink_to(self.file)
+        keeper = Keeper(str(self.file))
+        with self.assertRaisesRegex(CantKeep, "^.*/link: another search keeps this file$"):
+            Keeper(str(self.folder / "link"))
+        os.close(keeper.lock)
+        os.close(Keeper(str(self.folder / "link")).lock)
+
+    def test_a_link_to_a_link(self) -> None:
+        """The lock is that of the file, in its folder."""
+        (self.folder / "far").mkdir()
+        (self.folder / "far" / "link").symlink_to("../near")
+        (self.folder / "near").symlink_to("mine.haul")
+        keeper = Keeper(str(self.file))
+        with self.assertRaisesRegex(CantKeep, "^.*/far/link: another search keeps this file$"):
+            Keeper(str(self.folder / "far" / "link"))
+        os.close(keeper.lock)
+        self.assertEqual(self.search("--until", "3", file="far/link", *QUICK)[0], 0)
+        self.assertEqual(self.soups(), 3)
+        self.assert_left("far", "mine.haul", "mine.haul.lock", "near")
+        self.assertEqual(os.listdir(self.folder / "far"), ["link"])
+
+    def test_steps_of_a_replacement(self) -> None:
+        """The new text is on the disk before it has the name, and then the name is."""
+        self.file.write_bytes(census("take", "--count", "3"))
+        keeper = Keeper(str(self.file))
+        haul = keeper.read()
+        assert haul is not None
+        steps: list[str] = []
+        replace, fsync = os.replace, os.fsync
+
+        def noted_fsync(number: int) -> None:
+            path = os.readlink(f"/proc/self/fd/{number}")
+            steps.append(os.path.basename(path))
+            if os.path.isfile(path):
+                self.assertEqual(Path(path).read_bytes(), self.file.read_bytes())
+            fsync(number)
+
+        def noted_replace(old: str, new: str) -> None:
+            steps.append("replace")
+            replace(old, new)
+
+        with patch("os.fsync", noted_fsync), patch("os.replace", noted_replace):
+            keeper.write(haul)
+        self.assertEqual(steps, ["mine.haul.new", "replace", self.folder.name])
+        self.assertEqual(self.file.read_bytes(), census("take", "--count", "3"))
+        os.close(keeper.lock)
+
+
+if __name__ == "__main__":
+    unittest.main()
