@@ -1,4 +1,4 @@
-//! The cells of a window that change within two generations. A part that is at rest or alternates has none:
+//! The cells in the middle of a window that change within two generations. A part that is at rest or alternates has none:
 //!
 //! ```text
 //! . . . . . . . .      . . . . . . . .
@@ -6,7 +6,7 @@
 //! . O O . . . . O      . . . . . . . .      are alive.
 //! . . . . . O O O      . . . . . . 1 .
 //! ```
-use crate::windows::row_packing::unpacked;
+use crate::one_sided::crop::{crop, uncrop};
 use crate::windows::rule_logic::RuleLogic;
 use crate::windows::window::{INNER_COLUMNS, generations};
 use std::simd::u64x4;
@@ -21,22 +21,22 @@ pub(crate) struct Spot {
     pub(crate) column: u32,
 }
 
-/// Returns the live cells in columns 4 to 59 that are dead two generations later. A cluster may be grown from each of
-/// them.
-pub(crate) fn changing_cells(window: &[u64x4; 16], rule: &RuleLogic) -> [u64; 64] {
-    let mut cells = *window;
+/// Returns the live cells in columns 4 to 59 of the 32 rows in the middle that are dead two generations later. Others may
+/// be among them in the outer two of these rows. A cluster may be grown from each cell.
+pub(crate) fn changing_cells(rows: &[u64; 64], rule: &RuleLogic) -> [u64; 64] {
+    let window: [u64x4; 8] = crop::<32, 8>(rows, 16);
+    let mut cells = window;
     generations(&mut cells, rule, 2);
-    for k in 0..16 {
+    for k in 0..8 {
         // The cells that are alive and differ two generations later.
         cells[k] = window[k] & (window[k] ^ cells[k]) & u64x4::splat(INNER_COLUMNS);
     }
-    unpacked(&cells)
+    uncrop::<32, 8>(&cells, 16)
 }
 
-/// Returns one of the cells, if there is one at least four cells from the border. Cells in the middle come before
-/// others.
+/// Returns one of the cells in rows 18 to 45, if there is one. Cells in the middle come before others.
 pub(crate) fn first_cell(rows: &[u64; 64]) -> Option<Spot> {
-    for d in 0..28 {
+    for d in 0..14 {
         if rows[31 - d] != 0 {
             return Some(spot_in(31 - d, rows[31 - d]));
         }

@@ -33,10 +33,10 @@ pub(crate) fn rules_out_rest(
     requires { depth ≤ 2 }
     ensures { IsTrue result → AreAllRestless (rule_of rule.now) 16 window.now depth horizon period }
 {
-    let Some(spot) = first_cell(&changing_cells(window, rule)) else {
+    let rows = unpacked(window);
+    let Some(spot) = first_cell(&changing_cells(&rows, rule)) else {
         return false;
     };
-    let rows = unpacked(window);
     let mut cluster = [0; 64];
     let whole = flood(&rows, &mut cluster, spot.row, spot.column);
     if !whole {

@@ -27,7 +27,6 @@ use crate::one_sided::active_cells::{changing_cells, first_cell};
 use crate::one_sided::flood::flood;
 use crate::plane::bounds::Bounds;
 use crate::plane::pattern::Pattern;
-use crate::windows::row_packing::packed;
 use memory::OutOfMemory;
 use std::alloc::Global;
 
@@ -68,7 +67,7 @@ impl Board {
             let Some(view) = self.view(*bounds) else {
                 continue;
             };
-            let mut changing = changing_cells(&packed(&view.rows), self.logic());
+            let mut changing = changing_cells(&view.rows, self.logic());
             add_grown(alloc, view.at, &view.rows, &mut changing, &mut clusters)?;
         }
         Ok(clusters)
