@@ -1,19 +1,14 @@
 -- A pattern moved to the corner, cell by cell.
-use Rattle.std.proofs.Common.{◌≡◌, ◌==◌, ℕ, ℤ, zero, suc, pos, neg_ℤ, ◌+ℤ◌, ◌<◌, ◌≤◌, ◌||◌, Bool, true, List, [], ◌∷◌, Some, arith, refl, ap, sym, subst, ◌∙◌, if◌then◌else◌, slice_index, unwrap_or}
+use Rattle.std.proofs.Common.{◌≡◌, ◌==◌, ℕ, ℤ, zero, suc, pos, neg_ℤ, ◌+ℤ◌, ◌<◌, ◌||◌, Bool, List, [], ◌∷◌, Some, arith, refl, ap, sym, ◌∙◌, if◌then◌else◌, slice_index}
 use Rattle.std.specs.Int.{bit_at}
-use Rattle.std.specs.List.{AllByRecursion}
-use Rattle.std.proofs.lemmas.Bool.{false≢true}
 use Rattle.std.proofs.lemmas.Nat.Bits.{bit_at-lt}
 use Rattle.std.proofs.lemmas.Int.{ints}
 use Rattle.plane_core.specs.declared.plane.bounds.Bounds.{Bounds}
 use Rattle.plane_core.specs.declared.plane.cell.Cell.{Cell}
-use Rattle.plane_core.specs.plane.Bounds.{IsWithin, at_corner, box_of, cornered, shifted}
-use Rattle.plane_core.specs.plane.Cells.{IsPattern, cell_at, distance, has, moved_by}
-use Rattle.plane_core.specs.windows.LonePatterns.{IsInWindow}
+use Rattle.plane_core.specs.plane.Bounds.{at_corner, box_of, cornered, shifted}
+use Rattle.plane_core.specs.plane.Cells.{cell_at, has, moved_by}
 use Rattle.plane_core.specs.windows.Rows.{bit_in}
-use Rattle.plane_core.proofs.lemmas.plane.SetLemmas.{has-all}
 use Rattle.plane_core.proofs.lemmas.plane.CellLemmas.{cell_cmp-moved}
-use Rattle.plane_core.proofs.lemmas.plaintext.PlaintextBox.{all_within, box_of-cons, least}
 use Rattle.code_core.specs.Columns.{IsBoxed}
 use Rattle.std.specs.Ordering.{is_eq}
 
@@ -33,31 +28,6 @@ has-at_corner cells b x y e =
   where
     back : (a : ℤ) (n : ℕ) → pos n ≡ (a +ℤ pos n) +ℤ neg_ℤ a
     back a n = omega (arith, ints)
-
--- ---- rows from the corner on
-
--- a pattern lies in the window at the corner of its box, if that isn't too large
-pub in_window : (cells : List Cell) (b : Bounds) → IsPattern cells → box_of cells ≡ Some b → distance b.left b.right < 40 → distance b.top b.bottom < 40
-    → (c : Cell) → has cells c ≡ true → IsInWindow 16 b.left b.top c
-in_window [] b p e wide high c alive = absurd (false≢true alive)
-in_window (d ∷ ds) b p e wide high c alive = inside (has-all (IsWithin b) (d ∷ ds) c within alive)
-  where
-    same : least d ds ≡ b
-    same = some_is (sym (box_of-cons d ds) ∙ e)
-      where
-        some_is : Some (least d ds) ≡ Some b → least d ds ≡ b
-        some_is h = ap (λ o. unwrap_or o (least d ds)) h
-
-    within : AllByRecursion (IsWithin b) (d ∷ ds)
-    within = subst (λ (a : Bounds). AllByRecursion (IsWithin a) (d ∷ ds)) same (all_within d ds)
-
-    inside : IsWithin b c → IsInWindow 16 b.left b.top c
-    inside h = record {
-      west = h.left;
-      north = h.top;
-      east = omega (arith, ints, h.left, h.right, wide);
-      south = omega (arith, ints, h.top, h.bottom, high);
-    }
 
 -- a live cell is a bit of its row
 pub cell_bit : (cells : List Cell) (b : Bounds) (rows : List ℕ) (x y : ℕ) → IsBoxed b rows cells → x < 64 → y < 64

@@ -2,6 +2,7 @@ pub mod ApgcodeLemmas
 pub mod CodeLaws
 pub mod CornerLemmas
 pub mod ImageLemmas
+pub mod ImageRows
 pub mod JoinedStrips
 pub mod LaterCodes
 pub mod LeastLemmas

@@ -33,7 +33,7 @@ unfolding image
 in_order-image o cells = in_order-set_of (map (turned_cell o) cells)
 
 -- the image in its own orientation
-image-same : (cells : List Cell) → InOrder cells → image Same cells ≡ cells
+pub image-same : (cells : List Cell) → InOrder cells → image Same cells ≡ cells
 unfolding image
 image-same cells order = ap set_of (map-alone cells) ∙ set_of-in_order cells order
   where
@@ -132,7 +132,7 @@ still-negated a = both_ways (int_eq (neg_ℤ a) (pos 0)) (int_eq a (pos 0)) (λ 
     there : (a : ℤ) → a ≡ pos 0 → int_eq (neg_ℤ a) (pos 0) ≡ true
     there a is = subst (λ (b : ℤ). int_eq (neg_ℤ b) (pos 0) ≡ true) (sym is) refl
 
-and_swap : (a b : Bool) → (a && b) ≡ (b && a)
+pub and_swap : (a b : Bool) → (a && b) ≡ (b && a)
 and_swap true true = refl
 and_swap true false = refl
 and_swap false true = refl

@@ -1,5 +1,6 @@
 pub mod Apgcodes
 pub mod Columns
+pub mod Images
 pub mod Least
 pub mod Names
 pub mod Reading

@@ -7,6 +7,7 @@ pub mod apgcode;
 pub mod cycle;
 /// Numbers in decimal.
 pub mod decimal;
+mod image_rows;
 /// The name of a pattern that recurs.
 pub mod name;
 /// The pattern of an extended Wechsler text.

@@ -16,24 +16,21 @@
 ghost use Rattle.std.specs.Prelude.{Option, ℕ, ◌≡◌, ◌≢◌, ◌<◌, ◌≤◌, [], Some, Err, length, option_map};
 ghost use Rattle.std.specs.Prelude.{string_bytes, IfOk};
 ghost use Rattle.std.specs.Cmp.{IsTotalOrder};
-ghost use Rattle.plane_core.specs.plane.Orientations.{turned};
 ghost use Rattle.plane_core.specs.plane.Rules.{Numbers};
 ghost use Rattle.code_core.specs.Names.{CodesAreDetermined, CodesHaveTheirShape, CodesLater, CodesMoved, CodesTurned};
 ghost use Rattle.code_core.specs.Names.{IsCode, OnlyEqualTextsTie, IsLeastOf, kind_of, number_of, text_cmp};
 ghost use Rattle.code_core.specs.Least.{Among, IsImageAt, IsImageOf, IsNameBy, earlier_text};
 ghost use Rattle.code_core.specs.Recurrences.{IsCycle, SearchEnds};
-ghost use Rattle.code_core.specs.Texts.{text};
 
 use crate::apgcode::{Apgcode, Kind};
 use crate::cycle::{Cycle, follow_or_reject};
 use crate::recurrence::Recurrence;
-use crate::wechsler::wechsler;
+use crate::wechsler::image_text;
 use memory::OutOfMemory;
 use plane_core::generation::StepError;
 use plane_core::plane::orientation::{Orientation, orientations};
 use plane_core::plane::pattern::Pattern;
 use plane_core::plane::rule::Rule;
-use plane_core::plane::transform::PlaceError;
 use std::alloc::Global;
 use std::cmp::Ordering;
 
@@ -169,22 +166,6 @@ fn least_image(
         least = earlier(least, found);
     }
     Ok(least)
-}
-
-/// Returns the text of a pattern in an orientation, if it has one. An image that doesn't fit on the plane is far too
-/// large for one.
-fn image_text(
-    alloc: Global,
-    pattern: &Pattern,
-    orientation: Orientation,
-) -> Result<Option<String>, OutOfMemory>
-    ensures { IfOk result (λ found. option_map string_bytes found ≡ text (turned orientation pattern.now)) }
-{
-    match pattern.turn(alloc, orientation) {
-        Ok(image) => wechsler(alloc, &image),
-        Err(PlaceError::OutOfPlane) => Ok(None),
-        Err(PlaceError::Memory(error)) => Err(error),
-    }
 }
 
 /// Returns the earlier of two texts, or the only one.

@@ -15,22 +15,22 @@
 //! So this pattern's text is `3x1zw1`. A column with a live cell is written together with the run of empty columns
 //! before it, so the run at a strip's end is never written.
 
-ghost use Rattle.std.specs.Prelude.{◌≡◌, ◌+◌, ◌<◌, ◌≤◌, ◌++◌, ◌∷◌, [], pos, Some, IfOk, OnOk, flat_map, option_map};
-ghost use Rattle.std.specs.Prelude.{List, codes, replicate, true, if◌then◌else◌, ◌==◌};
+ghost use Rattle.std.specs.Prelude.{◌≡◌, ◌+◌, ◌<◌, ◌≤◌, ◌++◌, ◌∷◌, [], pos, IfOk, OnOk, flat_map, option_map};
+ghost use Rattle.std.specs.Prelude.{List, codes, replicate, if◌then◌else◌, ◌==◌};
 ghost use Rattle.std.specs.String.{string_bytes};
-ghost use Rattle.plane_core.specs.plane.Bounds.{at_corner, box_of};
+ghost use Rattle.plane_core.specs.plane.Bounds.{at_corner};
 ghost use Rattle.plane_core.specs.declared.plane.cell.Cell.{Cell};
 ghost use Rattle.plane_core.specs.plane.Cells.{cell_at, distance, has};
-ghost use Rattle.plane_core.specs.windows.LonePatterns.{IsInWindow};
-ghost use Rattle.plane_core.specs.windows.Rows.{ShowsInAllRows};
+ghost use Rattle.plane_core.specs.plane.Orientations.{turned};
 ghost use Rattle.code_core.specs.Columns.{IsBoxed, column};
 ghost use Rattle.code_core.specs.Texts.{TextsHaveTheirShape, TextsSpellPatterns, fits_forty_square, strip};
 ghost use Rattle.code_core.specs.Texts.{strip_tokens, text, tokens_of};
 ghost use Rattle.code_core.specs.Tokens.{character, gap_start, gap_text, spelling};
 
+use crate::image_rows::{image_box, image_rows};
 use memory::OutOfMemory;
 use plane_core::plane::bounds::Bounds;
-use plane_core::plane::cell::Cell;
+use plane_core::plane::orientation::Orientation;
 use plane_core::plane::pattern::Pattern;
 use std::alloc::Global;
 
@@ -52,9 +52,20 @@ const STRIP: u32 = 5;
 /// # Errors
 ///
 /// [`OutOfMemory`] if memory runs out.
-#[tactic(auto, unfolding(crate::specs::Texts::text))]
 pub fn wechsler(alloc: Global, pattern: &Pattern) -> Result<Option<String>, OutOfMemory>
     ensures { IfOk result (λ found. option_map string_bytes found ≡ text pattern.now) }
+{
+    pattern.recall_order();
+    image_text(alloc, pattern, Orientation::Same)
+}
+
+/// Returns the text of the pattern's image in an orientation, as [`wechsler`] does.
+pub(crate) fn image_text(
+    alloc: Global,
+    pattern: &Pattern,
+    orientation: Orientation,
+) -> Result<Option<String>, OutOfMemory>
+    ensures { IfOk result (λ found. option_map string_bytes found ≡ text (turned orientation pattern.now)) }
 {
     let Some(bounds) = pattern.bounds() else {
         return Ok(None);
@@ -62,7 +73,9 @@ pub fn wechsler(alloc: Global, pattern: &Pattern) -> Result<Option<String>, OutO
     if !fits_forty_square(bounds) {
         return Ok(None);
     }
-    Ok(Some(text_in(alloc, pattern, bounds)?))
+    let rows = image_rows(pattern.cells(), bounds, orientation);
+    let text = text_in(alloc, &rows, image_box(bounds, orientation))?;
+    Ok(Some(text))
 }
 
 /// The laws of the texts of all patterns: each is spelled by tokens whose cells are the pattern, moved to the corner,
@@ -74,14 +87,14 @@ pub fn texts_spell_patterns()
 {}
 
 /// Returns the number of the box's last column, counted from 0.
-fn last_column(bounds: Bounds) -> u32
+pub(crate) fn last_column(bounds: Bounds) -> u32
     ensures { result ≡ distance bounds.left bounds.right }
 {
     bounds.left.abs_diff(bounds.right)
 }
 
 /// Returns the number of the box's last row, counted from 0.
-fn last_row(bounds: Bounds) -> u32
+pub(crate) fn last_row(bounds: Bounds) -> u32
     ensures { result ≡ distance bounds.top bounds.bottom }
 {
     bounds.top.abs_diff(bounds.bottom)
@@ -94,35 +107,19 @@ fn fits_forty_square(bounds: Bounds) -> bool
     last_column(bounds) < CODE_SIDE_LIMIT && last_row(bounds) < CODE_SIDE_LIMIT
 }
 
-/// Returns the text of a pattern with this box.
-fn text_in(alloc: Global, pattern: &Pattern, bounds: Bounds) -> Result<String, OutOfMemory>
-    requires bounds { box_of pattern.now ≡ Some bounds }
+/// Returns the text of any pattern with this box and these rows.
+fn text_in(alloc: Global, rows: &[u64; 64], bounds: Bounds) -> Result<String, OutOfMemory>
     requires width { distance bounds.left bounds.right < CODE_SIDE_LIMIT }
     requires height { distance bounds.top bounds.bottom < CODE_SIDE_LIMIT }
-    ensures { IfOk result (λ found. string_bytes found ≡ flat_map spelling (
-        tokens_of (at_corner pattern.now) (distance bounds.left bounds.right) (distance bounds.top bounds.bottom))) }
+    ensures { IfOk result (λ found. (cells : List Cell) → IsBoxed bounds rows.now cells
+        → string_bytes found ≡ flat_map spelling (
+        tokens_of (at_corner cells) (distance bounds.left bounds.right) (distance bounds.top bounds.bottom))) }
 {
-    let rows = rows_of(pattern.cells(), bounds);
     let mut text = String::new(alloc);
     for k in 0..last_row(bounds) / STRIP + 1 {
-        push_strip(&mut text, &rows, bounds, k)?;
+        push_strip(&mut text, rows, bounds, k)?;
     }
     Ok(text)
-}
-
-/// Returns the rows of a pattern, beginning with the first row of this box. Bit i of each is the cell in column i of
-/// the box.
-fn rows_of(cells: &[Cell], bounds: Bounds) -> [u64; 64]
-    requires { (c : Cell) → has cells.now c ≡ true → IsInWindow 16 bounds.left bounds.top c }
-    ensures { ShowsInAllRows bounds.left bounds.top result cells.now }
-{
-    let mut rows = [0; 64];
-    for cell in cells {
-        let across = (cell.x - bounds.left) as usize;
-        let down = (cell.y - bounds.top) as usize;
-        rows[down] |= 1 << across;
-    }
-    rows
 }
 
 /// Appends the text of strip k, of which there are at most eight, of any pattern with this box and these rows. A `z`
