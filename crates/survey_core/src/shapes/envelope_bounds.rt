@@ -75,10 +75,10 @@ pub(crate) fn stay_apart(horizon: u32, one: &EnvelopeBounds, other: &EnvelopeBou
     requires { horizon ≤ 4096 }
     ensures { IsTrue result → StayApart horizon one.now other.now }
 {
-    if are_still_lives(one, other) {
+    if are_still_and_apart(one, other) {
         return true;
     }
-    if are_still_and_apart(one, other) {
+    if are_still_lives(one, other) {
         return true;
     }
     // The generations of a cycle of both, if there is such a number.
@@ -93,8 +93,8 @@ pub(crate) fn stay_apart(horizon: u32, one: &EnvelopeBounds, other: &EnvelopeBou
     are_clear_for(one, other, cycles_in(horizon, period))
 }
 
-/// Returns `true` only if neither pattern moves, and at least two empty columns or rows lie between the boxes. Nearly
-/// all pairs other than two still lifes are seen to stay apart by this.
+/// Returns `true` only if neither pattern moves, and at least two empty columns or rows lie between the boxes. This
+/// settles nearly all pairs, most of them with one comparison of two rows.
 fn are_still_and_apart(one: &EnvelopeBounds, other: &EnvelopeBounds) -> bool
     ensures { IsTrue result → (horizon : ℕ) → StayApart horizon one.now other.now }
 {
@@ -107,8 +107,7 @@ fn are_still_and_apart(one: &EnvelopeBounds, other: &EnvelopeBounds) -> bool
     are_boxes_apart(one.bounds, other.bounds)
 }
 
-/// Checks whether both are still lives. They never change, so they stay apart even if their boxes overlap. Half of all
-/// pairs are such.
+/// Checks whether both are still lives. They never change, so they stay apart even if their boxes overlap.
 fn are_still_lives(one: &EnvelopeBounds, other: &EnvelopeBounds) -> bool
     ensures { IsTrue result → (horizon : ℕ) → StayApart horizon one.now other.now }
 {
