@@ -10,12 +10,12 @@ import subprocess
 import sys
 from collections.abc import Callable
 from contextlib import suppress
-from pathlib import Path
+from functools import cache
+from importlib.resources import files
 from typing import IO
 
 from haul.program import checked
 
-STARTER = str(Path(__file__).with_name("starter.py"))
 # What the starter does with the program.
 CENSUS, FIND = "census", "find"
 BYTES_AT_A_TIME = 2**16
@@ -23,6 +23,12 @@ BYTES_AT_A_TIME = 2**16
 SECONDS_TO_END = 0.05
 # The line of progress of `census take`.
 PROGRESS = re.compile(rb"([0-9]{1,8}) of [0-9]{1,8} soups")
+
+
+@cache
+def starter() -> str:
+    """Returns the text of `starter.py`. It is read once, since an installed `haul` is one file, which may be replaced while this runs."""
+    return files("haul").joinpath("starter.py").read_text("utf-8")
 
 
 class Waiter:
@@ -48,9 +54,9 @@ class Running:
 
     def __init__(self, waiter: Waiter, how: str, words: list[str], stderr: int | None) -> None:
         """Starts a program by `starter.py`, with `CENSUS` or `FIND`. Raises `OSError` if that fails."""
-        starter = [sys.executable, "-I", "-S", STARTER, how, str(os.getpid())]
+        starts = [sys.executable, "-I", "-S", "-c", starter(), how, str(os.getpid())]
         self.waiter = waiter
-        self.process = subprocess.Popen([*starter, *words], stdin=subprocess.DEVNULL, stdout=subprocess.PIPE, stderr=stderr,
+        self.process = subprocess.Popen([*starts, *words], stdin=subprocess.DEVNULL, stdout=subprocess.PIPE, stderr=stderr,
                                         start_new_session=True)
         self.printed, self.complained = bytearray(), bytearray()
         # How many of the two streams are open.

@@ -1,6 +1,6 @@
-"""Starts a program that ends when `haul` ends, even if `haul` is killed. It is a tiny program of its own, which `haul` runs.
+"""Starts a program that ends when `haul` ends, even if `haul` is killed. It is a tiny program of its own, whose text `haul` passes to Python.
 
-usage: starter.py HOW PARENT PROGRAM [ARGUMENT ..]
+usage: python3 -I -S -c TEXT HOW PARENT PROGRAM [ARGUMENT ..]
 
 It runs in a session of its own, and PARENT is the process that started it. `HOW` is one of two:
 
@@ -14,7 +14,7 @@ from __future__ import annotations
 import os
 import sys
 
-# Other modules are imported only where they are needed, since `signal` takes longer than all the rest, and `haul` reads this file too.
+# Other modules are imported only where they are needed, since `signal` takes longer than all the rest, and `haul` imports this module too.
 SIGKILL = 9
 # Of the system's call `prctl`: which signal comes when the parent ends.
 PR_SET_PDEATHSIG = 1

@@ -11,6 +11,7 @@ from release.archive import gzipped
 from release.checkout import Checkout
 from release.files import PROGRAM, TEXT, File, Tree
 from release.pages import moved_page
+from release.zipped import is_packed, packed
 
 PAGES = ["README.md", "CHANGELOG.md", *(f"docs/{name}.md" for name in ("COMMANDS", "FORMATS", "PROFILE", "BOOK", "SCALE"))]
 DOC = "share/doc/gokzerd"
@@ -20,17 +21,14 @@ LIBEXEC = "libexec/gokzerd"
 def places_of(checkout: Checkout, zsh: str) -> dict[str, str]:
     """Where the files of the repository are below the folder that they are installed in. The completions for zsh have a folder of
     their own on each system."""
-    places = {"bin/haul": "bin/haul", "release/census": "bin/census", "release/processor.sh": f"{LIBEXEC}/processor.sh"}
+    places = {"release/census": "bin/census", "release/processor.sh": f"{LIBEXEC}/processor.sh"}
     places |= {page: f"{DOC}/{page.rpartition('/')[2]}" for page in [*PAGES, "docs/page.png", "examples/100000.html"]}
     for name in ("census", "haul"):
         places[f"docs/man/{name}.1"] = f"share/man/man1/{name}.1"
         places[f"completions/{name}.bash"] = f"share/bash-completion/completions/{name}"
         places[f"completions/_{name}"] = f"share/zsh/{zsh}/_{name}"
         places[f"completions/{name}.fish"] = f"share/fish/vendor_completions.d/{name}.fish"
-    for file in checkout.files:
-        folder, _, name = file.rpartition("/")
-        if folder == "cluster" or folder in ("haul", "haul/page") and name.endswith((".py", ".html", ".css", ".js")):
-            places[file] = f"share/census/{file}"
+    places |= {file: f"share/census/{file}" for file in checkout.files if file.rpartition("/")[0] == "cluster"}
     lacking = sorted(set(places) - checkout.files)
     if lacking:
         raise Failed(*(f"the commit has no file {file}" for file in lacking))
@@ -41,8 +39,7 @@ def installed(checkout: Checkout, programs: Path, zsh: str) -> Tree:
     """What is below the folder that a release is installed in."""
     places = places_of(checkout, zsh)
     # Some pages link to folders, and to the page on the examples, of which one is in a release.
-    linked = {**places, "cluster": "share/census/cluster", "haul": "share/census/haul", "docs/man": "share/man/man1",
-              "examples/README.md": f"{DOC}/100000.html"}
+    linked = {**places, "cluster": "share/census/cluster", "docs/man": "share/man/man1", "examples/README.md": f"{DOC}/100000.html"}
     tree: Tree = {}
     for path, place in places.items():
         file = checkout.top / path
@@ -50,6 +47,7 @@ def installed(checkout: Checkout, programs: Path, zsh: str) -> Tree:
         if path.endswith(".md"):
             data = moved_page(data.decode(), path, linked).encode()
         tree[place] = File(data, PROGRAM if file.stat().st_mode & 0o100 else TEXT)
+    tree["bin/haul"] = File(packed(checkout.top, filter(is_packed, checkout.files)), PROGRAM)
     for name in ("census-v2", "census-v3"):
         tree[f"{LIBEXEC}/{name}"] = File((programs / name).read_bytes(), PROGRAM)
     return tree

@@ -8,7 +8,7 @@ from __future__ import annotations
 import re
 from collections.abc import Iterator
 from html import escape
-from pathlib import Path
+from importlib.resources import files
 from string import Template
 
 from haul.page.data import data_of
@@ -42,4 +42,4 @@ def page_of(census: Census, hauls: list[Haul], least: int, play: int = 500) -> I
 
 def beside(name: str) -> str:
     """Returns a file in the folder of this one."""
-    return Path(__file__).with_name(name).read_text("utf-8")
+    return files("haul.page").joinpath(name).read_text("utf-8")

@@ -332,7 +332,7 @@ class Calls(unittest.TestCase):
     def test_the_others_ask_nothing(self) -> None:
         """Not even if there is no program."""
         with tempfile.TemporaryDirectory() as folder:
-            shutil.copytree(TOP / "haul", Path(folder, "share", "census", "haul"))
+            shutil.copytree(TOP / "haul", Path(folder, "haul"))
             Path(folder, "bin").mkdir()
             shutil.copy(HAUL, Path(folder, "bin", "haul"))
             Path(folder, "a").write_bytes(census("take", "--count", "40"))

@@ -1,4 +1,4 @@
-//! From the arguments of a call to its request, or to the reason why there is none.
+//! Reads the arguments of a call: the result is a request, or an error with its text.
 //!
 //! ```text
 //! arguments ──┬─ only --version or -V ──────────────────> Request::Version
@@ -10,7 +10,8 @@ ghost use Rattle.std.specs.Prelude.{◌≡◌, ◌≢◌, ◌<◌, false, None, 
 ghost use Rattle.std.specs.Prelude.{option_and_then, string_bytes};
 ghost use Rattle.memory.specs.Witness.{out_of_memory};
 ghost use Rattle.clap.specs.Words.{found_of, kind_of, rows_of, subcommand_rows_of};
-ghost use Rattle.arguments.specs.Calls.{AskForTheirValues, AsksForVersion, NoCommandAsksForNothing, OthersAskForNothing};
+ghost use Rattle.arguments.specs.Calls.{AskForTheirValues, AsksForVersion, NoCommandAsksForNothing};
+ghost use Rattle.arguments.specs.Calls.{OthersAskForNothing};
 ghost use Rattle.arguments.specs.Unasked.{IsUsage, IsUsageText, SaysWhy};
 ghost use Rattle.arguments.specs.Requests.{AreInTheirRanges, asked_by, asks_version, request_in};
 

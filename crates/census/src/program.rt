@@ -103,7 +103,7 @@ pub fn run_program<
 }
 
 /// Does what `arguments` ask for, and writes to `output` through a buffer. The version, which takes no memory, is
-/// written without the buffer. Returns `output`, or `None` if there is no memory for the buffer.
+/// written without the buffer. Returns `output`, or `None` if memory runs out for the buffer.
 fn do_buffered<T: Threads + Wait + Sync, R: Read, W: Write + Drop, E: Write, P: Write, C: Clock>(
     machine: &mut Machine<'_, T, E, ProgressLine<P, C>>,
     arguments: &[String],

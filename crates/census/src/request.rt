@@ -46,7 +46,7 @@ use std::time::Clock;
 ///
 /// # Errors
 ///
-/// As for [`do_request`], or `Memory` if there is no memory to read the arguments.
+/// As for [`do_request`], or `Memory` if memory runs out while the arguments are read.
 pub fn do_arguments<
     T: Threads + Wait + Sync,
     S: AsStr,

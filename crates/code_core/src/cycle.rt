@@ -45,6 +45,9 @@ impl Recurrence {
     }
 }
 
+/// The most cells of a pattern whose generations are kept before it is known that it recurs.
+const MOST_KEPT: usize = 4096;
+
 /// A pattern that recurs: its phases, beginning with the pattern itself, and how it recurs.
 #[derive(Drop)]
 pub struct Cycle {
@@ -74,8 +77,8 @@ pub(crate) fn follow_or_reject(
     follow(alloc, pattern, rule, limit)
 }
 
-/// Follows the pattern until it recurs, and returns its phases, each of which is made once. `None` if none of the
-/// generations 1 to `limit` is the pattern again, moved or not.
+/// Follows the pattern until it recurs, and returns its phases. `None` if none of the generations 1 to `limit` is the
+/// pattern again, moved or not.
 ///
 /// `pattern` must not be empty, and `limit` must be at least 1.
 ///
@@ -83,6 +86,53 @@ pub(crate) fn follow_or_reject(
 ///
 /// Those of [`Recurrence::find`].
 pub fn follow(
+    alloc: Global,
+    pattern: &Pattern,
+    rule: &Rule,
+    limit: u32,
+) -> Result<Option<Cycle>, StepError>
+    requires pattern { pattern.now ≢ [] }
+    requires least { 1 ≤ limit }
+    ensures { SearchEnds (λ cycle. IsCycle rule.now pattern.now limit cycle.phases.items cycle.recurrence)
+        rule.now pattern.now limit result }
+{
+    if pattern.population() > MOST_KEPT {
+        // The generations of a large pattern take much memory, so they are kept only if it is known to recur.
+        let Some(_) = search(alloc, pattern, rule, limit)? else {
+            return Ok(None);
+        };
+    }
+    keep_phases(alloc, pattern, rule, limit)
+}
+
+/// Returns how the pattern recurs, or `None` if none of the generations 1 to `limit` is the pattern again, moved or
+/// not. Only one generation is kept at a time.
+fn search(
+    alloc: Global,
+    pattern: &Pattern,
+    rule: &Rule,
+    limit: u32,
+) -> Result<Option<Recurrence>, StepError>
+    requires pattern { pattern.now ≢ [] }
+    requires least { 1 ≤ limit }
+    ensures { SearchEnds (Recurs rule.now pattern.now limit) rule.now pattern.now limit result }
+{
+    if pattern.touches_edge() {
+        return Err(StepError::Edge);
+    }
+    let mut latest = pattern.copy(alloc)?;
+    for age in 0..limit {
+        let next = latest.step(alloc, rule)?;
+        if let Some((dx, dy)) = pattern.shift_to(&next) {
+            return Ok(Some(recurrence_at(age, dx, dy)));
+        }
+        latest = next;
+    }
+    Ok(None)
+}
+
+/// Follows the pattern as [`follow`] does. Each phase is made once, and is kept until the end.
+fn keep_phases(
     alloc: Global,
     pattern: &Pattern,
     rule: &Rule,

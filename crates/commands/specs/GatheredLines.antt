@@ -26,7 +26,7 @@ pub record Claims (line : List ℕ) (claim : Claimed) : Type 0 where
 abbrev pub IsWrong : Claimed → Type 0
 IsWrong claim = (finding : Finding) → IsFoundFor claim finding → ¬ Agrees claim finding
 
--- A line is a report of the job, or it has a fault: it is no claim's line, its claim is of another job, or its claim is wrong.
+-- A line is a report of the job, or it has a fault: it doesn't spell a claim, its claim is of another job, or its claim is wrong.
 abbrev pub IsChecked : Job → List ℕ → Result Reported LineFault → Type 0
 IsChecked job line (Ok report) = (claim : Claimed) × Claims line claim × IsConfirmed claim job report
 IsChecked job line (Err (BadLine place)) = IsFirstFaultOf line place

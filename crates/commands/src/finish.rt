@@ -28,7 +28,8 @@ pub(crate) fn finish<W: Write>(haul: &mut Haul, output: &mut Out<W>) -> Result<u
     ensures taken { haul.new.taken ≡ haul.old.taken }
     ensures terms { haul.new.terms ≡ haul.old.terms }
     ensures accepted { IfErr result (λ complaint. status_of complaint ≢ Status.Refused) }
-    ensures no_memory { IfErr result (λ complaint. complaint ≡ Complaint.Memory out_of_memory → output.new ≡ output.old) }
+    ensures no_memory { IfErr result (λ complaint. complaint ≡ Complaint.Memory out_of_memory
+        → output.new ≡ output.old) }
 {
     let missing = haul.missing_count();
     let _ = haul.close();

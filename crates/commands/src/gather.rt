@@ -117,7 +117,8 @@ fn gather<R: Read, W: Write, E: Write>(
     ensures unread { gather_reads plan.now ≡ false → input.new ≡ input.old }
     ensures untouched { IfErr result (λ complaint. status_of complaint ≡ Status.Refused
         → (input.new ≡ input.old) × (output.new ≡ output.old)) }
-    ensures no_memory { IfErr result (λ complaint. complaint ≡ Complaint.Memory out_of_memory → output.new ≡ output.old) }
+    ensures no_memory { IfErr result (λ complaint. complaint ≡ Complaint.Memory out_of_memory
+        → output.new ≡ output.old) }
 {
     let mut haul = open_haul(alloc, plan, workers)?;
     gather_into(alloc, &mut haul, input, output, errors)
@@ -141,7 +142,8 @@ fn gather_into<R: Read, W: Write, E: Write>(
         (stream E.contents errors.old errors.new) result }
     ensures fine { OnOk result (errors.new.failed ≡ false) }
     ensures accepted { IfErr result (λ complaint. status_of complaint ≢ Status.Refused) }
-    ensures no_memory { IfErr result (λ complaint. complaint ≡ Complaint.Memory out_of_memory → output.new ≡ output.old) }
+    ensures no_memory { IfErr result (λ complaint. complaint ≡ Complaint.Memory out_of_memory
+        → output.new ≡ output.old) }
 {
     gather_lines(alloc, input, haul, errors)?;
     finish(haul, output)
@@ -190,7 +192,7 @@ fn gather_lines<R: Read, E: Write>(
     Err(Complaint::TooLong)
 }
 
-/// Reads the next line, number `before` + 1, checks it, offers its report, and reports its fault. Returns what was read.
+/// Reads the next line, number `before` + 1, checks it, offers its report, and reports its fault. Returns what it read.
 fn next_line<R: Read, E: Write>(
     alloc: Global,
     input: &mut R,
@@ -234,8 +236,8 @@ fn next_line<R: Read, E: Write>(
     Ok(read)
 }
 
-/// Offers the report of the next line, number `before` + 1, and reports the line's fault. The slice has the line's first
-/// 2^24 + 1 bytes.
+/// Offers the report of the next line, number `before` + 1, and reports the line's fault. The slice has the first
+/// 2^24 + 1 bytes of the line.
 fn take_line<E: Write>(
     alloc: Global,
     kept: &[u8],
@@ -285,7 +287,7 @@ fn offer_line(
     }
 }
 
-/// Returns the report of a line, or why there is none. The slice has the line's first 2^24 + 1 bytes.
+/// Returns the report of a line, or the line's fault. The slice has the line's first 2^24 + 1 bytes.
 fn report_of(
     alloc: Global,
     kept: &[u8],
@@ -301,7 +303,7 @@ fn report_of(
     checked_report(alloc, kept, job, surveyor)
 }
 
-/// Returns where a line is bad that begins with these 2^24 bytes and is longer.
+/// Returns the place of the first fault of a line that begins with these 2^24 bytes and is longer.
 fn prefix_fault(alloc: Global, prefix: &[u8]) -> Result<usize, OutOfMemory>
     ensures { IfOk result (IsPrefixFault prefix.now) }
 {
@@ -312,7 +314,7 @@ fn prefix_fault(alloc: Global, prefix: &[u8]) -> Result<usize, OutOfMemory>
     }
 }
 
-/// Returns the report of a line, or why there is none.
+/// Returns the report of a line, or the line's fault.
 fn checked_report(
     alloc: Global,
     line: &[u8],

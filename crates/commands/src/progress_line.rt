@@ -22,8 +22,8 @@ const PAUSE: u128 = 200;
 /// system started fewer workers than were asked for, it also shows how many there are.
 ///
 /// The line is written when the haul is begun, and then from time to time, each time over the line before. At the end
-/// it is wiped. A line for which there is no memory is left out. After a failed write, or if the clock can't be read at
-/// the beginning, nothing is written.
+/// it is wiped. If memory runs out for a line, that line is left out. After a failed write, or if the clock can't be
+/// read at the beginning, nothing is written.
 #[derive(Drop)]
 pub struct ProgressLine<W: Write, C: Clock> {
     alloc: Global,

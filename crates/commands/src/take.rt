@@ -120,7 +120,8 @@ fn print_haul<W: Write, E: Write, G: Gate + Sync, T: Threads + Wait + Sync, H: P
         → Reaches (gated_behaviour (G.may_stop gate.now) plan.now) reader bytes result
         (stream W.contents output.old output.new) errors }
     ensures untouched { IfErr result (λ complaint. status_of complaint ≡ Status.Refused → output.new ≡ output.old) }
-    ensures no_memory { IfErr result (λ complaint. complaint ≡ Complaint.Memory out_of_memory → output.new ≡ output.old) }
+    ensures no_memory { IfErr result (λ complaint. complaint ≡ Complaint.Memory out_of_memory
+        → output.new ≡ output.old) }
     ensures silent { machine.new.errors ≡ machine.old.errors }
 {
     let haul = open_haul(machine.alloc, plan, workers)?;
@@ -176,7 +177,8 @@ fn print_taken<W: Write>(
     ensures gives_up { IfErr taken (λ _. (result ≡ Err (Complaint.Memory out_of_memory))
         × Has (stream W.contents output.old output.new) []) }
     ensures accepted { IfErr result (λ complaint. status_of complaint ≢ Status.Refused) }
-    ensures no_memory { IfErr result (λ complaint. complaint ≡ Complaint.Memory out_of_memory → output.new ≡ output.old) }
+    ensures no_memory { IfErr result (λ complaint. complaint ≡ Complaint.Memory out_of_memory
+        → output.new ≡ output.old) }
 {
     taken?;
     finish(haul, output)

@@ -72,8 +72,8 @@ pub(crate) fn run_worker<G: Gate, R: Wait>(
     WorkerResult { pass, sender, end }
 }
 
-/// Surveys what is left with a surveyor of the worker's own, and presents each report. This is a function of its own because
-/// a surveyor is expensive to verify at each exit of a function that also owns pass and sender.
+/// Surveys what is left with a surveyor of the worker's own, and presents each report. This is a function of its own
+/// because a surveyor is expensive to verify at each exit of a function that also owns pass and sender.
 fn survey_all<G: Gate, R: Wait>(
     alloc: Global,
     rt: &R,

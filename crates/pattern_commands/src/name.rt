@@ -86,7 +86,8 @@ fn name<R: Read, W: Write>(
     ensures rule_first { IsErr (rule_named rule_text.now)
         → IfErr result (λ complaint. status_of complaint ≡ Status.Refused) × (input.new ≡ input.old) }
     ensures untouched { IfErr result (λ complaint. status_of complaint ≡ Status.Refused → output.new ≡ output.old) }
-    ensures no_memory { IfErr result (λ complaint. complaint ≡ Complaint.Memory out_of_memory → output.new ≡ output.old) }
+    ensures no_memory { IfErr result (λ complaint. complaint ≡ Complaint.Memory out_of_memory
+        → output.new ≡ output.old) }
 {
     let profile = profile_named(profile)?;
     let rule = Rule::read(rule_text)?;

@@ -77,7 +77,8 @@ fn run<R: Read, W: Write>(
     ensures rule_first { IfErr (rule_named rule_text.now) (λ complaint.
         (result ≡ Err complaint) × (input.new ≡ input.old)) }
     ensures untouched { IfErr result (λ complaint. status_of complaint ≡ Status.Refused → output.new ≡ output.old) }
-    ensures no_memory { IfErr result (λ complaint. complaint ≡ Complaint.Memory out_of_memory → output.new ≡ output.old) }
+    ensures no_memory { IfErr result (λ complaint. complaint ≡ Complaint.Memory out_of_memory
+        → output.new ≡ output.old) }
 {
     let rule = Rule::read(rule_text)?;
     let pattern = read_pattern(alloc, input)?;

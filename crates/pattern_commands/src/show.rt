@@ -58,7 +58,8 @@ fn show<W: Write>(alloc: Global, code: &str, output: &mut Out<W>) -> Result<(), 
     ensures reached { ReachesText false true (only (show_answer code.now)) result
         (stream W.contents output.old output.new) }
     ensures untouched { IfErr result (λ complaint. status_of complaint ≡ Status.Refused → output.new ≡ output.old) }
-    ensures no_memory { IfErr result (λ complaint. complaint ≡ Complaint.Memory out_of_memory → output.new ≡ output.old) }
+    ensures no_memory { IfErr result (λ complaint. complaint ≡ Complaint.Memory out_of_memory
+        → output.new ≡ output.old) }
 {
     let text = text_in(code)?;
     let pattern = read_wechsler(alloc, text)?;

@@ -40,7 +40,8 @@ pub fn do_soup<W: Write, E: Write>(
     requires number { number < 2 ^ 40 }
     requires output { output.old.failed ≡ false }
     requires errors { errors.old.failed ≡ false }
-    ensures ends { (reader : Option (List ℕ)) (bytes : List ℕ) → Ends (soup_behaviour seed_text.now number) reader bytes result
+    ensures ends { (reader : Option (List ℕ)) (bytes : List ℕ)
+        → Ends (soup_behaviour seed_text.now number) reader bytes result
         (stream W.contents output.old output.new) (stream E.contents errors.old errors.new) }
     ensures untouched { result ≡ Status.Refused → output.new ≡ output.old }
     ensures no_memory { result ≡ Status.Memory → output.new ≡ output.old }
@@ -59,7 +60,8 @@ fn put_soup<W: Write>(
     ensures reached { ReachesText false true (only (soup_answer seed_text.now number)) result
         (stream W.contents output.old output.new) }
     ensures untouched { IfErr result (λ complaint. status_of complaint ≡ Status.Refused → output.new ≡ output.old) }
-    ensures no_memory { IfErr result (λ complaint. complaint ≡ Complaint.Memory out_of_memory → output.new ≡ output.old) }
+    ensures no_memory { IfErr result (λ complaint. complaint ≡ Complaint.Memory out_of_memory
+        → output.new ≡ output.old) }
 {
     let seed = Seed::new(seed_text)?;
     // The cells don't depend on the profile and the rule.

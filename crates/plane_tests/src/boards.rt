@@ -1,5 +1,5 @@
-//! What no clause says about a board: that spaceships are among its small clusters, and that the frontier is no further than it
-//! has to be.
+//! What no clause says about a board: that spaceships are among its small clusters, and that the frontier is as close
+//! as it can be.
 use memory::OutOfMemory;
 use plane_core::engine::board::Board;
 use plane_core::plane::cell::Cell;

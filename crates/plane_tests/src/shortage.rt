@@ -1,4 +1,5 @@
-//! A run ends rightly, or fails because memory ran out, whichever allocation is refused. `checks/memory` refuses each in turn.
+//! A run ends correctly, or fails because memory ran out, whichever allocation is refused. `checks/memory` refuses each
+//! in turn.
 use plane_core::generation::StepError;
 use plane_core::plane::cell::Cell;
 use plane_core::plane::pattern::Pattern;
