@@ -101,7 +101,8 @@ pub fn codes_are_of_objects()
 /// [`OutOfMemory`] if memory runs out.
 pub fn name_of(alloc: Global, pattern: &Pattern, cycle: &Cycle) -> Result<Apgcode, OutOfMemory>
     ensures { IfOk result (λ code. (rule : Numbers) (limit : ℕ)
-        → IsCycle rule pattern.now limit cycle.now.phases.items cycle.now.recurrence → IsCode rule pattern.now limit code) }
+        → IsCycle rule pattern.now limit cycle.now.phases.items cycle.now.recurrence
+        → IsCode rule pattern.now limit code) }
 {
     name_by(alloc, pattern, cycle)
 }

@@ -1,8 +1,8 @@
 //! A pattern between two checkpoints.
 //!
-//! At first the pattern is a list of cells. When it advances it is laid on a board, if there is one with room for it, and
-//! stays there from checkpoint to checkpoint. A board with removed spaceships advances by even numbers of generations
-//! only, so at an odd checkpoint the pattern is one generation ahead of what the board shows:
+//! At first the pattern is a list of cells. When it advances it is laid on a board, if there is one with room for it,
+//! and stays there from checkpoint to checkpoint. A board with removed spaceships advances by even numbers of
+//! generations only, so at an odd checkpoint the pattern is one generation ahead of what the board shows:
 //!
 //! ```text
 //! generation     0       101            202      303
@@ -10,8 +10,8 @@
 //! board shows            100, 1 ahead   202      302, 1 ahead
 //! ```
 //!
-//! If the board has no room for the next leap, the pattern becomes a list again. Spaceships that have escaped are removed
-//! from the board before it advances, and put back when the pattern is listed.
+//! If the board has no room for the next leap, the pattern becomes a list again. Spaceships that have escaped are
+//! removed from the board before it advances, and put back when the pattern is listed.
 
 ghost use Rattle.std.specs.Prelude.{◌≡◌, ◌%◌, ◌≤◌, ℕ, IfOk, IsTrue};
 ghost use Rattle.plane_core.specs.plane.Generations.{after};
@@ -149,8 +149,8 @@ fn from_list(
     on_board(alloc, rule, split, generations, spare)
 }
 
-/// Advances a split pattern by `generations`. If the board has no room, the pattern becomes a list, and the board is given
-/// back.
+/// Advances a split pattern by `generations`. If the board has no room, the pattern becomes a list, and the board is
+/// given back.
 fn on_board(
     alloc: Global,
     rule: &Rule,

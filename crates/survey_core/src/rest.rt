@@ -171,11 +171,13 @@ fn keep_apart(
     Ok(true)
 }
 
-/// Runs each of the clusters for a generation. Returns whether they then share no cell and make up what their union becomes.
+/// Runs each of the clusters for a generation. Returns whether they then share no cell and make up what their union
+/// becomes.
 fn step_apart(alloc: Global, rule: &Rule, clusters: &mut [Alone]) -> Result<bool, OutOfMemory>
     requires first { All (λ alone. alone.first ≡ next rule.now alone.cluster) clusters.old }
     requires near { All (λ alone. lies_within 999999 alone.latest ≡ true) clusters.old }
-    requires later { All (λ part. lies_within 999999 part ≡ true) (map (λ part. after rule.now part 1) (latest_of clusters.old)) }
+    requires later { All (λ part. lies_within 999999 part ≡ true)
+        (map (λ part. after rule.now part 1) (latest_of clusters.old)) }
     requires order { All InOrder (latest_of clusters.old) }
     requires off { ShareNoCell (latest_of clusters.old) }
     ensures stepped { OnOk result (clusters.new ≡ map (stepped rule.now) clusters.old) }

@@ -137,12 +137,14 @@ fn examine(
 ) -> Result<Option<Finding>, OutOfMemory>
     requires kept { IsKept rule.now evolution.now }
     requires near { lies_within survey_reach (kept rule.now evolution.now) ≡ true }
-    requires known_restless { AreKnownRestless rule.now profile.now (kept rule.now evolution.now) checkpoint known_restless.old }
+    requires known_restless { AreKnownRestless rule.now profile.now (kept rule.now evolution.now)
+        checkpoint known_restless.old }
     ensures settled { IfOk result
         (λ found. IfSome found (SettlesAt rule.now profile.now (kept rule.now evolution.now) checkpoint)) }
     ensures moves { IfOk result (λ found. IfNone found (¬ IsAtRest rule.now profile.now (kept rule.now evolution.now))) }
     ensures few { IfOk result (λ found. IfSome found (λ finding. objects_in finding < 2 ^ 64)) }
-    ensures known_restless { OnOk result (AreKnownRestless rule.now profile.now (kept rule.now evolution.now) checkpoint known_restless.new) }
+    ensures known_restless { OnOk result (AreKnownRestless rule.now profile.now (kept rule.now evolution.now)
+        checkpoint known_restless.new) }
 {
     let parity = (checkpoint % 2) as usize;
     if known_restless[parity] {

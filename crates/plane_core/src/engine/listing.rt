@@ -93,7 +93,8 @@ fn word_at(at: Frame, words: &[u64], span: RowSpan, word_column: usize, row: usi
     requires word_column { word_column < at.word_columns }
     requires row { row < at.rows }
     requires long { FillsFrame at words.now }
-    requires live { (i : ℕ) → i < 64 → bit_at (slice_index words.now (word_of at word_column row)) i ≡ 1 → HasRow span row }
+    requires live { (i : ℕ) → i < 64 → bit_at (slice_index words.now (word_of at word_column row)) i ≡ 1
+        → HasRow span row }
     ensures { (i : ℕ) → i < 64 → bit_at result i ≡ bit_at (slice_index words.now (word_of at word_column row)) i }
 {
     if row < span.from || span.end <= row {

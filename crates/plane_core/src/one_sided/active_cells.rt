@@ -1,4 +1,5 @@
-//! The cells in the middle of a window that change within two generations. A part that is at rest or alternates has none:
+//! The cells in the middle of a window that change within two generations. A part that is at rest or alternates has
+//! none:
 //!
 //! ```text
 //! . . . . . . . .      . . . . . . . .
@@ -21,8 +22,8 @@ pub(crate) struct Spot {
     pub(crate) column: u32,
 }
 
-/// Returns the live cells in columns 4 to 59 of the 32 rows in the middle that are dead two generations later. Others may
-/// be among them in the outer two of these rows. A cluster may be grown from each cell.
+/// Returns the live cells in columns 4 to 59 of the 32 rows in the middle that are dead two generations later. Others
+/// may be among them in the outer two of these rows. A cluster may be grown from each cell.
 pub(crate) fn changing_cells(rows: &[u64; 64], rule: &RuleLogic) -> [u64; 64] {
     let window: [u64x4; 8] = crop::<32, 8>(rows, 16);
     let mut cells = window;

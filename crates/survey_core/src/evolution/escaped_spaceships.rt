@@ -110,9 +110,9 @@ pub(crate) fn spaceship_of(
     }))
 }
 
-/// Guesses whether a part of a board is no spaceship: the memo doesn't know it, and it doesn't recur within a few generations.
-/// Few clusters that change are spaceships, so this is asked first. What the memo knows isn't run: most of it is a spaceship
-/// that isn't ahead yet.
+/// Guesses whether a part of a board is no spaceship: the memo doesn't know it, and it doesn't recur within a few
+/// generations. Few clusters that change are spaceships, so this is asked first. What the memo knows isn't run: most of
+/// it is a spaceship that isn't ahead yet.
 fn is_unlikely(rule: &Rule, limit: u32, part: &Pattern, memo: &Memo) -> bool {
     if memo.knows(rule, limit, part) {
         return false;
@@ -194,7 +194,8 @@ fn sum(one: i32, other: i32) -> i64
     i64::from(one) + i64::from(other)
 }
 
-/// Returns the spaceship at `time`: whole periods are a displacement, and the remainder is made generation by generation.
+/// Returns the spaceship at `time`: whole periods are a displacement, and the remainder is made generation by
+/// generation.
 pub(crate) fn at_time(
     alloc: Global,
     rule: &Rule,

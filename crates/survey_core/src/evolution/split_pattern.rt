@@ -1,4 +1,5 @@
-//! A board together with the spaceships that were removed from it. Together they are the pattern, and each evolves alone:
+//! A board together with the spaceships that were removed from it. Together they are the pattern, and each evolves
+//! alone:
 //!
 //! ```text
 //! generation     202                      404                       606
@@ -26,8 +27,8 @@ use plane_core::plane::pattern::Pattern;
 use plane_core::plane::rule::Rule;
 use std::alloc::Global;
 
-/// The last generation up to which spaceships are kept off a board. No survey takes so long, and until then no spaceship
-/// comes near the edge of the plane.
+/// The last generation up to which spaceships are kept off a board. No survey takes so long, and until then no
+/// spaceship comes near the edge of the plane.
 pub(crate) const LATEST_TIME: u32 = 800_000;
 
 /// How often spaceships are looked for, in generations. A search costs as much as a leap or two, and a spaceship that

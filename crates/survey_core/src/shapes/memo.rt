@@ -66,7 +66,8 @@ impl Model for Known {
 
     ghost Value = { Fact };
 
-    ghost view = { λ k. record { rule = k.rule; limit = k.limit; shape = k.shape; envelope = k.envelope; code = k.code } };
+    ghost view = { λ k.
+        record { rule = k.rule; limit = k.limit; shape = k.shape; envelope = k.envelope; code = k.code } };
 
     ghost invariant = { λ k. IsKnown
         (record { rule = k.rule; limit = k.limit; shape = k.shape; envelope = k.envelope; code = k.code }) };
@@ -209,8 +210,8 @@ impl Memo {
         false
     }
 
-    /// Returns the envelope of `pattern`, or `None` if it doesn't recur within `limit` generations, 1 to 64. A pattern that
-    /// does is named and kept in its slot, unless it is large.
+    /// Returns the envelope of `pattern`, or `None` if it doesn't recur within `limit` generations, 1 to 64. A pattern
+    /// that does is named and kept in its slot, unless it is large.
     pub(crate) fn envelope(
         &mut self,
         alloc: Global,

@@ -1,10 +1,10 @@
 -- Lists of cells in order as finite sets.
-use Rattle.std.proofs.Common.{◌≡◌, ◌+◌, ◌<◌, ℕ, Bool, true, false, ◌||◌, List, [], ◌∷◌, ◌++◌, arith, cond, refl, ap, ◌∙◌, sym, subst, filter, ◌&&◌, inl, inr, ◌⊎◌, append-nil, get_or, length, take}
+use Rattle.std.proofs.Common.{◌≡◌, ◌+◌, ℕ, Bool, true, false, ◌||◌, List, [], ◌∷◌, ◌++◌, arith, cond, refl, ap, ◌∙◌, sym, subst, filter, ◌&&◌, inl, inr, ◌⊎◌}
 use Rattle.std.specs.List.{AllByRecursion}
 use Rattle.std.specs.List.Sorted.{IsStrictlySortedBy}
 use Rattle.std.specs.Cmp.{both_ways as both_true}
 use Rattle.std.specs.List.{Contains}
-use Rattle.std.proofs.lemmas.List.Elements.{Contains-append_cases, Contains-push_cases, Contains-append_left, Contains-append_right, Contains-push, filter_more}
+use Rattle.std.proofs.lemmas.List.Elements.{Contains-append_cases, Contains-push_cases, Contains-append_left, Contains-append_right, Contains-push}
 use Rattle.std.specs.Ordering.{ordering_reverse, match_ordering}
 use Rattle.std.specs.declared.cmp.Ordering.{Ordering}
 use Rattle.std.specs.declared.cmp.Ordering.TheVariants.{Less, Equal, Greater}
@@ -210,9 +210,3 @@ pub same_members : (cs ds : List Cell) → ((c : Cell) → Contains cs c → Con
     → has cs c ≡ has ds c
 same_members cs ds f g c = both_true (has cs c) (has ds c) (λ e. Contains-has ds c (f c (has-Contains cs c e)))
     (λ e. Contains-has cs c (g c (has-Contains ds c e)))
-
--- one element more of a list that is filtered, which doesn't pass
-pub filter-without : {A : Type 0} (p : A → Bool) (xs : List A) (i : ℕ) (d : A) (kept : List A) → i < length xs → p (get_or xs i d) ≡ false
-    → kept ≡ filter p (take i xs) → kept ≡ filter p (take (i + 1) xs)
-filter-without p xs i d kept low fails is =
-    is ∙ sym (filter_more p xs i d low ∙ ap (λ b. filter p (take i xs) ++ cond b (get_or xs i d ∷ []) []) fails ∙ append-nil (filter p (take i xs)))
