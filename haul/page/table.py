@@ -48,7 +48,7 @@ def row(sides: Sides, code: str) -> str:
     rule = sides.first_with(code).haul.job.rule
     named = f"<b>{escape(label)}</b> {linked(code, rule)}" if label else linked(code, rule)
     return (
-        f'<tr><td>{drawn(code)}</td><td>{named}</td><td>{kind_words(code)}</td>'
+        f'<tr id="{escape(code)}"><td>{drawn(code)}</td><td>{named}</td><td>{kind_words(code)}</td>'
         f'<td>{"" if cells is None else cells}</td>{"".join(counts(side, code) for side in sides.all)}</tr>\n'
     )
 

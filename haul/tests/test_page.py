@@ -12,6 +12,7 @@ from html import unescape
 from pathlib import Path
 from unittest.mock import patch
 
+from haul import VERSION
 from haul.ends import End, end_of, populations_of
 from haul.life import rule_of
 from haul.main import do_page
@@ -51,16 +52,24 @@ class Top(unittest.TestCase):
 <header>
 <h1>A census of 8 soups under B36/S23</h1>
 <p>Random soups of 16 by 16 cells (numbers 5 to 11, 2048 of the seed <code class="seed">a</code>) ran under the rule <code>b36s23</code> (B36/S23) \
-until they had settled, and the objects that they left were counted.</p>
+until they had settled, and the formally verified program <code>census</code> counted the objects that they left.</p>
 <dl class="tiles"><div><dt>soups</dt><dd>8</dd></div><div><dt>objects</dt><dd>113</dd></div><div><dt>objects per soup</dt><dd>14.12</dd></div>\
-<div><dt>distinct objects</dt><dd>4</dd></div><div><dt>of these strict</dt><dd>2</dd></div><div><dt>unsettled soups</dt><dd>1</dd></div>\
-<div><dt>settled for good</dt><dd>2</dd></div></dl>
+<div><dt>distinct objects</dt><dd>4</dd></div><div><dt>of these strict<small>not made of smaller objects</small></dt><dd>2</dd></div>\
+<div><dt>unsettled soups<small>not at rest by generation 30,300</small></dt><dd>1</dd></div>\
+<div><dt>settled for good<small>at rest forever; the other 5 for at least 512 generations</small></dt><dd>2</dd></div></dl>
 <div class="more"><details><summary>How to verify it</summary>
 <p>If the haul of this page is in the file <code>all.haul</code>, <code>haul check all.haul</code> runs the whole census again and compares, \
 and <code>haul check --samples all.haul</code> runs only the sample soups.</p>
 </details>
 <details><summary>1 unsettled soup</summary>
 """), before_table(page(self.HAUL, 0)))
+
+    def test_the_foot(self) -> None:
+        """What made the page, and what its commands need, also without scripts."""
+        for text, hauls in ((page(self.HAUL, 0), "a haul"), (compared(self.HAUL, self.HAUL), "2 hauls")):
+            foot = text.partition("<footer>")[2].partition("</footer>")[0]
+            self.assertIn(f"<code>haul page</code> of Gokzerd {VERSION} from {hauls}. A <em>haul</em> is", foot)
+            self.assertIn("commands on this page need both programs", foot)
 
     def test_all_objects_count(self) -> None:
         """Also those that have no place on the page."""
@@ -183,11 +192,11 @@ class Data(unittest.TestCase):
         self.assertEqual(data_of(page(self.HAUL, 0))["objects"], [
             {"code": "xp2_1110s", "label": "2 blinkers", "made": [["xp2_7", "xp2_7"]], "objects": [[7, 4, 5]], "cells": 6},
             {"code": "xs10_25520oo", "label": "block and beehive", "made": [["xs4_33", "xs6_696"]], "objects": [[3, 1, 8]], "cells": 10},
-            {"code": "xs4_33", "label": "block", "made": ["strict"], "objects": [[2, 2]], "parts": [[7, 1, 2, 7]], "cells": 4},
+            {"code": "xs4_33", "label": "block", "named": 1, "made": ["strict"], "objects": [[2, 2]], "parts": [[7, 1, 2, 7]], "cells": 4},
             {"code": "ov_p3", "label": "", "made": ["not separated"], "objects": [[1, 0]], "parts": [[1, 0]]},
-            {"code": "xs8_rr", "label": "bi-block", "made": [["xs4_33", "xs4_33"]], "objects": [[1, 7]], "cells": 8},
-            {"code": "xp2_7", "label": "blinker", "made": ["strict"], "parts": [[14, 4, 5]], "cells": 3},
-            {"code": "xs6_696", "label": "beehive", "made": ["strict"], "parts": [[3, 1, 8]], "cells": 6}])
+            {"code": "xs8_rr", "label": "bi-block", "named": 1, "made": [["xs4_33", "xs4_33"]], "objects": [[1, 7]], "cells": 8},
+            {"code": "xp2_7", "label": "blinker", "named": 1, "made": ["strict"], "parts": [[14, 4, 5]], "cells": 3},
+            {"code": "xs6_696", "label": "beehive", "named": 1, "made": ["strict"], "parts": [[3, 1, 8]], "cells": 6}])
 
     def test_the_haul(self) -> None:
         data = data_of(page(self.HAUL, 3))
@@ -253,7 +262,7 @@ class Comparing(unittest.TestCase):
     def test_each_under_its_rule(self) -> None:
         """A table on table falls apart under the rule of B alone, and each value has a place for each haul."""
         objects = objects_of(compared(self.LIFE, self.OTHER))
-        self.assertEqual(objects["xs12_raar"], {"code": "xs12_raar", "label": "table on table", "made": ["strict", ["xs6_9f"] * 2], "objects": [[4, 0], [4, 7]],
+        self.assertEqual(objects["xs12_raar"], {"code": "xs12_raar", "label": "table on table", "named": 1, "made": ["strict", ["xs6_9f"] * 2], "objects": [[4, 0], [4, 7]],
                                                 "parts": [[4, 0], 0], "cells": 12})
         self.assertEqual(objects["xs6_9f"], {"code": "xs6_9f", "label": "", "made": [None, "strict"], "parts": [0, [8, 7]], "cells": 6})
         self.assertEqual(objects["xp2_7"]["objects"], [[10, 0], 0])
