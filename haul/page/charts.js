@@ -100,10 +100,10 @@ const rarestWords = (series, at) => {
   const ranks = isOne ? `rank ${whole(last)}` : `ranks ${whole(first)} to ${whole(last)}`;
   return `${isCompared ? `${hauls[at].letter}: ` : ''}${isOne ? 'One kind was' : `${whole(same.length)} kinds were`} found ${timesWords(total)} (${ranks})${which}.`;
 };
-// What the bracket says is at its right, or at the top if there is no room.
+// What the bracket says is at its right, or above it if there is no room.
 const LETTER = 7;
 const besideRarest = (x, y, text) => x + LETTER * text.length < PLOT.width - PLOT.right ? plotText(x + 6, y + 4, text, '')
-  : plotText(PLOT.width - PLOT.right - 6, PLOT.top + 16, text, 'text-anchor="end"');
+  : plotText(PLOT.width - PLOT.right - 2, y - 12, text, 'text-anchor="end"');
 const seriesSvg = (series, at, ranks, values) => {
   const points = series.map(({ value }, rank) => [plotX(ranks.at(rank + 1)), plotY(values.at(value))]);
   if (isCompared) return `<path class="dots" data-haul="${hauls[at].letter}" d="${dots(points)}"/>`;

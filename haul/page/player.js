@@ -206,7 +206,7 @@ class Player {
 
   draw(now = false) {
     const { rows } = this.evolution, isPlaying = this.isPlaying();
-    if (this.view.fits && rows.length) this.view.fit(this.rings.map(ringBox).reduce(joined, this.evolution.box(this.view.isOfAsh, this.ships)), now);
+    if (this.view.fits && rows.length) this.view.fit(this.rings.map(ringBox).reduce(joined, this.evolution.box(this.view.isOfAsh, this.ships)), now || this.isAtEnd());
     drawPattern(this.view, rows, this.rings);
     // What it says is read out only when it stands still.
     this.said.setAttribute('aria-live', isPlaying ? 'off' : 'polite');

@@ -147,15 +147,15 @@ class Rows(unittest.TestCase):
         haul = made({"xs4_33": 1200, "xp15_4r4z4r4": 40, "xq4_153": 3, "xp2_1110s": 2, "ov_p123": 1, "ov_s4000": 1, "zz_1": 1}, [(5, 7)],
                     samples={"xs4_33": [5, 6, 11], "xp15_4r4z4r4": [7], "xq4_153": [8], "xp2_1110s": [9], "ov_p123": [10], "ov_s4000": [10], "zz_1": [11]})
         table = table_of(page(haul, 0))
-        self.assertEqual(table.heads, ["Picture", "Name and code", "What it is", "Cells", "Total", "≤ 1 in N soups", "Sample soups"])
+        self.assertEqual(table.heads, ["Picture", "Name and code", "What it is", "Cells", "Total", "How often", "Sample soups"])
         self.assertEqual([row.cells for row in table.rows], [
-            ["block: 2 by 2, 4 cells", "block xs4_33", "still life", "4", "1,200", "1", "5 6 11"],
-            ["pentadecathlon: 3 by 10, 12 cells", "pentadecathlon xp15_4r4z4r4", "oscillator of period 15", "12", "40", "1", "7"],
-            ["glider: 3 by 3, 5 cells", "glider xq4_153", "spaceship of period 4", "5", "3", "2", "8"],
-            ["xp2_1110s: 5 by 5, 6 cells", "2 blinkers xp2_1110s", "oscillator of period 2", "6", "2", "3", "9"],
-            ["too large to draw", "not separated ov_p123", "oscillator of period 123", "", "1", "7", "10"],
-            ["too large to draw", "not separated ov_s4000", "still life", "4000", "1", "7", "10"],
-            ["can't be drawn", "not separated zz_1", "an object", "", "1", "7", "11"]])
+            ["block: 2 by 2, 4 cells", "block xs4_33", "still life", "4", "1,200", "171 per soup", "5 6 11"],
+            ["pentadecathlon: 3 by 10, 12 cells", "pentadecathlon xp15_4r4z4r4", "oscillator of period 15", "12", "40", "5.71 per soup", "7"],
+            ["glider: 3 by 3, 5 cells", "glider xq4_153", "spaceship of period 4", "5", "3", "≤ 1 in 2 soups", "8"],
+            ["xp2_1110s: 5 by 5, 6 cells", "2 blinkers xp2_1110s", "oscillator of period 2", "6", "2", "≤ 1 in 3 soups", "9"],
+            ["too large to draw", "not separated ov_p123", "oscillator of period 123", "", "1", "≤ 1 in 7 soups", "10"],
+            ["too large to draw", "not separated ov_s4000", "still life", "4000", "1", "≤ 1 in 7 soups", "10"],
+            ["can't be drawn", "not separated zz_1", "an object", "", "1", "≤ 1 in 7 soups", "11"]])
         self.assertEqual(table.rows[0].links, ["https://catagolue.hatsya.com/object/xs4_33/b3s23", *(
             f"https://catagolue.hatsya.com/hashsoup/C1/a{number}/b3s23" for number in (5, 6, 11))])
         self.assertEqual(table.rows[4].links, ["https://catagolue.hatsya.com/hashsoup/C1/a10/b3s23"])
@@ -275,8 +275,10 @@ class Comparing(unittest.TestCase):
 
     def test_the_table(self) -> None:
         table = table_of(compared(self.LIFE, self.OTHER))
-        self.assertEqual(table.heads[4:], ["Total in A", "≤ 1 in N soups in A", "Sample soups in A", "Total in B", "≤ 1 in N soups in B", "Sample soups in B"])
-        self.assertEqual([row.cells[4:] for row in table.rows], [["1,000", "1", "0", "5", "10", "8 9"], ["10", "10", "0", "0", "", ""], ["4", "25", "0", "4", "12", "7"]])
+        self.assertEqual(table.heads[4:], ["Total in A", "How often in A", "Sample soups in A", "Total in B", "How often in B", "Sample soups in B"])
+        self.assertEqual([row.cells[4:] for row in table.rows], [
+            ["1,000", "10 per soup", "0", "5", "≤ 1 in 10 soups", "8 9"], ["10", "≤ 1 in 10 soups", "0", "0", "", ""],
+            ["4", "≤ 1 in 25 soups", "0", "4", "≤ 1 in 12 soups", "7"]])
 
     def test_least_in_one_of_them(self) -> None:
         self.assertEqual([row.cells[4] for row in table_of(compared(self.LIFE, self.OTHER, least=10)).rows], ["1,000", "10"])
