@@ -3,6 +3,7 @@ const SPEEDS = [[5, '5 per second'], [20, '20 per second'], [60, '60 per second'
 const FIRST_SPEED = 60, MOST_MILLISECONDS = 14;
 // A cell is at most as wide, and one that would be narrower than LEAST_DOT is drawn as a dot of that width.
 const WIDEST_CELL = 16, LEAST_DOT = 1.6, MARGIN = 3, AROUND = 20, ZOOM = 1.5, LEAST_RING = 9, GRID_FROM = 6;
+const FRAMES_TO_FIT = 8;
 
 // The part of the plane that is in sight: its middle, and the width of a cell in points. While it `fits`, it follows the ash or all cells.
 class View {
@@ -100,7 +101,7 @@ const noEnd = soup => {
 
 class Player {
   constructor(box, soup, object) {
-    Object.assign(this, { soup, object, evolution: new Evolution(soup.cells, soup.haul.life), aim: 0, speed: FIRST_SPEED, isQuick: false, rings: [], ships: shipsOf(soup.haul) });
+    Object.assign(this, { soup, object, evolution: new Evolution(soup.cells, soup.haul.life), aim: 0, speed: FIRST_SPEED, isQuick: false, rings: [], frames: 0, ships: shipsOf(soup.haul) });
     box.innerHTML = this.html();
     const [canvas] = box.getElementsByTagName('canvas');
     this.view = new View(canvas);
@@ -206,7 +207,10 @@ class Player {
 
   draw(now = false) {
     const { rows } = this.evolution, isPlaying = this.isPlaying();
-    if (this.view.fits && rows.length) this.view.fit(this.rings.map(ringBox).reduce(joined, this.evolution.box(this.view.isOfAsh, this.ships)), now || this.isAtEnd());
+    // To find the ash takes longer than to draw it, so while a soup plays, that is done in some frames only.
+    this.frames += 1;
+    if (this.view.fits && rows.length && (now || !isPlaying || this.frames % FRAMES_TO_FIT === 0))
+      this.view.fit(this.rings.map(ringBox).reduce(joined, this.evolution.box(this.view.isOfAsh, this.ships)), now || this.isAtEnd());
     drawPattern(this.view, rows, this.rings);
     // What it says is read out only when it stands still.
     this.said.setAttribute('aria-live', isPlaying ? 'off' : 'polite');
