@@ -101,7 +101,8 @@ const noEnd = soup => {
 
 class Player {
   constructor(box, soup, object) {
-    Object.assign(this, { soup, object, evolution: new Evolution(soup.cells, soup.haul.life), aim: 0, speed: FIRST_SPEED, isQuick: false, rings: [], frames: 0, ships: shipsOf(soup.haul) });
+    Object.assign(this, { soup, object, evolution: new Evolution(soup.cells, soup.haul.life), ships: shipsOf(soup.haul) });
+    Object.assign(this, { aim: 0, speed: FIRST_SPEED, isQuick: false, rings: [], frames: 0 });
     box.innerHTML = this.html();
     const [canvas] = box.getElementsByTagName('canvas');
     this.view = new View(canvas);
