@@ -2,6 +2,7 @@
 
 from __future__ import annotations
 
+import re
 import subprocess
 from collections.abc import Iterator
 from pathlib import Path
@@ -52,6 +53,12 @@ def haul_of(codes: list[str], soups: int, rule: str = "b3s23", counts: dict[str,
 def rows_of(haul: bytes, table: str) -> Iterator[list[str]]:
     for line in haul.decode().partition(f"{table}\n")[2].partition("\n\n")[0].splitlines():
         yield line.split()
+
+
+def in_order(code: str) -> tuple[str, int, str]:
+    """What codes of one frequency are sorted by: the number of cells and the period count as numbers."""
+    kind, number, rest = re.fullmatch(r"(\D*)(\d*)(.*)", code).groups()  # type: ignore[union-attr]
+    return kind, int(number or 0), rest
 
 
 def drawn(code: str, generation: int = 0) -> Cells:

@@ -8,7 +8,7 @@ from pathlib import Path
 
 from checks import browser
 from checks.browser import Driver, all_of, click, look_like, opened, press, text, texts, wait_for
-from checks.made_pages import PULSAR, WIDTHS, check, haul_of, is_seen, page_of, rows_of
+from checks.made_pages import PULSAR, WIDTHS, check, haul_of, in_order, is_seen, page_of, rows_of
 
 TAB, ENTER, ESCAPE, SPACE, BACKSPACE = "\ue004", "\ue007", "\ue00c", " ", "\ue003"
 STATES = {"gallery": "", "all": "#&strict=0&sort=rarity", "table": "#&view=table&strict=0", "dialog": f"#{PULSAR}", "parts": "#xp2_s01110szw222", "oscillators": "#&kind=p&axis=linear&q=zz"}
@@ -39,6 +39,9 @@ def try_looks(driver: Driver, path: Path, both: Path, haul: bytes) -> None:
             if name == "gallery" and width == WIDTHS[0]:
                 tall = driver.execute_script("return Math.max(...[...document.querySelectorAll('.card')].map(one => one.offsetHeight))")
                 check("a card on a telephone is at most 90 points high", 40 < tall <= 90, tall)
+                is_seen("its total is in sight, and so are all chips", driver.execute_script("""
+const isSeen = one => { const { left, right, width, height } = one.getBoundingClientRect(); return left >= 0 && right <= innerWidth && width > 20 && height > 10; };
+return [...document.querySelectorAll('.card .total, #chips .chip')].filter(one => !isSeen(one)).map(one => one.textContent);"""), [])
         is_seen(f"all controls have names: {name}", browser.nameless(driver), [])
     look_like(driver, 1400)
 
@@ -82,6 +85,8 @@ def try_other_readers(driver: Driver, path: Path, haul: bytes) -> None:
         is_seen("on paper all objects are there", len(all_of(driver)), len(totals))
         check("on paper nothing is wider than the page", browser.is_narrow(driver))
         check("on paper there are no controls", not driver.find_element("id", "controls").is_displayed())
+        is_seen("on paper no card or row is split", driver.execute_script(
+            "return [...new Set([...document.querySelectorAll('.card, #list tbody tr')].map(one => getComputedStyle(one).breakInside))]"), ["avoid"])
     driver.execute_cdp_cmd("Emulation.setScriptExecutionDisabled", {"value": True})
     for width in WIDTHS:
         look_like(driver, width)
@@ -89,7 +94,10 @@ def try_other_readers(driver: Driver, path: Path, haul: bytes) -> None:
         rows = driver.find_elements("css selector", ".all tbody tr")
         check(f"without scripts there is a table at {width}", len(rows) == len(totals) and rows[-1].is_displayed() and not driver.find_element("id", "objects").is_displayed())
         check(f"and nothing is wider than the page at {width}", browser.is_narrow(driver))
+        check(f"and the foot at {width}", "of Gokzerd" in driver.find_element("css selector", "footer").text)
         check(f"and the tiles at {width}", [one.text for one in driver.find_elements("css selector", ".tiles dd")][:1] == ["2,000"])
+    opened(driver, path, "#xq4_153")
+    is_seen("a code leads to its row", ["glider" in row.text for row in driver.find_elements("css selector", "tr:target")], [True])
     driver.execute_cdp_cmd("Emulation.setScriptExecutionDisabled", {"value": False})
     look_like(driver, 1400)
     added = driver.execute_cdp_cmd("Page.addScriptToEvaluateOnNewDocument", {"source": "delete window.IntersectionObserver"})
@@ -109,7 +117,7 @@ def try_large_page(driver: Driver, folder: Path) -> None:
     stills = ["33", "252", "253", "356", "25a4", "39c", "696", "bd", "178c", "2596", "25ac", "178k8", "25ak8", "312ko", "35ac", "3pm", "6996", "69ic",
               "25ako", "31ego", "4aar", "178kk8", "32qr"]
     cells = {still: sum(bin(int(digit, 32)).count("1") for digit in still) for still in stills}
-    codes = sorted(f"xs{cells[a] + cells[b] + cells[c]}_{a}w{b}w{c}" for a in stills for b in stills for c in stills)[:12124]
+    codes = sorted((f"xs{cells[a] + cells[b] + cells[c]}_{a}w{b}w{c}" for a in stills for b in stills for c in stills), key=in_order)[:12124]
     began = seconds_of_children()
     path = page_of(folder / "large.html", haul_of(codes, 36372), more=("--play=0",))
     took = seconds_of_children() - began

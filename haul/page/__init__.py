@@ -14,7 +14,7 @@ from string import Template
 from haul.page.data import data_of
 from haul.page.sides import MOST_SIDES, sides_of
 from haul.page.table import table_of
-from haul.page.top import title_of, top_of
+from haul.page.top import foot_of, title_of, top_of
 from haul.program import Census
 from haul.text import Haul
 
@@ -35,7 +35,7 @@ def page_of(census: Census, hauls: list[Haul], least: int, play: int = 500) -> I
     before, between, after = map(Template, PIECES.split(beside("page.html")))
     yield before.substitute(title=escape(title_of(sides)), style=beside("page.css"), top=top_of(sides))
     yield from table_of(sides)
-    yield between.substitute()
+    yield between.substitute(foot=foot_of(sides))
     yield from data_of(sides)
     yield after.substitute(script="\n".join(beside(f"{name}.js") for name in SCRIPTS))
 

@@ -30,8 +30,8 @@ const bars = way => `<span class="bars">${hauls.map(haul => bar(way, haul)).join
 const counts = way => {
   if (isCompared) return bars(way);
   const [total] = way.totals;
-  return `<span class="total">${whole(total)}<span class="hidden"> ${noun(total, 'object')}</span></span>`
-    + `<span class="often">${oftenWords(total, hauls[0].soups)}</span>`;
+  return `<span class="counts"><span class="total">${whole(total)}<span class="unit"> ${noun(total, 'object')}</span></span>`
+    + `<span class="often">${oftenWords(total, hauls[0].soups)}</span></span>`;
 };
 const card = (object, at, count) => {
   const words = `${named(object)}<code>${object.code}</code>${counts(wayOf(object))}`;
@@ -59,37 +59,39 @@ const GALLERY = {
     return { columns, height };
   },
   fill: (chunk, items, first, count) => {
+    chunk.style.containIntrinsicHeight = chunk.style.height;
     chunk.style.height = '';
     chunk.innerHTML = items.map((object, at) => card(object, first + at, count)).join('');
   },
   empty: (chunk, height) => { chunk.replaceChildren(); chunk.style.height = `${height}px`; },
 };
 
-// ---- The table. A click on a head sorts by its column, and another one turns the order.
+// ---- The table. A click on a head sorts by its column, and another one turns the order. If two columns have the same order, the arrow is
+// at the first one. How often an object comes is below its total on a telephone.
 const HEADS = [
   ['picture', 'Picture'], ['name', 'Name and code'], ['kind', 'What it is', 'period', '-period'], ['cells', 'Cells', 'cells', '-cells'],
   ...isCompared ? [['rates', 'Per million soups', 'frequency', 'rarity']]
-    : [['total', 'Total', 'frequency', 'rarity'], ['in', '≤ 1 in N soups', 'rarity', 'frequency'], ['samples', 'Sample soups']],
+    : [['total', 'Total', 'frequency', 'rarity'], ['in', 'How often', 'frequency', 'rarity'], ['samples', 'Sample soups']],
 ];
 const ARROWS = { ascending: ' ↑', descending: ' ↓' };
 const orderOf = (column, order) => column === 'total' || column === 'rates' ? (order === 'frequency' ? 'descending' : 'ascending')
-  : order[0] === '-' || (column === 'in' && order === 'rarity') ? 'descending' : 'ascending';
+  : order[0] === '-' ? 'descending' : 'ascending';
 const head = ([column, text, first, second]) => {
   if (!first) return `<th scope="col" class="${column}">${text}</th>`;
-  const isSorted = choice.sort === first || choice.sort === second, order = isSorted ? orderOf(column, choice.sort) : '';
+  const isSorted = column !== 'in' && (choice.sort === first || choice.sort === second), order = isSorted ? orderOf(column, choice.sort) : '';
   const button = `<button type="button" data-sort="${choice.sort === first ? second : first}">${text}${ARROWS[order] ?? ''}</button>`;
   return `<th scope="col" class="${column}"${isSorted ? ` aria-sort="${order}"` : ''}>${button}</th>`;
 };
 const samplesOf = object => wayOf(object).samples[0].map(number => `<a href="${addressOf(object.code, `A${number}`)}">${number}</a>`).join(' ');
 const row = (object, at) => {
-  const way = wayOf(object), [total] = way.totals;
+  const way = wayOf(object), [total] = way.totals, often = oftenWords(total, hauls[0].soups);
   const label = object.label ? `<b>${escaped(object.label)}</b>` : '';
   const cells = [
     `<td class="picture">${pictureOfObject(object, ROW_SIDE)}</td>`,
     `<th scope="row" class="name">${linkTo(object, `${label}<code>${object.code}</code>`)}</th>`,
     `<td class="kind">${kindWords(object)}${object.isUnsure ? `, ${NOT_SEPARATED}` : ''}</td>`, `<td class="cells">${object.cells ?? ''}</td>`,
     ...isCompared ? [`<td class="rates">${bars(way)}</td>`]
-      : [`<td class="total">${whole(total)}</td>`, `<td class="in">${whole(oneIn(total, hauls[0].soups))}</td>`, `<td class="samples">${samplesOf(object)}</td>`],
+      : [`<td class="total"><b>${whole(total)}</b><span class="often">${often}</span></td>`, `<td class="in">${often}</td>`, `<td class="samples">${samplesOf(object)}</td>`],
   ];
   return `<tr aria-rowindex="${at + 2}">${cells.join('')}</tr>`;
 };

@@ -54,7 +54,8 @@ const axisSwitch = () => {
 };
 const frequencyChart = ranked => {
   const shown = ranked.slice(0, MOST_BARS), values = shown.flatMap(object => hauls.map((_, at) => valueOf(object, at)));
-  const axis = choice.axis === 'log' ? logarithmicAxis(values) : linearAxis(values);
+  // Numbers of objects are measured from one object on.
+  const axis = choice.axis === 'log' ? logarithmicAxis(isCompared ? values : [1, ...values]) : linearAxis(values);
   const marks = axis.marks.map(mark => `<span class="mark" style="left:${percent(axis.at(mark))}"><span>${short(mark)}</span></span>`).join('');
   const head = `The ${shown.length} most frequent${choice.parts === '1' ? ', parts counted' : ''}`;
   const unit = isCompared ? 'Objects per million soups' : 'Number of objects';
@@ -91,32 +92,38 @@ const rarestOf = series => {
   const { value } = series.at(-1), same = series.filter(one => one.value === value);
   return { value, same, first: series.length - same.length + 1, last: series.length };
 };
+const timesWords = total => String(total) === '1' ? 'once' : `${whole(total)} times`;
 const rarestWords = (series, at) => {
   const { same, first, last } = rarestOf(series), total = wayOf(same[0].object).totals[at], isOne = same.length === 1;
   const strict = same.filter(({ object }) => object.isStrict).length;
   const which = choice.parts === '1' ? '' : isOne ? `, which ${strict ? 'is' : 'isn’t'} strict` : `, of these ${whole(strict)} strict`;
-  const often = String(total) === '1' ? 'once' : `${whole(total)} times`;
   const ranks = isOne ? `rank ${whole(last)}` : `ranks ${whole(first)} to ${whole(last)}`;
-  return `${isCompared ? `${hauls[at].letter}: ` : ''}${isOne ? 'One kind was' : `${whole(same.length)} kinds were`} found ${often} (${ranks})${which}.`;
+  return `${isCompared ? `${hauls[at].letter}: ` : ''}${isOne ? 'One kind was' : `${whole(same.length)} kinds were`} found ${timesWords(total)} (${ranks})${which}.`;
 };
+// What the bracket says is at its right, or above it if there is no room.
+const LETTER = 7;
+const besideRarest = (x, y, text) => x + LETTER * text.length < PLOT.width - PLOT.right ? plotText(x + 6, y + 4, text, '')
+  : plotText(PLOT.width - PLOT.right - 2, y - 12, text, 'text-anchor="end"');
 const seriesSvg = (series, at, ranks, values) => {
   const points = series.map(({ value }, rank) => [plotX(ranks.at(rank + 1)), plotY(values.at(value))]);
   if (isCompared) return `<path class="dots" data-haul="${hauls[at].letter}" d="${dots(points)}"/>`;
-  const strict = choice.parts === '1' ? [] : points.filter((_, rank) => series[rank].object.isStrict);
-  const { value, first, last } = rarestOf(series), [from, to] = [first, last].map(rank => plotX(ranks.at(rank))), y = plotY(values.at(value));
+  const strict = points.filter((_, rank) => series[rank].object.isStrict);
+  const { value, first, last, same } = rarestOf(series), [from, to] = [first, last].map(rank => plotX(ranks.at(rank))), y = plotY(values.at(value));
   return `<path class="dots" d="${dots(points)}"/><path class="dots strict" d="${dots(strict)}"/>`
-    + `<path class="rarest" d="M${from.toFixed(1)} ${y - 7}v-5H${Math.max(to, from + 2).toFixed(1)}v5"/>`;
+    + `<path class="rarest" d="M${from.toFixed(1)} ${y - 7}v-5H${Math.max(to, from + 2).toFixed(1)}v5"/>`
+    + besideRarest(to, y - 8, `found ${timesWords(wayOf(same[0].object).totals[at])}`);
 };
 const rankKey = () => {
   if (isCompared) return hauls.map(haul => `<span>${letterOf(haul)} ${haul.rule}</span>`).join(' ');
-  return choice.parts === '1' ? '' : '<span><i class="dot strict"></i> strict</span> <span><i class="dot"></i> made of parts</span>';
+  const strict = '<span><i class="dot strict"></i> strict</span>';
+  return choice.parts === '1' ? strict : `${strict} <span><i class="dot"></i> made of parts</span>`;
 };
 const rankChart = () => {
   const all = hauls.map((_, at) => rankedIn(at)), there = all.map((series, at) => [series, at]).filter(([series]) => series.length);
   const ranks = logarithmicAxis([1, Math.max(...all.map(series => series.length), 2)]);
   const values = logarithmicAxis(all.flat().map(({ value }) => value));
   const words = there.map(([series, at]) => rarestWords(series, at)).join(' ');
-  return `<figcaption>Rank and frequency, logarithmic axes <span class="key">${rankKey()}</span></figcaption>`
+  return `<figcaption>Rank and frequency${choice.parts === '1' ? ', parts counted' : ''}, logarithmic axes <span class="key">${rankKey()}</span></figcaption>`
     + `<svg class="plot" viewBox="0 0 ${PLOT.width} ${PLOT.height}" role="img" aria-label="Frequency by rank. ${words}">`
     + plotLines(ranks, values) + there.map(([series, at]) => seriesSvg(series, at, ranks, values)).join('')
     + `</svg><p class="note">${words}</p>`;

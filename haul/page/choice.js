@@ -1,7 +1,7 @@
 // What is chosen and what is open. The address keeps both: the code that is open, then `&` and each choice that isn't the first one.
 const FIRST_CHOICE = { q: '', kind: '', period: '', strict: '1', parts: '0', in: '', sort: 'frequency', view: 'gallery', axis: 'log' };
-// The code that is open, and the soup that plays, such as `A39029`.
-const open = { code: '', soup: '' };
+// The code that is open, and the soup that plays, such as `A39029`. A code that isn't on the page is unknown.
+const open = { code: '', soup: '', unknown: '' };
 const choice = { ...FIRST_CHOICE };
 
 const listed = text => text ? text.split(',') : [];
@@ -17,7 +17,8 @@ const readAddress = () => {
   for (const [name, first] of Object.entries(FIRST_CHOICE)) choice[name] = given[name] ?? first;
   for (const [name, values] of [['sort', SORTS.map(([sort]) => sort)], ['view', ['gallery', 'table']], ['axis', ['log', 'linear']]])
     if (!values.includes(choice[name])) choice[name] = FIRST_CHOICE[name];
-  Object.assign(open, { code: objects.has(code) ? code : '', soup: given.soup ?? '' });
+  const isThere = objects.has(code);
+  Object.assign(open, { code: isThere ? code : '', soup: given.soup ?? '', unknown: isThere ? '' : decoded(code) });
 };
 const writeAddress = () => history.replaceState(null, '', addressOf(open.code, open.soup));
 
@@ -45,7 +46,13 @@ const passing = (...but) => {
 };
 
 const byFrequency = (a, b) => wayOf(b).rate - wayOf(a).rate || Number(wayOf(b).total - wayOf(a).total);
-const byCode = (a, b) => a.code < b.code ? -1 : a.code > b.code ? 1 : 0;
+// Codes in order: the number of cells or the period counts as a number.
+const piecesOf = code => /^(\D*)(\d*)(.*)$/.exec(code).slice(1);
+const byCode = (a, b) => {
+  const [[kind, number, rest], [otherKind, otherNumber, otherRest]] = [a, b].map(({ code }) => piecesOf(code));
+  if (kind !== otherKind) return kind < otherKind ? -1 : 1;
+  return number - otherNumber || (rest < otherRest ? -1 : rest > otherRest ? 1 : 0);
+};
 // An object whose cells aren't known comes last.
 const byCells = sign => (a, b) => (a.cells === undefined) - (b.cells === undefined) || sign * (a.cells - b.cells) || 0;
 const byPeriod = sign => (a, b) => sign * (a.period - b.period);

@@ -11,6 +11,7 @@ from haul.codes import is_large, kind_of, text_of_code
 from haul.columns import exact
 from haul.labels import label_of
 from haul.life import read_wechsler, soup_of
+from haul.names import NAMES
 from haul.page.shell import commands
 from haul.page.sides import Side, Sides
 from haul.poisson import interval
@@ -49,6 +50,8 @@ def entry(sides: Sides, code: str) -> dict[str, object]:
     of_objects = [counts(side.haul, code) for side in sides.all]
     of_parts = [counts(side.by_parts, code) for side in sides.all]
     known: dict[str, object] = {"code": code, "label": label_of(code, separation), "made": [made(side, code) for side in sides.all]}
+    if code in NAMES:
+        known["named"] = 1
     if any(of_objects):
         known["objects"] = of_objects
     if any(of_parts):

@@ -29,24 +29,28 @@ const partsOf = (object, haul) => {
   const made = object.made[haul.place];
   if (made === STRICT) return fact('parts', 'none: it is strict');
   if (made === NOT_SEPARATED) return fact('parts', 'not known: it couldn’t be separated');
-  const numbers = new Map();
-  made.forEach(code => numbers.set(code, (numbers.get(code) ?? 0) + 1));
-  return fact('parts', [...numbers].map(([code, count]) => {
+  return fact('parts', [...tallied(made, code => code)].map(([code, count]) => {
     const part = objects.get(code), text = part ? escaped(nameOf(part)) : code;
     const picture = part ? pictureOfObject(part, PART_SIDE) : '';
     return `<a class="part" href="${addressOf(code)}">${picture}<span>${count > 1 ? `${count} × ` : ''}${text}</span></a>`;
   }).join(''));
 };
+const countedAs = made => `counted as ${[...tallied(made, code => code)].map(([code, count]) => {
+  const part = objects.get(code), text = part ? escaped(nameOf(part)) : code;
+  return count > 1 ? `${count} × ${text}` : text;
+}).join(' and ')}`;
 const totalsOf = (object, haul) => ['objects', 'parts'].map(name => {
   const way = object[name], total = way.totals[haul.place], ends = intervalOf(way, haul.place);
   const rate = Number(total) ? ` (${oftenWords(total, haul.soups)}, ${perMillion(way.rates[haul.place])}${intervalWords(ends)})` : '';
   const ratio = haul.place ? `; ${ratioWords(way, haul.place)}${differs(way, haul.place) ? ` ${MARK}` : ''}` : '';
+  // An object that is made of parts is none of the parts.
+  if (name === 'parts' && Array.isArray(object.made[haul.place]) && !Number(total)) return fact('with parts counted', countedAs(object.made[haul.place]));
   return fact(name === 'objects' ? 'as an object' : 'with parts counted', `<strong>${whole(total)}</strong>${rate}${ratio}`);
 }).join('');
 
 // What doesn't depend on how often there is one: a block for each rule under which it differs.
 const PHASE_BUTTONS = '<div class="phases"><button type="button" data-act="phases">Pause</button>'
-  + '<button type="button" data-act="phase">Next phase</button><span class="phase">phase 0</span></div>';
+  + '<button type="button" data-act="phase">Next phase</button><span class="phase"></span></div>';
 const phasesBlock = (object, haul) => {
   const known = object.made[haul.place] !== null ? recurrenceIn(object, haul) : null, cells = cellsOfCode(object.code);
   const phases = known ? known.phases : [cells], title = `${nameOf(object)}, ${kindWords(object)}`;
@@ -74,8 +78,12 @@ const rleBlock = object => {
   return `<details class="rle"><summary>RLE</summary><pre tabindex="0">${rleOf(cells, firstWith(object).rule)}</pre></details>`;
 };
 const linkOut = (address, text) => `<a href="${address}">${text}</a>`;
-const actions = object => `<p class="actions">${cellsOfCode(object.code) ? '<button type="button" data-act="rle">Copy RLE</button>' : ''}`
-  + (isLarge(object.code) ? '' : linkOut(catagolueObject(object.code, firstWith(object)), 'Catagolue')) + linkOut(lifeWiki(object), 'LifeWiki') + '</p>';
+// A button with a place for what is said when it is pressed.
+const copyButton = (act, text) => `<span class="copying"><button type="button" data-act="${act}">${text}</button><span class="copied" role="status"></span></span>`;
+// LifeWiki doesn't know labels that are made from parts.
+const actions = object => `<div class="actions">${cellsOfCode(object.code) ? copyButton('rle', 'Copy RLE') : ''}`
+  + (isLarge(object.code) ? '' : linkOut(catagolueObject(object.code, firstWith(object)), 'Catagolue'))
+  + (object.isNamed || !object.label ? linkOut(lifeWiki(object), 'LifeWiki') : '') + '</div>';
 const soupsOf = (object, haul) => {
   const ofObject = object.objects.samples[haul.place];
   return [...new Set([...ofObject, ...object.parts.samples[haul.place]])].map(number => ({ soup: soupOf(number, haul), isPart: !ofObject.includes(number) }));
@@ -106,11 +114,12 @@ const objectHead = object => {
     + `<nav>${stepLink(object, -1, 'Previous', '‹')}${stepLink(object, 1, 'Next', '›')}`
     + '<button type="button" data-act="close" aria-label="Close">×</button></nav></header>';
 };
-const objectBody = object => '<div class="body">' + blocks(object) + actions(object) + '<p class="copied" role="status"></p>'
+const objectBody = object => '<div class="body">' + blocks(object) + actions(object)
   + rleBlock(object) + rates(object) + soupList(object) + '</div>';
 
-const copy = async (text, what) => {
-  const said = dialog.querySelector('.copied');
+// Copies a text, and says so beside the button. If the browser doesn't copy, the text is selected there.
+const copy = async (text, what, button) => {
+  const said = button.nextSibling;
   try {
     await navigator.clipboard.writeText(text);
     said.textContent = `The ${what} is copied.`;
@@ -118,8 +127,13 @@ const copy = async (text, what) => {
     said.innerHTML = `The browser doesn’t copy. This is the ${what}: <textarea readonly rows="6" aria-label="${what}"></textarea>`;
     said.lastChild.value = text;
     said.lastChild.select();
+    said.lastChild.focus({ preventScroll: true });
   }
 };
+// What was said goes when something else is pressed or gets the focus.
+const forget = event => dialog.querySelectorAll('.copied').forEach(said => { if (!said.parentNode.contains(event.target)) said.replaceChildren(); });
+dialog.addEventListener('pointerdown', forget);
+dialog.addEventListener('focusin', forget);
 // What is drawn on a canvas doesn't follow the colours of the page by itself.
 matchMedia('(prefers-color-scheme: dark)').addEventListener('change', () => player?.draw());
 const endPlayer = () => { player?.end(); player = null; };
@@ -132,18 +146,19 @@ const showPlayer = object => {
   if (!isThere) return;
   const soup = soupOf(Number(number), haul);
   box.innerHTML = `<h3>Soup ${soup.number}${isCompared ? ` of ${letter}, ${haul.rule}` : ''}</h3><div class="player"></div>`
-    + '<p class="actions"><button type="button" data-act="soup-rle">Copy RLE of the soup</button>'
-    + `<button type="button" data-act="command">Copy the command</button>${linkOut(catagolueSoup(soup.number, haul), 'Catagolue')}</p>`
-    + `<p><code class="command">${escaped(commandOf(soup))}</code></p>`;
+    + `<div class="actions">${copyButton('soup-rle', 'Copy RLE of the soup')}${copyButton('command', 'Copy the command')}`
+    + `${linkOut(catagolueSoup(soup.number, haul), 'Catagolue')}</div>`
+    + '<p>In a shell, this command runs the soup with Gokzerd’s verified program <code>census</code>, and prints when it settles and what it '
+    + `leaves: <code class="command">${escaped(commandOf(soup))}</code></p>`;
   player = new Player(box.querySelector('.player'), soup, object);
   box.scrollIntoView({ block: 'nearest' });
 };
 
 const acts = {
   close: () => dialog.close(),
-  rle: object => copy(rleOf(cellsOfCode(object.code), firstWith(object).rule), 'RLE'),
-  'soup-rle': () => copy(rleOf(player.soup.cells, player.soup.haul.rule), 'RLE of the soup'),
-  command: () => copy(commandOf(player.soup), 'command'),
+  rle: (object, button) => copy(rleOf(cellsOfCode(object.code), firstWith(object).rule), 'RLE', button),
+  'soup-rle': (_, button) => copy(rleOf(player.soup.cells, player.soup.haul.rule), 'RLE of the soup', button),
+  command: (_, button) => copy(commandOf(player.soup), 'command', button),
   phases: (_, button) => {
     const svg = button.closest('.large').querySelector('svg'), isPlaying = watched.has(svg);
     if (isPlaying) { unwatch(svg); showPhase(svg, 0); } else watched.set(svg, 0);

@@ -17,9 +17,10 @@ class Evolution {
   cells() { return cellsOfRows(this.rows); }
   population() { return this.rows.reduce((sum, { xs }) => sum + xs.length, 0); }
 
-  box() {
-    const left = Math.min(...this.rows.map(({ xs }) => xs[0])), right = Math.max(...this.rows.map(({ xs }) => xs.at(-1)));
-    return { left, top: this.rows[0].y, width: right - left + 1, height: this.rows.at(-1).y - this.rows[0].y + 1 };
+  // The box around all cells, or around those of no spaceship that flies by itself, if there are others.
+  box(isAsh, ships) {
+    const cells = this.cells(), ash = isAsh ? clustersOf(cells).filter(cluster => !isShip(cluster, ships)) : [];
+    return boxOf(ash.length ? ash : [cells]);
   }
 }
 
@@ -33,6 +34,28 @@ const imagesOf = cells => {
   }
   return [...images.values()];
 };
+// ---- Spaceships that fly by themselves: clusters that are an image of a spaceship of the haul.
+const stepsOf = cells => {
+  const sorted = [...cells].sort((a, b) => a - b);
+  return sorted.map(cell => cell - sorted[0]).join();
+};
+const shipsOf = haul => {
+  const known = [...objects.values()].filter(({ letter }) => letter === 'q').map(object => recurrenceIn(object, haul)).filter(one => one);
+  const images = known.flatMap(({ phases }) => phases.flatMap(imagesOf));
+  return { images: new Set(images.map(steps => steps.join())), most: Math.max(0, ...images.map(steps => steps.length)) };
+};
+const isShip = (cluster, { images, most }) => cluster.length <= most && images.has(stepsOf(cluster));
+const clustersOf = cells => {
+  const left = new Set(cells), clusters = [];
+  for (const first of cells) {
+    if (!left.delete(first)) continue;
+    const cluster = [first];
+    for (const cell of cluster) for (const step of AROUND_CELL) if (left.delete(cell + step)) cluster.push(cell + step);
+    clusters.push(cluster);
+  }
+  return clusters;
+};
+
 // How far apart cells of two objects are, at least, and how far apart those of two parts are.
 const APART = 2, PARTS_APART = 1;
 const near = gap => {
@@ -40,6 +63,7 @@ const near = gap => {
   for (let dy = -gap; dy <= gap; dy += 1) for (let dx = -gap; dx <= gap; dx += 1) if (dx || dy) steps.push(dy * FAR + dx);
   return steps;
 };
+const AROUND_CELL = near(APART);
 // The sets of cells in a pattern that are one of these images, with no other live cell nearer than the gap allows.
 const foundIn = (cells, images, gap) => {
   const found = [], around = near(gap), used = new Set();

@@ -16,7 +16,8 @@ class LongList {
       const chunk = { element, first, last: first + count, height: Math.ceil(count / columns) * height, isFilled: false };
       element.chunk = chunk;
       this.chunks.push(chunk);
-      if (this.sight) shape.empty(element, chunk.height); else this.fill(chunk);
+      shape.empty(element, chunk.height);
+      if (!this.sight) this.fill(chunk);
       container.append(element);
       this.sight?.observe(element);
     }

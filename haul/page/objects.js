@@ -11,6 +11,11 @@ const whole = number => (typeof number === 'string' ? BigInt(number) : number).t
 const noun = (number, one) => `${one}${String(number) === '1' ? '' : 's'}`;
 const KIND_WORDS = { s: 'still life', p: 'oscillator', q: 'spaceship', '': 'object' };
 const NOT_SEPARATED = 'not separated', STRICT = 'strict';
+const kindWords = ({ letter, period }) => letter === 's' || !letter ? KIND_WORDS[letter] : `${KIND_WORDS[letter]} of period ${period}`;
+// What else objects are called, for the search.
+const ALIASES = {
+  xq4_6frc: 'LWSS', xq4_27dee6: 'MWSS', xq4_27deee6: 'HWSS', xp2_s01110szw222: 'TL', xp15_4r4z4r4: 'PD',
+};
 
 // A way of counting: the total and the samples for each haul, and what they say together.
 const counting = values => {
@@ -21,26 +26,25 @@ const counting = values => {
     samples: hauls.map((_, place) => values?.[place] ? values[place].slice(1) : []),
   };
 };
-const objectOf = ({ code, label, made, cells, objects: asObjects, parts: asParts }) => {
+const objectOf = ({ code, label, named, made, cells, objects: asObjects, parts: asParts }) => {
   const { letter, period } = kindOf(code), ways = { objects: counting(asObjects), parts: counting(asParts) };
   const isLeftOut = way => !ways[way].totals.some(total => BigInt(total) >= BigInt(data.least) && BigInt(total) > 0n);
   return {
-    code, label, made, cells, letter, period, ...ways, isLeftOut: { objects: isLeftOut('objects'), parts: isLeftOut('parts') },
+    code, label, isNamed: Boolean(named), made, cells, letter, period, ...ways, isLeftOut: { objects: isLeftOut('objects'), parts: isLeftOut('parts') },
     // An object is shown as strict if it is in one of the hauls, or if it couldn't be separated.
     isStrict: made.some(one => one === STRICT || one === NOT_SEPARATED), isUnsure: made.includes(NOT_SEPARATED),
-    text: `${code} ${label}`.toLowerCase(),
+    text: [code, label, ALIASES[code], kindWords({ letter, period })].join(' ').toLowerCase(),
   };
 };
 const objects = new Map(data.objects.map(one => [one.code, objectOf(one)]));
-const kindWords = ({ letter, period }) => letter === 's' || !letter ? KIND_WORDS[letter] : `${KIND_WORDS[letter]} of period ${period}`;
+// How many of some things have each key.
+const tallied = (some, keyOf) => some.reduce((tally, one) => tally.set(keyOf(one), (tally.get(keyOf(one)) ?? 0) + 1), new Map());
 const nameOf = object => object.label || object.code;
 
 // ---- How often an object is found in a haul. A haul doesn't say how many soups have one, so of that there is only a bound.
 const oneIn = (total, soups) => Math.max(1, Math.floor(soups / Number(total)));
-const figure = number => {
-  if (number === 0) return '0';
-  return number >= 100 ? Math.round(number).toLocaleString('en') : number >= 1 ? number.toFixed(2) : number.toPrecision(3);
-};
+// Three digits, or all of a whole number.
+const figure = number => number >= 100 ? Math.round(number).toLocaleString('en') : String(Number(number.toPrecision(3)));
 const oftenWords = (total, soups) => !soups || !Number(total) ? 'none'
   : Number(total) * 2 > soups ? `${figure(Number(total) / soups)} per soup` : `≤ 1 in ${whole(oneIn(total, soups))} soups`;
 const perMillion = rate => `${figure(rate * PER)} per million soups`;
@@ -59,7 +63,7 @@ const ratioWords = (way, place) => {
   const ratio = ratioOf(way, place), { letter } = hauls[place], first = hauls[0].letter;
   if (ratio === Infinity) return `only in ${letter}, not in ${first}`;
   if (ratio === 0) return `not in ${letter}`;
-  return `${figure(ratio)} times as many in ${letter} as in ${first}`;
+  return `${figure(ratio) === '1' ? '' : `${figure(ratio)} times `}as many in ${letter} as in ${first}`;
 };
 
 // ---- Addresses elsewhere

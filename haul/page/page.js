@@ -11,7 +11,6 @@ const check = (name, text, isOn, isOff = false) => '<label class="chip check">'
   + `<input type="checkbox" name="${name}" autocomplete="off"${isOn ? ' checked' : ''}${isOff ? ' disabled' : ''}> ${text}</label>`;
 
 // How many objects each chip would leave, whatever else is chosen among its like.
-const tallied = (some, keyOf) => some.reduce((tally, object) => tally.set(keyOf(object), (tally.get(keyOf(object)) ?? 0) + 1), new Map());
 const kindChips = () => {
   const kinds = listed(choice.kind), periods = listed(choice.period), some = passing('kind', 'period');
   const ofKind = tallied(some, object => object.letter), oscillators = some.filter(object => object.letter === 'p');
@@ -46,7 +45,8 @@ const showCount = () => {
   const every = hauls.reduce((sum, haul) => sum + BigInt(byParts ? haul.parts : haul.objects), 0n);
   const leftOut = data.least > 1 ? ` Kinds with fewer than ${whole(data.least)} are left out.` : '';
   const count = `${whole(shownObjects.length)} of ${whole(kinds)} kinds, ${whole(sumOf(shownObjects))} of ${whole(every)} ${byParts ? 'parts' : 'objects'}.`;
-  byId('shown').textContent = count + leftOut + (isCompared ? COMPARED : '');
+  const unknown = open.unknown ? `No object on this page has the code ${open.unknown}. ` : '';
+  byId('shown').textContent = unknown + count + leftOut + (isCompared ? COMPARED : '');
 };
 
 // ---- The list
@@ -123,13 +123,15 @@ const start = () => {
   showList();
   startCharts();
   showObject();
+  if (open.unknown) byId('objects').scrollIntoView();
 };
 let width = innerWidth;
 addEventListener('resize', () => { if (innerWidth !== width) { width = innerWidth; showList(); refreshCharts(); } });
 addEventListener('hashchange', () => {
   const before = choiceText();
   readAddress();
-  if (choiceText() !== before) show();
+  if (choiceText() !== before) show(); else showCount();
+  if (open.unknown) byId('objects').scrollIntoView();
   showObject();
 });
 addEventListener('beforeprint', () => list.fillAll());

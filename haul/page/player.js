@@ -1,13 +1,14 @@
-// Plays a soup in a view that fits what is alive, up to the checkpoint at which `census` says that it has settled.
-const SPEEDS = [[5, '5 generations per second'], [20, '20 per second'], [60, '60 per second'], [300, '300 per second'], [100000, 'as fast as it goes']];
+// Plays a soup in a view that fits the ash or all that is alive, up to the checkpoint at which `census` says that it has settled.
+const SPEEDS = [[5, '5 per second'], [20, '20 per second'], [60, '60 per second'], [300, '300 per second'], [100000, 'as fast as it goes']];
 const FIRST_SPEED = 60, MOST_MILLISECONDS = 14;
 // A cell is at most as wide, and one that would be narrower than LEAST_DOT is drawn as a dot of that width.
 const WIDEST_CELL = 16, LEAST_DOT = 1.6, MARGIN = 3, AROUND = 20, ZOOM = 1.5, LEAST_RING = 9, GRID_FROM = 6;
+const FRAMES_TO_FIT = 8;
 
-// The part of the plane that is in sight: its middle, and the width of a cell in points.
+// The part of the plane that is in sight: its middle, and the width of a cell in points. While it `fits`, it follows the ash or all cells.
 class View {
   constructor(canvas) {
-    Object.assign(this, { canvas, x: SOUP_SIDE / 2, y: SOUP_SIDE / 2, scale: WIDEST_CELL, fits: true });
+    Object.assign(this, { canvas, x: SOUP_SIDE / 2, y: SOUP_SIDE / 2, scale: WIDEST_CELL, fits: true, isOfAsh: true });
   }
 
   size() { return { width: this.canvas.clientWidth || 300, height: this.canvas.clientHeight || 300 }; }
@@ -95,18 +96,18 @@ const ringWords = (object, count) => {
 const noEnd = soup => {
   if (soup.ends) return '';
   if (soup.isAsked) return 'Census gives no end for this soup: it hasn’t settled, or it leaves an object that can’t be drawn.';
-  return 'The page doesn’t know when this soup settles: '
-    + `census was asked about the soups of the first ${whole(data.play)} objects (haul page --play). The command below tells it.`;
+  return 'The page doesn’t know when this soup settles. The command below prints it.';
 };
 
 class Player {
   constructor(box, soup, object) {
-    Object.assign(this, { soup, object, evolution: new Evolution(soup.cells, soup.haul.life), aim: 0, speed: FIRST_SPEED, isQuick: false, rings: [] });
+    Object.assign(this, { soup, object, evolution: new Evolution(soup.cells, soup.haul.life), ships: shipsOf(soup.haul) });
+    Object.assign(this, { aim: 0, speed: FIRST_SPEED, isQuick: false, rings: [], frames: 0 });
     box.innerHTML = this.html();
     const [canvas] = box.getElementsByTagName('canvas');
     this.view = new View(canvas);
     this.said = box.querySelector('output');
-    [this.playButton, this.ringButton] = ['play', 'ring'].map(act => box.querySelector(`[data-act=${act}]`));
+    this.buttons = Object.fromEntries([...box.querySelectorAll('[data-act]')].map(button => [button.dataset.act, button]));
     box.querySelector('.buttons').addEventListener('click', event => this.press(event.target.closest('button')?.dataset.act));
     box.querySelector('select').addEventListener('change', event => { this.speed = Number(event.target.value); });
     this.listenTo(canvas);
@@ -120,33 +121,36 @@ class Player {
     const speeds = SPEEDS.map(([speed, text]) => `<option value="${speed}"${speed === FIRST_SPEED ? ' selected' : ''}>${text}</option>`).join('');
     const label = `Soup ${this.soup.number} as it runs. The arrow keys move the view, + and - zoom.`, note = noEnd(this.soup);
     return `<canvas tabindex="0" role="img" aria-label="${label}"></canvas><output aria-live="off"></output><div class="buttons">`
-      + button('play', 'Play') + button('step', 'Step') + button('back', 'Back') + button('end', 'To the end', this.soup.ends ? '' : ' disabled')
-      + `<label class="speed"><span class="hidden">Speed</span><select autocomplete="off">${speeds}</select></label>`
-      + `<span class="zooms">${button('out', '−', ' aria-label="Zoom out"')}${button('in', '+', ' aria-label="Zoom in"')}`
-      + `${button('fit', 'Fit all')}${button('ring', 'To the ring', ' hidden')}</span></div>${note ? `<p class="note">${note}</p>` : ''}`;
+      + `<span>${button('play', 'Play')}${button('step', 'Step')}${button('back', 'To the start')}${button('end', 'To the end')}</span>`
+      + `<span><label class="speed"><span class="hidden">Generations per second</span><select autocomplete="off">${speeds}</select></label>`
+      + `${button('out', '−', ' aria-label="Zoom out"')}${button('in', '+', ' aria-label="Zoom in"')}</span>`
+      + `<span>${button('ash', 'Follow the ash')}${button('fit', 'Fit all')}${button('ring', 'To the ring', ' hidden')}</span></div>`
+      + (note ? `<p class="note">${note}</p>` : '');
   }
 
   press(act) {
     const acts = {
-      play: () => this.goTo(this.isPlaying() ? this.evolution.generation : this.last()),
+      play: () => { if (this.isAtEnd()) this.back(); this.goTo(this.isPlaying() ? this.evolution.generation : this.last()); },
       step: () => this.goTo(this.evolution.generation + 1),
       end: () => this.goTo(this.last(), true),
       back: () => this.back(),
       ring: () => { this.view.show(this.rings[0]); this.draw(); },
       in: () => this.zoom(ZOOM),
       out: () => this.zoom(1 / ZOOM),
-      fit: () => { this.view.fits = true; this.draw(true); },
+      ash: () => this.fit(true),
+      fit: () => this.fit(false),
     };
     acts[act]?.();
   }
 
   zoom(factor) { this.view.zoom(factor); this.draw(); }
+  fit(isOfAsh) { Object.assign(this.view, { fits: true, isOfAsh }); this.draw(true); }
 
   back() {
     this.aim = 0;
     this.evolution.back();
     this.findRings();
-    this.draw(true);
+    this.fit(this.view.isOfAsh);
   }
 
   listenTo(canvas) {
@@ -204,13 +208,28 @@ class Player {
 
   draw(now = false) {
     const { rows } = this.evolution, isPlaying = this.isPlaying();
-    if (this.view.fits && rows.length) this.view.fit(this.rings.map(ringBox).reduce(joined, this.evolution.box()), now);
+    // To find the ash takes longer than to draw it, so while a soup plays, that is done in some frames only.
+    this.frames += 1;
+    if (this.view.fits && rows.length && (now || !isPlaying || this.frames % FRAMES_TO_FIT === 0))
+      this.view.fit(this.rings.map(ringBox).reduce(joined, this.evolution.box(this.view.isOfAsh, this.ships)), now || this.isAtEnd());
     drawPattern(this.view, rows, this.rings);
     // What it says is read out only when it stands still.
     this.said.setAttribute('aria-live', isPlaying ? 'off' : 'polite');
     this.said.textContent = saidBy(this.soup, this.evolution) + (this.isAtEnd() ? `.${ringWords(this.object, this.rings.length)}` : '');
-    this.playButton.textContent = isPlaying ? 'Pause' : 'Play';
-    this.ringButton.hidden = !this.rings.length;
+    this.showButtons(isPlaying);
+  }
+
+  // At the end, there is no other step, and to play is to begin again.
+  showButtons(isPlaying) {
+    const { play, step, end, ash, fit, ring } = this.buttons, isAtEnd = this.isAtEnd(), { fits, isOfAsh } = this.view;
+    play.textContent = isPlaying ? 'Pause' : isAtEnd ? 'Play again' : 'Play';
+    if (isAtEnd && [step, end].includes(document.activeElement)) play.focus();
+    play.disabled = isAtEnd && !this.soup.settled;
+    step.disabled = isAtEnd;
+    end.disabled = isAtEnd || !this.soup.ends;
+    ash.setAttribute('aria-pressed', fits && isOfAsh);
+    fit.setAttribute('aria-pressed', fits && !isOfAsh);
+    ring.hidden = !this.rings.length;
   }
 
   end() { this.isEnded = true; this.sizes.disconnect(); }

@@ -24,7 +24,7 @@ def table_of(sides: Sides) -> Iterator[str]:
     letters = [f" in {side.letter}" if len(sides.all) > 1 else "" for side in sides.all]
     heads = ["Picture", "Name and code", "What it is", "Cells"]
     for letter in letters:
-        heads += [f"Total{letter}", f"≤ 1 in N soups{letter}", f"Sample soups{letter}"]
+        heads += [f"Total{letter}", f"How often{letter}", f"Sample soups{letter}"]
     yield f'<p>{left_out(sides)}</p>\n<div class="scroll"><table class="all"><thead><tr>'
     yield "".join(f'<th scope="col">{head}</th>' for head in heads) + "</tr></thead><tbody>\n"
     for code in sides.codes:
@@ -48,7 +48,7 @@ def row(sides: Sides, code: str) -> str:
     rule = sides.first_with(code).haul.job.rule
     named = f"<b>{escape(label)}</b> {linked(code, rule)}" if label else linked(code, rule)
     return (
-        f'<tr><td>{drawn(code)}</td><td>{named}</td><td>{kind_words(code)}</td>'
+        f'<tr id="{escape(code)}"><td>{drawn(code)}</td><td>{named}</td><td>{kind_words(code)}</td>'
         f'<td>{"" if cells is None else cells}</td>{"".join(counts(side, code) for side in sides.all)}</tr>\n'
     )
 
@@ -60,7 +60,17 @@ def counts(side: Side, code: str) -> str:
         return "<td>0</td><td></td><td></td>"
     total = haul.totals[code]
     samples = " ".join(f'<a href="{soup_link(side, number)}">{number}</a>' for number in haul.samples[code])
-    return f"<td>{total:,}</td><td>{one_in(haul.soups, total):,}</td><td>{samples}</td>"
+    return f"<td>{total:,}</td><td>{often(haul.soups, total)}</td><td>{samples}</td>"
+
+
+def often(soups: int, total: int) -> str:
+    """Writes how often an object comes, as the script does."""
+    if not soups:
+        return "none"
+    if total * 2 <= soups:
+        return f"≤ 1 in {one_in(soups, total):,} soups"
+    each = total / soups
+    return f"{each:,.0f} per soup" if each >= 100 else f"{each:.3g} per soup"
 
 
 def soup_link(side: Side, number: int) -> str:

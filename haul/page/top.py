@@ -1,9 +1,11 @@
-"""What stands at the top of a page: what it shows, in a sentence and in tiles for each haul, and how to verify it."""
+"""What stands at the top of a page: what it shows, in a sentence and in tiles for each haul, and how to verify it. At the foot: what made it."""
 
 from __future__ import annotations
 
 from html import escape
+from string import Template
 
+from haul import VERSION
 from haul.page.shell import unsettled_command
 from haul.page.sides import Side, Sides
 from haul.rle import LIFE, header_rule
@@ -13,11 +15,18 @@ from haul.words import counted, noun
 # More ranges than these are only counted.
 MOST_RANGES = 12
 NO_NUMBER = "–"
+COUNTED = "the formally verified program <code>census</code> counted the objects that they left"
 
 NOTES = """\
 <p>An object is <em>strict</em> if it doesn't consist of smaller objects that would do the same each by itself, as the two blocks of a
 bi-block would. The parts are found by a definition of this project, not by apgsearch's code. Names are those of LifeWiki. A haul doesn't
 record how many soups contain an object, so only an upper bound is shown: “≤ 1 in 50 soups” means that at most one soup in 50 has one.</p>
+"""
+ABOUT = """\
+<p>Made by <code>haul page</code> of Gokzerd $version from $hauls. A <em>haul</em> is the text that <code>census take</code> prints: how many of
+each object a set of soups left, with up to three sample soups for each. Gokzerd has two programs. <code>census</code> runs the soups and
+counts; it is formally verified, so its counts are proved to match a written definition. <code>haul</code> and this page are tested, but not
+proved. The commands on this page need both programs on the <code>PATH</code>, on Linux.</p>
 """
 
 
@@ -41,6 +50,12 @@ def top_of(sides: Sides) -> str:
     return "".join([about, '<div class="more">', *more, "</div>\n"])
 
 
+def foot_of(sides: Sides) -> str:
+    """Writes the foot: what made the page, what a haul is, and what the commands need."""
+    count = len(sides.all)
+    return Template(ABOUT).substitute(version=VERSION, hauls="a haul" if count == 1 else counted(count, "haul"))
+
+
 def folded(summary: str, words: str) -> str:
     return f"<details><summary>{summary}</summary>\n{words}</details>\n"
 
@@ -48,12 +63,12 @@ def folded(summary: str, words: str) -> str:
 def compared(sides: Sides) -> str:
     """Writes the facts on hauls that are compared, in a table with a row for each."""
     first = sides.all[0]
-    heads = ["Haul", *(name for name, _ in facts_of(first)), "seed", "numbers"]
-    rows = [[rule_of(side), *(value for _, value in facts_of(side)), seed_of(side.haul.job), ranges_words(side.haul)] for side in sides.all]
+    heads = ["Haul", *(name for name, _, _ in facts_of(first)), "seed", "numbers"]
+    rows = [[rule_of(side), *(value for _, value, _ in facts_of(side)), seed_of(side.haul.job), ranges_words(side.haul)] for side in sides.all]
     body = "".join(f'<tr><th scope="row">{head}</th>{"".join(f"<td>{cell}</td>" for cell in cells)}</tr>\n' for head, *cells in rows)
     head = "".join(f'<th scope="col">{name}</th>' for name in heads)
     return (
-        "<p>Random soups of 16 by 16 cells ran under each rule until they had settled, and the objects that they left were counted.</p>\n"
+        f"<p>Random soups of 16 by 16 cells ran under each rule until they had settled, and {COUNTED}.</p>\n"
         f'<div class="scroll" tabindex="0" role="region" aria-label="The hauls"><table class="hauls"><thead><tr>{head}</tr></thead><tbody>\n{body}</tbody></table></div>\n'
     )
 
@@ -70,7 +85,7 @@ def sentence(haul: Haul) -> str:
     seed = f"the seed {seed_of(haul.job)}" if haul.job.seed else "the empty seed"
     return (
         f"Random soups of 16 by 16 cells (numbers {ranges_words(haul)} of {seed}) ran under the rule <code>{haul.job.rule}</code> "
-        f"({header_rule(haul.job.rule)}) until they had settled, and the objects that they left were counted."
+        f"({header_rule(haul.job.rule)}) until they had settled, and {COUNTED}."
     )
 
 
@@ -83,21 +98,24 @@ def ranges_words(haul: Haul) -> str:
 
 def tiles(side: Side) -> str:
     """Writes the facts on a haul as tiles."""
-    return '<dl class="tiles">' + "".join(f"<div><dt>{name}</dt><dd>{value}</dd></div>" for name, value in facts_of(side)) + "</dl>"
+    words = [(f"{name}<small>{meaning}</small>" if meaning else name, value) for name, value, meaning in facts_of(side)]
+    return '<dl class="tiles">' + "".join(f"<div><dt>{name}</dt><dd>{value}</dd></div>" for name, value in words) + "</dl>"
 
 
-def facts_of(side: Side) -> list[tuple[str, str]]:
-    """Returns the facts on all objects of a haul, with or without a place on the page, by their names."""
-    haul = side.haul
+def facts_of(side: Side) -> list[tuple[str, str, str]]:
+    """Returns the facts on all objects of a haul, with or without a place on the page: their names, their values, and what they mean if
+    that isn't plain."""
+    haul, (_, horizon, _, limit) = side.haul, side.haul.job.profile
+    others = haul.soups - haul.unsettled - haul.for_good
     strict = sum(side.separation_of(code).is_strict() for code in haul.totals)
     return [
-        ("soups", f"{haul.soups:,} <small>of {haul.size():,}</small>" if haul.soups < haul.size() else f"{haul.soups:,}"),
-        ("objects", f"{haul.objects():,}"),
-        ("objects per soup", f"{haul.objects() / haul.soups:.2f}" if haul.soups else NO_NUMBER),
-        ("distinct objects", f"{len(haul.totals):,}"),
-        ("of these strict", f"{strict:,}"),
-        ("unsettled soups", f"{haul.unsettled:,}"),
-        ("settled for good", f"{haul.for_good:,}"),
+        ("soups", f"{haul.soups:,} <small>of {haul.size():,}</small>" if haul.soups < haul.size() else f"{haul.soups:,}", ""),
+        ("objects", f"{haul.objects():,}", ""),
+        ("objects per soup", f"{haul.objects() / haul.soups:.2f}" if haul.soups else NO_NUMBER, ""),
+        ("distinct objects", f"{len(haul.totals):,}", ""),
+        ("of these strict", f"{strict:,}", "not made of smaller objects"),
+        ("unsettled soups", f"{haul.unsettled:,}", f"not at rest by generation {limit:,}"),
+        ("settled for good", f"{haul.for_good:,}", f"at rest forever; the other {others:,} for at least {counted(horizon, 'generation')}"),
     ]
 
 

@@ -12,6 +12,7 @@ from html import unescape
 from pathlib import Path
 from unittest.mock import patch
 
+from haul import VERSION
 from haul.ends import End, end_of, populations_of
 from haul.life import rule_of
 from haul.main import do_page
@@ -51,16 +52,24 @@ class Top(unittest.TestCase):
 <header>
 <h1>A census of 8 soups under B36/S23</h1>
 <p>Random soups of 16 by 16 cells (numbers 5 to 11, 2048 of the seed <code class="seed">a</code>) ran under the rule <code>b36s23</code> (B36/S23) \
-until they had settled, and the objects that they left were counted.</p>
+until they had settled, and the formally verified program <code>census</code> counted the objects that they left.</p>
 <dl class="tiles"><div><dt>soups</dt><dd>8</dd></div><div><dt>objects</dt><dd>113</dd></div><div><dt>objects per soup</dt><dd>14.12</dd></div>\
-<div><dt>distinct objects</dt><dd>4</dd></div><div><dt>of these strict</dt><dd>2</dd></div><div><dt>unsettled soups</dt><dd>1</dd></div>\
-<div><dt>settled for good</dt><dd>2</dd></div></dl>
+<div><dt>distinct objects</dt><dd>4</dd></div><div><dt>of these strict<small>not made of smaller objects</small></dt><dd>2</dd></div>\
+<div><dt>unsettled soups<small>not at rest by generation 30,300</small></dt><dd>1</dd></div>\
+<div><dt>settled for good<small>at rest forever; the other 5 for at least 512 generations</small></dt><dd>2</dd></div></dl>
 <div class="more"><details><summary>How to verify it</summary>
 <p>If the haul of this page is in the file <code>all.haul</code>, <code>haul check all.haul</code> runs the whole census again and compares, \
 and <code>haul check --samples all.haul</code> runs only the sample soups.</p>
 </details>
 <details><summary>1 unsettled soup</summary>
 """), before_table(page(self.HAUL, 0)))
+
+    def test_the_foot(self) -> None:
+        """What made the page, and what its commands need, also without scripts."""
+        for text, hauls in ((page(self.HAUL, 0), "a haul"), (compared(self.HAUL, self.HAUL), "2 hauls")):
+            foot = text.partition("<footer>")[2].partition("</footer>")[0]
+            self.assertIn(f"<code>haul page</code> of Gokzerd {VERSION} from {hauls}. A <em>haul</em> is", foot)
+            self.assertIn("commands on this page need both programs", foot)
 
     def test_all_objects_count(self) -> None:
         """Also those that have no place on the page."""
@@ -138,15 +147,15 @@ class Rows(unittest.TestCase):
         haul = made({"xs4_33": 1200, "xp15_4r4z4r4": 40, "xq4_153": 3, "xp2_1110s": 2, "ov_p123": 1, "ov_s4000": 1, "zz_1": 1}, [(5, 7)],
                     samples={"xs4_33": [5, 6, 11], "xp15_4r4z4r4": [7], "xq4_153": [8], "xp2_1110s": [9], "ov_p123": [10], "ov_s4000": [10], "zz_1": [11]})
         table = table_of(page(haul, 0))
-        self.assertEqual(table.heads, ["Picture", "Name and code", "What it is", "Cells", "Total", "≤ 1 in N soups", "Sample soups"])
+        self.assertEqual(table.heads, ["Picture", "Name and code", "What it is", "Cells", "Total", "How often", "Sample soups"])
         self.assertEqual([row.cells for row in table.rows], [
-            ["block: 2 by 2, 4 cells", "block xs4_33", "still life", "4", "1,200", "1", "5 6 11"],
-            ["pentadecathlon: 3 by 10, 12 cells", "pentadecathlon xp15_4r4z4r4", "oscillator of period 15", "12", "40", "1", "7"],
-            ["glider: 3 by 3, 5 cells", "glider xq4_153", "spaceship of period 4", "5", "3", "2", "8"],
-            ["xp2_1110s: 5 by 5, 6 cells", "2 blinkers xp2_1110s", "oscillator of period 2", "6", "2", "3", "9"],
-            ["too large to draw", "not separated ov_p123", "oscillator of period 123", "", "1", "7", "10"],
-            ["too large to draw", "not separated ov_s4000", "still life", "4000", "1", "7", "10"],
-            ["can't be drawn", "not separated zz_1", "an object", "", "1", "7", "11"]])
+            ["block: 2 by 2, 4 cells", "block xs4_33", "still life", "4", "1,200", "171 per soup", "5 6 11"],
+            ["pentadecathlon: 3 by 10, 12 cells", "pentadecathlon xp15_4r4z4r4", "oscillator of period 15", "12", "40", "5.71 per soup", "7"],
+            ["glider: 3 by 3, 5 cells", "glider xq4_153", "spaceship of period 4", "5", "3", "≤ 1 in 2 soups", "8"],
+            ["xp2_1110s: 5 by 5, 6 cells", "2 blinkers xp2_1110s", "oscillator of period 2", "6", "2", "≤ 1 in 3 soups", "9"],
+            ["too large to draw", "not separated ov_p123", "oscillator of period 123", "", "1", "≤ 1 in 7 soups", "10"],
+            ["too large to draw", "not separated ov_s4000", "still life", "4000", "1", "≤ 1 in 7 soups", "10"],
+            ["can't be drawn", "not separated zz_1", "an object", "", "1", "≤ 1 in 7 soups", "11"]])
         self.assertEqual(table.rows[0].links, ["https://catagolue.hatsya.com/object/xs4_33/b3s23", *(
             f"https://catagolue.hatsya.com/hashsoup/C1/a{number}/b3s23" for number in (5, 6, 11))])
         self.assertEqual(table.rows[4].links, ["https://catagolue.hatsya.com/hashsoup/C1/a10/b3s23"])
@@ -183,11 +192,11 @@ class Data(unittest.TestCase):
         self.assertEqual(data_of(page(self.HAUL, 0))["objects"], [
             {"code": "xp2_1110s", "label": "2 blinkers", "made": [["xp2_7", "xp2_7"]], "objects": [[7, 4, 5]], "cells": 6},
             {"code": "xs10_25520oo", "label": "block and beehive", "made": [["xs4_33", "xs6_696"]], "objects": [[3, 1, 8]], "cells": 10},
-            {"code": "xs4_33", "label": "block", "made": ["strict"], "objects": [[2, 2]], "parts": [[7, 1, 2, 7]], "cells": 4},
+            {"code": "xs4_33", "label": "block", "named": 1, "made": ["strict"], "objects": [[2, 2]], "parts": [[7, 1, 2, 7]], "cells": 4},
             {"code": "ov_p3", "label": "", "made": ["not separated"], "objects": [[1, 0]], "parts": [[1, 0]]},
-            {"code": "xs8_rr", "label": "bi-block", "made": [["xs4_33", "xs4_33"]], "objects": [[1, 7]], "cells": 8},
-            {"code": "xp2_7", "label": "blinker", "made": ["strict"], "parts": [[14, 4, 5]], "cells": 3},
-            {"code": "xs6_696", "label": "beehive", "made": ["strict"], "parts": [[3, 1, 8]], "cells": 6}])
+            {"code": "xs8_rr", "label": "bi-block", "named": 1, "made": [["xs4_33", "xs4_33"]], "objects": [[1, 7]], "cells": 8},
+            {"code": "xp2_7", "label": "blinker", "named": 1, "made": ["strict"], "parts": [[14, 4, 5]], "cells": 3},
+            {"code": "xs6_696", "label": "beehive", "named": 1, "made": ["strict"], "parts": [[3, 1, 8]], "cells": 6}])
 
     def test_the_haul(self) -> None:
         data = data_of(page(self.HAUL, 3))
@@ -253,7 +262,7 @@ class Comparing(unittest.TestCase):
     def test_each_under_its_rule(self) -> None:
         """A table on table falls apart under the rule of B alone, and each value has a place for each haul."""
         objects = objects_of(compared(self.LIFE, self.OTHER))
-        self.assertEqual(objects["xs12_raar"], {"code": "xs12_raar", "label": "table on table", "made": ["strict", ["xs6_9f"] * 2], "objects": [[4, 0], [4, 7]],
+        self.assertEqual(objects["xs12_raar"], {"code": "xs12_raar", "label": "table on table", "named": 1, "made": ["strict", ["xs6_9f"] * 2], "objects": [[4, 0], [4, 7]],
                                                 "parts": [[4, 0], 0], "cells": 12})
         self.assertEqual(objects["xs6_9f"], {"code": "xs6_9f", "label": "", "made": [None, "strict"], "parts": [0, [8, 7]], "cells": 6})
         self.assertEqual(objects["xp2_7"]["objects"], [[10, 0], 0])
@@ -266,8 +275,10 @@ class Comparing(unittest.TestCase):
 
     def test_the_table(self) -> None:
         table = table_of(compared(self.LIFE, self.OTHER))
-        self.assertEqual(table.heads[4:], ["Total in A", "≤ 1 in N soups in A", "Sample soups in A", "Total in B", "≤ 1 in N soups in B", "Sample soups in B"])
-        self.assertEqual([row.cells[4:] for row in table.rows], [["1,000", "1", "0", "5", "10", "8 9"], ["10", "10", "0", "0", "", ""], ["4", "25", "0", "4", "12", "7"]])
+        self.assertEqual(table.heads[4:], ["Total in A", "How often in A", "Sample soups in A", "Total in B", "How often in B", "Sample soups in B"])
+        self.assertEqual([row.cells[4:] for row in table.rows], [
+            ["1,000", "10 per soup", "0", "5", "≤ 1 in 10 soups", "8 9"], ["10", "≤ 1 in 10 soups", "0", "0", "", ""],
+            ["4", "≤ 1 in 25 soups", "0", "4", "≤ 1 in 12 soups", "7"]])
 
     def test_least_in_one_of_them(self) -> None:
         self.assertEqual([row.cells[4] for row in table_of(compared(self.LIFE, self.OTHER, least=10)).rows], ["1,000", "10"])
