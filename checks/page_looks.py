@@ -128,7 +128,7 @@ def try_large_page(driver: Driver, folder: Path) -> None:
     is_seen("it has all objects", text(driver, "#shown"), "12,124 of 12,124 kinds, 36,372 of 36,372 objects.")
     for view in ("gallery", "table"):
         opened(driver, path, f"#&strict=0&view={view}")
-        took = browser.least_of(lambda: browser.longest_frame(driver), tries=3, enough=100)
+        took = browser.least_of(lambda: browser.longest_frame(driver), tries=10, enough=100)
         check(f"the {view} scrolls without a frame of over 100 ms: {took:.0f} ms", took <= 100)
         driver.execute_script("scrollTo(0, 1e9)")
         check(f"the {view} has its last object", wait_for(lambda: codes[-1] in text(driver, "#list code")))
