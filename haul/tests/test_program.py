@@ -290,7 +290,7 @@ class Pages(unittest.TestCase):
         rows = table_of(shown).rows
         self.assertEqual((len(rows), sum(len(row.paths) for row in rows), len(data_of(shown)["objects"])), (30, 30, 30))
         self.assertIn("traffic light xp2_s01110szw222", [row.cells[1] for row in rows])
-        self.assertEqual([row.cells[4:] for row in rows if row.cells[1] == "pond xs8_6996"], [["6", "6", "1 17 18"]])
+        self.assertEqual([row.cells[4:] for row in rows if row.cells[1] == "pond xs8_6996"], [["6", "≤ 1 in 6 soups", "1 17 18"]])
 
     def test_options_of_a_sample(self) -> None:
         """Those that aren't standard, and no other."""
