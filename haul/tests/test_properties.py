@@ -6,6 +6,7 @@ import io
 import random
 import re
 import unittest
+from fractions import Fraction
 
 from haul.check import differences, wrong_samples
 from haul.program import Census
@@ -115,6 +116,16 @@ class Once(Census):
         return {number: ["at=0", "good=no", *(f"{code}*1" for code in self.left[number])] for number in numbers}
 
 
+def how_often(soups: int, total: int) -> str:
+    """Returns how often an object comes: at most in one of this many soups, or, if there are more objects than half the soups, how many
+    there are per soup, with three digits."""
+    if soups == 0:
+        return "none"
+    if Fraction(total, soups) <= Fraction(1, 2):
+        return f"≤ 1 in {soups // total:,} soups"
+    return f"{total / soups:,.0f} per soup" if total >= 100 * soups else f"{total / soups:.3g} per soup"
+
+
 class Shown(unittest.TestCase):
     def test_number_for_number(self) -> None:
         """Each code with its numbers, the most frequent first, in the table and in the data, and all facts before the table."""
@@ -129,10 +140,10 @@ class Shown(unittest.TestCase):
             self.assertEqual(list(objects)[: len(codes)], codes)
             for code, row in zip(codes, shown, strict=True):
                 total, samples = haul.totals[code], haul.samples[code]
-                self.assertEqual(row.cells[4:], [f"{total:,}", f"{max(haul.soups // total, 1):,}", " ".join(map(str, samples))])
+                self.assertEqual(row.cells[4:], [f"{total:,}", how_often(haul.soups, total), " ".join(map(str, samples))])
                 self.assertEqual(objects[code]["objects"], [[total, *samples]])
             soups = f"{haul.soups:,}" + (f" <small>of {haul.size():,}</small>" if haul.size() > haul.soups else "")
-            found = re.findall("<dt>([a-z ]*)</dt><dd>(.*?)</dd>", text)
+            found = re.findall("<dt>([a-z ]*)(?:<small>.*?</small>)?</dt><dd>(.*?)</dd>", text)
             self.assertEqual([pair for pair in found if pair[0] != "of these strict"], [
                 ("soups", soups), ("objects", f"{haul.objects():,}"), ("objects per soup", f"{haul.objects() / haul.soups:.2f}" if haul.soups else "–"),
                 ("distinct objects", f"{len(codes):,}"), ("unsettled soups", f"{haul.unsettled:,}"), ("settled for good", f"{haul.for_good:,}")])
