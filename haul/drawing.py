@@ -56,6 +56,6 @@ def picture(cells: Cells, name: str) -> str:
 
 
 def size_of(cells: Cells) -> tuple[int, int]:
-    """Returns the width and the height of a bounding box."""
-    width, height = (max(side) - min(side) + 1 for side in zip(*cells, strict=True))
+    """Returns the width and the height of a pattern whose bounding box begins in column 0 and row 0."""
+    width, height = (max(side) + 1 for side in zip(*cells, strict=True))
     return width, height

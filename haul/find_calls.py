@@ -23,7 +23,8 @@ class FindCalls:
         self.complain = complain
         self.waiting: deque[list[str]] = deque()
         self.running: Running | None = None
-        self.began = 0.0
+        # When it began, in seconds.
+        self.began: float
 
     def add(self, arguments: list[str]) -> None:
         if self.program is not None:

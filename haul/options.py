@@ -236,6 +236,7 @@ def add_soups(commands: Commands) -> None:
         "examples:\n  census work --count 200 --worker 1 | haul soups\n  haul soups --longest 10 --exact parts/*.lines\n"
         "  haul soups --code xp2_7e parts/*.lines",
     )
+    soups.set_defaults(refuse=soups.error)
     lists = soups.add_mutually_exclusive_group()
     lists.add_argument("--longest", type=count, metavar="N", help="list the N soups that settled last")
     lists.add_argument("--unsettled", action="store_true", help="list the unsettled soups, each with its population at the last checkpoint, and how "
@@ -245,7 +246,6 @@ def add_soups(commands: Commands) -> None:
     add_forms(soups)
     add_census(soups)
     soups.add_argument("files", nargs="*", metavar="file", help="the lines (default: standard input)")
-    soups.set_defaults(refuse=soups.error)
 
 
 def add_cells(commands: Commands) -> None:

@@ -56,8 +56,13 @@ class Running:
         """Starts a program by `starter.py`, with `CENSUS` or `FIND`. Raises `OSError` if that fails."""
         starts = [sys.executable, "-I", "-S", "-c", starter(), how, str(os.getpid())]
         self.waiter = waiter
-        self.process = subprocess.Popen([*starts, *words], stdin=subprocess.DEVNULL, stdout=subprocess.PIPE, stderr=stderr,
-                                        start_new_session=True)
+        # Ctrl-C mustn't end it before it is in its own session. The starter drops a Ctrl-C that came until then.
+        mask = signal.pthread_sigmask(signal.SIG_BLOCK, {signal.SIGINT})
+        try:
+            self.process = subprocess.Popen([*starts, *words], stdin=subprocess.DEVNULL, stdout=subprocess.PIPE, stderr=stderr,
+                                            start_new_session=True)
+        finally:
+            signal.pthread_sigmask(signal.SIG_SETMASK, mask)
         self.printed, self.complained = bytearray(), bytearray()
         # How many of the two streams are open.
         self.open = 0

@@ -24,6 +24,18 @@ USAGE, FAILED = 2, 5
 DONE = "done"
 
 
+def drop_interrupts() -> None:
+    """Drops a Ctrl-C that came before this was in its own session, and lets later ones through. `haul` blocks the signal until then."""
+    # `signal` without its enums, which take long; mypy knows nothing of it.
+    import _signal  # type: ignore[import]
+
+    if _signal.getsignal(_signal.SIGINT) != _signal.SIG_IGN:
+        # What waits is dropped when a signal is ignored.
+        _signal.signal(_signal.SIGINT, _signal.SIG_IGN)
+        _signal.signal(_signal.SIGINT, _signal.SIG_DFL)
+    _signal.pthread_sigmask(_signal.SIG_UNBLOCK, [_signal.SIGINT])
+
+
 def end_with(parent: int, number: int) -> None:
     """Asks for a signal when the parent ends. Ends at once if it has ended already."""
     import ctypes
@@ -81,4 +93,5 @@ def how_ended(status: int) -> str:
 
 
 if __name__ == "__main__":
+    drop_interrupts()
     (run_find if sys.argv[1] == "find" else run_census)(int(sys.argv[2]), sys.argv[3:])

@@ -20,7 +20,7 @@ from haul.keeper import Keeper
 from haul.life import rule_of
 from haul.parts import Separator
 from haul.program import Census
-from haul.running import Waiter
+from haul.running import FIND, Waiter, starter
 from haul.search import Dropped, Part, Plan, Search
 from haul.status_line import Status, StatusLine, duration, short
 from haul.stopping import Stopping
@@ -109,6 +109,15 @@ class Finds(unittest.TestCase):
             self.assertEqual(finder.left(), 2)
             self.assertEqual(found(finder), [Find("xs7_2552", 11)])
             self.assertEqual(separated.call_count, 7)
+
+    def test_how_many_are_left(self) -> None:
+        """Objects of the file count once those of the batch are separated."""
+        finder = Finder(LIFE, haul_of(LIFE, BI_BLOCK))
+        self.assertEqual(finder.left(), 0)
+        finder.add([("xs7_2552", 11), (TRIPOLE, 12)])
+        self.assertEqual(finder.left(), 2)
+        self.assertEqual(finder.step(), [])
+        self.assertEqual(finder.left(), 1)
 
     def test_which_objects_can_have_a_part(self) -> None:
         """All objects with several parts in 100,000 soups, and some more kinds."""
@@ -235,6 +244,31 @@ class Calls(Searches):
         self.assertEqual(said, [f"{calls.program}: ended after 4 seconds"])
         self.assertGreaterEqual(time.monotonic() - began, 4)
         self.assertEqual((self.folder / "said").read_text().split(), ["a", "b"])
+        self.assert_nothing_runs()
+
+    def test_an_interrupt_before_it_has_its_session(self) -> None:
+        """A Ctrl-C for `haul` that comes then is dropped, and later the program is ended by that signal as usual."""
+        def interrupted() -> None:
+            signal.signal(signal.SIGINT, signal.SIG_DFL)
+            signal.pthread_sigmask(signal.SIG_BLOCK, {signal.SIGINT})
+            os.kill(os.getpid(), signal.SIGINT)
+
+        program = self.stub("echo $1 >> said; kill -INT $$; echo late >> said")
+        ended = subprocess.run([sys.executable, "-I", "-S", "-c", starter(), FIND, str(os.getpid()), program, "once"], cwd=self.folder,
+                               stdout=subprocess.PIPE, check=False, start_new_session=True, preexec_fn=interrupted)
+        self.assertEqual((ended.stdout, (self.folder / "said").read_text()), (b"was ended by signal 2\n", "once\n"))
+
+    def test_how_long_it_may_take(self) -> None:
+        """A minute, by a clock that the test sets."""
+        said: list[str] = []
+        calls = FindCalls(Waiter(), self.stub("sleep 1000"), said.append)
+        calls.add([])
+        with patch("haul.find_calls.time", Mock(monotonic=Mock(side_effect=[1000.0, 1059.9, 1060.0]))):
+            calls.step()
+            calls.step()
+            self.assertEqual((said, calls.is_done()), ([], False))
+            calls.step()
+        self.assertEqual((said, calls.is_done()), ([f"{calls.program}: ended after 60 seconds"], True))
         self.assert_nothing_runs()
 
     def test_signals_while_it_runs(self) -> None:

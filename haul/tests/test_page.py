@@ -110,6 +110,12 @@ and <code>haul check --samples all.haul</code> runs only the sample soups.</p>
             self.assertIn("within 1 generation, and for 2 generations no object", words)
             self.assertIn(words, folds(page(made({"xs4_33": 1}, [(5, 1)], profile), 0))["How objects are counted"])
 
+    def test_profiles_of_several_hauls(self) -> None:
+        """Which hauls a profile is of is said only if there are several profiles."""
+        one, other = (made({"xs4_33": 1}, [(5, 1)], profile) for profile in ((64, 512, 101, 30300), (4, 8, 10, 30)))
+        self.assertEqual(folds(compared(one, one))["How objects are counted"], folds(page(one, 0))["How objects are counted"])
+        self.assertEqual(re.findall("<p>([A-Z, ]+): ", folds(compared(one, other, one))["How objects are counted"]), ["A, C", "B"])
+
 
 class Unsettled(unittest.TestCase):
     """The command that lists unsettled soups."""

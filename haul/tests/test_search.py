@@ -2,6 +2,7 @@
 
 from __future__ import annotations
 
+import errno
 import io
 import os
 import random
@@ -19,7 +20,7 @@ from haul.options import parsed
 from haul.stopping import Stopping
 from haul.tests.called import CENSUS, TOP, census, run
 from haul.tests.searching import QUICK, Searches
-from haul.text import NUMBER_LIMIT
+from haul.text import NUMBER_LIMIT, Haul, read_one_haul
 
 
 class Soups(Searches):
@@ -405,6 +406,41 @@ class Keeping(Searches):
         self.assertEqual(steps, ["mine.haul.new", "replace", self.folder.name])
         self.assertEqual(self.file.read_bytes(), census("take", "--count", "3"))
         os.close(keeper.lock)
+
+    def test_rights_of_a_new_file(self) -> None:
+        """Everybody may read and write it, unless the mask says otherwise."""
+        mask = os.umask(0)
+        try:
+            keeper = Keeper(str(self.file))
+            keeper.write(haul_of_three())
+        finally:
+            os.umask(mask)
+        for name in ("mine.haul", "mine.haul.lock"):
+            self.assertEqual((self.folder / name).stat().st_mode & 0o777, 0o666, name)
+        os.close(keeper.lock)
+
+    def test_a_folder_that_cant_be_synced(self) -> None:
+        """Some file systems refuse that with `EINVAL`, which is no fault. Another refusal is one."""
+        keeper = Keeper(str(self.file))
+        fsync = os.fsync
+        for number, is_fault in ((errno.EINVAL, False), (errno.EIO, True)):
+            def refused(of: int, number: int = number) -> None:
+                if os.path.isdir(os.readlink(f"/proc/self/fd/{of}")):
+                    raise OSError(number, os.strerror(number))
+                fsync(of)
+
+            with patch("os.fsync", refused):
+                if is_fault:
+                    with self.assertRaises(OSError):
+                        keeper.write(haul_of_three())
+                else:
+                    keeper.write(haul_of_three())
+            self.assertEqual(self.file.read_bytes(), census("take", "--count", "3"))
+        os.close(keeper.lock)
+
+
+def haul_of_three() -> Haul:
+    return read_one_haul(io.BytesIO(census("take", "--count", "3")))
 
 
 if __name__ == "__main__":

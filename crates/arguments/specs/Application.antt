@@ -9,49 +9,52 @@ use Rattle.arguments.specs.declared.options.ValueKind.TheVariants as kind
 use Rattle.arguments.specs.Entries.{Command, Entry}
 use Rattle.arguments.specs.Table.{commands}
 
--- an argument with its name and place alone
+-- the argument of a row with only its name and place
 abbrev pub named : Entry → Rule
 named entry = record (new_rule entry.name) {
   long = if entry.is_named then Some entry.name else None;
   value_names = if entry.is_named then 1 else 0;
 }
 
--- an argument with a value, which may be any text
+-- the argument of a row with a value, which may be any text
 abbrev pub placed : Entry → Rule
 placed entry = record (named entry) {
   required = not (is_some entry.default);
   defaults = option_map_or (λ text. text ∷ []) entry.default [];
 }
 
--- the same where it takes what its kind says; numbers of 32 bits may have a sign
+-- the argument of a row with the values that its kind allows; numbers of 32 bits are parsed with a sign
 abbrev pub rule_by : Entry → ValueKind → Rule
 rule_by entry kind.Text = placed entry
 rule_by entry kind.Flag = record (new_rule entry.name) { long = Some entry.name; action = Some SetTrue }
 rule_by entry (kind.Number least most) = record (placed entry) { parser = Some (Signed (pos least) (pos most)) }
 rule_by entry (kind.LargeNumber most) = record (placed entry) { parser = Some (Unsigned 0 most) }
 
+-- the argument of a row, as `clap` knows it
 abbrev pub rule_in : Entry → Rule
 rule_in entry = rule_by entry entry.kind
 
--- a command with these arguments too, in this order
+-- the command with these arguments added, in this order
 abbrev pub with_rules : App → List Rule → App
 with_rules app [] = app
 with_rules app (rule ∷ more) = with_rules (with_rule app rule) more
 
+-- a command of the table, as `clap` knows it
 abbrev pub shape_in : Command → Shape
 shape_in command = (with_rules (new_app command.name) (map rule_in command.parameters)).top
 
--- a program with these commands too, in this order
+-- the program with these commands added, in this order
 abbrev pub with_commands : App → List Shape → App
 with_commands app [] = app
 with_commands app (shape ∷ more) = with_commands (with_subcommand app shape) more
 
--- the program, which has a version, and of which a command must be named; help is shown where no argument follows
+-- the program without its commands: it has a version, needs a command, and shows help if no argument is given
 abbrev pub program : App
 program = record {
   top = record ((new_app (codes "census")).top) { has_version = true; subcommand_required = true; arg_required_else_help = true };
   subs = [];
 }
 
+-- the program with all its commands
 abbrev pub census_app : App
 census_app = with_commands program (map shape_in commands)

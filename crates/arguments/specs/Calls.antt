@@ -14,14 +14,14 @@ use Rattle.arguments.specs.Table.{commands}
 use Rattle.arguments.specs.Table as table
 use Rattle.arguments.specs.Uses.{Use, entry_in, is_used, arguments_in, arguments_of}
 
--- The command's name and then its arguments, each at most once, in any order, with values that they take, ask for this request if no
--- argument that has to be there is missing.
+-- A call of the command asks for this request if its arguments are lawful, each given at most once, in any order, and
+-- no required argument is missing.
 abbrev pub AsksFor : Command → (List Use → Request) → Type 0
 AsksFor command request =
     (program : Text) (uses : List Use) → AreUses command uses → lacks_some command uses ≡ false
     → asked_by (program ∷ command.name ∷ arguments_in uses) ≡ Some (request uses)
 
--- each command asks for the request with the values that are given, and the defaults of the others
+-- each command asks for its request, with the values that are given and the defaults of the others
 pub record AskForTheirValues : Type 0 where
   pub run : AsksFor table.run_command (λ uses. Run (number_given table.generations uses) (text_given table.rule uses))
   pub name : AsksFor table.name_command (λ uses. Name (profile_given uses) (text_given table.rule uses))
@@ -32,8 +32,9 @@ pub record AskForTheirValues : Type 0 where
   pub work : AsksFor table.work_command (λ uses. Work (plan_given uses) (number_given table.worker uses))
   pub gather : AsksFor table.gather_command (λ uses. Gather (plan_given uses) (number_given table.workers uses))
 
--- Arguments of a command that ask for nothing: a required argument is missing; or after lawful arguments there is one
--- a second time, one with a value out of its range, an unknown option, an argument such as `-x` or `-h`, or `--help`, whatever comes after it.
+-- Arguments of a command ask for nothing if a required one is missing; or if lawful ones are followed by one that was
+-- given before, a value out of its range, an unknown option, an argument such as `-x` or `-h`, or `--help`, whatever
+-- comes after it.
 pub record AskForNothing (command : Command) : Type 0 where
   pub missing : (program : Text) (uses : List Use) → AreUses command uses → lacks_some command uses ≡ true
       → asked_by (program ∷ command.name ∷ arguments_in uses) ≡ None
@@ -48,15 +49,17 @@ pub record AskForNothing (command : Command) : Type 0 where
   pub help : (program : Text) (uses : List Use) (more : List Text) → AreUses command uses
       → asked_by (program ∷ command.name ∷ (arguments_in uses ++ codes "--help" ∷ more)) ≡ None
 
+-- this holds for each command
 abbrev pub OthersAskForNothing : Type 0
 OthersAskForNothing = (command : Command) → IsIn command commands → AskForNothing command
 
--- `--version` alone, and `-V`
+-- a call with only `--version` or `-V` asks for the version
 pub record AsksForVersion : Type 0 where
   pub long : (program : Text) → asked_by (program ∷ codes "--version" ∷ []) ≡ Some Version
   pub short : (program : Text) → asked_by (program ∷ codes "-V" ∷ []) ≡ Some Version
 
--- no command, another argument in its place, whatever comes after it, and a call for help
+-- A call asks for nothing if it has no command, if another argument is in the command's place, whatever comes after it,
+-- or if it has `--help`.
 pub record NoCommandAsksForNothing : Type 0 where
   pub no_command : (program : Text) → asked_by (program ∷ []) ≡ None
   pub unknown : (program argument : Text) (arguments : List Text) → starts_with_minus argument ≡ false

@@ -9,23 +9,24 @@ use Rattle.arguments.specs.declared.options.ValueKind.TheVariants as kind
 use Rattle.arguments.specs.declared.options.Place.{Place}
 use Rattle.arguments.specs.declared.options.Place.TheVariants as place
 
--- the row of an argument, without the texts of help
+-- a row of the table of arguments, without its help texts
 pub record Entry : Type 0 where
   pub name : Text
   pub is_named : Bool
   pub kind : ValueKind
   pub default : Option Text
 
--- the command's name, and its arguments
+-- a command: its name, and the rows of its arguments
 pub record Command : Type 0 where
   pub name : Text
   pub parameters : List Entry
 
+-- the argument is given after `--` and its name
 abbrev pub is_named : Place → Bool
 is_named place.Position = false
 is_named (place.Named shown) = true
 
--- what a row of the program says
+-- the row of an argument in the program, without its help texts
 abbrev pub entry_of : Parameter → Entry
 entry_of row = record {
   name = row.name.now;
@@ -34,16 +35,17 @@ entry_of row = record {
   default = option_map (λ text. text.now) row.default;
 }
 
+-- the row of a command in the program, without its help texts
 abbrev pub command_of : CommandRow → Command
 command_of row = record { name = row.name.now; parameters = map entry_of row.parameters.now }
 
 -- ---- forms of rows
 
--- an argument that stands by itself, and must be given
+-- a positional argument, which must be given
 abbrev pub position : Text → ValueKind → Entry
 position name kind = record { name = name; is_named = false; kind = kind; default = None }
 
--- `--name`, with what is meant if it isn't given
+-- `--name`, with a default
 abbrev pub option : Text → ValueKind → Text → Entry
 option name kind default = record { name = name; is_named = true; kind = kind; default = Some default }
 
@@ -51,6 +53,6 @@ option name kind default = record { name = name; is_named = true; kind = kind; d
 abbrev pub required : Text → ValueKind → Entry
 required name kind = record { name = name; is_named = true; kind = kind; default = None }
 
--- a flag: `--name` alone
+-- a flag: `--name` without a value
 abbrev pub flag : Text → Entry
 flag name = record { name = name; is_named = true; kind = kind.Flag; default = None }

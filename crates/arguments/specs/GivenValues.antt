@@ -15,9 +15,11 @@ abbrev pub text_given : Entry → List Use → Text
 text_given entry [] = unwrap_or entry.default []
 text_given entry (u ∷ more) = if bytes_eq (entry_in u).name entry.name then value_in u else text_given entry more
 
+-- the number that is given for an argument, or its default
 abbrev pub number_given : Entry → List Use → ℕ
 number_given entry uses = digits_value 10 (text_given entry uses)
 
+-- the numbers of a profile that a call gives
 abbrev pub profile_given : List Use → ProfileNumbers
 profile_given uses = record {
   period = number_given table.period uses;
@@ -26,6 +28,7 @@ profile_given uses = record {
   limit = number_given table.limit uses;
 }
 
+-- the set of soups that a call gives
 abbrev pub set_given : List Use → SoupSet
 set_given uses = record {
   seed = text_given table.seed uses;
@@ -34,5 +37,6 @@ set_given uses = record {
   also = text_given table.also uses;
 }
 
+-- the plan that a call gives
 abbrev pub plan_given : List Use → Plan
 plan_given uses = record { set = set_given uses; profile = profile_given uses; rule = text_given table.rule uses }

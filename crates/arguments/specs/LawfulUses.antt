@@ -10,24 +10,25 @@ use Rattle.arguments.specs.declared.options.ValueKind.TheVariants as kind
 use Rattle.arguments.specs.Entries.{Command, Entry}
 use Rattle.arguments.specs.Uses.{Stands, Use, entry_in, is_flag, is_used, value_in}
 
+-- x is in the list
 abbrev pub IsIn : {X : Type 0} → X → List X → Type 0
 IsIn x [] = ⊥
 IsIn x (y ∷ more) = (y ≡ x) ⊎ IsIn x more
 
--- digits of a number in a range
+-- the text has the digits of a number in this range
 pub record IsNumberFromTo (least most : ℕ) (text : Text) : Type 0 where
   pub numeral : IsNumeral 10 text
   pub low : least ≤ digits_value 10 text
   pub high : digits_value 10 text ≤ most
 
--- a value is one of this kind
+-- the value is of this kind
 abbrev pub IsOfKind : ValueKind → Text → Type 0
 IsOfKind (kind.Number least most) value = IsNumberFromTo least most value
 IsOfKind (kind.LargeNumber most) value = IsNumberFromTo 0 most value
 IsOfKind kind.Flag value = value ≡ codes "true"
 IsOfKind kind.Text value = ⊤
 
--- an argument of the command, with a value that it takes
+-- an argument of the command, in an allowed form and with a value that it takes
 pub record IsUse (command : Command) (u : Use) : Type 0 where
   pub parameter : IsIn (entry_in u) command.parameters
   pub stands : Stands u
@@ -42,16 +43,18 @@ AreUses command (u ∷ more) = IsUse command u × (is_used (entry_in u).name mor
 abbrev pub is_required : Entry → Bool
 is_required entry = not (is_flag entry.kind) && not (is_some entry.default)
 
+-- a required argument is missing
 abbrev pub lacks_some : Command → List Use → Bool
 lacks_some command uses = list_any (λ entry. is_required entry && not (is_used entry.name uses)) command.parameters
 
 -- ---- and which it refuses
 
--- a text without a sign that isn't digits of a number in the range
+-- the text has no sign, and doesn't have the digits of a number in this range
 abbrev pub IsNoNumber : ℕ → ℕ → Text → Type 0
 IsNoNumber least most text =
     (starts_with_minus text ≡ false) × (without_leading_plus text ≡ text) × (IsNumberFromTo least most text → ⊥)
 
+-- the value of a numeric argument has no sign, and isn't a number in its range
 abbrev pub IsNotOfKind : ValueKind → Text → Type 0
 IsNotOfKind (kind.Number least most) value = IsNoNumber least most value
 IsNotOfKind (kind.LargeNumber most) value = IsNoNumber 0 most value

@@ -6,12 +6,14 @@ use Rattle.arguments.specs.declared.request.Request.TheVariants.{Run, Name, Show
 use Rattle.arguments.specs.Table.{count, first, generations, horizon, limit, number, period, stride, worker, workers}
 use Rattle.arguments.specs.Values.{IsInRange}
 
+-- each number of a profile is in the range of its argument
 pub record AreProfileNumbers (numbers : ProfileNumbers) : Type 0 where
   pub of_period : IsInRange period.kind numbers.period
   pub of_horizon : IsInRange horizon.kind numbers.horizon
   pub of_stride : IsInRange stride.kind numbers.stride
   pub of_limit : IsInRange limit.kind numbers.limit
 
+-- each number of a plan is in the range of its argument
 pub record ArePlanNumbers (plan : Plan) : Type 0 where
   pub of_profile : AreProfileNumbers plan.profile
   pub of_first : IsInRange first.kind plan.set.first

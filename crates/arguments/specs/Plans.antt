@@ -1,4 +1,4 @@
--- The soups that are meant and how they are run, put together from what was found for the arguments.
+-- Plans: the soups to survey and how, put together from the values that were found for the arguments.
 use Rattle.std.specs.Prelude.{ℕ, List, Option, None, Some}
 use Rattle.clap.specs.Words.{Row, Text}
 use Rattle.requests.specs.declared.plan.Plan.{Plan}
@@ -12,6 +12,7 @@ abbrev pub all_four : Option ℕ → Option ℕ → Option ℕ → Option ℕ �
 all_four (Some p) (Some h) (Some k) (Some t) = Some (record { period = p; horizon = h; stride = k; limit = t })
 all_four _ _ _ _ = None
 
+-- the numbers of a profile that were found
 abbrev pub profile_in : List Row → Option ProfileNumbers
 profile_in rows = all_four (number_found period rows) (number_found horizon rows) (number_found stride rows) (number_found limit rows)
 
@@ -20,13 +21,15 @@ abbrev pub set_of_four : Option Text → Option ℕ → Option ℕ → Option Te
 set_of_four (Some seed) (Some first) (Some count) (Some also) = Some (record { seed = seed; first = first; count = count; also = also })
 set_of_four _ _ _ _ = None
 
+-- the set of soups that was found
 abbrev pub set_in : List Row → Option SoupSet
 set_in rows = set_of_four (text_found seed rows) (number_found first rows) (number_found count rows) (text_found also rows)
 
--- which soups, and how they are run, if all three parts are there
+-- a plan, if all three of its parts are there
 abbrev pub plan_of_three : Option SoupSet → Option ProfileNumbers → Option Text → Option Plan
 plan_of_three (Some set) (Some profile) (Some rule) = Some (record { set = set; profile = profile; rule = rule })
 plan_of_three _ _ _ = None
 
+-- the plan that was found
 abbrev pub plan_in : List Row → Option Plan
 plan_in rows = plan_of_three (set_in rows) (profile_in rows) (text_found rule rows)

@@ -1,4 +1,4 @@
--- Each command with its values, put together from what was found for the arguments.
+-- The request of each command, put together from the values that were found for its arguments.
 use Rattle.std.specs.Prelude.{ℕ, Bool, List, Option, None, Some}
 use Rattle.clap.specs.Words.{Row, Text}
 use Rattle.requests.specs.declared.plan.Plan.{Plan}
@@ -9,7 +9,7 @@ use Rattle.arguments.specs.Plans.{plan_in, profile_in}
 use Rattle.arguments.specs.Table.{code, generations, number, progress, rule, seed, worker, workers}
 use Rattle.arguments.specs.Values.{is_given, number_found, text_found}
 
--- each command, if its values are there
+-- the request of each command, if its values were found
 abbrev pub run_from : Option ℕ → Option Text → Option Request
 run_from (Some n) (Some rule) = Some (Run n rule)
 run_from _ _ = None
@@ -38,7 +38,7 @@ abbrev pub gather_from : Option Plan → Option ℕ → Option Request
 gather_from (Some plan) (Some workers) = Some (Gather plan workers)
 gather_from _ _ = None
 
--- each command, with what was found for its arguments
+-- the request of each command, given what was found for its arguments
 abbrev pub run_request : List Row → Option Request
 run_request rows = run_from (number_found generations rows) (text_found rule rows)
 

@@ -9,7 +9,7 @@ use Rattle.arguments.specs.Application.{census_app}
 pub use Rattle.arguments.specs.NumbersInRange.{AreInTheirRanges, AreProfileNumbers}
 use Rattle.arguments.specs.Reading.{gather_request, name_request, run_request, show_request, soup_request, take_request, work_request}
 
--- the command of this name, with its values
+-- the request of the command with this name
 abbrev pub request_in : Text × List Row → Option Request
 request_in found =
     if bytes_eq found.0 (codes "run") then run_request found.1
@@ -26,10 +26,11 @@ abbrev pub unless_faulty : Kinds → Option Request → Option Request
 unless_faulty [] request = request
 unless_faulty (kind ∷ kinds) request = None
 
+-- the argument asks for the version
 abbrev pub is_version : Text → Bool
 is_version argument = bytes_eq argument (codes "--version") || bytes_eq argument (codes "-V")
 
--- the program's name and `--version` or `-V` alone
+-- the arguments are only the program's name and `--version` or `-V`
 abbrev pub asks_version : List Text → Bool
 asks_version (program ∷ argument ∷ []) = is_version argument
 asks_version _ = false
@@ -38,6 +39,6 @@ asks_version _ = false
 abbrev pub called_by : List Text → Option Request
 called_by arguments = unless_faulty (fault_of census_app arguments) (option_and_then request_in (subcommand_of census_app arguments))
 
--- what arguments ask for, of which the first is the program's name
+-- what the arguments ask for; the first is the program's name
 abbrev pub asked_by : List Text → Option Request
 asked_by arguments = if asks_version arguments then Some Version else called_by arguments

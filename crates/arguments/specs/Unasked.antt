@@ -11,13 +11,13 @@ IsUsage (Usage text) = Unit {0}
 IsUsage (Unread error) = ⊥
 IsUsage (Memory error) = ⊥
 
--- a text that says something, and ends with a line feed
+-- a text that ends with a line feed and has something before it
 pub record IsUsageText (text : List ℕ) : Type 0 where
   pub prefix : List ℕ
   pub some : 0 < length prefix
   pub ended : text ≡ prefix ++ codes "\n"
 
--- there is a text to be told, or memory was refused
+-- there is a usage text, or memory was refused
 abbrev pub SaysWhy : Unasked → Type 0
 SaysWhy (Usage text) = IsUsageText (string_bytes text)
 SaysWhy (Unread error) = kind_of error ≡ OutOfMemory

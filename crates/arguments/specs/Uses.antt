@@ -1,4 +1,4 @@
--- How arguments and their values stand in the arguments of a call.
+-- The forms in which arguments are given in a call.
 use Rattle.std.specs.Prelude.{◌≡◌, ◌++◌, Bool, false, true, List, [], ◌∷◌, ⊤, codes, flat_map}
 use Rattle.std.specs.List.{list_any}
 use Rattle.std.specs.Str.{bytes_eq}
@@ -15,6 +15,7 @@ pub data Use : Type 0 where
   attached : Entry → Text → Use
   flagged : Entry → Use
 
+-- its row in the table
 abbrev pub entry_in : Use → Entry
 entry_in (alone entry value) = entry
 entry_in (spaced entry value) = entry
@@ -28,30 +29,32 @@ value_in (spaced entry value) = value
 value_in (attached entry value) = value
 value_in (flagged entry) = codes "true"
 
--- its arguments
+-- the command-line arguments of which it consists
 abbrev pub arguments_of : Use → List Text
 arguments_of (alone entry value) = value ∷ []
 arguments_of (spaced entry value) = (codes "--" ++ entry.name) ∷ value ∷ []
 arguments_of (attached entry value) = (codes "--" ++ (entry.name ++ (codes "=" ++ value))) ∷ []
 arguments_of (flagged entry) = (codes "--" ++ entry.name) ∷ []
 
--- the arguments of a list of arguments, in this order
+-- the command-line arguments of several, in this order
 abbrev pub arguments_in : List Use → List Text
 arguments_in uses = flat_map arguments_of uses
 
+-- an argument with this name is given
 abbrev pub is_used : Text → List Use → Bool
 is_used name uses = list_any (λ u. bytes_eq (entry_in u).name name) uses
 
+-- a flag has no value
 abbrev pub is_flag : ValueKind → Bool
 is_flag kind.Flag = true
 is_flag _ = false
 
--- in an argument of its own a text doesn't begin with `-`
+-- a text that is an argument of its own doesn't begin with `-`
 abbrev pub IsBare : ValueKind → Text → Type 0
 IsBare kind.Text value = starts_with_minus value ≡ false
 IsBare _ value = ⊤
 
--- an argument stands as it may: with a name or without one, with a value or as a flag
+-- the argument is given in an allowed form: with a name or without one, with a value or as a flag
 abbrev pub Stands : Use → Type 0
 Stands (alone entry value) = (entry.is_named ≡ false) × (is_flag entry.kind ≡ false) × IsBare entry.kind value
 Stands (spaced entry value) = (entry.is_named ≡ true) × (is_flag entry.kind ≡ false) × IsBare entry.kind value

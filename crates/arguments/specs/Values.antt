@@ -9,13 +9,13 @@ use Rattle.arguments.specs.declared.options.ValueKind.{ValueKind}
 use Rattle.arguments.specs.declared.options.ValueKind.TheVariants as kind
 use Rattle.arguments.specs.Entries.{Entry}
 
--- the number up to a limit that a text names: a numeral, before which a plus may stand
+-- the number up to a limit that a text spells in digits, perhaps after a plus
 abbrev pub number_named : ℕ → Text → Option ℕ
 number_named most text =
     let digits = without_leading_plus text in
     if is_numeral digits && nat_le (digits_value 10 digits) most then Some (digits_value 10 digits) else None
 
--- a number, where it is within the limit
+-- the number, if it is at most the limit
 abbrev pub within : ℕ → ℕ → Option ℕ
 within most n = if nat_le n most then Some n else None
 
@@ -23,7 +23,7 @@ within most n = if nat_le n most then Some n else None
 abbrev pub number_up_to : ℕ → Text → List Row → Option ℕ
 number_up_to most id rows = option_and_then (number_named most) (one_of id rows)
 
--- a number that isn't below the least
+-- the number, if it is at least this
 abbrev pub at_least : ℕ → ℕ → Option ℕ
 at_least least n = if nat_le least n then Some n else None
 
@@ -34,6 +34,7 @@ number_by kind.Flag id rows = None
 number_by (kind.Number least most) id rows = option_and_then (at_least least) (number_up_to most id rows)
 number_by (kind.LargeNumber most) id rows = number_up_to most id rows
 
+-- the number that was found for an argument
 abbrev pub number_found : Entry → List Row → Option ℕ
 number_found entry rows = number_by entry.kind entry.name rows
 
@@ -41,7 +42,7 @@ number_found entry rows = number_by entry.kind entry.name rows
 abbrev pub text_found : Entry → List Row → Option Text
 text_found entry rows = first_of entry.name rows
 
--- whether a flag was given: then its value is `true`
+-- a flag was given: its value is `true`
 abbrev pub is_given : Entry → List Row → Bool
 is_given entry rows = option_map_or (λ text. bytes_eq text (codes "true")) (first_of entry.name rows) false
 

@@ -45,8 +45,8 @@ pub fn census_command<'a>(alloc: Global) -> Result<Command<'a>, OutOfMemory>
     with_commands(alloc, program(alloc), &rows())
 }
 
-/// Returns the rows of all commands. This is a function of its own because a function that also owns a `Command` is
-/// expensive to prove.
+/// Returns the rows of all commands. This is a function of its own because a function that owns both the rows and a
+/// `Command` is expensive to prove.
 fn rows() -> [CommandRow; 7]
     ensures { map command_of result ≡ commands }
 {

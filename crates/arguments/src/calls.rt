@@ -27,7 +27,7 @@ use memory::OutOfMemory;
 use std::alloc::Global;
 use std::convert::AsStr;
 
-/// The text about arguments for which `clap` has none.
+/// The usage text if the text of `clap`'s error is empty.
 const NOT_UNDERSTOOD: &str = "error: the words are not understood";
 
 /// Why arguments give no request.
@@ -37,7 +37,7 @@ pub enum Unasked {
     Usage(String),
     /// Memory ran out while `clap` read them.
     Unread(clap::Error),
-    /// Memory ran out for the commands or for a text.
+    /// Memory ran out for the table of commands, or for a text.
     Memory(OutOfMemory),
 }
 
@@ -83,14 +83,14 @@ pub fn commands_ask_for_their_values()
     ensures { AskForTheirValues }
 {}
 
-/// The law that a missing option, an option given twice, a value out of its range, an unknown option and `--help` ask
-/// for nothing.
+/// The law that a missing argument, an argument given twice, a value out of its range, an unknown option and `--help`
+/// ask for nothing.
 #[tactic(auto, using(crate::proofs::RefuseLemmas::others_ask_for_nothing))]
 pub fn others_ask_for_nothing()
     ensures { OthersAskForNothing }
 {}
 
-/// The law of what `--version` and `-V` ask for.
+/// The law that `--version` and `-V` ask for the version.
 #[tactic(auto, using(crate::proofs::LawLemmas::asks_for_version))]
 pub fn asks_for_version()
     ensures { AsksForVersion }
@@ -112,7 +112,7 @@ pub fn asks_version<S: AsStr>(arguments: &[S]) -> bool
     }
 }
 
-/// Returns the command that `clap` found, with its values.
+/// Returns the request of the command that `clap` found, or `None` if it found no command or a value is missing.
 fn request_in<'a>(matches: &ArgMatches<'a>) -> Option<Request<'a>>
     ensures request { result ≡ option_and_then request_in (subcommand_rows_of matches.now) }
     ensures ranges { IfSome result AreInTheirRanges }
@@ -121,7 +121,7 @@ fn request_in<'a>(matches: &ArgMatches<'a>) -> Option<Request<'a>>
     request_named(name, found)
 }
 
-/// Returns the command of this name, with its values.
+/// Returns the request of the command with this name, or `None` if there is no such command or a value is missing.
 fn request_named<'a>(name: &str, found: &ArgMatches<'a>) -> Option<Request<'a>>
     ensures request { result ≡ request_in (name.now, rows_of (found_of found.now)) }
     ensures ranges { IfSome result AreInTheirRanges }
@@ -138,7 +138,7 @@ fn request_named<'a>(name: &str, found: &ArgMatches<'a>) -> Option<Request<'a>>
     }
 }
 
-/// Returns what `clap`'s error says about arguments that name no command or ask for help.
+/// Returns the text of `clap`'s error as a usage text, or that memory ran out.
 fn unasked_by(alloc: Global, error: clap::Error) -> Unasked
     ensures usage { IsUsage result → kind_of error ≢ ErrorKind.OutOfMemory }
     ensures why { SaysWhy result }
@@ -152,7 +152,7 @@ fn unasked_by(alloc: Global, error: clap::Error) -> Unasked
     }
 }
 
-/// Returns the usage error with this text.
+/// Returns the usage error with this text, or that memory ran out.
 fn usage(alloc: Global, text: &str) -> Unasked
     ensures { SaysWhy result }
 {

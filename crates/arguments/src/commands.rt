@@ -8,7 +8,7 @@ use crate::options::{
 /// A command of the program.
 #[derive(Clone, Copy)]
 pub struct CommandRow {
-    /// The argument that calls it.
+    /// The name by which it is called.
     pub name: &'static str,
     /// What the list of commands says about it.
     pub about: &'static str,
@@ -20,7 +20,7 @@ pub struct CommandRow {
     pub parameters: &'static [Parameter],
 }
 
-/// `run`.
+/// The row of `run`.
 pub const RUN: CommandRow = CommandRow {
     name: "run",
     about: "Reads a pattern, runs it for N generations and prints it",
@@ -34,7 +34,7 @@ pub const RUN: CommandRow = CommandRow {
     parameters: &[GENERATIONS, RULE],
 };
 
-/// `name`.
+/// The row of `name`.
 pub const NAME: CommandRow = CommandRow {
     name: "name",
     about: "Reads a pattern, runs it until it has settled, and names its objects",
@@ -50,7 +50,7 @@ pub const NAME: CommandRow = CommandRow {
     parameters: &[PERIOD, HORIZON, STRIDE, LIMIT, RULE],
 };
 
-/// `show`.
+/// The row of `show`.
 pub const SHOW: CommandRow = CommandRow {
     name: "show",
     about: "Prints the object of a code",
@@ -60,7 +60,7 @@ pub const SHOW: CommandRow = CommandRow {
     parameters: &[CODE],
 };
 
-/// `soup`.
+/// The row of `soup`.
 pub const SOUP: CommandRow = CommandRow {
     name: "soup",
     about: "Prints a soup: a random pattern of 16 by 16 cells",
@@ -72,7 +72,7 @@ pub const SOUP: CommandRow = CommandRow {
     parameters: &[NUMBER, SEED],
 };
 
-/// `take`.
+/// The row of `take`.
 pub const TAKE: CommandRow = CommandRow {
     name: "take",
     about: "Runs soups until they have settled, and counts their objects",
@@ -89,7 +89,7 @@ pub const TAKE: CommandRow = CommandRow {
     ],
 };
 
-/// `work`.
+/// The row of `work`.
 pub const WORK: CommandRow = CommandRow {
     name: "work",
     about: "Runs soups until they have settled, and prints a report line for each",
@@ -104,7 +104,7 @@ pub const WORK: CommandRow = CommandRow {
     ],
 };
 
-/// `gather`.
+/// The row of `gather`.
 pub const GATHER: CommandRow = CommandRow {
     name: "gather",
     about: "Reads report lines, checks each, and counts the objects of their soups",

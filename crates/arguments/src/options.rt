@@ -20,9 +20,9 @@ pub enum ValueKind {
 /// Where an argument is expected.
 #[derive(Clone, Copy)]
 pub enum Place {
-    /// By itself, the first argument that isn't an option.
+    /// By itself: the first argument that isn't an option.
     Position,
-    /// After `--` and its name, in the next argument or after `=`. Help calls its value by this word.
+    /// After `--` and its name, in the next argument or after `=`. Help shows this word for its value.
     Named(&'static str),
 }
 
@@ -125,7 +125,7 @@ pub const COUNT: Parameter = Parameter {
     help: "The number of soups, from 0 to 16777216",
 };
 
-/// The list of the other ranges of soups.
+/// A list of more ranges of soups.
 pub const ALSO: Parameter = Parameter {
     name: "also",
     place: Place::Named("LIST"),
@@ -189,7 +189,7 @@ pub const WORKERS: Parameter = Parameter {
          is the same for any number",
 };
 
-/// The number of workers that have reported.
+/// The highest number of a worker whose lines are taken.
 pub const REPORTERS: Parameter = Parameter {
     name: "workers",
     place: Place::Named("WORKERS"),
@@ -210,7 +210,7 @@ pub const WORKER: Parameter = Parameter {
     help: "The number of the worker that reports, from 1 to 16",
 };
 
-/// Whether the progress line is asked for.
+/// The flag that asks for the progress line.
 pub const PROGRESS: Parameter = Parameter {
     name: "progress",
     place: Place::Named(""),

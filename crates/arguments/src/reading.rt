@@ -23,7 +23,7 @@ use requests::plan::Plan;
 use requests::profile_numbers::ProfileNumbers;
 use requests::soup_set::SoupSet;
 
-/// Returns the numbers of a profile that were found.
+/// Returns the numbers of the profile, or `None` if one is missing.
 pub fn profile_in(found: &ArgMatches<'_>) -> Option<ProfileNumbers>
     ensures profile { result ≡ profile_in (rows_of (found_of found.now)) }
     ensures ranges { IfSome result AreProfileNumbers }
@@ -40,7 +40,7 @@ pub fn profile_in(found: &ArgMatches<'_>) -> Option<ProfileNumbers>
     })
 }
 
-/// Returns the set of soups that was found.
+/// Returns the set of soups, or `None` if one of its four values is missing.
 pub fn set_in<'a>(found: &ArgMatches<'a>) -> Option<SoupSet<'a>>
     ensures set { result ≡ set_in (rows_of (found_of found.now)) }
     ensures ranges { IfSome result (λ set. IsInRange first.kind set.first × IsInRange count.kind set.count) }
@@ -57,7 +57,7 @@ pub fn set_in<'a>(found: &ArgMatches<'a>) -> Option<SoupSet<'a>>
     })
 }
 
-/// Returns the plan that was found: the soups, the profile and the rule.
+/// Returns the plan: the soups, the profile and the rule. Returns `None` if a value is missing.
 pub fn plan_in<'a>(found: &ArgMatches<'a>) -> Option<Plan<'a>>
     ensures plan { result ≡ plan_in (rows_of (found_of found.now)) }
     ensures ranges { IfSome result ArePlanNumbers }
@@ -68,7 +68,7 @@ pub fn plan_in<'a>(found: &ArgMatches<'a>) -> Option<Plan<'a>>
     Some(Plan { set, profile, rule })
 }
 
-/// Returns `run` with its values.
+/// Returns the request of `run`, or `None` if a value is missing.
 pub(crate) fn run_request<'a>(found: &ArgMatches<'a>) -> Option<Request<'a>>
     ensures request { result ≡ run_request (rows_of (found_of found.now)) }
     ensures ranges { IfSome result AreInTheirRanges }
@@ -81,7 +81,7 @@ pub(crate) fn run_request<'a>(found: &ArgMatches<'a>) -> Option<Request<'a>>
     })
 }
 
-/// Returns `name` with its values.
+/// Returns the request of `name`, or `None` if a value is missing.
 pub(crate) fn name_request<'a>(found: &ArgMatches<'a>) -> Option<Request<'a>>
     ensures request { result ≡ name_request (rows_of (found_of found.now)) }
     ensures ranges { IfSome result AreInTheirRanges }
@@ -91,7 +91,7 @@ pub(crate) fn name_request<'a>(found: &ArgMatches<'a>) -> Option<Request<'a>>
     Some(Request::Name { profile, rule })
 }
 
-/// Returns `show` with its value.
+/// Returns the request of `show`, or `None` if its value is missing.
 pub(crate) fn show_request<'a>(found: &ArgMatches<'a>) -> Option<Request<'a>>
     ensures { result ≡ show_request (rows_of (found_of found.now)) }
 {
@@ -99,7 +99,7 @@ pub(crate) fn show_request<'a>(found: &ArgMatches<'a>) -> Option<Request<'a>>
     Some(Request::Show { code })
 }
 
-/// Returns `soup` with its values.
+/// Returns the request of `soup`, or `None` if a value is missing.
 pub(crate) fn soup_request<'a>(found: &ArgMatches<'a>) -> Option<Request<'a>>
     ensures request { result ≡ soup_request (rows_of (found_of found.now)) }
     ensures ranges { IfSome result AreInTheirRanges }
@@ -109,7 +109,7 @@ pub(crate) fn soup_request<'a>(found: &ArgMatches<'a>) -> Option<Request<'a>>
     Some(Request::Soup { seed, number })
 }
 
-/// Returns `take` with its values.
+/// Returns the request of `take`, or `None` if a value is missing.
 pub(crate) fn take_request<'a>(found: &ArgMatches<'a>) -> Option<Request<'a>>
     ensures request { result ≡ take_request (rows_of (found_of found.now)) }
     ensures ranges { IfSome result AreInTheirRanges }
@@ -123,7 +123,7 @@ pub(crate) fn take_request<'a>(found: &ArgMatches<'a>) -> Option<Request<'a>>
     })
 }
 
-/// Returns `work` with its values.
+/// Returns the request of `work`, or `None` if a value is missing.
 pub(crate) fn work_request<'a>(found: &ArgMatches<'a>) -> Option<Request<'a>>
     ensures request { result ≡ work_request (rows_of (found_of found.now)) }
     ensures ranges { IfSome result AreInTheirRanges }
@@ -136,7 +136,7 @@ pub(crate) fn work_request<'a>(found: &ArgMatches<'a>) -> Option<Request<'a>>
     })
 }
 
-/// Returns `gather` with its values.
+/// Returns the request of `gather`, or `None` if a value is missing.
 pub(crate) fn gather_request<'a>(found: &ArgMatches<'a>) -> Option<Request<'a>>
     ensures request { result ≡ gather_request (rows_of (found_of found.now)) }
     ensures ranges { IfSome result AreInTheirRanges }

@@ -6,7 +6,8 @@ use requests::text::Text;
 
 /// A command with its values.
 ///
-/// If arguments ask for it, each number is in the range of its row in the table of options.
+/// If [`request_of`](crate::calls::request_of) returned it, each number is in the range of its row in the table of
+/// options.
 #[derive(Drop)]
 pub enum Request<'a> {
     /// The pattern of the input after this number of generations, under a rule.
@@ -28,18 +29,18 @@ pub enum Request<'a> {
         seed: Text<'a>,
         number: u64,
     },
-    /// The haul of all soups of a set, by this number of workers, and whether a progress line is asked for.
+    /// The haul of all soups of a plan, taken with this number of workers, and whether a progress line is asked for.
     Take {
         plan: Plan<'a>,
         workers: u8,
         progress: bool,
     },
-    /// The report lines of this worker for all soups of a set.
+    /// The report lines of this worker for all soups of a plan.
     Work {
         plan: Plan<'a>,
         worker: u8,
     },
-    /// The haul of report lines from this number of workers, over a set.
+    /// The haul of report lines from this number of workers, over the soups of a plan.
     Gather {
         plan: Plan<'a>,
         workers: u8,

@@ -9,8 +9,8 @@ use crate::options::{Parameter, ValueKind};
 use clap::ArgMatches;
 use requests::text::Text;
 
-/// Returns the number that was found for the argument of a row, in its range, or `None` if there is none or the row
-/// isn't that of a number.
+/// Returns the number that was found for the argument of a row. Returns `None` if no number was found, if it is out of
+/// the row's range, or if the row's kind isn't a number.
 pub fn number_found(found: &ArgMatches<'_>, row: &Parameter) -> Option<u64>
     ensures number { result ≡ number_found (entry_of row.now) (rows_of (found_of found.now)) }
     ensures range { IfSome result (IsInRange row.now.kind) }
@@ -28,7 +28,7 @@ pub fn number_found(found: &ArgMatches<'_>, row: &Parameter) -> Option<u64>
     }
 }
 
-/// Returns the number up to `most` that was found for an argument.
+/// Returns the number that was found for the argument `id`, or `None` if there is none or it is over `most`.
 fn number_up_to(found: &ArgMatches<'_>, id: &str, most: u64) -> Option<u64>
     ensures number { result ≡ number_up_to most id.now (rows_of (found_of found.now)) }
     ensures most { IfSome result (λ n. n ≤ most) }
@@ -47,7 +47,7 @@ fn within(most: u64, number: Option<u64>) -> Option<u64>
     }
 }
 
-/// Returns the text that was found for the argument of a row.
+/// Returns the text that was found for the argument of a row, or `None` if there is none.
 pub fn text_found<'a>(found: &ArgMatches<'a>, row: &Parameter) -> Option<Text<'a>>
     ensures { result ≡ text_found (entry_of row.now) (rows_of (found_of found.now)) }
 {

@@ -13,27 +13,29 @@ use Rattle.arguments.specs.declared.request.Request.{Request}
 use Rattle.arguments.specs.Requests.{Text, asked_by}
 use Rattle.census.specs.Requests.{DoesArguments, right_for}
 
--- the line where the arguments are not text
+-- the line on standard error if the arguments are not text
 abbrev pub not_text_line : List ℕ
 not_text_line = codes "census: the words are not UTF-8\n"
 
--- the bytes of a writer that was handed over, and is given back unless there was no memory for its buffer
+-- the bytes of a writer after the program; if there was no memory for its buffer, the writer isn't returned and its
+-- bytes are those of before
 abbrev pub left_by : {V : Type 0} → (V → Option (List ℕ)) → V → Option V → Option (List ℕ)
 left_by contents old None = contents old
 left_by contents old (Some new) = contents new
 
--- what a stream has got after another moment: the bytes since then
+-- a stream between an earlier moment and a later one
 abbrev pub since : Stream → Stream → Stream
 since earlier later = record { before = earlier.after; after = later.after; failed = later.failed }
 
--- a text was added, and then a line, or a prefix of the line where a write failed
+-- a text was added, and then a line, or a prefix of the line if a write failed
 pub record HasTextAndLine (errors : Stream) (text line : List ℕ) : Type 0 where
   pub so_far : Option (List ℕ)
   pub whole : Appends errors.before so_far text
   pub last : HasLine (record { before = so_far; after = errors.after; failed = errors.failed }) line
 
--- The arguments ask for something; on this input a text is right for it, and the whole text was added to what the writer held. `missing`
--- soups are missing, which is 0 except for `gather`. Standard error has the diagnostics of `gather` about lines and missing soups.
+-- What the arguments ask for was done: its text is right for this input, and was added to the writer completely.
+-- `missing` soups are missing, which is 0 except for `gather`. Standard error has the diagnostics of `gather` about
+-- lines and missing soups.
 pub record IsDone (arguments : List Text) (reader before after : Option (List ℕ)) (errors : Stream) (missing : ℕ) : Type 0 where
   pub request : Request
   pub asked : asked_by arguments ≡ Some request
@@ -45,25 +47,28 @@ pub record IsDone (arguments : List Text) (reader before after : Option (List �
   pub written : Appends before after made.text
   pub diagnostics : HasTextAndLine errors made.diagnostics (last_line (Ok missing))
 
--- the bytes with a writer are a prefix of those that were written to its buffer
+-- the bytes that the writer got are a prefix of those that were written to its buffer
 abbrev pub IsPrefixOf : (written sent : Option (List ℕ)) → Type 0
 IsPrefixOf None sent = ⊤
 IsPrefixOf (Some xs) None = ⊥
 IsPrefixOf (Some xs) (Some ys) = (remainder : List ℕ) × (ys ++ remainder ≡ xs)
 
--- After the diagnostics of a command, standard error has the line of a failed write, unless it had failed before.
+-- after the diagnostics of a command, standard error has the line of a failed write, unless a write to it had failed
+-- before
 pub record TellsOfWrite (diagnostics errors : Stream) : Type 0 where
   pub line : diagnostics.failed ≡ false → HasLine (since diagnostics errors) write_failed_line
   pub stays : diagnostics.failed ≡ true → errors.failed ≡ true
 
--- a command complained, and the program ends with its number; or the command printed its text, and not all of it could be sent on
+-- the command ended with a complaint, and the program ends with its exit code; or the command printed its text, and a
+-- flush of it failed
 abbrev pub EndsBadly : Status → ℕ → Stream → Stream → Type 0
 EndsBadly status number diagnostics errors =
     ((has_printed status ≡ false) × (number ≡ exit_code status) × (errors ≡ diagnostics))
     ⊎ ((has_printed status ≡ true) × (number ≡ exit_code Failed) × (errors.before ≡ diagnostics.before) × TellsOfWrite diagnostics errors)
 
--- The program complains. What the arguments ask for was done, or there was no memory to read them, by the rule of all commands: so `written`
--- was left in a buffer and `diagnostics` on standard error. The writer below the buffer has got a prefix of it.
+-- The program ends with a complaint. The command that the arguments ask for has ended, or there was no memory to read
+-- them. `written` is what it wrote to the buffer, and `diagnostics` what it wrote to standard error. The writer below
+-- the buffer has got a prefix of `written`.
 pub record Complains (arguments : List Text) (reader : Option (List ℕ)) (number : ℕ) (before after : Option (List ℕ)) (errors : Stream) : Type 0 where
   pub status : Status
   pub written : Stream

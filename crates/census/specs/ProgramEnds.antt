@@ -5,8 +5,8 @@ use Rattle.arguments.specs.Requests.{Text, asked_by}
 use Rattle.census.specs.Program.{Complains, IsDone, left_by}
 use Rattle.census.specs.Requests.{TellsUsage, is_whole, reads_input, refuses_input, tells_lines}
 
--- What is left as it was, by the code. `input` says so of the reader, `output` of the writer of standard output, and `unprinted` of that
--- writer if it is given back.
+-- What is left unchanged, by the exit code. `input` says that the reader is unchanged, `output` that the writer of
+-- standard output is, and `unprinted` that this writer is if it is returned.
 pub record LeavesAlone (arguments : List Text) (code : ℕ) (errors : Stream) (input output unprinted : Type 0) : Type 0 where
   -- code 2: the arguments ask for nothing
   pub usage : code ≡ 2 → asked_by arguments ≡ None
@@ -18,22 +18,22 @@ pub record LeavesAlone (arguments : List Text) (code : ℕ) (errors : Stream) (i
   pub refused : code ≡ 3 → output
   -- code 3: nothing was read, unless the input may be what was refused
   pub unread_refused : code ≡ 3 → IfSome (asked_by arguments) (λ request. refuses_input request ≡ false → input)
-  -- code 4: nothing was printed, if the command's text is whole before its first byte is written
+  -- code 4: nothing was printed, if the command's text is complete before its first byte is written
   pub nothing_left : code ≡ 4 → IfSome (asked_by arguments) (λ request. is_whole request ≡ true → unprinted)
-  -- any code: nothing was read, if the command doesn't look at its input
+  -- any code: nothing was read, if the command doesn't read its input
   pub unread : IfSome (asked_by arguments) (λ request. reads_input request ≡ false → input)
 
--- How the program ends, called with arguments that are texts. `given` is the writer of standard output, and `back` is that writer afterwards:
--- none if there was no memory for its buffer. `input` says that the reader is as it was.
+-- How the program ends if its arguments are texts. `given` is the writer of standard output. `back` is that writer
+-- afterwards, or `None` if there was no memory for its buffer. `input` says that the reader is unchanged.
 pub record ProgramEnds {V : Type 0} (contents : V → Option (List ℕ)) (arguments : List Text) (reader : Option (List ℕ)) (code : ℕ) (given : V)
     (back : Option V) (errors : Stream) (input : Type 0) : Type 0 where
-  -- code 0: what the arguments ask for was done, and its whole text is with the writer
+  -- code 0: what the arguments ask for was done, and the writer has its whole text
   pub done : code ≡ 0 → IsSomeAnd back (λ writer. IsDone arguments reader (contents given) (contents writer) errors 0)
   -- code 0: only `gather` writes to standard error
   pub silent : code ≡ 0 → IfSome (asked_by arguments) (λ request. tells_lines request ≡ false → Has errors [])
   -- code 6: what the arguments ask for was done, except that soups are missing
   pub incomplete : code ≡ 6 → IsSomeAnd back (λ writer. (less : ℕ) × IsDone arguments reader (contents given) (contents writer) errors (suc less))
-  -- any other code but 2: the complaint that ended the command, with its line
+  -- any code except 0, 2 and 6: the complaint that ended the command, with its line
   pub complains : code ≢ 0 → code ≢ 2 → code ≢ 6 → Complains arguments reader code (contents given) (left_by contents given back) errors
-  -- any code: what is left as it was
+  -- any code: what is left unchanged
   pub leaves : LeavesAlone arguments code errors input (back ≡ Some given) (IfSome back (λ writer. writer ≡ given))

@@ -1,4 +1,4 @@
--- What a request is to do, and how doing it may end.
+-- The behaviour of each request, and how doing it may end.
 use Rattle.std.specs.Prelude.{◌≡◌, ◌⊎◌, ℕ, Bool, true, false, List, [], Option, IsSomeAnd}
 use Rattle.memory.specs.Witness.{out_of_memory}
 use Rattle.pattern_commands.specs.declared.complaint.Complaint.TheVariants as complaint
@@ -22,7 +22,7 @@ use Rattle.arguments.specs.declared.request.Request.TheVariants.{Run, Name, Show
 use Rattle.arguments.specs.Requests.{Text, asked_by, asks_version}
 use Rattle.arguments.specs.Unasked.{IsUsageText}
 
--- what a request is to do
+-- the behaviour of the command of a request
 abbrev pub behaviour_of : Request → Behaviour
 behaviour_of (Run generations rule) = run_behaviour rule generations
 behaviour_of (Name profile rule) = name_behaviour profile rule
@@ -33,62 +33,64 @@ behaviour_of (Work plan worker) = work_behaviour plan worker
 behaviour_of (Gather plan workers) = gather_behaviour plan workers
 behaviour_of Version = version_behaviour
 
--- the command looks at its input: `run` does, if its rule is one, `name`, if its profile is one too, and `gather`, if its seed is too
+-- the command reads its input: `run` if its rule is valid, `name` if its rule and profile are, and `gather` if its
+-- rule, profile and seed are
 abbrev pub reads_input : Request → Bool
 reads_input request = (behaviour_of request).reads
 
--- what is refused may be the input: `run` and `name` refuse what is not a pattern
+-- the input itself may be refused: `run` and `name` refuse what isn't a pattern
 abbrev pub refuses_input : Request → Bool
 refuses_input request = (behaviour_of request).refuses
 
--- the command's text is whole before its first byte is written: all but the lines of `work`
+-- the command's text is complete before its first byte is written: this holds for all commands except `work`
 abbrev pub is_whole : Request → Bool
 is_whole request = (behaviour_of request).whole
 
--- the request is for a haul of report lines, with a diagnostic on each that is refused
+-- the command writes diagnostics about lines of its input: only `gather` does
 abbrev pub tells_lines : Request → Bool
 tells_lines (Gather plan workers) = true
 tells_lines request = false
 
--- the request is for soups of a set
+-- the request is about a set of soups
 abbrev pub is_over_sets : Request → Bool
 is_over_sets (Take plan workers progress) = true
 is_over_sets (Work plan worker) = true
 is_over_sets (Gather plan workers) = true
 is_over_sets request = false
 
--- what is right for a request, on an input
+-- what is right for a request on an input
 abbrev pub right_for : Request → List ℕ → Makes
 right_for request = (behaviour_of request).right
 
--- What a request leaves as it was, by how it ended; `input` says so of the reader, and `output` of standard output. The reader: if the
--- command doesn't look at it, and if what was refused can't be the input. The output: if something was refused, and if memory ran out
--- for a text that is whole before its first byte is written.
+-- What a request leaves unchanged. `input` says that the reader is unchanged: this holds if the command doesn't read
+-- its input, and after a refusal if the input can't be what was refused. `output` says that standard output is
+-- unchanged: this holds after a refusal, and if memory ran out for a text that is complete before its first byte is
+-- written.
 pub record Spares (request : Request) (status : Status) (input output : Type 0) : Type 0 where
   pub unread : reads_input request ≡ false → input
   pub unread_refused : status ≡ Refused → refuses_input request ≡ false → input
   pub untouched : status ≡ Refused → output
   pub no_memory : status ≡ Memory → is_whole request ≡ true → output
 
--- a request was done on an input, and ended well
+-- the command of a request has ended on an input, by the rule of all commands
 pub record DoesRequest (reader : Option (List ℕ)) (status : Status) (output errors : Stream) (request : Request) : Type 0 where
   pub bytes : List ℕ
   pub input : IsInput reader bytes
   pub ends : Ends (behaviour_of request) reader bytes status output errors
 
--- there was no memory to read the arguments, or for a buffer, and nothing was done; the version needs none
+-- there was no memory to read the arguments or for a buffer, and nothing was done; this can't happen to `--version`
 pub record LacksMemory (arguments : List Text) (status : Status) (output errors : Stream) : Type 0 where
   pub no_version : asks_version arguments ≡ false
   pub status_is : status ≡ Memory
   pub nothing : Has output []
   pub line : HasLine errors (complaint_line (complaint.Memory out_of_memory))
 
--- what the arguments ask for was done, or there was no memory to read them
+-- the command that the arguments ask for has ended, or there was no memory to read them
 abbrev pub DoesArguments : List Text → Option (List ℕ) → Status → Stream → Stream → Type 0
 DoesArguments arguments reader status output errors =
     IsSomeAnd (asked_by arguments) (DoesRequest reader status output errors) ⊎ LacksMemory arguments status output errors
 
--- standard error got a text that says why the arguments ask for nothing, or a prefix of it where a write failed
+-- standard error got a text that says why the arguments ask for nothing, or a prefix of the text if a write failed
 pub record TellsUsage (errors : Stream) : Type 0 where
   pub text : List ℕ
   pub says : IsUsageText text

@@ -47,7 +47,7 @@ pub struct Ended<W: Write + Drop> {
 ///
 /// `arguments` are those of `std::env::args`: the first is the program's name, and arguments that aren't UTF-8 are an
 /// error. `output` is written through a buffer and given back. No earlier write to standard error may have failed. The
-/// machine's observer reports progress to a writer of its own, and nothing else depends on it.
+/// machine's observer writes the progress line to a writer of its own, and nothing else depends on it.
 pub fn run_program<
     T: Threads + Wait + Sync,
     R: Read,
@@ -102,8 +102,8 @@ pub fn run_program<
     }
 }
 
-/// Does what `arguments` ask for, and writes to `output` through a buffer. The version, which takes no memory, is
-/// written without the buffer. Returns `output`, or `None` if memory runs out for the buffer.
+/// Does what `arguments` ask for, and writes to `output` through a buffer. Only the version, which takes no memory, is
+/// written without the buffer. Returns the status and `output`, or `None` if there was no memory for the buffer.
 fn do_buffered<T: Threads + Wait + Sync, R: Read, W: Write + Drop, E: Write, P: Write, C: Clock>(
     machine: &mut Machine<'_, T, E, ProgressLine<P, C>>,
     arguments: &[String],
@@ -134,7 +134,7 @@ fn do_buffered<T: Threads + Wait + Sync, R: Read, W: Write + Drop, E: Write, P: 
     (status, Some(writer))
 }
 
-/// Prints the version, and returns the writer.
+/// Prints the version. Returns the status and the writer.
 fn print_version<W: Write + Drop, E: Write>(output: W, errors: &mut Out<E>) -> (Status, W)
     requires { errors.old.failed ≡ false }
     ensures ends { (written : Stream) × (written.before ≡ W.contents output) × (written.after ≡ W.contents result.1)

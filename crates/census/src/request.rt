@@ -42,7 +42,7 @@ use std::time::Clock;
 /// Does what `arguments` ask for, and returns how that ended. The first argument is the program's name.
 ///
 /// No earlier write to either writer may have failed. Arguments that ask for nothing end with `Usage` and a text on
-/// standard error; then nothing is read or printed. The machine's observer reports progress.
+/// standard error; then nothing is read or printed. The machine's observer receives the progress.
 ///
 /// # Errors
 ///
@@ -104,7 +104,7 @@ fn tell_unread<E: Write>(error: &clap::Error, errors: &mut Out<E>) -> Status
 ///
 /// Each number of the request has to be in its range, and no earlier write to either writer may have failed. Nothing of
 /// the input is read if the request doesn't need it, or if its rule, profile, seed or set is refused. The machine's
-/// observer reports progress, and nothing else depends on it.
+/// observer receives the progress, and nothing else depends on it.
 ///
 /// # Errors
 ///
@@ -148,7 +148,7 @@ fn do_request<T: Threads + Wait + Sync, R: Read, W: Write, E: Write, P: Write, C
     }
 }
 
-/// Does what a request over one pattern asks for, or prints the version.
+/// Does what a request about one pattern asks for, or prints the version.
 fn do_pattern_request<R: Read, W: Write, E: Write>(
     alloc: Global,
     request: &Request<'_>,

@@ -1,4 +1,4 @@
--- What is read off a name, and how long it is.
+-- What is read from an apgcode, and how long an apgcode is.
 use Rattle.std.proofs.Common.{◌≡◌, ◌∙◌, ap, refl, ℕ, ◌+◌, ◌<◌, ◌≤◌, ◌^◌, Bool, true, List, [], ◌∷◌, ◌++◌, length, Option, None, Some, take_while}
 use Rattle.std.proofs.Common.{decimal, arith}
 use Rattle.std.specs.Prelude.{IfSome}

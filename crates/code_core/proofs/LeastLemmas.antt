@@ -1,4 +1,4 @@
--- The least of some texts, looked for one group at a time.
+-- The least of some texts, found one group at a time.
 use Rattle.std.proofs.Common.{◌≡◌, ◌≢◌, ◌∙◌, sym, ap, refl, subst, ℕ, ◌+◌, ◌<◌, ◌≤◌, List, [], length, get_or, Option, None, Some, arith}
 use Rattle.std.proofs.Common.{eq-or-lt_of_le, inl, inr, ◌⊎◌, Ordering, Less, Equal, Greater, is_le, IsTrue}
 use Rattle.std.proofs.lemmas.Cmp.{nat_cmp_total, nat_list_cmp_total, on_total, then_total}

@@ -1,4 +1,4 @@
--- What is read, and each fault, in the words of tokens that spell the text.
+-- What is read, and each fault, in terms of tokens that spell the text.
 use Rattle.std.proofs.Common.{◌≡◌, ◌≢◌, ◌<◌, ◌≤◌, ◌+◌, ◌↔◌, ℕ, Bool, true, false, List, [], ◌∷◌, ◌++◌, length, take, drop, get_or, refl, sym, ◌∙◌, ap}
 use Rattle.std.proofs.Common.{subst, arith, length-append, length-take-le, Result, Ok, Err, nat_lt}
 use Rattle.std.specs.List.{flat_map}

@@ -1,4 +1,4 @@
--- The text of a pattern is read again.
+-- The text of a pattern is read back as the pattern.
 use Rattle.std.proofs.Common.{◌≡◌, ◌∙◌, ap, refl, ℕ, ◌≤◌, false, List, [], ◌∷◌, Some, Ok, arith, length, nat_lt, le-ltb}
 use Rattle.plane_core.specs.declared.plane.cell.Cell.{Cell}
 use Rattle.plane_core.specs.plane.Bounds.{at_corner}

@@ -1,4 +1,4 @@
--- The tokens of a pattern's text: each is lawful, and the text is short.
+-- The tokens of a pattern's text: each is valid, and the text is short.
 use Rattle.std.proofs.Common.{ℕ, zero, suc, ◌+◌, ◌*◌, ◌-◌, ◌/◌, ◌≤◌, ◌<◌, Bool, true, false, List, [], ◌∷◌, ◌∙◌, ◌≡◌, cond, length, map, get_or}
 use Rattle.std.proofs.Common.{refl, arith}
 use Rattle.std.specs.List.{All, list_all, range_with_len}

@@ -1,4 +1,4 @@
--- Apgcodes as texts: how one is written, and what is read off it (LifeWiki, "Apgcode").
+-- Apgcodes as texts: how an apgcode is written, and how its kind and its number are read (LifeWiki, "Apgcode").
 use Rattle.std.specs.Prelude.{◌≡◌, ◌==◌, ◌≤◌, ◌&&◌, ◌||◌, ℕ, Bool, true, List, [], ◌++◌, Option, None, Some, codes, decimal, drop, length, nat_eq}
 use Rattle.std.specs.Prelude.{nat_le, slice_index, take_while, if◌then◌else◌}
 use Rattle.std.specs.List.{list_all, starts_with}
@@ -18,7 +18,7 @@ abbrev pub opening : Option (List ℕ) → List ℕ
 opening None = codes "ov_"
 opening (Some t) = codes "x"
 
--- how it ends
+-- how an apgcode ends: with `_` and the text of the object, if it has one
 abbrev pub ending : Option (List ℕ) → List ℕ
 ending None = []
 ending (Some t) = codes "_" ++ t
@@ -27,11 +27,12 @@ ending (Some t) = codes "_" ++ t
 unfoldable pub code_text : Kind → ℕ → Option (List ℕ) → List ℕ
 code_text kind number text = opening text ++ (letter kind ++ (decimal number ++ ending text))
 
--- an apgcode from its letter on, which comes after `x` or `ov_`
+-- an apgcode from its letter on, which is after `x` or `ov_`
 abbrev pub from_letter : List ℕ → List ℕ
 from_letter code = if starts_with nat_eq code (codes "ov_") then drop 3 code else drop 1 code
 
--- `s` (115) is the letter of a still life, `p` (112) that of an oscillator, and `q` that of a spaceship
+-- the kind that a letter stands for: `s` (115) for a still life, `p` (112) for an oscillator, and otherwise, as for
+-- `q`, a spaceship
 abbrev pub kind_of_letter : ℕ → Kind
 kind_of_letter letter = if letter == 115 then Still else if letter == 112 then Oscillator else Ship
 
@@ -39,19 +40,20 @@ kind_of_letter letter = if letter == 115 then Still else if letter == 112 then O
 unfoldable pub kind_in : List ℕ → Kind
 kind_in code = kind_of_letter (slice_index (from_letter code) 0)
 
--- `0` (48) to `9` (57)
+-- the byte is a digit, `0` (48) to `9` (57)
 abbrev pub is_digit : ℕ → Bool
 is_digit b = nat_le 48 b && nat_le b 57
 
--- the number of an apgcode, whose digits come after its letter
+-- the number of an apgcode, whose digits are after its letter
 unfoldable pub number_in : List ℕ → ℕ
 number_in code = digits_value 10 (take_while is_digit (drop 1 (from_letter code)))
 
--- `0` to `9`, `a` to `z` and `_` (95)
+-- the byte may be in an apgcode: `0` to `9`, `a` to `z` and `_` (95)
 abbrev pub is_code_byte : ℕ → Bool
 is_code_byte b = is_character b || b == 95
 
--- an apgcode has 1 to 400 of these bytes: this project's bound, since the longest text has 327, and the rest needs less than 30
+-- an apgcode has 1 to 400 of these bytes: this project's bound, because the longest text has 327 bytes, and the rest
+-- has less than 30
 pub record HasCodeShape (code : List ℕ) : Type 0 where
   pub some : 1 ≤ length code
   pub short : length code ≤ 400

@@ -9,7 +9,7 @@ use Rattle.plane_core.specs.windows.Rows.{ShowsInAllRows}
 use Rattle.code_core.specs.declared.token.Token.{Token}
 use Rattle.code_core.specs.declared.token.Token.TheVariants.{Column, Gap, NextStrip}
 
--- the value of some cells: the first counts 1, the next 2, then 4, 8 and so on, if they are alive
+-- the value of some cells: the sum of 1 for the first, 2 for the next, then 4, 8 and so on, for those that are alive
 abbrev pub value_of : List Bool → ℕ
 value_of [] = 0
 value_of (live ∷ more) = (if live then 1 else 0) + 2 * value_of more
@@ -22,15 +22,15 @@ is_lit value i = (value / 2 ^ i) % 2 == 1
 abbrev pub strip_rows : ℕ → List ℕ
 strip_rows k = range_with_len (5 * k) 5
 
--- the value of column x of strip k, whose top cell counts 1
+-- the value of column x of strip k, where the top cell counts 1
 unfoldable pub column : List Cell → ℕ → ℕ → ℕ
 column cells k x = value_of (map (λ y. has cells (cell_at (pos x) (pos y))) (strip_rows k))
 
--- the cells that a value stands for, as column x of strip k
+-- the live cells of a column with this value, as column x of strip k
 unfoldable pub lit_cells : ℕ → ℕ → ℕ → List Cell
 lit_cells k x value = map (λ i. cell_at (pos x) (pos (5 * k + i))) (filter (is_lit value) (range_with_len 0 5))
 
--- the cells of some tokens, the first of which stands at column x of strip k
+-- the cells of some tokens, the first of which begins at column x of strip k
 unfoldable pub cells_from : ℕ → ℕ → List Token → List Cell
 cells_from k x [] = []
 cells_from k x (Column value ∷ tokens) = lit_cells k x value ++ cells_from k (x + 1) tokens
@@ -41,7 +41,7 @@ cells_from k x (NextStrip ∷ tokens) = cells_from (k + 1) 0 tokens
 abbrev pub token_cells : List Token → List Cell
 token_cells tokens = set_of (cells_from 0 0 tokens)
 
--- the pattern has this box, and these are its rows, beginning at the box's corner
+-- the pattern has this box, and these are its rows, counted from the corner of the box
 pub record IsBoxed (b : Bounds) (rows : List ℕ) (cells : List Cell) : Type 0 where
   pub boxed : box_of cells ≡ Some b
   pub shown : ShowsInAllRows b.left b.top rows cells

@@ -1,4 +1,4 @@
--- Where the image of a small pattern is: its box, and its cells, counted from the corner of the box.
+-- Where the image of a small pattern is: its box and its cells, both counted from the corner of the image.
 use Rattle.std.specs.Prelude.{ℤ, pos}
 use Rattle.plane_core.specs.declared.plane.bounds.Bounds.{Bounds}
 use Rattle.plane_core.specs.declared.plane.cell.Cell.{Cell}
@@ -6,7 +6,7 @@ use Rattle.plane_core.specs.declared.plane.orientation.Orientation.{Orientation}
 use Rattle.plane_core.specs.declared.plane.orientation.Orientation.TheVariants.{Same, Quarter, Half, ThreeQuarter, Mirror, Flip, Diagonal, AntiDiagonal}
 use Rattle.plane_core.specs.plane.Cells.{cell_at, distance}
 
--- the box from (0, 0) to this column and this row
+-- the box from (0, 0) to column `right` and row `bottom`
 abbrev pub box_to : ℤ → ℤ → Bounds
 box_to right bottom = record { left = pos 0; top = pos 0; right = right; bottom = bottom }
 
@@ -21,7 +21,8 @@ image_box Flip b = box_to (pos (distance b.left b.right)) (pos (distance b.top b
 image_box Diagonal b = box_to (pos (distance b.top b.bottom)) (pos (distance b.left b.right))
 image_box AntiDiagonal b = box_to (pos (distance b.top b.bottom)) (pos (distance b.left b.right))
 
--- where a cell of a pattern with this box is in the image: as far from two sides as the cell is from two sides of the box
+-- the place in the image of a cell of a pattern with this box: its column and row in the image are its distances from
+-- two sides of the box
 abbrev pub image_cell : Orientation → Bounds → Cell → Cell
 image_cell Same b c = cell_at (pos (distance b.left c.x)) (pos (distance b.top c.y))
 image_cell Quarter b c = cell_at (pos (distance c.y b.bottom)) (pos (distance b.left c.x))

@@ -16,23 +16,23 @@ earlier_text None b = b
 earlier_text (Some a) None = Some a
 earlier_text (Some a) (Some b) = match_ordering (text_cmp a b) (Some a) (Some a) (Some b)
 
--- a text of one of the first n groups
+-- t is a text of one of the first n groups of texts
 abbrev pub Among : (ℕ → List ℕ → Type 0) → ℕ → List ℕ → Type 0
 Among IsIn n t = (k : ℕ) × (k < n) × IsIn k t
 
--- the text of a pattern in the orientation at place k
+-- t is the text of the pattern in the orientation at place k of the list
 abbrev pub IsImageAt : List Orientation → List Cell → ℕ → List ℕ → Type 0
 IsImageAt orientations cells k t = text (turned (get_or orientations k Same) cells) ≡ Some t
 
--- the text of a pattern in some orientation
+-- t is the text of the pattern in some orientation
 abbrev pub IsImage : List Cell → List ℕ → Type 0
 IsImage cells t = (o : Orientation) × (text (turned o cells) ≡ Some t)
 
--- the text of the phase at place k in some orientation
+-- t is the text, in some orientation, of the phase at place k
 abbrev pub IsImageOf : List (List Cell) → ℕ → List ℕ → Type 0
 IsImageOf phases k t = IsImage (get_or phases k []) t
 
--- the apgcode of a pattern that recurs with these phases
+-- the apgcode of a pattern with these phases and this recurrence
 pub record IsNameBy (cells : List Cell) (phases : List (List Cell)) (r : Recurrence) (code : List ℕ) : Type 0 where
   pub least : Option (List ℕ)
   pub is_least : IsLeastOf (Among (IsImageOf phases) (length phases)) least

@@ -18,7 +18,7 @@ use Rattle.code_core.specs.Apgcodes.{HasCodeShape, code_text}
 use Rattle.code_core.specs.Recurrences.{Recurs}
 use Rattle.code_core.specs.Texts.{text}
 
--- shorter texts come first, and of two that are equally long the first in ASCII order
+-- the order of texts: shorter texts come first, and texts of the same length are in ASCII order
 abbrev pub text_cmp : List ℕ → List ℕ → Ordering
 text_cmp a b = ordering_then (nat_cmp (length a) (length b)) (slice_cmp nat_cmp a b)
 
@@ -33,25 +33,26 @@ pub record IsImageText (rule : Numbers) (cells : List Cell) (period : ℕ) (t : 
   pub within : phase < period
   pub is : text (turned orientation (after rule cells phase)) ≡ Some t
 
--- the least of some texts: one of them that none of them comes before, or `None` if there are none
+-- the least of some texts: one that none of the others comes before, or `None` if there are no texts
 abbrev pub IsLeastOf : (List ℕ → Type 0) → Option (List ℕ) → Type 0
 IsLeastOf IsOne None = (t : List ℕ) → ¬ IsOne t
 IsLeastOf IsOne (Some least) = IsOne least × ((t : List ℕ) → IsOne t → text_cmp least t ≢ Greater)
 
--- a still life stays as it is, an oscillator recurs in place, and a spaceship recurs elsewhere
+-- the kind of an object: a still life doesn't change, an oscillator recurs in place, and a spaceship recurs elsewhere
 abbrev pub kind_of : Recurrence → Kind
 kind_of r =
     if int_eq r.dx (pos 0) && int_eq r.dy (pos 0)
     then (if r.period == 1 then Still else Oscillator)
     else Ship
 
--- the number in an apgcode: the population of a still life, and otherwise the period
+-- the number in an apgcode: the population of a still life, or the period of another object
 abbrev pub number_of : Kind → List Cell → Recurrence → ℕ
 number_of Still cells r = length cells
 number_of Oscillator cells r = r.period
 number_of Ship cells r = r.period
 
--- the apgcode of a pattern that recurs within the limit: its kind, its number and the least text of its phases in all orientations
+-- the apgcode of a pattern that recurs within the limit: its kind, its number and the least text of its phases in all
+-- orientations
 pub record IsCode (rule : Numbers) (cells : List Cell) (limit : ℕ) (code : List ℕ) : Type 0 where
   pub recurrence : Recurrence
   pub recurs : Recurs rule cells limit recurrence
@@ -59,7 +60,7 @@ pub record IsCode (rule : Numbers) (cells : List Cell) (limit : ℕ) (code : Lis
   pub is_least : IsLeastOf (IsImageText rule cells recurrence.period) least
   pub spelled : code ≡ code_text (kind_of recurrence) (number_of (kind_of recurrence) cells recurrence) least
 
--- a pattern that isn't empty has one apgcode
+-- a pattern that isn't empty has at most one apgcode
 abbrev pub CodesAreDetermined : Type 0
 CodesAreDetermined = (rule : Numbers) (cells : List Cell) (limit : ℕ) (one other : List ℕ)
     → cells ≢ [] → IsCode rule cells limit one → IsCode rule cells limit other → one ≡ other
@@ -74,7 +75,7 @@ abbrev pub CodesTurned : Type 0
 CodesTurned = (o : Orientation) (rule : Numbers) (cells : List Cell) (limit : ℕ) (code : List ℕ)
     → InOrder cells → IsCode rule cells limit code → IsCode rule (turned o cells) limit code
 
--- each later generation of a pattern has its apgcode
+-- each later generation of a pattern has the apgcode of the pattern
 abbrev pub CodesLater : Type 0
 CodesLater = (g : ℕ) (rule : Numbers) (cells : List Cell) (limit : ℕ) (code : List ℕ)
     → InOrder cells → IsCode rule cells limit code → IsCode rule (after rule cells g) limit code

@@ -14,8 +14,8 @@ use Rattle.code_core.specs.Tokens.{Spells, is_character}
 unfoldable pub character_value : ℕ → ℕ
 character_value b = if nat_lt b 58 then b - 48 else b - 87
 
--- the token of a character other than `y`: `0` (48), `w` (119) and `x` (120) are runs of 1, 2 and 3 empty columns, `z` (122) begins the
--- next strip, and any other is a column
+-- the token of a character other than `y`: `0` (48), `w` (119) and `x` (120) are runs of 1, 2 and 3 empty columns, `z`
+-- (122) begins the next strip, and any other character is a column
 unfoldable pub single : ℕ → Token
 single b =
     if b == 48 then Gap 1
@@ -24,17 +24,17 @@ single b =
     else if b == 122 then NextStrip
     else Column (character_value b)
 
--- the token of `y` and the character that follows it
+-- the token of `y` and the character c after it: a run of 4 to 39 empty columns
 abbrev pub long_gap : ℕ → Token
 long_gap c = Gap (character_value c + 4)
 
--- a token before the others, or their fault
+-- a token followed by the others, or their fault
 abbrev pub with_token : Token → Result (List Token) WechslerFault → Result (List Token) WechslerFault
 with_token token (Ok tokens) = Ok (token ∷ tokens)
 with_token token (Err fault) = Err fault
 
--- the tokens of a text whose first byte stands at this place, or the first fault: a byte that isn't a character, or a `y` (121)
--- that no character follows
+-- the tokens of a text whose first byte is at this place, or the first fault: a byte that isn't a character, or a `y`
+-- (121) with no character after it
 unfoldable pub tokens_at : ℕ → List ℕ → Result (List Token) WechslerFault
 tokens_at place [] = Ok []
 tokens_at place (b ∷ []) =
@@ -47,25 +47,26 @@ tokens_at place (b ∷ c ∷ remainder) =
     else if is_character c then with_token (long_gap c) (tokens_at (place + 2) remainder)
     else Err (ShortRun place)
 
--- a pattern has a live cell
+-- the pattern, or the fault `Empty` if it has no live cell
 abbrev pub unless_empty : List Cell → Result (List Cell) WechslerFault
 unless_empty [] = Err Empty
 unless_empty (c ∷ cs) = Ok (c ∷ cs)
 
--- the pattern of the tokens, or the fault
+-- the pattern of the tokens, or a fault
 abbrev pub pattern_of_tokens : Result (List Token) WechslerFault → Result (List Cell) WechslerFault
 pattern_of_tokens (Ok tokens) = unless_empty (token_cells tokens)
 pattern_of_tokens (Err fault) = Err fault
 
--- the pattern of a text
+-- the pattern of a text, or its fault
 abbrev pub wechsler_pattern : List ℕ → Result (List Cell) WechslerFault
 wechsler_pattern text = pattern_of_tokens (tokens_at 0 text)
 
--- the pattern of a text of at most 10,000 bytes: this project's choice, far above the 327 of the longest text of a pattern
+-- the pattern of a text of at most 10,000 bytes: this project's limit, far above the 327 bytes of the longest text of a
+-- pattern
 abbrev pub wechsler_read : List ℕ → Result (List Cell) WechslerFault
 wechsler_read text = if nat_lt 10000 (length text) then Err TooLong else wechsler_pattern text
 
--- the text is that of the pattern: some tokens spell it, and the pattern is theirs
+-- the text is that of the pattern: some tokens spell the text, and their cells are the pattern
 pub record Says (text : List ℕ) (cells : List Cell) : Type 0 where
   pub tokens : List Token
   pub spells : Spells tokens text

@@ -1,4 +1,4 @@
--- Where the first fault of a text is, and that the text of a pattern can be read again.
+-- Where the first fault of a text is, and that the text of a pattern can be read back.
 use Rattle.std.specs.Prelude.{◌≡◌, ◌+◌, ◌<◌, ℕ, false, List, length, take, Some, Ok, slice_index}
 use Rattle.plane_core.specs.declared.plane.cell.Cell.{Cell}
 use Rattle.plane_core.specs.plane.Bounds.{at_corner}
@@ -8,14 +8,14 @@ use Rattle.code_core.specs.Texts.{text}
 use Rattle.code_core.specs.Tokens.{Spells, is_character}
 use Rattle.code_core.specs.Reading.{wechsler_read}
 
--- tokens spell the bytes before the place, and the byte there isn't a character
+-- the byte at the place is bad: tokens spell the bytes before it, and it isn't a character
 pub record IsBadByte (text : List ℕ) (place : ℕ) : Type 0 where
   pub tokens : List Token
   pub before : Spells tokens (take place text)
   pub within : place < length text
   pub bad : is_character (slice_index text place) ≡ false
 
--- tokens spell the bytes before the place, and a `y` (121) that no character follows stands there
+-- the run at the place is short: tokens spell the bytes before it, and it is a `y` (121) with no character after it
 pub record IsShortRun (text : List ℕ) (place : ℕ) : Type 0 where
   pub tokens : List Token
   pub before : Spells tokens (take place text)
@@ -23,6 +23,6 @@ pub record IsShortRun (text : List ℕ) (place : ℕ) : Type 0 where
   pub run : slice_index text place ≡ 121
   pub short : place + 1 < length text → is_character (slice_index text (place + 1)) ≡ false
 
--- each text of a pattern is read again, as the pattern moved to the corner
+-- the text of each pattern is read back as the pattern, moved to the corner
 abbrev pub TextsAreRead : Type 0
 TextsAreRead = (cells : List Cell) (t : List ℕ) → InOrder cells → text cells ≡ Some t → wechsler_read t ≡ Ok (at_corner cells)

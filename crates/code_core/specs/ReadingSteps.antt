@@ -6,7 +6,7 @@ use Rattle.code_core.specs.declared.reader.WechslerFault.{WechslerFault}
 use Rattle.code_core.specs.declared.reader.WechslerFault.TheVariants.{BadByte, ShortRun}
 use Rattle.code_core.specs.Tokens.{spelling, IsToken, is_character}
 
--- the text begins with a token, and the rest follows
+-- the text begins with the token, and then the remainder follows
 pub record Begins (text : List ℕ) (token : Token) (remainder : List ℕ) : Type 0 where
   pub is_token : IsToken token
   pub spelled : text ≡ spelling token ++ remainder
@@ -16,12 +16,14 @@ abbrev pub has_character : List ℕ → Bool
 has_character [] = false
 has_character (c ∷ remainder) = is_character c
 
--- no token begins the text: if a character does, it is a `y` (121) that no character follows
+-- no token begins the text: it is empty, or begins with a byte that isn't a character, or with a `y` (121) with no
+-- character after it
 abbrev pub IsStuck : List ℕ → Type 0
 IsStuck [] = Unit {0}
 IsStuck (b ∷ remainder) = is_character b ≡ true → (b ≡ 121) × (has_character remainder ≡ false)
 
--- the fault at this place, if no token begins there
+-- the fault at this place, where no token begins: a character there is a `y` without a length; at the text's end there
+-- is no fault
 abbrev pub fault_without_token : ℕ → List ℕ → Option WechslerFault
 fault_without_token place [] = None
 fault_without_token place (b ∷ remainder) = Some (if is_character b then ShortRun place else BadByte place)

@@ -10,25 +10,27 @@ use Rattle.plane_core.specs.plane.Generations.{NeverRecurs, after, lies_within, 
 use Rattle.plane_core.specs.plane.Rules.{Numbers}
 use Rattle.code_core.specs.declared.recurrence.Recurrence.{Recurrence}
 
--- the pattern recurs: after the period it is itself, moved by (dx, dy), and not after any earlier generation; the period is from 1
--- to the limit
+-- the pattern recurs: after the period, which is from 1 to the limit, it is the same pattern again, moved by (dx, dy),
+-- and it isn't so after any earlier generation
 pub record Recurs (rule : Numbers) (cells : List Cell) (limit : ℕ) (r : Recurrence) : Type 0 where
   pub some : 1 ≤ r.period
   pub within : r.period ≤ limit
   pub back : after rule cells r.period ≡ shifted r.dx r.dy cells
   pub least : (p : ℕ) (dx dy : ℤ) → 1 ≤ p → p < r.period → after rule cells p ≢ shifted dx dy cells
 
--- a generation below the limit, up to which the pattern hasn't recurred, touches the edge of the plane
+-- the search meets the edge: a generation below the limit touches the edge of the plane, and the pattern hasn't
+-- recurred up to it
 abbrev pub MeetsEdge : Numbers → List Cell → ℕ → Type 0
 MeetsEdge rule cells limit = (g : ℕ) × (g < limit) × NeverRecurs rule cells g × (touches_edge (after rule cells g) ≡ true)
 
--- no such generation touches the edge
+-- the search stays inside: no generation below the limit touches the edge of the plane, if the pattern hasn't recurred
+-- up to it
 abbrev pub StaysInside : Numbers → List Cell → ℕ → Type 0
 StaysInside rule cells limit = (g : ℕ) → g < limit → NeverRecurs rule cells g → touches_edge (after rule cells g) ≡ false
 
--- How a search for the first generation that is the pattern again ends. If the pattern itself lies on the edge, the edge is
--- reported before memory is asked for. If the pattern lies far enough inside, the edge is never reported, since no pattern moves
--- faster than one cell per generation.
+-- How a search for the first generation that is the pattern again ends. If the pattern itself touches the edge, that is
+-- reported before memory is asked for. If the pattern is far enough inside, the edge is never reported, because no
+-- pattern moves faster than one cell per generation.
 pub record SearchEnds {X : Type 0} (IsFound : X → Type 0) (rule : Numbers) (cells : List Cell) (limit : ℕ)
     (result : Result (Option X) StepError) : Type 0 where
   pub found : IfOk result (λ o. IfSome o IsFound)
@@ -42,14 +44,15 @@ pub record SearchEnds {X : Type 0} (IsFound : X → Type 0) (rule : Numbers) (ce
 unfoldable pub phases : Numbers → List Cell → ℕ → List (List Cell)
 phases rule cells n = map (after rule cells) (range_with_len 0 n)
 
--- a search for the first generation that is the pattern again, after n generations: those before the last, and the last
+-- a search for the first generation that is the pattern again, after n generations that aren't: all of them but the
+-- last, and the last
 pub record Follows (rule : Numbers) (cells : List Cell) (n : ℕ) (before : List (List Cell)) (last : List Cell) : Type 0 where
   pub earlier : before ≡ phases rule cells n
   pub latest : last ≡ after rule cells n
   pub new : NeverRecurs rule cells n
   pub inside : (g : ℕ) → g < n → touches_edge (after rule cells g) ≡ false
 
--- the phases of a pattern that recurs, and its recurrence
+-- the phases of a pattern that recurs, in order, and its recurrence
 pub record IsCycle (rule : Numbers) (cells : List Cell) (limit : ℕ) (found : List (List Cell)) (r : Recurrence) : Type 0 where
   pub recurs : Recurs rule cells limit r
   pub phases : found ≡ phases rule cells r.period

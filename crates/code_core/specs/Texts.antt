@@ -11,30 +11,31 @@ use Rattle.code_core.specs.declared.token.Token.TheVariants.{Column, Gap, NextSt
 use Rattle.code_core.specs.Columns.{token_cells, column}
 use Rattle.code_core.specs.Tokens.{Spells, is_character, spelling}
 
--- a column before the tokens of a strip: an empty one is left out at the strip's end, and otherwise lengthens the gap that follows
--- or makes a new one
+-- the tokens of a strip with one more column before them: an empty column is left out if no token follows, lengthens a
+-- gap that follows, and otherwise is a new gap
 abbrev pub before : ℕ → List Token → List Token
 before zero [] = []
 before zero (Gap n ∷ tokens) = Gap (n + 1) ∷ tokens
 before zero (token ∷ tokens) = Gap 1 ∷ token ∷ tokens
 before (suc value) tokens = Column (suc value) ∷ tokens
 
--- the tokens of a strip with these columns
+-- the tokens of a strip whose columns have these values
 unfoldable pub strip_tokens : List ℕ → List Token
 strip_tokens [] = []
 strip_tokens (value ∷ values) = before value (strip_tokens values)
 
--- the columns of strip k from the left, as many as the box has
+-- the values of the columns of strip k from the left, as many as the box is wide
 abbrev pub strip : List Cell → ℕ → ℕ → List ℕ
 strip cells width k = map (column cells k) (range_with_len 0 width)
 
--- strips one below another
+-- the tokens of strips one below another
 abbrev pub joined_strips : List (List Token) → List Token
 joined_strips [] = []
 joined_strips (tokens ∷ []) = tokens
 joined_strips (tokens ∷ more ∷ strips) = tokens ++ NextStrip ∷ joined_strips (more ∷ strips)
 
--- the tokens of a pattern at the corner whose columns go up to right and whose rows go up to bottom: one strip for every five rows
+-- the tokens of a pattern at the corner, whose last column is `right` and whose last row is `bottom`: one strip for
+-- every five rows
 unfoldable pub tokens_of : List Cell → ℕ → ℕ → List Token
 tokens_of cells right bottom = joined_strips (map (λ k. strip_tokens (strip cells (right + 1) k)) (range_with_len 0 (bottom / 5 + 1)))
 
@@ -42,7 +43,7 @@ tokens_of cells right bottom = joined_strips (map (λ k. strip_tokens (strip cel
 abbrev pub fits_forty_square : Bounds → Bool
 fits_forty_square b = nat_lt (distance b.left b.right) 40 && nat_lt (distance b.top b.bottom) 40
 
--- the text of a pattern with this box
+-- the text of a pattern with this box, if it has a box and the box isn't too large
 abbrev pub boxed_text : List Cell → Option Bounds → Option (List ℕ)
 boxed_text cells None = None
 boxed_text cells (Some b) =
@@ -50,35 +51,37 @@ boxed_text cells (Some b) =
     then Some (flat_map spelling (tokens_of (at_corner cells) (distance b.left b.right) (distance b.top b.bottom)))
     else None
 
--- the text of a pattern moved to the corner; `None` if it is empty or its box is larger than 40 by 40
+-- the text of a pattern, which is first moved to the corner, or `None` if it is empty or its box is larger than 40 by
+-- 40
 unfoldable pub text : List Cell → Option (List ℕ)
 text cells = boxed_text cells (box_of cells)
 
--- a column with a live cell stands first
+-- the first token is a column with a live cell
 abbrev pub BeginsWithColumn : List Token → Type 0
 BeginsWithColumn [] = ⊥
 BeginsWithColumn (Gap n ∷ tokens) = ⊥
 BeginsWithColumn (Column value ∷ tokens) = Unit {0}
 BeginsWithColumn (NextStrip ∷ tokens) = ⊥
 
--- a column with a live cell follows every gap: no run of empty columns is in two pieces, and none ends a strip
+-- every gap is followed by a column with a live cell: no run of empty columns is in two pieces, and none ends a strip
 abbrev pub GapsAreWhole : List Token → Type 0
 GapsAreWhole [] = Unit {0}
 GapsAreWhole (Gap n ∷ tokens) = BeginsWithColumn tokens × GapsAreWhole tokens
 GapsAreWhole (Column value ∷ tokens) = GapsAreWhole tokens
 GapsAreWhole (NextStrip ∷ tokens) = GapsAreWhole tokens
 
--- each text is that of tokens whose gaps are whole, and whose cells are the pattern, moved to the corner
+-- each text of a pattern is spelled by tokens whose gaps are whole, and whose cells are the pattern, moved to the
+-- corner
 abbrev pub TextsSpellPatterns : Type 0
 TextsSpellPatterns = (cells : List Cell) (t : List ℕ) → InOrder cells → text cells ≡ Some t
     → (tokens : List Token) × Spells tokens t × GapsAreWhole tokens × (token_cells tokens ≡ at_corner cells)
 
--- a text has at most 327 bytes, which is 40 for each of eight strips and a `z` between each two, and all are `0` to `9` or `a` to
--- `z`
+-- a text has at most 327 bytes, all of which are `0` to `9` or `a` to `z`: 40 for each of eight strips, and the `z`s
+-- between them
 pub record HasTextShape (t : List ℕ) : Type 0 where
   pub short : length t ≤ 327
   pub characters : list_all is_character t ≡ true
 
--- the text of each pattern has that shape
+-- the text of each pattern has this shape
 abbrev pub TextsHaveTheirShape : Type 0
 TextsHaveTheirShape = (cells : List Cell) (t : List ℕ) → text cells ≡ Some t → HasTextShape t

@@ -4,7 +4,7 @@ use Rattle.std.specs.Char.{is_ascii_digit, is_ascii_lowercase}
 use Rattle.code_core.specs.declared.token.Token.{Token}
 use Rattle.code_core.specs.declared.token.Token.TheVariants.{Column, Gap, NextStrip}
 
--- the characters of a text: `0` to `9` and `a` to `z`
+-- the byte is a character of a text: `0` to `9` or `a` to `z`
 unfoldable pub is_character : ℕ → Bool
 is_character b = is_ascii_digit b || is_ascii_lowercase b
 
@@ -12,7 +12,8 @@ is_character b = is_ascii_digit b || is_ascii_lowercase b
 unfoldable pub character : ℕ → ℕ
 character value = if nat_lt value 10 then 48 + value else 87 + value
 
--- a run of empty columns of this length: `0`, `w` and `x` for 1 to 3, and then `y` with the character of the length minus 4
+-- a run of empty columns of this length: `0`, `w` and `x` for 1 to 3, and `y` with the character of the length minus 4
+-- for 4 to 39
 unfoldable pub gap_text : ℕ → List ℕ
 gap_text n =
     if n == 1 then codes "0"
@@ -20,23 +21,23 @@ gap_text n =
     else if n == 3 then codes "x"
     else codes "y" ++ character (n - 4) ∷ []
 
--- the character that begins such a run: `0` (48), `w` (119), `x` (120) or `y` (121)
+-- the character that begins a run of this length: `0` (48), `w` (119), `x` (120) or `y` (121)
 abbrev pub gap_start : ℕ → ℕ
 gap_start n = if n == 1 then 48 else if n == 2 then 119 else if n == 3 then 120 else 121
 
--- the text of a token; `z` begins the next strip
+-- the text of a token, where `z` begins the next strip
 abbrev pub spelling : Token → List ℕ
 spelling (Column value) = character value ∷ []
 spelling (Gap n) = gap_text n
 spelling NextStrip = codes "z"
 
--- a column with a live cell, a run of 1 to 39 columns without one, or the next strip
+-- a token is a column with a live cell, a run of 1 to 39 empty columns, or the beginning of the next strip
 abbrev pub IsToken : Token → Type 0
 IsToken (Column value) = (1 ≤ value) × (value ≤ 31)
 IsToken (Gap n) = (1 ≤ n) × (n ≤ 39)
 IsToken NextStrip = Unit {0}
 
--- the text is that of the tokens, one after another
+-- the tokens spell the text: it consists of their texts, one after another
 pub record Spells (tokens : List Token) (text : List ℕ) : Type 0 where
   pub each : All IsToken tokens
   pub spelled : flat_map spelling tokens ≡ text

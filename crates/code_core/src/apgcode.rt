@@ -54,8 +54,9 @@ impl Kind {
 /// The apgcode of a pattern that recurs (LifeWiki, "Apgcode").
 ///
 /// It is `xs` and the population for a still life, `xp` or `xq` and the period for an oscillator or a spaceship, then
-/// `_` and the least extended Wechsler text of the pattern's generations in all orientations. An object that is too
-/// large for a text has `ov_s`, `ov_p` or `ov_q` and the number. Three examples: `xs4_33`, `xq4_153`, `ov_s56`.
+/// `_` and the first of the extended Wechsler texts of all generations in all orientations: shorter texts come first.
+/// An object that is too large for a text has `ov_s`, `ov_p` or `ov_q` and the number. Three examples: `xs4_33`,
+/// `xq4_153`, `ov_s56`.
 ///
 /// Apgcodes are compared by their texts, byte by byte, and hashed by them. Contracts see an apgcode as its text.
 #[derive(Drop)]
@@ -79,7 +80,7 @@ impl Model for Apgcode {
 }
 
 impl Apgcode {
-    /// Makes the apgcode with this kind, number and text.
+    /// Makes the apgcode with this kind, number and text. There is no text if the object is too large for one.
     pub(crate) fn make(
         alloc: Global,
         kind: Kind,
@@ -118,7 +119,7 @@ impl Apgcode {
         self.number
     }
 
-    /// Returns an equal apgcode.
+    /// Returns a copy of the apgcode.
     ///
     /// # Errors
     ///
@@ -142,7 +143,7 @@ pub fn readings()
         → number_in (code_text kind number text) ≡ number }
 {}
 
-/// Returns the text of an apgcode.
+/// Returns the text of the apgcode with this kind, number and extended Wechsler text.
 #[tactic(auto, unfolding(crate::specs::Apgcodes::code_text))]
 fn spelled(
     alloc: Global,

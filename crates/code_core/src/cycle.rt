@@ -21,9 +21,9 @@ impl Recurrence {
     ///
     /// # Errors
     ///
-    /// - [`StepError::Edge`] if a generation that has to be stepped from has a cell with a coordinate of -1,000,000 or
+    /// - [`StepError::Edge`] if a generation whose successor is needed has a cell with a coordinate of -1,000,000 or
     ///   1,000,000. This can't happen if every cell starts at least `limit` cells inside that bound. If `pattern`
-    ///   itself has such a cell, no memory is asked for before.
+    ///   itself has such a cell, the error is returned before any memory is asked for.
     /// - [`StepError::Memory`] if memory runs out.
     ///
     /// The first error ends the search.

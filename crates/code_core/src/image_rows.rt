@@ -22,8 +22,8 @@ use plane_core::plane::bounds::Bounds;
 use plane_core::plane::cell::Cell;
 use plane_core::plane::orientation::Orientation;
 
-/// Returns the rows of the image of a pattern with this box, whose corner is (0, 0). Bit i of each is the cell in
-/// column i.
+/// Returns the rows of a pattern's image in an orientation, moved to the corner (0, 0). Bit i of a row is the cell in
+/// column i. `bounds` is the box of the pattern.
 pub(crate) fn image_rows(cells: &[Cell], bounds: Bounds, orientation: Orientation) -> [u64; 64]
     requires bounds { box_of cells.now ≡ Some bounds }
     requires width { distance bounds.left bounds.right < CODE_SIDE_LIMIT }
@@ -39,7 +39,7 @@ pub(crate) fn image_rows(cells: &[Cell], bounds: Bounds, orientation: Orientatio
     rows
 }
 
-/// Returns the box of the image of a pattern with this box.
+/// Returns the box of the image of a pattern, whose own box is `bounds`.
 pub(crate) fn image_box(bounds: Bounds, orientation: Orientation) -> Bounds
     requires width { distance bounds.left bounds.right < CODE_SIDE_LIMIT }
     requires height { distance bounds.top bounds.bottom < CODE_SIDE_LIMIT }
@@ -58,7 +58,7 @@ pub(crate) fn image_box(bounds: Bounds, orientation: Orientation) -> Bounds
     }
 }
 
-/// Returns the box from (0, 0) to this column and this row.
+/// Returns the box from (0, 0) to column `right` and row `bottom`.
 fn box_to(right: i32, bottom: i32) -> Bounds
     ensures { result ≡ record { left = pos 0; top = pos 0; right = right; bottom = bottom } }
 {
@@ -77,7 +77,7 @@ struct Place {
     row: u32,
 }
 
-/// Returns where a cell of a pattern with this box is in the image.
+/// Returns the place in the image of a cell of the pattern, whose own box is `bounds`.
 #[inline(always)]
 fn place_in_image(cell: Cell, bounds: Bounds, orientation: Orientation) -> Place
     ensures { cell_at (pos result.column) (pos result.row) ≡ image_cell orientation bounds cell }

@@ -1,6 +1,6 @@
 //! Names a pattern, in two steps. First the pattern is followed until it recurs, which gives its kind, its number and
-//! its phases. Then the texts of all phases in the eight orientations are compared, and the least one ends the apgcode:
-//! a shorter text comes first, and of two that are equally long the first in ASCII order.
+//! its phases. Then the texts of all phases in the eight orientations are compared, and the least one ends the apgcode.
+//! A shorter text is less than a longer one, and texts of the same length are in ASCII order.
 //!
 //! ```text
 //! generation 0    generation 1    generation 2
@@ -35,16 +35,16 @@ use std::alloc::Global;
 use std::cmp::Ordering;
 
 /// Returns the apgcode of `pattern` under `rule` (LifeWiki, "Apgcode"), or `None` if none of the generations 1 to
-/// `limit` is the pattern again, moved or not. All generations of a pattern have the same apgcode, wherever it lies and
-/// however it is turned.
+/// `limit` is the pattern again, moved or not. All generations of a pattern have the same apgcode, and so has the
+/// pattern if it is moved, turned or mirrored.
 ///
 /// `pattern` must not be empty, and `limit` must be from 1 to 64.
 ///
 /// # Errors
 ///
-/// - [`StepError::Edge`] if a generation that has to be stepped from has a cell with a coordinate of -1,000,000 or
+/// - [`StepError::Edge`] if a generation whose successor is needed has a cell with a coordinate of -1,000,000 or
 ///   1,000,000. This can't happen if every cell starts at least `limit` cells inside that bound. If `pattern` itself
-///   has such a cell, no memory is asked for before.
+///   has such a cell, the error is returned before any memory is asked for.
 /// - [`StepError::Memory`] if memory runs out.
 ///
 /// The generations are made in order until one is the pattern again, and the first error ends the search.
@@ -76,12 +76,13 @@ pub fn text_order_is_total()
     ensures ties { OnlyEqualTextsTie }
 {}
 
-/// The law that a pattern that isn't empty has at most one apgcode under a rule.
+/// The law that a pattern that isn't empty has at most one apgcode under a rule and a limit.
 pub fn codes_are_determined()
     ensures { CodesAreDetermined }
 {}
 
-/// The law that an apgcode has 1 to 400 bytes, each one of `a` to `z`, `0` to `9` and `_`.
+/// The law that an apgcode has 1 to 400 bytes, each one of `a` to `z`, `0` to `9` and `_`, if the population and the
+/// limit fit in 64 bits.
 pub fn codes_have_their_shape()
     ensures { CodesHaveTheirShape }
 {}
@@ -138,7 +139,7 @@ fn kind_of(recurrence: Recurrence) -> Kind
     }
 }
 
-/// Returns the least text of the phases in all orientations.
+/// Returns the least text of the phases in all orientations, or `None` if they have no text.
 fn least_text(alloc: Global, phases: &[Pattern]) -> Result<Option<String>, OutOfMemory>
     ensures { IfOk result
         (λ found. IsLeastOf (Among (IsImageOf phases.now) (length phases.now)) (option_map string_bytes found)) }
@@ -151,7 +152,7 @@ fn least_text(alloc: Global, phases: &[Pattern]) -> Result<Option<String>, OutOf
     Ok(least)
 }
 
-/// Returns the least text of a pattern in these orientations.
+/// Returns the least text of a pattern in these orientations, or `None` if it has no text.
 fn least_image(
     alloc: Global,
     pattern: &Pattern,
@@ -169,7 +170,7 @@ fn least_image(
     Ok(least)
 }
 
-/// Returns the earlier of two texts, or the only one.
+/// Returns the earlier of two texts, or the only one, if any.
 fn earlier(one: Option<String>, other: Option<String>) -> Option<String>
     ensures { option_map string_bytes result
         ≡ earlier_text (option_map string_bytes one) (option_map string_bytes other) }
@@ -186,7 +187,7 @@ fn earlier(one: Option<String>, other: Option<String>) -> Option<String>
     }
 }
 
-/// Compares two texts: a shorter one comes first, and of two that are equally long the first in ASCII order.
+/// Compares two texts: a shorter one comes first, and texts of the same length are in ASCII order.
 fn text_order(one: &str, other: &str) -> Ordering
     ensures { result ≡ text_cmp one.now other.now }
 {

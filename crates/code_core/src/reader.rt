@@ -29,7 +29,7 @@ use std::alloc::Global;
 use std::fmt;
 use thiserror::Error;
 
-/// The longest text that is read, in bytes. The cells of such a text fit on the plane, since a byte moves at most 39
+/// The longest text that is read, in bytes. The cells of such a text fit on the plane, because a byte moves at most 39
 /// columns to the right or begins a strip of five rows.
 pub const TEXT_LIMIT: usize = 10_000;
 
@@ -67,7 +67,7 @@ impl fmt::Debug for WechslerFault {
 /// Why no pattern was read.
 #[derive(Clone, Copy, PartialEq, Eq, Error)]
 pub enum WechslerError {
-    /// The text isn't that of a pattern.
+    /// The text isn't the text of a pattern.
     Fault(WechslerFault),
     /// Memory ran out.
     Memory(OutOfMemory),
@@ -100,17 +100,19 @@ impl<E: Into<OutOfMemory>> From<E> for WechslerError {
 /// Returns the pattern of a text in extended Wechsler format (LifeWiki, "Apgcode"), with the top left cell of its first
 /// strip at (0, 0).
 ///
-/// The text has at most 10,000 bytes. Each `z` divides it into strips of five rows, from the top. In a strip, `0` to
-/// `9` and `a` to `v` are the next column from the left, with the sum of its live cells, 0 to 31: the top cell counts 1
-/// and those below it 2, 4, 8 and 16. `w` and `x` are two and three empty columns, and `y` with one of `0` to `9` and
-/// `a` to `z` is 4 to 39. Texts that are never written are read too: with zeros at a strip's end, with one run of empty
-/// columns after another, and with empty strips at the end.
+/// The text has at most 10,000 bytes. It describes strips of five rows, from the top, which are separated by `z`. In a
+/// strip, columns are listed from the left. `0` to `9` and `a` to `v` are one column with the value 0 to 31: the sum of
+/// its live cells, where the top cell counts 1 and those below it 2, 4, 8 and 16. `w` and `x` are two and three empty
+/// columns. `y` and another character, `0` to `9` or `a` to `z`, are 4 to 39 empty columns.
+///
+/// Texts that are never written are read too: texts with runs of empty columns at a strip's end or one after another,
+/// and texts with empty strips at the end.
 ///
 /// # Errors
 ///
-/// - [`WechslerError::Fault`] if the text isn't that of a pattern with a live cell, whether there is memory or not:
-///   `TooLong` for more than 10,000 bytes, otherwise the first `BadByte` or `ShortRun` from the left, and `Empty` if
-///   there is none of them and no live cell.
+/// - [`WechslerError::Fault`] if the text isn't that of a pattern with a live cell, whether there is memory or not. The
+///   fault is `TooLong` if the text has more than 10,000 bytes. Otherwise it is the first `BadByte` or `ShortRun` from
+///   the left, or `Empty` if the text has neither, but no cell is alive.
 /// - [`WechslerError::Memory`] if memory runs out.
 pub fn read_wechsler(alloc: Global, text: &str) -> Result<Pattern, WechslerError>
     ensures pattern { IfOk result (λ read. wechsler_read text.now ≡ Ok read) }
@@ -155,7 +157,7 @@ fn read(alloc: Global, text: &[u8]) -> Result<Pattern, WechslerError>
     pattern_in(alloc, text)
 }
 
-/// Returns what is wrong with a text that isn't too long, if anything is.
+/// Returns the fault of a text that isn't too long, or `None` if it has no fault.
 #[tactic(auto, using(crate::proofs::TokenReading::shorter, crate::proofs::ReaderLoops::Passed_none, crate::proofs::ReaderLoops::Passed_more))]
 fn fault_in(text: &[u8]) -> Option<WechslerFault>
     ensures { result ≡ result_err (wechsler_pattern text.now) }
@@ -176,7 +178,8 @@ fn fault_in(text: &[u8]) -> Option<WechslerFault>
     }
 }
 
-/// Returns what is wrong at this place of a text, if the rest doesn't begin with a token.
+/// Returns the fault at `place` of a text, where no token begins, or `None` if the text ends there. `remainder` is the
+/// text from `place` on.
 fn fault_at(place: usize, remainder: &[u8]) -> Option<WechslerFault>
     ensures { result ≡ fault_without_token place remainder.now }
 {
@@ -216,14 +219,14 @@ fn pattern_in(alloc: Global, text: &[u8]) -> Result<Pattern, WechslerError>
     }
 }
 
-/// Where the next column of a text stands.
+/// The place of the next column of a text: column `x` of strip `strip`, both counted from 0.
 #[derive(Clone, Copy)]
 struct Head {
     strip: u32,
     x: u32,
 }
 
-/// Adds the cells of a token, and returns where the next column stands.
+/// Appends the cells of a token to the list, and returns the place of the next column.
 fn push_token(cells: &mut Vec<Cell>, head: Head, token: Token) -> Result<Head, OutOfMemory>
     requires strip { head.strip ≤ TEXT_LIMIT }
     requires column { head.x ≤ 39 * TEXT_LIMIT }
@@ -253,7 +256,7 @@ fn push_token(cells: &mut Vec<Cell>, head: Head, token: Token) -> Result<Head, O
     }
 }
 
-/// Adds the cells of a column.
+/// Appends the cells of a column with this value to the list.
 fn push_column(cells: &mut Vec<Cell>, head: Head, value: u8) -> Result<(), OutOfMemory>
     requires strip { head.strip ≤ TEXT_LIMIT }
     requires column { head.x ≤ 39 * TEXT_LIMIT }
@@ -267,7 +270,7 @@ fn push_column(cells: &mut Vec<Cell>, head: Head, value: u8) -> Result<(), OutOf
     Ok(())
 }
 
-/// Returns the cell in row i of the strip.
+/// Returns the cell in row `i`, 0 to 4, of the column at this place.
 fn cell_of(head: Head, i: u32) -> Cell
     requires strip { head.strip ≤ TEXT_LIMIT }
     requires column { head.x ≤ 39 * TEXT_LIMIT }
@@ -280,7 +283,7 @@ fn cell_of(head: Head, i: u32) -> Cell
     }
 }
 
-/// Checks whether the cell that counts 2 to the power i is alive in a column with this value.
+/// Checks whether the cell in row `i`, 0 to 4, is alive in a column with this value. It counts 2 to the power `i`.
 fn is_lit(value: u8, i: u32) -> bool
     requires { i < 5 }
     ensures { result ≡ is_lit value i }
@@ -288,7 +291,7 @@ fn is_lit(value: u8, i: u32) -> bool
     (value >> i) % 2 == 1
 }
 
-/// Returns the first token of a text, and the rest of the text. `None` if the text is empty or begins with a fault.
+/// Returns the first token of a text and the text after it, or `None` if the text is empty or begins with a fault.
 fn first_token(text: &[u8]) -> Option<(Token, &[u8])>
     ensures token { IfSome result (λ first. Begins text.now first.0 first.1.now) }
     ensures none { IfNone result (IsStuck text.now) }
@@ -327,7 +330,7 @@ const TWO_EMPTY: u8 = b'w';
 /// A run of three empty columns.
 const THREE_EMPTY: u8 = b'x';
 
-/// A run of 4 to 39 empty columns, by the character after it.
+/// A run of 4 to 39 empty columns. The next character gives the length.
 const MANY_EMPTY: u8 = b'y';
 
 /// The end of a strip.

@@ -41,13 +41,13 @@ pub const CODE_SIDE_LIMIT: u32 = 40;
 const STRIP: u32 = 5;
 
 /// Returns the text of a pattern in extended Wechsler format (LifeWiki, "Apgcode"), or `None` if the pattern is empty
-/// or its bounding box has more than 40 columns or more than 40 rows. Where the pattern lies makes no difference.
+/// or its bounding box has more than 40 columns or more than 40 rows. The text doesn't depend on where the pattern is.
 ///
-/// The box is divided from the top into strips of five rows, and `z` stands between the texts of two strips. A strip is
-/// written column by column from the left. A column with a live cell is one character, `1` to `9` or `a` to `v`, for
-/// its value 1 to 31, to which the top cell adds 1 and those below it 2, 4, 8 and 16. A run of empty columns is left
-/// out at a strip's end. Elsewhere it is `0`, `w` or `x` for 1, 2 or 3 columns, and for more `y` and then `0` to `9`
-/// for 4 to 13 columns or `a` to `z` for 14 to 39.
+/// The box is divided from the top into strips of five rows, whose texts are separated by `z`. A strip is written
+/// column by column from the left. A column with a live cell is one character, `1` to `9` or `a` to `v`, for its value
+/// 1 to 31. The value is the sum of its live cells, where the top cell counts 1 and those below it 2, 4, 8 and 16. A
+/// run of empty columns is left out at a strip's end. Elsewhere, a run of 1, 2 or 3 columns is `0`, `w` or `x`. A
+/// longer run is `y` and another character: `0` to `9` for 4 to 13 columns, or `a` to `z` for 14 to 39.
 ///
 /// # Errors
 ///
@@ -59,7 +59,7 @@ pub fn wechsler(alloc: Global, pattern: &Pattern) -> Result<Option<String>, OutO
     image_text(alloc, pattern, Orientation::Same)
 }
 
-/// Returns the text of the pattern's image in an orientation, as [`wechsler`] does.
+/// Returns the text of the pattern's image in an orientation, or `None` as [`wechsler`] does.
 pub(crate) fn image_text(
     alloc: Global,
     pattern: &Pattern,
@@ -78,8 +78,8 @@ pub(crate) fn image_text(
     Ok(Some(text))
 }
 
-/// The laws of the texts of all patterns: each is spelled by tokens whose cells are the pattern, moved to the corner,
-/// with each run of empty columns in one piece and none at a strip's end. It has at most 327 bytes, each one of `0` to
+/// The laws of texts. The text of a pattern is spelled by tokens whose cells are the pattern, moved to the corner. Each
+/// run of empty columns is one token, and none is at a strip's end. A text has at most 327 bytes, each one of `0` to
 /// `9` and `a` to `z`.
 pub fn texts_spell_patterns()
     ensures spell { TextsSpellPatterns }
@@ -107,7 +107,7 @@ fn fits_forty_square(bounds: Bounds) -> bool
     last_column(bounds) < CODE_SIDE_LIMIT && last_row(bounds) < CODE_SIDE_LIMIT
 }
 
-/// Returns the text of any pattern with this box and these rows.
+/// Returns the text of a pattern whose box is `bounds`. `rows` are its rows, counted from the corner of the box.
 fn text_in(alloc: Global, rows: &[u64; 64], bounds: Bounds) -> Result<String, OutOfMemory>
     requires width { distance bounds.left bounds.right < CODE_SIDE_LIMIT }
     requires height { distance bounds.top bounds.bottom < CODE_SIDE_LIMIT }
@@ -122,8 +122,8 @@ fn text_in(alloc: Global, rows: &[u64; 64], bounds: Bounds) -> Result<String, Ou
     Ok(text)
 }
 
-/// Appends the text of strip k, of which there are at most eight, of any pattern with this box and these rows. A `z`
-/// separates it from the strip before it.
+/// Appends the text of strip `k`, 0 to 7, of a pattern whose box is `bounds`. `rows` are its rows, counted from the
+/// corner of the box. A `z` separates the strip from the one before it.
 fn push_strip(
     text: &mut String,
     rows: &[u64; 64],
@@ -152,7 +152,7 @@ fn push_strip(
     Ok(())
 }
 
-/// Appends a run of `gap` empty columns and then a column with a live cell.
+/// Appends a run of `gap` empty columns, 0 to 39, and then a column with a live cell, whose value is 1 to 31.
 fn push_column(text: &mut String, gap: u8, value: u8) -> Result<(), OutOfMemory>
     requires gap { gap ≤ 39 }
     requires least { 1 ≤ value }
@@ -164,7 +164,7 @@ fn push_column(text: &mut String, gap: u8, value: u8) -> Result<(), OutOfMemory>
     push_character(text, value)
 }
 
-/// Appends a run of empty columns, if there is one.
+/// Appends a run of `gap` empty columns, 0 to 39. Nothing is appended for 0.
 #[tactic(auto, unfolding(crate::specs::Tokens::gap_text))]
 fn push_gap(text: &mut String, gap: u8) -> Result<(), OutOfMemory>
     requires { gap ≤ 39 }
@@ -180,7 +180,7 @@ fn push_gap(text: &mut String, gap: u8) -> Result<(), OutOfMemory>
     push_character(text, gap - 4)
 }
 
-/// Returns the character that begins a run of empty columns.
+/// Returns the character that begins a run of `gap` empty columns, 1 to 39.
 fn gap_start(gap: u8) -> char
     ensures { result ≡ gap_start gap }
 {
@@ -192,7 +192,7 @@ fn gap_start(gap: u8) -> char
     }
 }
 
-/// Appends the character of a value.
+/// Appends the character of a value, 0 to 35.
 fn push_character(text: &mut String, value: u8) -> Result<(), OutOfMemory>
     requires { value ≤ 35 }
     ensures { OnOk result (string_bytes text.new ≡ string_bytes text.old ++ character value ∷ []) }
@@ -200,7 +200,7 @@ fn push_character(text: &mut String, value: u8) -> Result<(), OutOfMemory>
     Ok(text.push(char::from(character(value)))?)
 }
 
-/// Returns `0` to `9` for 0 to 9, and `a` to `z` for 10 to 35.
+/// Returns the character of a value: `0` to `9` for 0 to 9, and `a` to `z` for 10 to 35.
 #[tactic(auto, unfolding(crate::specs::Tokens::character))]
 fn character(value: u8) -> u8
     requires { value ≤ 35 }
@@ -214,7 +214,8 @@ fn character(value: u8) -> u8
     }
 }
 
-/// Returns the value of column x of strip k, counted from the corner, of any pattern with this box and these rows.
+/// Returns the value, 0 to 31, of column `x` of strip `k` of a pattern whose box is `bounds`. `rows` are its rows.
+/// Strips, columns and rows are counted from the corner of the box.
 fn column(rows: &[u64; 64], bounds: Bounds, k: u32, x: u32) -> u8
     requires width { x < CODE_SIDE_LIMIT }
     requires strip { k < 8 }

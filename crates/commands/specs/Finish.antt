@@ -22,7 +22,7 @@ pub record IsFinished (held : Held) (missing : ℕ) (output : Stream) : Type 0 w
   pub text : Has output (haul_text census)
   pub fine : output.failed ≡ false
 
--- a prefix of the haul text was written, and the output failed
+-- a prefix of the haul text was written, and a write failed
 pub record IsHalfFinished (held : Held) (output : Stream) : Type 0 where
   pub census : Census
   pub counted : IsCensusOf held census

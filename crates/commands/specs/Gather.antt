@@ -1,4 +1,4 @@
--- What `census gather` is asked for.
+-- The behaviour of `census gather`.
 use Rattle.std.specs.Prelude.{◌≡◌, ◌≤◌, ◌⊎◌, ◌^◌, ℕ, Bool, true, false, List, [], Option, Ok, Err, is_ok, length}
 use Rattle.std.specs.Io.KnownBytes.{prepend_known}
 use Rattle.haul_core.specs.Books.{Terms}
@@ -22,7 +22,7 @@ pub record BeginsHaul (opens : Hauls) (reader before after : Option (List ℕ)) 
   pub opened : opens terms
   pub begun : HasBegun terms reader before after
 
--- to gather report lines over a set; there are diagnostics about lines only if a haul was opened
+-- the behaviour of `gather` for a plan; there are diagnostics about lines only if a haul was opened
 abbrev pub gather_behaviour : Plan → ℕ → Behaviour
 gather_behaviour plan workers = record {
   right = gather_right plan workers;
@@ -33,10 +33,11 @@ gather_behaviour plan workers = record {
   may_tell = (terms : Terms) × gather_opens plan workers terms;
 }
 
+-- the haul has these terms
 abbrev pub IsSame : Terms → Terms → Type 0
 IsSame terms others = others ≡ terms
 
--- the same for a haul that is open
+-- the same once a haul with these terms is open
 abbrev pub haul_behaviour : Terms → Behaviour
 haul_behaviour terms = record {
   right = gathered_right terms;
@@ -47,8 +48,9 @@ haul_behaviour terms = record {
   may_tell = Unit {0};
 }
 
--- Gathering gave up at a place of its input, with an open haul. All lines before that place, except perhaps the last, have come to
--- the haul, and standard error has the diagnostics about them. At most `most` bytes were read beyond the place.
+-- Gathering ended early at a place of its input, with an open haul. All lines before that place, except perhaps the
+-- last, were gathered, and standard error has the diagnostics about them. At most `most` bytes were read beyond the
+-- place.
 pub record GivesUpAt (opens : Hauls) (most : ℕ) (reader left : Option (List ℕ)) (errors : Stream) : Type 0 where
   pub terms : Terms
   pub opened : opens terms
@@ -56,8 +58,9 @@ pub record GivesUpAt (opens : Hauls) (most : ℕ) (reader left : Option (List �
   pub few : length ahead ≤ most
   pub begun : HasBegunUpTo terms reader (prepend_known ahead left) errors.before errors.after
 
--- How far the input was read: to its end if all lines were gathered. After a failed read, nothing was read beyond the place, and
--- all lines that end with a line feed have come. If memory ran out before a haul was opened, nothing was read.
+-- How far the input was read: to its end if all lines were gathered. After a failed read, nothing was read beyond the
+-- place, and all lines that end with a line feed were gathered. If memory ran out before a haul was opened, nothing was
+-- read.
 abbrev pub HasReadUpTo : {R : Type 0} → Hauls → (remaining : R → Option (List ℕ)) → (old new : R) → Stream → Outcome → Type 0
 HasReadUpTo opens remaining old new errors (Ok missing) = IsSpent (remaining old) (remaining new)
 HasReadUpTo opens remaining old new errors (Err (Memory error)) =

@@ -12,8 +12,8 @@ use Rattle.commands.specs.declared.lines.LineEnd.TheVariants.{Feed, Input}
 use Rattle.commands.specs.Lines.{input_lines}
 use Rattle.commands.specs.LinesSoFar.{AreAllEnded, AreEnded, HasBegunUpTo, HasCome, most_ahead}
 
--- How far gathering is: the input at the start and what is left of it, standard error since the start, and how many lines and bytes
--- were read.
+-- The state of gathering: the input at the start and what is left of it, standard error since the start, and how many
+-- lines and bytes were read.
 pub record Passage : Type 0 where
   pub reader : Option (List ℕ)
   pub left : Option (List ℕ)
@@ -21,7 +21,7 @@ pub record Passage : Type 0 where
   pub count : ℕ
   pub size : ℕ
 
--- The lines that were read have come to the haul, and standard error has the diagnostics about them.
+-- The lines that were read were gathered in the haul, and standard error has the diagnostics about them.
 pub record HasGatheredLines (passage : Passage) (held : Held) : Type 0 where
   pub read : List ℕ
   pub lines : List (List ℕ)
@@ -33,7 +33,8 @@ pub record HasGatheredLines (passage : Passage) (held : Held) : Type 0 where
   pub come : HasCome lines held diagnostics
   pub written : Has passage.errors diagnostics
 
--- All lines of an input with this many bytes have come to the haul, and standard error has the diagnostics about them.
+-- All lines of an input with this many bytes were gathered in the haul, and standard error has the diagnostics about
+-- them.
 pub record HasGatheredAll (reader left : Option (List ℕ)) (errors : Stream) (size : ℕ) (held : Held) : Type 0 where
   pub bytes : List ℕ
   pub input : IsInput reader bytes
@@ -43,12 +44,12 @@ pub record HasGatheredAll (reader left : Option (List ℕ)) (errors : Stream) (s
   pub come : HasCome (input_lines bytes) held diagnostics
   pub written : Has errors diagnostics
 
--- the lines up to here have come; after a line feed there may be more, and at the end of the input there are none
+-- the lines up to here were gathered; after a line feed there may be more, and at the end of the input there are none
 abbrev pub HasGatheredTo : Passage → Held → LineEnd → Type 0
 HasGatheredTo passage held Feed = HasGatheredLines passage held
 HasGatheredTo passage held Input = HasGatheredAll passage.reader passage.left passage.errors passage.size held
 
--- all lines of an input that isn't too long have come; some bytes were read and not used
+-- all lines of an input of at most 2^32 bytes were gathered; up to 2^16 bytes were read and not used
 pub record HasGatheredShort (reader left : Option (List ℕ)) (errors : Stream) (held : Held) : Type 0 where
   pub size : ℕ
   pub short : size ≤ 2 ^ 32
@@ -60,7 +61,8 @@ pub record HasGatheredShort (reader left : Option (List ℕ)) (errors : Stream) 
 abbrev pub IsTooLong : Option (List ℕ) → Type 0
 IsTooLong reader = IfSome reader (λ bytes. 2 ^ 32 < length bytes)
 
--- Standard error if a complaint ends the lines of an input of which this is left: the diagnostics about all lines before.
+-- What holds if a complaint ends the lines, and this is left of the input: standard error has the diagnostics about all
+-- lines before, or a write to it failed.
 abbrev pub EndsLines : Terms → (reader left : Option (List ℕ)) → Stream → Complaint → Type 0
 EndsLines terms reader left errors (Memory error) =
     HasBegunUpTo terms reader left errors.before errors.after × (errors.failed ≡ false)
@@ -77,7 +79,7 @@ pub record EndsLinesAt (terms : Terms) (reader left : Option (List ℕ)) (errors
   pub few : length ahead ≤ most_ahead complaint
   pub ends : EndsLines terms reader (prepend_known ahead left) errors complaint
 
--- a complaint over a line that was read: nothing was written, or a write failed
+-- what holds after a complaint about a line that was read: nothing was written, or a write failed
 abbrev pub EndsLine : {V : Type 0} → Output V → Output V → Complaint → Type 0
 EndsLine old new (Memory error) = new ≡ old
 EndsLine old new (ReadFailed error) = ⊥
@@ -85,7 +87,8 @@ EndsLine old new TooLong = ⊥
 EndsLine old new (WriteFailed error) = new.failed ≡ true
 EndsLine old new (Refused refusal) = ⊥
 
--- a complaint over the next line: the same, or a read failed, or what is left of the input is too long
+-- what holds after a complaint about the next line: the same, or a read failed, or what is left of the input is too
+-- long
 abbrev pub EndsNext : {V : Type 0} → Option (List ℕ) → Output V → Output V → Complaint → Type 0
 EndsNext left old new (ReadFailed error) = new ≡ old
 EndsNext left old new TooLong = (new ≡ old) × IsTooLong left

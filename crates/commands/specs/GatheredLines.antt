@@ -1,4 +1,4 @@
--- Report lines: what each of them says, and what becomes of it at a haul.
+-- Report lines: what each of them says, and its effect on a haul.
 use Rattle.std.specs.Prelude.{◌≡◌, ◌<◌, ◌≤◌, ◌⊎◌, ◌^◌, ◌++◌, ℕ, suc, true, false, List, [], ◌∷◌, Option, None, Some, Result, Ok, Err, codes, decimal, length, take}
 use Rattle.survey_core.specs.declared.finding.Finding.{Finding}
 use Rattle.survey_core.specs.declared.job.Job.{Job}
@@ -26,7 +26,8 @@ pub record Claims (line : List ℕ) (claim : Claimed) : Type 0 where
 abbrev pub IsWrong : Claimed → Type 0
 IsWrong claim = (finding : Finding) → IsFoundFor claim finding → ¬ Agrees claim finding
 
--- A line is a report of the job, or it has a fault: it doesn't spell a claim, its claim is of another job, or its claim is wrong.
+-- A line is a report of the job, or it has a fault: it doesn't spell a claim, its claim is of another job, or its claim
+-- is wrong.
 abbrev pub IsChecked : Job → List ℕ → Result Reported LineFault → Type 0
 IsChecked job line (Ok report) = (claim : Claimed) × Claims line claim × IsConfirmed claim job report
 IsChecked job line (Err (BadLine place)) = IsFirstFaultOf line place
@@ -34,8 +35,8 @@ IsChecked job line (Err OtherJob) = (claim : Claimed) × Claims line claim × (s
 IsChecked job line (Err Disagrees) = (claim : Claimed) × Claims line claim × (same_job claim.job job ≡ true) × IsWrong claim
 IsChecked job line (Err _) = ⊥
 
--- A line that is longer than this prefix is bad at the first fault of the prefix, or after its 2^24 bytes if they are a claim's
--- line.
+-- A line that is longer than this prefix is bad at the first fault of the prefix, or after its 2^24 bytes if they are a
+-- claim's line.
 abbrev pub IsPrefixFault : List ℕ → ℕ → Type 0
 IsPrefixFault prefix place = IsFirstFaultOf prefix place ⊎ ((claim : Claimed) × Claims prefix claim × (place ≡ 2 ^ 24))
 
@@ -51,13 +52,14 @@ offer_fault report (Some offer_error.OutOfRange) = Some (OutOfRange report.numbe
 offer_fault report (Some (offer_error.Double worker)) = Some (Double report.number worker)
 offer_fault report _ = None
 
--- What becomes of a line after these arrivals: what arrives by it, and the fault that is reported about it, if there is one.
+-- The effect of a line after these arrivals: the arrival that it causes, if any, and the fault that is reported about
+-- it, if any.
 pub data ComesOf (terms : Terms) (before : List Arrival) (line : List ℕ) : List Arrival → Option LineFault → Type 0 where
   Faulty : (fault : LineFault) → IsLookedAt terms.job line (Err fault) → ComesOf terms before line [] (Some fault)
   Offered : (report : Reported) → IsLookedAt terms.job line (Ok report)
       → ComesOf terms before line (Offer report ∷ []) (offer_fault report (refusal_of terms before report))
 
--- the words for a fault
+-- the text of a fault
 abbrev pub fault_text : LineFault → List ℕ
 fault_text (BadLine place) = codes "bad line at " ++ decimal place
 fault_text OtherJob = codes "other job"
@@ -70,11 +72,12 @@ fault_text (Double number worker) = codes "double of " ++ decimal number ++ (cod
 abbrev pub fault_line : ℕ → LineFault → List ℕ
 fault_line number fault = codes "line " ++ decimal number ++ (codes ": " ++ (fault_text fault ++ codes "\n"))
 
+-- the diagnostic about a line, if it has a fault
 abbrev pub told_fault : ℕ → Option LineFault → List ℕ
 told_fault number None = []
 told_fault number (Some fault) = fault_line number fault
 
--- Lines one after another, at an empty haul: what arrives, and the diagnostics about them.
+-- Lines one after another, at an empty haul: the arrivals that they cause, and the diagnostics about them.
 pub data Gathered (terms : Terms) : List (List ℕ) → List Arrival → List ℕ → Type 0 where
   Start : Gathered terms [] [] []
   Next : (lines : List (List ℕ)) (before : List Arrival) (diagnostics : List ℕ) (line : List ℕ) (arrived : List Arrival) (fault : Option LineFault)

@@ -37,8 +37,8 @@ Hauls = Terms → Type 0
 abbrev pub gather_opens : Plan → ℕ → Hauls
 gather_opens plan workers terms = IsOkAnd (job_named plan) (λ job. IsHaulOver plan.set workers job terms)
 
--- The lines of an input of at most 2^32 bytes come to a haul in their order, and then it is closed. The haul text is that of the
--- soups that it has taken.
+-- The lines of an input of at most 2^32 bytes are gathered in a haul, in their order, and then the haul is closed. The
+-- text is the haul text over the soups that the haul has taken.
 pub record IsGathered (terms : Terms) (bytes : List ℕ) (gathering : Made) : Type 0 where
   pub short : length bytes ≤ 2 ^ 32
   pub arrivals : List Arrival

@@ -8,7 +8,7 @@ use Rattle.commands.specs.declared.lines.LineEnd.TheVariants.{Feed, Input}
 use Rattle.commands.specs.declared.lines.LineRead.{LineRead}
 use Rattle.commands.specs.declared.lines.Piece.{Piece}
 
--- a byte at the beginning of the first of these lines
+-- these lines, with a byte put before the first
 abbrev pub begun_with : ℕ → List (List ℕ) → List (List ℕ)
 begun_with byte [] = (byte ∷ []) ∷ []
 begun_with byte (line ∷ more) = (byte ∷ line) ∷ more
@@ -35,7 +35,8 @@ with_end end line = line ++ end_bytes end
 abbrev pub IsSpent : Option (List ℕ) → Option (List ℕ) → Type 0
 IsSpent old new = IfSome old (λ _. IsAtEnd new)
 
--- A line of at most 2^32 bytes was read, and its first 2^24 + 1 bytes are kept. If no line feed ends it, the input is at its end.
+-- A line of at most 2^32 bytes was read, and its first 2^24 + 1 bytes are kept. If no line feed ends it, the input is
+-- at its end.
 pub record HasReadLine (old new : Option (List ℕ)) (kept : List ℕ) (read : LineRead) : Type 0 where
   pub line : List ℕ
   pub kept_is : kept ≡ take (2 ^ 24 + 1) line

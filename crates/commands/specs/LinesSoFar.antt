@@ -1,4 +1,4 @@
--- The lines of an input that have come to a haul so far.
+-- The lines of an input that have been gathered so far.
 use Rattle.std.specs.Prelude.{◌≡◌, ◌≤◌, ◌^◌, ◌++◌, ℕ, List, All, IfSome, Option, flat_map, length}
 use Rattle.std.specs.Io.KnownBytes.{Appends, Consumes}
 use Rattle.haul_core.specs.declared.book.arrival.Arrival.{Arrival}
@@ -23,20 +23,21 @@ pub record AreAllEnded (bytes : List ℕ) (lines : List (List ℕ)) : Type 0 whe
   pub ended : AreEnded prefix lines
   pub one : IsOneLine part
 
--- the lines have come to the haul, with these diagnostics
+-- the lines were gathered in the haul, with these diagnostics
 pub record HasCome (lines : List (List ℕ)) (held : Held) (diagnostics : List ℕ) : Type 0 where
   pub arrivals : List Arrival
   pub gathered : Gathered held.terms lines arrivals diagnostics
   pub stands : StandsFor arrivals held
 
--- The lines have come to the haul. These were the diagnostics before, and the others were added to standard error.
+-- The lines were gathered in the haul. `diagnostics` are the diagnostics before, and the others were added to standard
+-- error.
 pub record HasComeBy (lines : List (List ℕ)) (held : Held) (diagnostics : List ℕ) (errors : Stream) : Type 0 where
   pub more : List ℕ
   pub come : HasCome lines held (diagnostics ++ more)
   pub written : Has errors more
 
--- An input was read up to here, and its first lines have come to a haul: all of them, except perhaps the last, at which gathering
--- ended. Standard error has the diagnostics about those that have come.
+-- An input was read up to here, and its first lines were gathered: all of them, except perhaps the last, at which
+-- gathering ended. Standard error has the diagnostics about the gathered lines.
 pub record HasBegunUpTo (terms : Terms) (reader left before after : Option (List ℕ)) : Type 0 where
   pub read : List ℕ
   pub consumed : Consumes reader left read

@@ -39,7 +39,7 @@ pub data IsRefused (set : SoupSet) (refusal : Refusal) : Type 0 where
   Too_large : (ranges : List Range) → AreRangesOf set ranges → ¬ AreSmall ranges → refusal ≡ RangeTooLarge → IsRefused set refusal
   Overlapping : (ranges : List Range) → AreRangesOf set ranges → AreSmall ranges → Overlap ranges → refusal ≡ RangesOverlap → IsRefused set refusal
 
--- the ranges of a set are valid, and the text says about them what it should
+-- the ranges of a set are valid, and the text is right for them
 pub record IsTextOf (set : SoupSet) (tells : List Range → List ℕ → Type 0) (text : List ℕ) : Type 0 where
   pub ranges : List Range
   pub named : AreRangesOf set ranges

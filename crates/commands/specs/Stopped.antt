@@ -1,4 +1,4 @@
--- What `take` produces if a gate may stop its workers before the haul is complete.
+-- The behaviour of `take` if a gate may stop its workers before the haul is complete.
 use Rattle.std.specs.Prelude.{◌≡◌, ℕ, zero, suc, true, false, All, List, [], Ok, Err, length, nat_eq}
 use Rattle.std.specs.List.{IsDistinct}
 use Rattle.survey_core.specs.declared.job.Job.{Job}
@@ -19,7 +19,7 @@ use Rattle.pattern_commands.specs.Behaviours.{Makes, Behaviour, silent_behaviour
 abbrev pub MayStop : (ℕ → ℕ → Type 0) → List Range → Type 0
 MayStop may_stop ranges = (worker : ℕ) × (n : ℕ) × (is_in ranges n ≡ true) × may_stop worker n
 
--- a text with the census of a job over what was taken of a set, each number once, when this many numbers are missing
+-- a text with the census of a job over the soups of a set that were taken, each once, if this many numbers are missing
 pub record TellsTaken (job : Job) (ranges : List Range) (missing : ℕ) (text : List ℕ) : Type 0 where
   pub normal : List Range
   pub form : IsNormalForm ranges normal
@@ -32,8 +32,8 @@ pub record TellsTaken (job : Job) (ranges : List Range) (missing : ℕ) (text : 
   pub counted : IsCensus job normal (numbers_in taken) census
   pub text_is : text ≡ haul_text census
 
--- The census of a haul with this many numbers missing, where the gate may have stopped a worker. First the parts of its job are
--- checked.
+-- What is right if the gate may have stopped a worker: the census of a haul with this many numbers missing. First the
+-- parts of its job are checked.
 abbrev pub stopped_right : (ℕ → ℕ → Type 0) → Plan → ℕ → Right
 stopped_right may_stop plan missing =
     IsRightGiven (job_named plan) (λ job. IsRightForSet plan.set (λ ranges text.
@@ -44,12 +44,12 @@ abbrev pub right_if : Right → (ℕ → Right) → ℕ → Right
 right_if whole stopped zero = whole
 right_if whole stopped (suc n) = stopped (suc n)
 
--- what `take` produces with a gate: the haul text, with nothing missing or because the gate may have stopped a worker
+-- what is right for `take` with a gate: the haul text of all soups, or of some if the gate may have stopped a worker
 abbrev pub taken_right : (ℕ → ℕ → Type 0) → Plan → Makes
 taken_right may_stop plan (Ok made) =
     right_if (take_right plan) (stopped_right may_stop plan) made.missing (Ok made.text) × (made.diagnostics ≡ [])
 taken_right may_stop plan (Err complaint) = take_right plan (Err complaint)
 
--- to take a set with a gate
+-- the behaviour of `take` with a gate
 abbrev pub gated_behaviour : (ℕ → ℕ → Type 0) → Plan → Behaviour
 gated_behaviour may_stop plan = silent_behaviour false true (λ bytes. taken_right may_stop plan)

@@ -1,4 +1,4 @@
--- What `census take` is asked for.
+-- The behaviour of `census take`.
 use Rattle.std.specs.Prelude.{◌≡◌, ℕ, true, false, List, Option, Ok}
 use Rattle.std.specs.Io.KnownBytes.{Appends}
 use Rattle.survey_core.specs.declared.job.Job.{Job}
@@ -27,11 +27,11 @@ pub record TellsAll (job : Job) (ranges : List Range) (text : List ℕ) : Type 0
 abbrev pub take_right : Plan → Right
 take_right plan = IsRightGiven (job_named plan) (λ job. IsRightForSet plan.set (TellsAll job))
 
--- to take a set
+-- the behaviour of `take` for a plan
 abbrev pub take_behaviour : Plan → Behaviour
 take_behaviour plan = text_behaviour false true (λ bytes. take_right plan)
 
--- the bytes with a writer grew by a text that tells the census of a plan: that of its job, over its set
+-- the bytes of a writer grew by the haul text of a plan: the census of its job, over all soups of its set
 pub record PrintsCensus (plan : Plan) (before after : Option (List ℕ)) : Type 0 where
   pub job : Job
   pub job_is : job_named plan ≡ Ok job

@@ -1,4 +1,4 @@
--- How a haul over a set is opened, and its numbers.
+-- How a haul over a set is opened and completed.
 use Rattle.std.specs.Prelude.{◌≡◌, ◌⊎◌, ◌++◌, ℕ, All, List, [], Ok, Err, nat_eq, true}
 use Rattle.std.specs.List.{IsDistinct}
 use Rattle.survey_core.specs.declared.job.Job.{Job}
@@ -17,7 +17,8 @@ use Rattle.requests.specs.declared.soup_set.SoupSet.{SoupSet}
 use Rattle.pattern_commands.specs.Answers.{NeedsMemory, Right}
 use Rattle.commands.specs.SoupSets.{AreRangesOf, IsRefused, job_named}
 
--- a complaint that ends a command before it writes: a refusal if that is right, or out of memory
+-- a complaint that may end a command before it writes: a refusal that is right, or out of memory, which hides no
+-- complaint except those that need memory
 abbrev pub Stops : Right → Complaint → Type 0
 Stops right (Refused refusal) = right (Err (Refused refusal))
 Stops right (Memory error) = (complaint : Complaint) → right (Err complaint) → NeedsMemory complaint
@@ -25,8 +26,8 @@ Stops right (ReadFailed error) = ⊥
 Stops right TooLong = ⊥
 Stops right (WriteFailed error) = ⊥
 
--- a complaint about a set that ends a command before it writes: a refusal if that is right, or out of memory over a valid list of
--- ranges
+-- a complaint about a set that may end a command before it writes: a refusal that is right, or out of memory if the
+-- list of ranges is valid
 abbrev pub StopsSet : SoupSet → Complaint → Type 0
 StopsSet set (Refused refusal) = IsRefused set refusal
 StopsSet set (Memory error) = IsListText set.also
@@ -52,17 +53,19 @@ pub record IsOpenedFor (plan : Plan) (workers : ℕ) (held : Held) : Type 0 wher
   pub named : job_named plan ≡ Ok job
   pub opened : IsOpened job plan.set workers held
 
--- A complaint that ends a command before its haul is open: the seed, the profile or the rule is refused, or the set is.
+-- A complaint that may end a command before its haul is open: about the seed, the profile or the rule, or otherwise
+-- about the set.
 abbrev pub StopsOpening : Plan → Complaint → Type 0
 StopsOpening plan complaint = (job_named plan ≡ Err complaint)
     ⊎ ((job : Job) × (job_named plan ≡ Ok job) × StopsSet plan.set complaint)
 
--- what became of a haul: all was taken, or the gate stopped a worker
+-- what became of a haul: all was taken, or some numbers weren't and the gate may have stopped a worker at a missing
+-- number
 abbrev pub EndsCrew : (ℕ → ℕ → Type 0) → Held → Held → Type 0
 EndsCrew may_stop old new = (IsComplete new.terms.ranges new.taken × AreAll new.terms.ranges (numbers_in new.taken))
     ⊎ ((¬ IsComplete new.terms.ranges new.taken) × (worker : ℕ) × StopsAt may_stop (was_missing old) worker)
 
--- a haul has taken more than it had
+-- a haul has taken what it had taken before, and perhaps more after that
 pub record HasTakenMore (old new : Held) : Type 0 where
   pub terms : new.terms ≡ old.terms
   pub closed : new.closed ≡ old.closed

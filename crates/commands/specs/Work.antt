@@ -1,4 +1,4 @@
--- What `census work` is asked for.
+-- The behaviour of `census work`.
 use Rattle.std.specs.Prelude.{◌≡◌, ℕ, false, List, [], ◌∷◌, flat_map}
 use Rattle.survey_core.specs.declared.job.Job.{Job}
 use Rattle.ranges.specs.declared.range.Range.{Range}
@@ -37,6 +37,6 @@ pub record TellsReports (job : Job) (worker : ℕ) (ranges : List Range) (text :
 abbrev pub work_right : Plan → ℕ → Right
 work_right plan worker = IsRightGiven (job_named plan) (λ job. IsRightForSet plan.set (TellsReports job worker))
 
--- to report on a set, line by line
+-- the behaviour of `work` for a plan and a worker; its text is written line by line
 abbrev pub work_behaviour : Plan → ℕ → Behaviour
 work_behaviour plan worker = text_behaviour false false (λ bytes. work_right plan worker)

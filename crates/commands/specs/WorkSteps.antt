@@ -19,6 +19,7 @@ pub record WantedReports : Type 0 where
   pub worker : ℕ
   pub numbers : List ℕ
 
+-- the reports of this worker on these soups
 abbrev pub reports_on : Job → ℕ → List ℕ → WantedReports
 reports_on job worker numbers = record { job = job; worker = worker; numbers = numbers }
 
@@ -52,8 +53,8 @@ pub record IsPut (wanted : WantedReports) (output : Stream) : Type 0 where
   pub is_written : Has output (flat_map report_text reports)
   pub fine : output.failed ≡ false
 
--- What became of the wanted reports: their lines were written; or memory ran out over one, and the lines of those before it were
--- written; or a write failed, and a prefix of the lines so far was written.
+-- What became of the wanted reports: their lines were written; or memory ran out at one, and the lines of those before
+-- it were written; or a write failed, and a prefix of the lines so far was written.
 abbrev pub Puts : WantedReports → TextOutcome → Stream → Type 0
 Puts wanted (Ok _) output = IsPut wanted output
 Puts wanted (Err (Memory error)) output = IsBegun wanted (Has output)

@@ -6,7 +6,8 @@
 //!             start      end
 //! ```
 //!
-//! Nothing is known after a call about a reader that was lent to std's `BufReader`. Here it is lent only for a read.
+//! This replaces std's `BufReader`, because contracts don't say what becomes of a reader that was lent to one. Here the
+//! reader is lent only for a read.
 
 ghost use Rattle.std.specs.Prelude.{◌≡◌, ◌<◌, ◌≤◌, ◌^◌, [], IfOk, OnErr, OnOk, drop, length, take, vec_len};
 ghost use Rattle.std.specs.Io.KnownBytes.{Consumes, IsAtEnd, Keeps, prepend_known};
@@ -57,7 +58,7 @@ impl Ahead {
         &self.buffer.as_slice()[self.start..self.end]
     }
 
-    /// Reads once, if there are no unused bytes.
+    /// Reads once if there are no unused bytes. After that, no bytes mean that the input is at its end.
     pub(crate) fn fill<R: Read>(&mut self, input: &mut R) -> io::Result<()>
         ensures bytes { Keeps (prepend_known self.old (R.remaining input.old))
             (prepend_known self.new (R.remaining input.new)) }

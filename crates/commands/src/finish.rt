@@ -35,7 +35,7 @@ pub(crate) fn finish<W: Write>(haul: &mut Haul, output: &mut Out<W>) -> Result<u
     let _ = haul.close();
     let census = haul.census()?;
     write_haul(&census, output)?;
-    // Flushed first, so that a line about missing soups says that the text was printed.
+    // Flushed before the line about missing soups is written, so that this line implies that the text was printed.
     output.flush()?;
     Ok(missing)
 }

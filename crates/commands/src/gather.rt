@@ -57,10 +57,11 @@ use survey_core::surveyor::Surveyor;
 ///
 /// A line ends with a line feed, which the last line may lack. If a line isn't taken, its number, counted from 1, and
 /// its fault are written to `errors`, and reading continues. Only the first 2^24 bytes of a line are read: a longer
-/// line is bad at the first fault in these bytes, or at 2^24. Each number of the profile has to be in its range, there
-/// are 1 to 16 workers, and no earlier write to either writer may have failed. Refusals are tested in the order of
-/// [`do_take`](crate::take::do_take), before anything is read. Only one line and the haul are kept in memory. A read
-/// that a signal interrupts is tried again. `census gather` is this call with the standard streams.
+/// line is bad at the first fault in these bytes, or at 2^24. Each number of the profile has to be in its range,
+/// `workers` is from 1 to 16, and no earlier write to either writer may have failed. Refusals are tested in the order
+/// of [`do_take`](crate::take::do_take), before anything is read. Only the haul, one line, a buffer and a surveyor are
+/// kept in memory. A read that a signal interrupts is tried again. `census gather` is this call with the standard
+/// streams.
 ///
 /// # Errors
 ///
@@ -69,8 +70,9 @@ use survey_core::surveyor::Surveyor;
 /// 2^32 bytes, or if the output or a line on `errors` can't be written. With `Refused` and `Memory`, and after a failed
 /// read, nothing was written to the output. A failure to write the last line on `errors` is not reported.
 ///
-/// If memory, a read or the limit ends it, all lines before some place of the input were processed, except perhaps the
-/// last. At most 2^16 bytes were read beyond that place, and none after a failed read.
+/// If it ends because memory runs out, a read fails or the input is too long, all lines before some place of the input
+/// were processed, except perhaps the last. At most 2^16 bytes were read beyond that place, and none after a failed
+/// read.
 pub fn do_gather<R: Read, W: Write, E: Write>(
     alloc: Global,
     plan: &Plan<'_>,
@@ -192,7 +194,8 @@ fn gather_lines<R: Read, E: Write>(
     Err(Complaint::TooLong)
 }
 
-/// Reads the next line, number `before` + 1, checks it, offers its report, and reports its fault. Returns what it read.
+/// Reads the next line, number `before` + 1, checks it, offers its report, and writes its fault to `errors`. Returns
+/// what it read.
 fn next_line<R: Read, E: Write>(
     alloc: Global,
     input: &mut R,
@@ -236,8 +239,8 @@ fn next_line<R: Read, E: Write>(
     Ok(read)
 }
 
-/// Offers the report of the next line, number `before` + 1, and reports the line's fault. The slice has the first
-/// 2^24 + 1 bytes of the line.
+/// Offers the report of the next line, number `before` + 1, and writes the line's fault to `errors`. `kept` has the
+/// first 2^24 + 1 bytes of the line.
 fn take_line<E: Write>(
     alloc: Global,
     kept: &[u8],
@@ -261,8 +264,8 @@ fn take_line<E: Write>(
     Ok(())
 }
 
-/// Offers the report of a line, of which the slice has the first 2^24 + 1 bytes. Returns the line's fault, if it has
-/// one that is reported.
+/// Offers the report of a line, of which `kept` has the first 2^24 + 1 bytes. Returns the line's fault, or `None` if
+/// there is none to report.
 fn offer_line(
     alloc: Global,
     kept: &[u8],
@@ -287,7 +290,7 @@ fn offer_line(
     }
 }
 
-/// Returns the report of a line, or the line's fault. The slice has the line's first 2^24 + 1 bytes.
+/// Returns the report of a line, or the line's fault. `kept` has the line's first 2^24 + 1 bytes.
 fn report_of(
     alloc: Global,
     kept: &[u8],
@@ -350,7 +353,7 @@ fn fault_of(reason: OfferError, worker: u8, number: u64) -> Result<Option<LineFa
         OfferError::UnknownWorker => Ok(Some(LineFault::UnknownWorker { worker })),
         OfferError::OutOfRange => Ok(Some(LineFault::OutOfRange { number })),
         OfferError::Double { worker } => Ok(Some(LineFault::Double { number, worker })),
-        // The haul is open, and the report is of its job.
+        // These don't occur: the haul is open, and the report is of its job.
         OfferError::Closed | OfferError::OtherJob => Ok(None),
         OfferError::Memory(error) => Err(error),
     }

@@ -16,9 +16,9 @@ pub enum LineFault {
     BadLine { place: usize },
     /// It is about another job.
     OtherJob,
-    /// Its finding isn't that of its soup.
+    /// Its finding isn't the finding of its soup.
     Disagrees,
-    /// The haul has fewer workers than the line's number.
+    /// The number of the line's worker is higher than the haul's number of workers.
     UnknownWorker { worker: u8 },
     /// The number of its soup isn't in the haul's set.
     OutOfRange { number: u64 },

@@ -6,7 +6,7 @@
 //! end     Feed         Feed               Input
 //! ```
 //!
-//! Only the first 2^24 bytes of a line and the byte after them are kept, so an input without a line feed takes no more
+//! Only the first 2^24 bytes of a line and the byte after them are kept, so an input without a line feed needs no more
 //! memory than that.
 
 ghost use Rattle.std.specs.Prelude.{◌≡◌, ◌≢◌, ◌≤◌, ◌+◌, ◌^◌, ◌++◌, ℕ, [], Err, List, None};
@@ -28,7 +28,7 @@ use std::io::{Error, ErrorKind, Read};
 /// The most bytes of a line that are examined: 2^24, far more than a report line of a census has.
 pub(crate) const LINE_LIMIT: usize = 16_777_216;
 
-/// The most bytes of report lines that are read: 2^32. A line has no more than that.
+/// The most bytes of report lines that are read, and so the most bytes of a line: 2^32.
 pub(crate) const GATHER_LIMIT: u64 = 4_294_967_296;
 
 /// What ends a line.
@@ -52,7 +52,7 @@ pub(crate) struct LineRead {
 /// The part of a line that is available without another read.
 #[derive(Clone, Copy)]
 struct Piece {
-    /// The number of bytes of the line.
+    /// The number of bytes of the line, without the line feed.
     length: usize,
     /// The number of bytes, including the line feed.
     size: usize,
@@ -144,7 +144,8 @@ fn after_error(error: &Error) -> Result<Piece, InputError>
     }
 }
 
-/// Returns the part of a line that these bytes have. No bytes are the end of the input.
+/// Returns the part of a line that these bytes have: all up to the first line feed. If there are no bytes, the input
+/// has ended.
 fn first_piece(bytes: &[u8]) -> Piece
     ensures { IsPieceOf bytes.now result }
 {

@@ -15,6 +15,6 @@ pub struct Machine<'a, T, E: Write, H> {
     pub threads: &'a T,
     /// Standard error.
     pub errors: Out<E>,
-    /// Is told how many soups were taken.
+    /// Receives the progress.
     pub observer: H,
 }

@@ -58,7 +58,7 @@ impl<W: Write, C: Clock> ProgressLine<W, C> {
         }
     }
 
-    /// Shows the line from now on if `is_asked`, and otherwise only if it was shown before.
+    /// Shows the line from now on if `is_asked`. Otherwise changes nothing.
     pub fn ask(&mut self, is_asked: bool)
         ensures hidden { self.old.is_shown ≡ false → is_asked ≡ false → self.new ≡ self.old }
     {
@@ -107,7 +107,7 @@ impl<W: Write, C: Clock> ProgressLine<W, C> {
         Ok(crew)
     }
 
-    /// Returns how many soups were taken per second, or `None` at the very beginning.
+    /// Returns how many soups were taken per second, or `None` in the first millisecond.
     fn rate(&self, count: u64, now: Instant) -> Option<u128> {
         let passed = now.duration_since(self.started?).as_millis();
         u128::from(count).saturating_mul(1000).checked_div(passed)

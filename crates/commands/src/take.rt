@@ -39,11 +39,11 @@ use std::thread::Threads;
 
 /// Surveys all soups of a plan with `workers` workers, 1 to 16, and writes the haul text of what they left.
 ///
-/// Each worker has a thread of its own. What is written is the same for any number of workers. Each number of the
-/// profile has to be in its range, and no earlier write to either writer may have failed. The seed is checked first,
-/// then the profile, the rule, the list of ranges, the size of the ranges, and last whether two of them share a number.
-/// Nothing is written before the haul is complete. The machine's observer is told how many soups were taken, and
-/// nothing else depends on it. `census take` is this call with the standard streams.
+/// Each worker has a thread of its own. The output is the same for any number of workers. Each number of the profile
+/// has to be in its range, and no earlier write to either writer may have failed. The seed is checked first, then the
+/// profile, the rule, the list of ranges, the size of the ranges, and finally whether two of them share a number.
+/// Nothing is written before the haul is complete. The machine's observer receives the progress, and nothing else
+/// depends on it. `census take` is this call with the standard streams.
 ///
 /// # Errors
 ///
@@ -130,8 +130,8 @@ fn print_haul<W: Write, E: Write, G: Gate + Sync, T: Threads + Wait + Sync, H: P
     print_taken(&mut haul, taken, output)
 }
 
-/// Lets a crew take what is missing in an open haul, and returns the haul. Unless memory ran out, it is complete or the
-/// gate stopped a worker.
+/// Lets a crew take what is missing in an open haul, and returns the haul. Unless memory ran out, the haul is complete
+/// or the gate stopped a worker.
 fn complete_by_crew<E: Write, G: Gate + Sync, T: Threads + Wait + Sync, H: ProgressObserver>(
     machine: &mut Machine<'_, T, E, H>,
     haul: Haul,
@@ -163,8 +163,8 @@ fn complete_by_crew<E: Write, G: Gate + Sync, T: Threads + Wait + Sync, H: Progr
     }
 }
 
-/// Finishes a haul of which a crew has taken what it could, unless memory ran out. This is a function of its own
-/// because the end of the function that owns the haul is expensive to prove.
+/// Finishes a haul after a crew has taken what it could, unless memory ran out. This is a function of its own because
+/// the end of a function that owns the haul is expensive to prove.
 fn print_taken<W: Write>(
     haul: &mut Haul,
     taken: Result<(), OutOfMemory>,

@@ -46,7 +46,7 @@ use survey_core::surveyor::Surveyor;
 ///
 /// # Errors
 ///
-/// The status is `Refused` as for `do_take`; `Memory` if memory runs out, and then the lines before were written
+/// The status is `Refused` as for `do_take`; `Memory` if memory runs out, and then the lines so far were written
 /// completely; and `Failed` if the output can't be written. In these cases, a line is written to `errors`. A failure to
 /// write that line is not reported.
 pub fn do_work<W: Write, E: Write>(
@@ -87,7 +87,7 @@ fn work<W: Write>(
     ensures whole_lines { IfErr result (λ complaint. complaint ≡ Complaint.Memory out_of_memory
         → EndsAtLine plan.now worker (stream W.contents output.old output.new)) }
 {
-    // No report is offered to this haul. It only has the ranges in normal form.
+    // No report is offered to this haul. It only provides the ranges in normal form.
     let haul = open_haul(alloc, plan, worker)?;
     // For the prover: there is one right text, and each line that is written is one of its lines.
     findings_are_determined();

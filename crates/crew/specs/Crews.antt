@@ -11,6 +11,7 @@ use Rattle.handover.specs.Belts.{Received}
 use Rattle.crew.specs.declared.note.Note.{Note}
 use Rattle.crew.specs.declared.note.Note.TheVariants.{Done, Report}
 
+-- the report in a note, if the note is one
 abbrev pub report_in : Note → List Reported
 report_in (Report report) = report ∷ []
 report_in (Done worker) = []
@@ -19,6 +20,7 @@ report_in (Done worker) = []
 abbrev pub reports_in : List (ℕ × Note) → List Reported
 reports_in got = flat_map (λ m. report_in m.1) got
 
+-- the note says that a worker is done
 abbrev pub is_done : Note → Bool
 is_done (Report report) = false
 is_done (Done worker) = true
@@ -31,8 +33,8 @@ dones got = count_by (λ m. is_done m.1) got
 abbrev pub EndsDone : List (ℕ × Note) → Type 0
 EndsDone got = (got ≡ []) ⊎ ((prefix : List (ℕ × Note)) × (sender : ℕ) × (worker : ℕ) × (got ≡ prefix ++ (sender, Done worker) ∷ []))
 
--- A haul has taken these reports, in this order. If some arrivals led to the old state, then they and offers of these reports lead
--- to the new one.
+-- A haul has taken these reports, in this order. If some arrivals led to the old state, then they and offers of these
+-- reports lead to the new one.
 pub record HasAdded (reports : List Reported) (old new : Held) : Type 0 where
   pub terms : new.terms ≡ old.terms
   pub closed : new.closed ≡ old.closed
@@ -43,8 +45,8 @@ pub record HasAdded (reports : List Reported) (old new : Held) : Type 0 where
 abbrev pub HasComeAll : List Reported → Held → Held → Type 0
 HasComeAll reports old new = (arrivals : List Arrival) → StandsFor arrivals old → StandsFor (arrivals ++ map Offer reports) new
 
--- A haul has taken a part of these reports. One report among them was lost, although the book would take it after those taken
--- before it.
+-- A haul has taken a part of these reports. One report among them was lost, although the book would take it after those
+-- taken before it.
 pub record HasLost (reports part : List Reported) (old : Held) : Type 0 where
   pub before : List Reported
   pub report : Reported
@@ -63,12 +65,13 @@ pub record Collector : Type 0 where
   pub receiver : Received Note
   pub haul : Held
 
+-- a collector with these parts
 abbrev pub collector_with : ℕ → Received Note → Held → Collector
 collector_with awaited receiver haul = record { awaited = awaited; receiver = receiver; haul = haul }
 
--- Notes were received from the workers, and each note "done" reduces the number of awaited workers by one. If none is awaited any
--- more, the last note was such a note. The haul has taken some of the reports among the notes: if `answered`, all that the book
--- takes, so that it has their soups; otherwise one was lost.
+-- Notes were received from the workers, and each note "done" reduces the number of awaited workers by one. If none is
+-- awaited any more, the last note was such a note. The haul has taken some of the reports among the notes: if
+-- `answered`, all that the book takes, so that it has their soups; otherwise one was lost.
 pub record Collected (before after : Collector) (answered : Bool) : Type 0 where
   pub notes : List (ℕ × Note)
   pub belt : after.receiver.belt ≡ before.receiver.belt

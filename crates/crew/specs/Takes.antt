@@ -1,4 +1,4 @@
--- What a crew does to a haul.
+-- What a crew takes for a haul.
 use Rattle.std.specs.Prelude.{◌≡◌, ◌<◌, ◌≤◌, ℕ, All, AllPairs, Contains, List, filter, map, nat_eq}
 use Rattle.std.specs.List.{IsDistinct}
 use Rattle.haul_core.specs.Books.{Held, entry}
@@ -15,9 +15,9 @@ was_missing held = missing_of held.terms.ranges held.taken
 abbrev pub taken_by : ℕ → List (ℕ × ℕ) → List ℕ
 taken_by worker taken = map (λ t. t.1) (filter (λ t. nat_eq worker t.0) taken)
 
--- The haul has taken reports of the crew's workers for its job. They are on missing numbers that the gate let these workers survey,
--- each once, and the numbers of each worker ascend. If some arrivals led to the old state, then they and offers of these reports
--- lead to the new one.
+-- The haul has taken reports of the crew's workers for its job. They are on missing numbers that the gate let these
+-- workers survey, each once, and the numbers of each worker ascend. If some arrivals led to the old state, then they
+-- and offers of these reports lead to the new one.
 pub record HasTaken (lets : ℕ → ℕ → Type 0) (workers : ℕ) (old new : Held) : Type 0 where
   pub offers : List Reported
   pub added : HasAdded offers old new

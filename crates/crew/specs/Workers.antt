@@ -50,8 +50,8 @@ StopsAt may_stop missing worker = (n : ℕ) × Contains missing n × may_stop wo
 abbrev pub AreAllButLast : List ℕ → List ℕ → Type 0
 AreAllButLast places drawn = (drawn ≡ places) ⊎ ((n : ℕ) × (drawn ≡ places ++ n ∷ []))
 
--- What the worker with this number has done when its surveys end in this way. It has reported at each place that it drew, except
--- perhaps the last one, and at each if no number was left.
+-- What the worker with this number has done when its surveys end in this way. It has reported at each place that it
+-- drew, except perhaps the last one, and at each if no number was left.
 pub record HasWorked (may_stop lets : ℕ → ℕ → Type 0) (shared : Shared) (worker : ℕ) (ended : End) (pass : Drawn) (sender : Presented Note)
     : Type 0 where
   pub number : sender.number ≡ worker
@@ -74,6 +74,7 @@ abbrev pub was_started : End → Bool
 was_started (Unstarted error) = false
 was_started _ = true
 
+-- the gate stopped the worker
 abbrev pub was_stopped : End → Bool
 was_stopped Stopped = true
 was_stopped _ = false
@@ -84,19 +85,19 @@ lacks_memory (Memory error) = true
 lacks_memory (Unstarted error) = true
 lacks_memory _ = false
 
--- The result of the worker with this number. If it has begun to work, its last note says that it is done. If it was called off, it
--- has sent nothing.
+-- The result of the worker with this number. If it has begun to work, its last note says that it is done. If it was
+-- called off, it has sent nothing.
 pub record Leaves (may_stop lets : ℕ → ℕ → Type 0) (shared : Shared) (worker : ℕ) (worker_result : WorkerResult) : Type 0 where
   pub worked : HasWorked may_stop lets shared worker worker_result.end worker_result.pass worker_result.sender
   pub done : has_begun worker_result.end ≡ true → EndsByDone worker worker_result.sender.notes
   pub silent_if : worker_result.end ≡ CalledOff → worker_result.sender.notes ≡ []
 
--- what the thread of a worker returns
+-- what a worker's thread returns
 pub record Returns (may_stop lets : ℕ → ℕ → Type 0) (shared : Shared) (worker : ℕ) (worker_result : WorkerResult) : Type 0 where
   pub left : Leaves may_stop lets shared worker worker_result
   pub started : was_started worker_result.end ≡ true
 
--- how many of the workers had a thread
+-- how many of the workers had a thread of their own
 abbrev pub how_many_started : List WorkerResult → ℕ
 how_many_started results = count_by (λ s. was_started s.end) results
 

@@ -19,14 +19,13 @@ use haul_core::report::Report;
 use memory::OutOfMemory;
 use std::sync::Wait;
 
-/// Receives notes until `started` workers have said that they are done, and offers each report to the haul. A report
-/// that the haul refuses is dropped. Before each note and at the end, the observer is told how many soups of the haul
-/// have been taken.
+/// Receives notes until `started` workers are done, and offers each report to the haul. A report that the haul refuses
+/// is dropped. Before each note and at the end, the observer receives the number of soups that the haul has taken.
 ///
 /// # Errors
 ///
-/// [`OutOfMemory`] if memory ran out for a report that the haul would have taken. All other reports have been offered
-/// nevertheless.
+/// [`OutOfMemory`] if memory ran out for a report that the haul would have taken. All other reports have still been
+/// offered.
 pub fn collect<R: Wait, H: ProgressObserver>(
     rt: &R,
     belt: &Belt<Note>,

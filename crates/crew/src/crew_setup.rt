@@ -31,7 +31,7 @@ pub(crate) struct CrewSetup {
 }
 
 impl CrewSetup {
-    /// Returns everything that `workers` workers need to survey what is missing in a haul.
+    /// Returns what `workers` workers need to survey what is missing in an open haul.
     pub(crate) fn new(alloc: Global, haul: &Haul, workers: u8) -> Result<CrewSetup, OutOfMemory>
         requires some { 1 ≤ workers }
         requires few { workers ≤ haul.now.terms.workers }

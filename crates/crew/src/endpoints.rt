@@ -40,7 +40,7 @@ impl Endpoints {
         self.senders.push_reserved(sender);
     }
 
-    /// Removes the endpoints of the last worker.
+    /// Removes and returns the endpoints of the last worker, or `None` if there are none.
     pub(crate) fn remove_last(&mut self) -> Option<(Pass, SenderPass<Note>)>
         requires { length self.old.passes.items ≡ length self.old.senders.items }
         ensures none { IfNone result (self.old.senders.items ≡ []) }

@@ -6,19 +6,19 @@
 //! ```
 ghost use Rattle.std.specs.Prelude.{ℕ, OnErr, OnOk};
 
-/// The answer of a gate that stops the worker.
+/// The reply of a gate that stops the worker.
 #[derive(Clone, Copy, Debug, PartialEq, Eq, Drop)]
 pub struct Stop;
 
-/// Decides before each survey whether the worker may go on. Several threads ask at the same time.
+/// Decides before each survey whether the worker may go on. Several threads may call it at the same time.
 pub trait Gate {
-    /// The property of a worker and a soup's number that the gate may stop the worker there.
+    /// Which workers the gate may stop at which soup numbers.
     ghost may_stop: { Self → ℕ → ℕ → Type 0 };
 
-    /// The property of a worker and a soup's number that the gate may let the worker survey the soup.
+    /// Which workers the gate may let survey which soup numbers.
     ghost lets: { Self → ℕ → ℕ → Type 0 };
 
-    /// Decides whether `worker` may survey the soup with this number. If not, it surveys nothing more.
+    /// Decides whether `worker` may survey the soup with this number. If not, the worker surveys nothing more.
     fn before(&self, worker: u8, number: u64) -> Result<(), Stop>
         ensures lets { OnOk result (lets self.now worker number) }
         ensures stops { OnErr result (may_stop self.now worker number) };

@@ -1,4 +1,4 @@
-//! What threads need to take the soups of one haul together, with no lock.
+//! What threads need to take the soups of one haul together, without a lock.
 #![tactic(auto)]
 
 /// The collector, which offers what it receives to a haul.

@@ -1,19 +1,19 @@
 //! Progress callbacks.
 
-/// Is called as a haul makes progress.
+/// Callbacks that receive the progress of a haul.
 ///
-/// No contract mentions it, so nothing that a call returns or writes to its output depends on it.
+/// Contracts hold for any observer, so it can't change what a call promises to return or to write to its output.
 pub trait ProgressObserver {
-    /// `workers` workers begin to take `whole` soups.
+    /// Called before the first soup: `workers` workers are to complete a haul over `whole` soups.
     fn begin(&mut self, _whole: u64, _workers: u8) {}
 
-    /// `workers` of the workers were started. The system started no more threads.
+    /// Called once after the threads were started: the system started `workers` of the workers.
     fn started(&mut self, _workers: u8) {}
 
-    /// `count` soups of the haul have been taken so far.
+    /// Called from time to time: `count` soups of the haul have been taken so far.
     fn taken(&mut self, count: u64);
 
-    /// No more soups will be taken.
+    /// Called at the end: no more soups will be taken.
     fn end(&mut self) {}
 }
 

@@ -73,9 +73,9 @@ impl fmt::Debug for CrewError {
 /// Completes a haul: `workers` workers survey the missing soups, each in a thread of its own, and their reports are
 /// offered to the haul.
 ///
-/// There are at least one and at most as many workers as the haul has. A worker asks the gate before each survey, and
-/// surveys nothing more once the gate stops it. The haul stays open. In the thread of the call, the observer is told
-/// how many soups of the haul have been taken.
+/// `workers` is from 1 to the haul's number of workers. A worker asks the gate before each survey, and surveys nothing
+/// more once the gate stops it. The haul stays open. The observer is called in the thread that called `take`, and
+/// receives the number of soups that the haul has taken.
 ///
 /// # Errors
 ///
@@ -85,7 +85,7 @@ impl fmt::Debug for CrewError {
 /// - [`CrewError::Stopped`] if the gate stopped a worker and the haul isn't complete.
 /// - [`CrewError::Memory`] if memory ran out, or a thread could not be started, and the haul isn't complete.
 ///
-/// Another call goes on with what is missing. It is proved that `Stopped` names a worker that the gate may stop. That
+/// Another call continues with what is missing. It is proved that `Stopped` names a worker that the gate may stop. That
 /// this is the lowest one, and that `Stopped` comes before `Memory`, follows from private contracts, and is tested.
 ///
 /// # Examples
@@ -129,8 +129,8 @@ pub fn take<G: Gate + Sync, R: Threads + Wait + Sync, H: ProgressObserver>(
     Err((haul, cause))
 }
 
-/// Runs workers that survey what is missing in a haul. Returns the haul, and what kept the workers from some soups, if
-/// anything did.
+/// Runs workers that survey what is missing in a haul. Returns the haul, and why soups may still be missing, or `None`
+/// if none are.
 #[tactic(auto, using(crate::proofs::TakeLemmas::taken_none))]
 fn complete_haul<G: Gate + Sync, R: Threads + Wait + Sync, H: ProgressObserver>(
     alloc: Global,
@@ -203,7 +203,8 @@ fn run_in_scope<G: Gate + Sync, R: Threads + Wait + Sync, H: ProgressObserver>(
     )
 }
 
-/// Returns what a crew leaves when all workers are back: its haul, and what kept the workers from some soups.
+/// Returns the haul of a crew whose workers are all back, and why soups may still be missing, or `None` if there is no
+/// reason.
 fn end_crew(shared: Shared, crew: Crew) -> (Haul, Option<CrewError>)
     requires passes { All (λ p. p.series ≡ shared.tickets) crew.back.passes.items }
     requires senders { All (λ s. s.belt ≡ shared.belt.name) crew.back.senders.items }
@@ -235,7 +236,8 @@ fn end_crew(shared: Shared, crew: Crew) -> (Haul, Option<CrewError>)
     (haul, cause(stopped, lacking))
 }
 
-/// Returns what kept workers from some soups: a gate that stopped one, or otherwise memory that was refused.
+/// Returns why soups may be missing: a gate stopped a worker, or otherwise memory was refused. Returns `None` if
+/// neither happened.
 fn cause(stopped: Option<u8>, lacking: Option<OutOfMemory>) -> Option<CrewError>
     ensures { result ≡ cause_of stopped lacking }
 {
@@ -268,16 +270,16 @@ struct Crew {
     receiver: ReceiverPass<Note>,
     /// The endpoints of the workers that have ended.
     back: Endpoints,
-    /// The number of workers that were started and aren't back.
+    /// The number of workers that were started and haven't come back.
     away: u8,
-    /// The lowest worker that came back stopped.
+    /// The lowest number of a worker that came back stopped.
     stopped: Option<u8>,
-    /// The memory that was refused, for a thread, a survey or a report.
+    /// The witness that memory was refused, for a thread, a survey or a report.
     lacking: Option<OutOfMemory>,
 }
 
-/// Starts a worker for each pair of endpoints, beginning with the last, collects their reports, and waits for them. The
-/// first worker comes back first.
+/// Starts a worker for each pair of endpoints, beginning with the last, collects their reports, and waits for the
+/// workers to end, beginning with the first.
 fn run_crew<'s, E, G: Gate + Sync, R: Threads + Wait + Sync, H: ProgressObserver>(
     alloc: Global,
     rt: &'s R,
@@ -383,7 +385,7 @@ fn start_worker<'s, E, G: Gate + Sync, R: Threads + Wait + Sync>(
     }
 }
 
-/// Waits until a worker has ended, and returns its result.
+/// Waits until a worker has ended, and returns its result. The result of a worker without a thread is already there.
 fn join_worker<'s, G: Gate, R: Threads>(
     rt: &R,
     duty: Duty<'s, G>,
@@ -402,7 +404,7 @@ fn join_worker<'s, G: Gate, R: Threads>(
     }
 }
 
-/// Notes the result of one more worker.
+/// Records the result of one more worker.
 fn note_result(crew: &mut Crew, worker_result: WorkerResult)
     requires passes { length crew.old.back.passes.items < vec_capacity crew.old.back.passes }
     requires senders { length crew.old.back.senders.items < vec_capacity crew.old.back.senders }
@@ -430,7 +432,7 @@ fn first_stopped(stopped: Option<u8>, worker: u8, end: End) -> Option<u8>
     }
 }
 
-/// Returns the memory that was refused, if any, after this worker has ended too.
+/// Returns the witness that memory was refused, if it was, after this worker has ended too.
 fn any_lack(lacking: Option<OutOfMemory>, end: End) -> Option<OutOfMemory>
     ensures before { result ≡ None → lacking ≡ None }
     ensures here { result ≡ None → lacks_memory end ≡ false }

@@ -1,4 +1,5 @@
-//! A worker's loop: draw a number, ask the gate, survey, report, until no number is left or the worker is stopped.
+//! A worker's loop: draw a number, ask the gate, survey the soup, and report, until no number is left, the gate stops
+//! the worker, or memory runs out.
 //!
 //! ```text
 //! tickets ── place ──> number ── gate ──> survey ── report ──> belt
@@ -73,7 +74,7 @@ pub(crate) fn run_worker<G: Gate, R: Wait>(
 }
 
 /// Surveys what is left with a surveyor of the worker's own, and presents each report. This is a function of its own
-/// because a surveyor is expensive to verify at each exit of a function that also owns pass and sender.
+/// because a function that owned a surveyor, a pass and a sender would be expensive to prove at each exit.
 fn survey_all<G: Gate, R: Wait>(
     alloc: Global,
     rt: &R,

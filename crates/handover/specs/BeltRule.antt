@@ -7,20 +7,24 @@ use Rattle.handover.specs.Belts.{Presented, notes_of}
 use Rattle.handover.specs.declared.belt.Share.{Share}
 
 module _ {N : Type 0} where
+  -- what a pass knows: its senders with their notes, whether it receives, how many senders it made, and what it
+  -- received
   abbrev pub share : List (ℕ × List N) → Bool → ℕ → List (ℕ × N) → Share N
   share senders receives made got = record { senders = senders; receives = receives; made = made; got = got }
 
-  -- the first pass receives, and makes the senders
+  -- the first pass: it receives, and has made no senders yet
   abbrev pub first_share : Share N
   first_share = share [] true 0 []
 
+  -- a pass after it was joined to another: it stands for nobody
   abbrev pub spent_share : Share N
   spent_share = share [] false 0 []
 
-  -- the receiver after it made one more sender, and that sender
+  -- the receiver after it made one more sender
   abbrev pub with_sender : Share N → Share N
   with_sender v = share v.senders v.receives (v.made + 1) v.got
 
+  -- the pass of that sender
   abbrev pub new_sender : Share N → Share N
   new_sender v = share ((v.made + 1, []) ∷ []) false 0 []
 
@@ -36,52 +40,57 @@ module _ {N : Type 0} where
   abbrev pub with_senders : List (Presented N) → Share N → Share N
   with_senders passes v = share (map notes_entry passes ++ v.senders) v.receives v.made v.got
 
+  -- the notes of the only sender of a pass
   abbrev pub first_notes : List (ℕ × List N) → List N
   first_notes [] = []
   first_notes (e ∷ more) = e.1
 
-  -- how often p is among the senders of a pass, and of all passes
+  -- how often sender p is in a pass
   abbrev pub owns : ℕ → Share N → ℕ
   owns p v = count_by (λ e. nat_eq p e.0) v.senders
 
+  -- how often sender p is in all passes together
   abbrev pub owners : List (Share N) → ℕ → ℕ
   owners views p = sum_by (owns p) views
 
+  -- 1 for a pass that receives, and 0 for any other
   abbrev pub receives : Share N → ℕ
   receives v = cond v.receives 1 0
 
-  -- Each sender of a pass has presented what was received from it and what the queue holds of it. The receiver has received what
-  -- was received, and the senders that it hasn't made have presented nothing.
+  -- Each sender of the pass has presented what was received from it, followed by what the queue holds of it. If the
+  -- pass receives, it knows all that was received, and the senders that it hasn't made have presented nothing and are
+  -- in no pass.
   pub record KnowsItsNotes (all got : List (ℕ × N)) (owned : ℕ → ℕ) (v : Share N) : Type 0 where
     pub senders : All (λ e. e.1 ≡ notes_of e.0 all) v.senders
     pub got_is : v.receives ≡ true → v.got ≡ got
     pub unmade : v.receives ≡ true → (p : ℕ) → (p ≡ 0) ⊎ (v.made < p) → (notes_of p all ≡ []) × (owned p ≡ 0)
 
-  -- what was presented is what was received and what the queue holds; each sender's part, and the receiver's, is in exactly one
-  -- pass
+  -- Each pass knows its notes. Each sender is in at most one pass, and at most one pass receives.
   pub record Delivers (items : List (ℕ × N)) (views : List (Share N)) : Type 0 where
     pub got : List (ℕ × N)
     pub one_sender : (p : ℕ) → owners views p ≤ 1
     pub one_receiver : sum_by receives views ≤ 1
     pub holds : (seat : ℕ) (v : Share N) → get_elem? views seat ≡ some v → KnowsItsNotes (got ++ items) got (owners views) v
 
-  -- a note is presented
+  -- the pass of a sender after it presented a note
   abbrev pub PutsNote : Share N → ℕ × N → Share N → Type 0
   PutsNote v x w = w ≡ share ((x.0, first_notes v.senders ++ x.1 ∷ []) ∷ []) v.receives v.made v.got
 
+  -- the list begins with this prefix
   abbrev pub IsPrefix : List N → List N → Type 0
   IsPrefix prefix whole = (remainder : List N) × (whole ≡ prefix ++ remainder)
 
-  -- a note is received
+  -- the receiver after it received a note of a sender that it made; each sender of the pass has presented what was
+  -- received
   pub record GetsNote (v : Share N) (x : ℕ × N) (w : Share N) : Type 0 where
     pub got : w ≡ share v.senders v.receives v.made (v.got ++ x ∷ [])
     pub made : (1 ≤ x.0) × (x.0 ≤ v.made)
     pub prefixes : All (λ e. IsPrefix (notes_of e.0 (v.got ++ x ∷ [])) e.1) v.senders
 
-  -- what is left of an entry after these were received
+  -- what is left of a sender's notes after these were received
   abbrev pub left_over : List (ℕ × N) → ℕ × List N → ℕ × List N
   left_over got e = (e.0, drop (length (notes_of e.0 got)) e.1)
 
-  -- what the queue holds is what was presented and not received
+  -- the senders of the pass have presented what was received, followed by what the queue holds
   abbrev pub TellsWhatIsLeft : Share N → List (ℕ × N) → Type 0
   TellsWhatIsLeft v items = All (λ e. e.1 ≡ notes_of e.0 (v.got ++ items)) v.senders

@@ -17,12 +17,14 @@ pub record Presented (N : Type 0) : Type 0 where
   pub number : ℕ
   pub notes : List N
 
--- what contracts see of the receiver's pass: its belt, and the notes that it received, in order, each with its sender's number
+-- what contracts see of the receiver's pass: its belt, and the notes that it received, in order, each with its sender's
+-- number
 pub record Received (N : Type 0) : Type 0 where
   pub belt : BeltId
   pub got : List (ℕ × N)
 
--- what is left on a belt: the number of its senders, and for each sender whose pass was handed back its number and its notes
+-- what is left on a belt: the number of its senders, and for each sender whose pass was handed back its number and its
+-- notes
 pub record Left (N : Type 0) : Type 0 where
   pub workers : ℕ
   pub lists : List (ℕ × List N)
@@ -55,7 +57,8 @@ module _ {N : Type 0} where
   abbrev pub left_of : List (ℕ × N) → Presented N → ℕ × List N
   left_of got pass = (pass.number, drop (length (notes_of pass.number got)) pass.notes)
 
-  -- the notes that were received from the sender, followed by those that are left, are the notes that it presented, in its order
+  -- the notes that were received from the sender, followed by those that are left, are the notes that it presented, in
+  -- its order
   abbrev pub IsWhole : List (ℕ × N) → Presented N → Type 0
   IsWhole got pass = notes_of pass.number got ++ drop (length (notes_of pass.number got)) pass.notes ≡ pass.notes
 

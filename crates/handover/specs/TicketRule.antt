@@ -1,4 +1,5 @@
--- The rule of the one counter from which tickets are drawn. It holds between any two atomic steps, whatever the threads do.
+-- The rule of the one counter from which tickets are drawn. It holds between any two atomic steps, whatever the threads
+-- do.
 use Rattle.std.specs.Prelude.{◌≡◌, ◌<◌, ◌≤◌, ◌+◌, ◌-◌, ◌^◌, ◌++◌, ℕ, List, [], ◌∷◌, All, count_by, length, min, nat_eq}
 use Rattle.std.specs.List.{sum_by}
 use mathlib.Core.Option.{some}
@@ -9,6 +10,8 @@ use Rattle.handover.specs.Tickets.{AreAllBelow, AreSomeBelow, Drawn, Series, how
 use Rattle.handover.specs.declared.tickets.Holding.{Holding}
 use Rattle.handover.specs.declared.tickets.Issue.{Issue}
 
+-- what a pass knows: the terms, how many of the opened passes it stands for (shares), how many of these got `None`
+-- (marks), and the numbers that they drew
 abbrev pub holding : Issue → ℕ → ℕ → List ℕ → Holding
 holding issue shares marks numbers = record { issue = issue; shares = shares; marks = marks; numbers = numbers }
 
@@ -20,14 +23,15 @@ series_of name issue = record { name = name; count = issue.count; passes = issue
 abbrev pub first_holding : Issue → Holding
 first_holding issue = holding issue issue.passes 0 []
 
--- the pass that is left after it was joined to another
+-- a pass after it was joined to another: it stands for no pass
 abbrev pub spent_holding : Holding
 spent_holding = holding (record { count = 0; passes = 0 }) 0 0 []
 
--- a pass is cut in two: the new one has one share
+-- a pass after a new one with one share was cut off
 abbrev pub kept_part : Holding → Holding
 kept_part v = holding v.issue (v.shares - 1) v.marks v.numbers
 
+-- the new pass
 abbrev pub new_part : Holding → Holding
 new_part v = holding v.issue 1 0 []
 
@@ -41,8 +45,8 @@ pub record Fits (issue : Issue) (counter : ℕ) (v : Holding) : Type 0 where
   pub drained : 0 < v.marks → issue.count ≤ counter
   pub spent : v.shares ≡ 0 → v.numbers ≡ []
 
--- Each number below the counter and below the count is in exactly one pass. The counter is past the count by at most the number of
--- marks.
+-- Each number below the counter and below the count is in exactly one pass. The counter is past the count by at most
+-- the number of marks.
 pub record IsLawful (issue : Issue) (s : State (Unit {0}) Holding) : Type 0 where
   pub counter : ℕ
   pub kept : s.words ≡ counter ∷ []
@@ -53,28 +57,29 @@ pub record IsLawful (issue : Issue) (s : State (Unit {0}) Holding) : Type 0 wher
   pub fits : (seat : ℕ) (v : Holding) → get_elem? s.views seat ≡ some v → Fits issue counter v
   pub past : counter ≤ issue.count + sum_by (λ v. v.marks) s.views
 
--- the pass with one more number n, or with one more mark
+-- the pass after it drew n
 abbrev pub holding_with : ℕ → Holding → Holding
 holding_with n v = holding v.issue v.shares v.marks (v.numbers ++ n ∷ [])
 
+-- the pass after it got `None`
 abbrev pub holding_marked : Holding → Holding
 holding_marked v = holding v.issue v.shares (v.marks + 1) v.numbers
 
--- what a draw that found n tells its pass
+-- what a pass knows after a draw that found the counter at n
 pub record Draws (s : Step (Unit {0})) (me : Me (Unit {0}) Holding) (n : ℕ) (after : Me (Unit {0}) Holding) : Type 0 where
   pub number : n < me.0.issue.count → after.0 ≡ holding_with n me.0
   pub greater : n < me.0.issue.count → All (λ m. m < n) me.0.numbers
   pub none : me.0.issue.count ≤ n → after.0 ≡ holding_marked me.0
   pub slots : after.1 ≡ me.1
 
--- the kept pass, after these passes, taken from the end of the list `all`, of which `left` remain, were joined to it
+-- passes are taken from the end of the list `all` and joined to the kept pass; `left` is what remains of the list
 pub record Joining (all left : List Drawn) (before after : Holding) : Type 0 where
   pub issue : after.issue ≡ before.issue
   pub shares : after.shares + length left ≡ before.shares + length all
   pub marks : after.marks + how_many_heard left ≡ before.marks + how_many_heard all
   pub numbers : drawn_by_all left ++ after.numbers ≡ drawn_by_all all ++ before.numbers
 
--- what the kept pass knows at the end, when m numbers were drawn
+-- what the kept pass knows at the end, if m numbers were drawn
 pub record KnowsAtEnd (issue : Issue) (v : Holding) (m : ℕ) : Type 0 where
   pub once : (n : ℕ) → count_by (nat_eq n) v.numbers ≤ once_below m n
   pub all : v.shares ≡ issue.passes → (n : ℕ) → count_by (nat_eq n) v.numbers ≡ once_below m n

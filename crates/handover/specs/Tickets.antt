@@ -34,11 +34,11 @@ drawn_by_all passes = flat_map (λ p. p.numbers) passes
 abbrev pub how_many_heard : List Drawn → ℕ
 how_many_heard passes = count_by (λ p. p.heard_none) passes
 
--- 1 for a number below m
+-- 1 for a number below m, and 0 for any other
 abbrev pub once_below : ℕ → ℕ → ℕ
 once_below m n = if nat_lt n m then 1 else 0
 
--- numbers below m, none of them twice
+-- some of the numbers below m, none of them twice
 abbrev pub AreSomeBelow : ℕ → List ℕ → Type 0
 AreSomeBelow m numbers = (n : ℕ) → count_by (nat_eq n) numbers ≤ once_below m n
 

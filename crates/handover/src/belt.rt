@@ -22,14 +22,19 @@ use std::collections::LinkedList;
 use std::marker::Model;
 use std::sync::Wait;
 
-/// What a pass knows. No value of this type is made.
+/// What a pass knows. Only the proofs use this type, and no value of it is ever made.
 struct Share<N> {
+    /// The number of each sender that the pass stands for, and the notes that the sender presented.
     senders: LinkedList<(u8, LinkedList<N>)>,
+    /// Whether the pass receives.
     receives: bool,
+    /// How many senders the receiver has made.
     made: u8,
+    /// The notes that were received, each with its sender's number.
     got: LinkedList<(u8, N)>,
 }
 
+/// The rule that holds between any two steps: each sender's notes stay in order, and none is lost.
 struct InOrder;
 
 impl<N> Protocol<(u8, N), Share<N>> for InOrder {
@@ -40,6 +45,7 @@ impl<N> Protocol<(u8, N), Share<N>> for InOrder {
     ghost first = { first_share };
 }
 
+/// The receiver makes one more sender.
 struct NewSender;
 
 impl<N> Split<Share<N>> for NewSender {
@@ -50,6 +56,7 @@ impl<N> Split<Share<N>> for NewSender {
     ghost right = { new_sender };
 }
 
+/// One pass is joined to another.
 struct TakeIn;
 
 impl<N> Join<Share<N>> for TakeIn {
@@ -60,6 +67,7 @@ impl<N> Join<Share<N>> for TakeIn {
     ghost spent = { spent_share };
 }
 
+/// A note is put at the back of the queue.
 struct Put;
 
 impl<N> Outcome<(u8, N), Share<N>> for Put {
@@ -68,6 +76,8 @@ impl<N> Outcome<(u8, N), Share<N>> for Put {
     ghost then = { PutsNote };
 }
 
+/// A note is taken from the front of the queue. Also tells the receiver that the queue holds what was presented and not
+/// received.
 struct Get;
 
 impl<N> Outcome<(u8, N), Share<N>> for Get {
@@ -89,9 +99,9 @@ type Queue<N> = RuledArrayQueue<(u8, N), Share<N>, InOrder>;
 pub struct Belt<N: Drop> {
     queue: Queue<N>,
     workers: u8,
-    /// Is notified after each note that is presented.
+    /// Notified after each note that is presented.
     arrived: EventCount,
-    /// Is notified after each note that is received.
+    /// Notified after each note that is received.
     left: EventCount,
 }
 
@@ -258,7 +268,7 @@ impl<N: Drop> Belt<N> {
         let Belt { queue, .. } = self;
         let ReceiverPass { mut pass } = receiver;
         absorb_all(&queue, &mut pass, senders);
-        // For the prover: what is left in the queue is what was presented and not received.
+        // For the prover: the queue holds what was presented and not received.
         queue.learn_as::<Get>(&mut pass);
         Remainder { queue, pass }
     }
@@ -289,8 +299,8 @@ impl<N: Drop> Belt<N> {
 }
 
 impl<N: Drop> Remainder<N> {
-    /// Removes a note, the first that is left of its sender. Returns `None` if nothing is left of the senders whose
-    /// passes were handed back.
+    /// Removes and returns a note, the first that is left of its sender. Returns `None` if nothing is left of the
+    /// senders whose passes were handed back. May wait until it knows whether the queue is empty.
     pub fn next<R: Wait>(&mut self, rt: &R) -> Option<N>
         ensures taken { IfSome result (TookFirst self.old self.new) }
         ensures none { IfNone result (NothingLeft self.old) }
@@ -301,7 +311,7 @@ impl<N: Drop> Remainder<N> {
     }
 }
 
-/// Makes the senders of a new queue, for which there is room.
+/// Makes `workers` senders of a new queue, numbered from 1 on. There is room for them in `senders`.
 #[tactic(auto, using(crate::proofs::BeltLemmas::senders_more))]
 fn make_senders<N: Drop>(
     queue: &Queue<N>,
@@ -324,7 +334,7 @@ fn make_senders<N: Drop>(
     }
 }
 
-/// Makes one more sender.
+/// Makes sender `made` + 1.
 fn make_sender<N: Drop>(
     queue: &Queue<N>,
     pass: &mut Pass<(u8, N), Share<N>>,

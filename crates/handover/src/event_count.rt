@@ -7,8 +7,9 @@
 //! receiver   sleeps while the count is 7: goes on at once
 //! ```
 //!
-//! All five atomic steps are sequentially consistent, as is the model of the proofs, which don't speak of wakes. The
-//! comment at each step says what the event count itself needs, and which wake a weaker ordering would lose.
+//! All five atomic operations are sequentially consistent, as the proofs assume. The proofs say nothing about waking.
+//! The comment at each operation says what the event count itself needs, and which wake-up a weaker ordering would
+//! lose.
 use std::sync::Wait;
 use std::sync::atomic::{AtomicU64, Ordering};
 
@@ -22,6 +23,7 @@ pub(crate) struct EventCount {
 }
 
 impl EventCount {
+    /// Returns an event count of 0, on which no thread sleeps.
     pub(crate) fn new() -> EventCount {
         EventCount {
             events: AtomicU64::new(0),
@@ -31,19 +33,20 @@ impl EventCount {
 
     /// Returns the number of events so far, modulo 2^32.
     pub(crate) fn count(&self) -> u32 {
-        // At least `Acquire`: a look at the belt that came before this load could find nothing, a note and its event
-        // could follow, and the thread would sleep on a count that includes the event.
+        // At least `Acquire`. Otherwise the belt could be checked before this load: the check finds nothing, a note and
+        // its event follow, and the thread sleeps on a count that already includes the event.
         (self.events.load(Ordering::SeqCst) % (1 << 32)) as u32
     }
 
     /// Counts an event, and wakes one of the threads that sleep here.
     ///
-    /// One is enough, since an event is one note or room for one note. If all were woken, all but one would find
+    /// Waking one is enough, since an event is one note or room for one note. If all were woken, all but one would find
     /// nothing and sleep again.
     pub(crate) fn notify(&self) {
-        // Before the next step, so `SeqCst` for both: a thread that looks for sleepers before it has counted its event
-        // could find none, while one that is about to sleep still reads the old count. At least `Release` besides: a
-        // thread that reads the new count has to find the note, or it would sleep on that count.
+        // This has to happen before the next operation, so both are `SeqCst`. Otherwise this thread could look for
+        // sleepers and find none while its event isn't counted yet, and another thread could still read the old count
+        // and go to sleep. It also has to be at least `Release`: a thread that reads the new count has to find the
+        // note, or it would sleep on that count.
         self.events.fetch_add(1, Ordering::SeqCst);
         // Waking is a system call, which is left out if nobody sleeps.
         if self.sleepers.load(Ordering::SeqCst) > 0 {
@@ -51,14 +54,14 @@ impl EventCount {
         }
     }
 
-    /// Sleeps while the count is `seen`. It may return early for no reason.
+    /// Sleeps while the count is `seen`. It may also wake up without a reason.
     pub(crate) fn sleep_while<R: Wait>(&self, rt: &R, seen: u32) {
-        // Before the count is read again, so `SeqCst`: this is the other half of what `notify` does, and one of the two
-        // has to see the other.
+        // This has to happen before `park` reads the count again, so it is `SeqCst`. It is the counterpart of `notify`:
+        // either the notifier finds the sleeper, or the sleeper reads the new count.
         self.sleepers.fetch_add(1, Ordering::SeqCst);
         self.events.park(rt, seen);
-        // At least `Release`: a thread that counts itself off before it sleeps would not be woken. If it is later than
-        // necessary, it costs a system call.
+        // At least `Release`: nobody would wake a thread that stops being counted before it sleeps. Counting it for too
+        // long only costs a system call.
         self.sleepers.fetch_sub(1, Ordering::SeqCst);
     }
 }

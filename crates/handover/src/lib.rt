@@ -1,4 +1,4 @@
-//! What goes from thread to thread with no lock: numbers that are handed out, and notes that are handed over.
+//! What threads exchange without a lock: numbers that they draw, and notes that they send to one receiver.
 #![tactic(auto)]
 
 /// Where threads sleep until something has changed.

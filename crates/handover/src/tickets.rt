@@ -1,7 +1,7 @@
 //! Numbers that threads draw, each once.
 //!
-//! There is one counter, which begins with 0. A draw adds 1 to it in one atomic step, and what it finds is the number
-//! drawn:
+//! A counter begins at 0. A draw adds 1 to it in one atomic step. If the old value is below the count of numbers, it is
+//! the number drawn:
 //!
 //! ```text
 //! open(3, 2)   counter 0   A: -      B: -
@@ -71,21 +71,25 @@ impl<E: Into<OutOfMemory>> From<E> for TicketsError {
     }
 }
 
-/// The terms of tickets: how many numbers and passes there are.
+/// The terms of the tickets: how many numbers and passes there are.
 #[derive(Clone, Copy)]
 struct Issue {
     count: u64,
     passes: u64,
 }
 
-/// What a pass knows of its own draws. No value of this type is made.
+/// What a pass knows about its draws. Only the proofs use this type, and no value of it is ever made.
 struct Holding {
     issue: Issue,
+    /// How many of the opened passes it stands for. The first pass begins with all of them.
     shares: u64,
+    /// How many of these got `None`.
     marks: u64,
+    /// The numbers that they drew.
     numbers: LinkedList<u64>,
 }
 
+/// The rule that holds between any two steps: each number that was drawn is in exactly one pass.
 struct Law;
 
 impl TableRule<(), Holding, Issue> for Law {
@@ -96,6 +100,7 @@ impl TableRule<(), Holding, Issue> for Law {
     ghost first = { first_holding };
 }
 
+/// A pass draws the old value of the counter.
 struct Draw;
 
 impl Play<(), Holding> for Draw {
@@ -104,6 +109,7 @@ impl Play<(), Holding> for Draw {
     ghost then = { Draws };
 }
 
+/// A new pass is cut off.
 struct HandOut;
 
 impl Split<Holding> for HandOut {
@@ -114,6 +120,7 @@ impl Split<Holding> for HandOut {
     ghost right = { new_part };
 }
 
+/// One pass is joined to another.
 struct TakeIn;
 
 impl Join<Holding> for TakeIn {
@@ -124,7 +131,7 @@ impl Join<Holding> for TakeIn {
     ghost spent = { spent_holding };
 }
 
-/// The numbers from 0 up to a count. Threads draw them with a [`Pass`] each.
+/// The numbers from 0 to below a count, for threads to draw, each with a [`Pass`] of its own.
 #[derive(Drop)]
 pub struct Tickets {
     table: Table<(), Holding, Issue, Law, Global>,
@@ -237,7 +244,7 @@ impl Tickets {
         }
     }
 
-    /// Closes the tickets. Returns how many numbers were drawn.
+    /// Closes the tickets. Returns how many numbers were drawn. Passes may be missing from `passes`.
     pub fn gather(self, passes: Vec<Pass>) -> u64
         requires { All (λ p. p.series ≡ self) passes.items }
         ensures most { result ≤ self.count }
@@ -275,7 +282,7 @@ fn gather_with(tickets: Tickets, first: Pass, passes: Vec<Pass>) -> u64
     counter.min(count)
 }
 
-/// Cuts a seat with shares into as many passes, for which there is room.
+/// Cuts the first seat into `passes` passes. There is room for them in `made`.
 #[tactic(auto, using(crate::proofs::TicketLemmas::cuts))]
 fn cut_up(
     shared: &Shared<(), Holding, Issue, Law>,

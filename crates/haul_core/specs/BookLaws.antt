@@ -1,5 +1,4 @@
--- A law of the book: what it takes from a worker is a part of what the worker offered, in its order, each number at most once and
--- in the set.
+-- A law of the book: what it takes from a worker is a part of what the worker offered, in its order.
 use Rattle.std.specs.Prelude.{◌≡◌, ◌≤◌, ◌⊎◌, ℕ, All, true, List, [], ◌∷◌, count_by, filter, map, nat_eq}
 use Rattle.haul_core.specs.declared.book.arrival.Arrival.{Arrival}
 use Rattle.haul_core.specs.Books.{Terms, entry, offered, taken_of}
@@ -11,11 +10,11 @@ abbrev pub IsSubsequence : {X : Type 0} → List X → List X → Type 0
 IsSubsequence part [] = part ≡ []
 IsSubsequence part (x ∷ xs) = IsSubsequence part xs ⊎ ((remainder : _) × (part ≡ x ∷ remainder) × IsSubsequence remainder xs)
 
--- the entries of this worker, out of workers and numbers
+-- the entries of this worker, in a list of workers and numbers
 abbrev pub of_worker : ℕ → List (ℕ × ℕ) → List (ℕ × ℕ)
 of_worker worker entries = filter (λ t. nat_eq t.0 worker) entries
 
--- what is taken from a worker, compared with what it offered before any closing
+-- what is taken from a worker is a part of what it offered before any closing, each number at most once and in the set
 pub record IsTakenOf (terms : Terms) (arrivals : List Arrival) (worker : ℕ) : Type 0 where
   pub part : IsSubsequence (of_worker worker (taken_of terms arrivals)) (of_worker worker (map entry (offered arrivals)))
   pub once : (n : ℕ) → count_by (nat_eq n) (numbers_in (of_worker worker (taken_of terms arrivals))) ≤ 1

@@ -19,6 +19,7 @@ abbrev pub is_closing : Arrival → Bool
 is_closing (Offer report) = false
 is_closing Closing = true
 
+-- one of the arrivals is a closing
 abbrev pub has_closing : List Arrival → Bool
 has_closing arrivals = list_any is_closing arrivals
 
@@ -32,10 +33,11 @@ offered (Closing ∷ more) = []
 abbrev pub is_lawful : Terms → Reported → Bool
 is_lawful terms r = same_job terms.job r.job && (nat_le r.worker terms.workers && is_in terms.ranges r.number)
 
--- An offer is eligible if there is no closing before it and it is lawful.
+-- The eligible offers: those that are lawful and that no closing came before.
 abbrev pub eligible : Terms → List Arrival → List Reported
 eligible terms arrivals = filter (is_lawful terms) (offered arrivals)
 
+-- the report is of the soup with this number
 abbrev pub has_number : ℕ → Reported → Bool
 has_number n r = n == r.number
 
@@ -48,13 +50,13 @@ first_of_each (r ∷ more) = r ∷ filter (λ s. not (has_number r.number s)) (f
 abbrev pub entry : Reported → ℕ × ℕ
 entry r = (r.worker, r.number)
 
--- An offer is taken if it is eligible and no earlier eligible offer has its number. This lists the worker and the number of each,
--- in order.
+-- The worker and the number of each report that is taken, in order. An offer is taken if it is eligible and no earlier
+-- eligible offer has its number.
 abbrev pub taken_of : Terms → List Arrival → List (ℕ × ℕ)
 taken_of terms arrivals = map entry (first_of_each (eligible terms arrivals))
 
--- what contracts see of a haul: what it was opened for, whether it is closed, and the worker and number of each report taken, in
--- order
+-- what contracts see of a haul: what it was opened for, whether it is closed, and the worker and number of each report
+-- taken, in order
 pub record Held : Type 0 where
   pub terms : Terms
   pub closed : Bool

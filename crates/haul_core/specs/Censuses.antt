@@ -1,4 +1,4 @@
--- The census of a haul: what the soups that it has taken left.
+-- The census of a haul: which objects its soups left.
 use Rattle.std.specs.Prelude.{◌≡◌, ℕ, List, length, sum_by}
 use Rattle.survey_core.specs.declared.job.Job.{Job}
 use Rattle.haul_core.specs.declared.book.census.Census.{Census}

@@ -29,14 +29,14 @@ pub record IsConfirmed (claim : Claimed) (job : Job) (report : Reported) : Type 
   pub lawful : IsReport report
   pub same_claim : claim_of claim.version report ≡ claim
 
--- when each error is returned
+-- what holds if this error is returned
 abbrev pub Fails : Claimed → Job → CheckError → Type 0
 Fails claim job OtherJob = same_job claim.job job ≡ false
 Fails claim job (Disagrees found) = (same_job claim.job job ≡ true) × (IsFoundFor claim found × ¬ Agrees claim found)
 Fails claim job (Memory error) = same_job claim.job job ≡ true
 
--- The result of checking a claim for this job. A correct claim becomes its report, unless memory runs out. Every other claim comes
--- back unchanged, with the reason.
+-- The result of checking a claim for this job. A correct claim becomes its report, unless memory runs out. Every other
+-- claim comes back unchanged, with the reason.
 pub record IsCheckedClaim (claim : Claimed) (job : Job) (result : Result Reported (Claimed × CheckError)) : Type 0 where
   pub report : IfOk result (IsConfirmed claim job)
   pub complete : (report : Reported) → IsConfirmed claim job report

@@ -14,6 +14,7 @@ use Rattle.haul_core.specs.LawfulClaims.{Claimed, IsClaim, IsCount, SaidOfSoup}
 abbrev pub head_of : Claimed → List (List ℕ)
 head_of claim = codes "report" ∷ head_fields claim
 
+-- what a line says about a soup: when it settled, and these counts; `None` for an unsettled soup
 abbrev pub said_with : Option WhenSettled → List (List ℕ × ℕ) → Option SaidOfSoup
 said_with None counts = None
 said_with (Some at_rest) counts = Some (record { checkpoint = at_rest.checkpoint; for_good = at_rest.for_good; counts = counts })
@@ -28,11 +29,12 @@ claimed start counts = record {
   found = said_with start.settled counts;
 }
 
+-- the line consists of these fields, at least one
 abbrev pub IsLineOf : List (List ℕ) → List ℕ → Type 0
 IsLineOf [] line = ⊥
 IsLineOf (first ∷ more) line = line ≡ line_of first more
 
--- the line is these fields, and then the rest after a space, if there is one
+-- the line begins with these fields; either it ends there, or a space and the remainder follow
 abbrev pub FollowsFields : List ℕ → List (List ℕ) → Option (List ℕ) → Type 0
 FollowsFields line fields None = IsLineOf fields line
 FollowsFields line fields (Some remainder) = line ≡ followed fields ++ remainder
@@ -43,7 +45,7 @@ pub record HasFilled (place : ℕ) (head more : LineStart) (field : List ℕ) : 
   pub none : more.settled ≡ None
   pub spelled : take (place + 1) (head_of (claimed more [])) ≡ take place (head_of (claimed head [])) ++ field ∷ []
 
--- the same, if the field says something; if not, no lawful claim has it at this place
+-- the field fills the head at this place; `None` means that no lawful claim has this field there
 abbrev pub Fills : ℕ → LineStart → List ℕ → Option LineStart → Type 0
 Fills place head field None = (claim : Claimed) → IsClaim claim → get_or (head_of claim) place [] ≢ field
 Fills place head field (Some more) = HasFilled place head more field
@@ -64,7 +66,7 @@ pub record HasReadStart (line : List ℕ) (start : LineStart) (remainder : Optio
   pub follows : FollowsFields line (fields_of (claimed start [])) remainder
   pub settled : (here : List ℕ) → remainder ≡ Some here → start.settled ≢ None
 
--- the last code, if there is one
+-- the last code of the counts, if there is one
 abbrev pub last_code : List (List ℕ × ℕ) → Option (List ℕ)
 last_code [] = None
 last_code (object ∷ []) = Some object.0

@@ -27,8 +27,8 @@ pub record BeginClaim (fields : List (List ℕ)) : Type 0 where
 abbrev pub followed : List (List ℕ) → List ℕ
 followed fields = flat_map (λ field. field ++ codes " ") fields
 
--- A field begins at the place, and ends at the next space (32) or with the line. The fields before it begin a claim, and together
--- with it they don't.
+-- A field begins at the place, and ends before the next space (32) or at the end of the line. The fields before it are
+-- the first fields of some claim. With this field, they no longer are.
 pub record IsBadField (line : List ℕ) (place : ℕ) : Type 0 where
   pub before : List (List ℕ)
   pub field : List ℕ
@@ -39,7 +39,8 @@ pub record IsBadField (line : List ℕ) (place : ℕ) : Type 0 where
   pub there : ¬ BeginClaim (before ++ field ∷ [])
   pub is : place ≡ length (followed before)
 
--- All fields of the line begin a claim, and a field is missing after them. The place is the line's length.
+-- All fields of the line are the first fields of a claim, and a field is missing after them. The place is the line's
+-- length.
 pub record LacksField (line : List ℕ) (place : ℕ) : Type 0 where
   pub first : List ℕ
   pub more : List (List ℕ)

@@ -3,22 +3,25 @@ use Rattle.std.specs.Prelude.{◌≡◌, ◌≢◌, ◌<◌, ◌≤◌, ◌^◌,
 use Rattle.std.specs.List.{list_any}
 use Rattle.survey_core.specs.Profiles.{Settling}
 
+-- the byte isn't in the text
 abbrev pub Lacks : ℕ → List ℕ → Type 0
 Lacks byte text = list_any (λ b. b == byte) text ≡ false
 
--- a text up to the first byte of this value, and the text after that byte, if there is one
+-- the text is cut at the first byte of this value: into a prefix and the text after that byte, if there is such a byte
 abbrev pub Cuts : ℕ → List ℕ → List ℕ → Option (List ℕ) → Type 0
 Cuts byte text prefix None = (text ≡ prefix) × Lacks byte prefix
 Cuts byte text prefix (Some remainder) = (text ≡ prefix ++ byte ∷ remainder) × Lacks byte prefix
 
--- the field says this thing; or it is the field of none of the things that are allowed
+-- the field is the text of this value, which is allowed; `None` means that it is the text of no allowed value
 abbrev pub Tells : {A : Type 0} → (A → Type 0) → (A → List ℕ) → List ℕ → Option A → Type 0
 Tells MayBe text field None = (a : _) → MayBe a → field ≢ text a
 Tells MayBe text field (Some a) = MayBe a × (field ≡ text a)
 
+-- a number that a field may have
 abbrev pub IsNumber : ℕ → Type 0
 IsNumber n = n < 2 ^ 64
 
+-- a version of report lines
 abbrev pub IsVersion : ℕ → Type 0
 IsVersion n = (n ≡ 1) ⊎ (n ≡ 2)
 
@@ -26,11 +29,11 @@ IsVersion n = (n ≡ 1) ⊎ (n ≡ 2)
 abbrev pub IsAnyMark : Bool → Type 0
 IsAnyMark for_good = Unit {0}
 
--- the numbers of profiles and checkpoints
+-- a number that a profile or a checkpoint may have
 abbrev pub IsSmall : ℕ → Type 0
 IsSmall n = n ≤ 100000
 
--- a number and then a `,` (44) begin the text; or no such number does
+-- the text begins with this number and a `,` (44); `None` means that it begins with no number up to 100,000 and a `,`
 abbrev pub BeginsNumber : List ℕ → Option (ℕ × List ℕ) → Type 0
 BeginsNumber text None = (n : ℕ) (remainder : List ℕ) → IsSmall n → text ≢ decimal n ++ 44 ∷ remainder
 BeginsNumber text (Some first) = IsSmall first.0 × (text ≡ decimal first.0 ++ 44 ∷ first.1)
@@ -44,6 +47,7 @@ abbrev pub state_field : Option ℕ → List ℕ
 state_field None = codes "unsettled"
 state_field (Some checkpoint) = codes "at=" ++ decimal checkpoint
 
+-- a state that a line may give
 abbrev pub IsState : Option ℕ → Type 0
 IsState None = Unit {0}
 IsState (Some checkpoint) = IsSmall checkpoint

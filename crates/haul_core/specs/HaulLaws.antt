@@ -26,7 +26,7 @@ SameSoupsPrintTheSame = (job : Job) (ranges others : List Range) (numbers more :
     → AreNormal ranges → AreNormal others → GiveOneSet ranges others → AreSameNumbers numbers more
     → IsCensus job ranges numbers one → IsCensus job others more other → haul_text one ≡ haul_text other
 
--- so do censuses over all soups of one job and set
+-- complete censuses of one job and set have the same text
 abbrev pub CompleteHaulsPrintTheSame : Type 0
 CompleteHaulsPrintTheSame = (job : Job) (ranges others : List Range) (numbers more : List ℕ) (one other : Census)
     → AreNormal ranges → AreNormal others → GiveOneSet ranges others → AreAll ranges numbers → AreAll others more
@@ -40,7 +40,7 @@ total_in rows code = unwrap_or (option_map (λ row. row.total) (find (λ row. is
 abbrev pub samples_in : List Row → List ℕ → List ℕ
 samples_in rows code = unwrap_or (option_map (λ row. row.samples) (find (λ row. is_code code row.code) rows)) []
 
--- each sum of a census is the sum of those of two others, and its samples are the three lowest of theirs
+-- each number of a census is the sum of those of two others, and its samples are the three lowest of theirs
 pub record AddUp (one other both : Census) : Type 0 where
   pub soups : both.soups ≡ one.soups + other.soups
   pub unsettled : both.unsettled ≡ one.unsettled + other.unsettled

@@ -23,7 +23,7 @@ line_of_numbers name numbers = line_of name (map decimal numbers)
 abbrev pub profile_line : Settling → List ℕ
 profile_line p = line_of_numbers (codes "@PROFILE") (p.period ∷ p.horizon ∷ p.stride ∷ p.limit ∷ [])
 
--- the job, and how it is surveyed
+-- the version, the seed, the rule, the symmetry and the profile
 unfoldable pub head_lines : Job → List (List ℕ)
 head_lines job =
     codes "@VERSION 2"
@@ -42,7 +42,7 @@ abbrev pub range_lines : List Range → List (List ℕ)
 range_lines [] = range_line (record { first = 0; count = 0 }) ∷ []
 range_lines (range ∷ more) = map range_line (range ∷ more)
 
--- how many soups and objects there are
+-- the numbers of soups, of unsettled soups, of soups that stay for good, and of objects
 unfoldable pub sum_lines : Census → List (List ℕ)
 sum_lines census =
     line_of_numbers (codes "@NUM_SOUPS") (census.soups ∷ [])
@@ -80,5 +80,6 @@ unfoldable pub haul_lines : Census → List (List ℕ)
 haul_lines census =
     head_lines census.job ++ (range_lines census.ranges ++ (sum_lines census ++ (total_lines census.rows ++ sample_lines census.rows)))
 
+-- the haul text of a census
 abbrev pub haul_text : Census → List ℕ
 haul_text census = text_of (haul_lines census)

@@ -13,20 +13,21 @@ pub record AreClosed (a b : Held) : Type 0 where
   pub first : a.closed ≡ true
   pub second : b.closed ≡ true
 
--- nothing except memory can keep the two from being joined
+-- the two hauls can be joined, if there is memory
 pub record CanJoin (a b : Held) : Type 0 where
   pub closed : AreClosed a b
   pub job : same_job a.terms.job b.terms.job ≡ true
   pub apart : ¬ ShareNumber a.terms.ranges b.terms.ranges
 
--- when each error is returned: the first that fits
+-- what holds if this error is returned: the first that fits
 abbrev pub Hinders : Held → Held → JoinError → Type 0
 Hinders a b Open = ¬ AreClosed a b
 Hinders a b OtherJob = AreClosed a b × (same_job a.terms.job b.terms.job ≡ false)
 Hinders a b Overlap = AreClosed a b × (same_job a.terms.job b.terms.job ≡ true) × ShareNumber a.terms.ranges b.terms.ranges
 Hinders a b (Memory error) = CanJoin a b
 
--- the two as one: of the same job and of both sets, closed, with what the first has taken and then what the second has taken
+-- the joined haul has the job and both sets, is closed, and has taken what the first took, followed by what the second
+-- took
 pub record IsJoined (a b joined : Held) : Type 0 where
   pub job : joined.terms.job ≡ a.terms.job
   pub set : IsNormalForm (a.terms.ranges ++ b.terms.ranges) joined.terms.ranges

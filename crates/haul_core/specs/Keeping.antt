@@ -18,25 +18,26 @@ numbers_in taken = map (λ t. t.1) taken
 abbrev pub samples : List Survey → List ℕ → List ℕ
 samples surveys code = least_three (numbers_with surveys code)
 
--- the score that a code must have
+-- the score of a code over these surveys
 abbrev pub score_of : List Survey → List ℕ → Score
 score_of surveys code = record { total = total surveys code; samples = samples surveys code }
 
--- what a haul keeps of its totals
+-- the totals that a haul keeps: a score for each code, and the numbers of unsettled soups and of soups that stay for
+-- good
 pub record Sums : Type 0 where
   pub scores : List (List ℕ × Score)
   pub unsettled : ℕ
   pub for_good : ℕ
 
--- the sums are those of the surveys
+-- the totals are those over these surveys
 pub record AreSums (surveys : List Survey) (sums : Sums) : Type 0 where
   pub scores : (code : List ℕ) → score_in sums.scores code ≡ score_of surveys code
   pub unsettled_sum : sums.unsettled ≡ unsettled surveys
   pub for_good_sum : sums.for_good ≡ for_good surveys
   pub few : All (λ s. objects_in s.finding < 2 ^ 64) surveys
 
--- the invariant of a haul: what contracts see, the size of its set, the worker of each number, and its sums; a joined haul is
--- closed, and may have more numbers
+-- The invariant of a haul: what contracts see, the size of its set, the worker of each number, and its sums agree. A
+-- haul that isn't closed has at most 2^24 numbers in its set.
 pub record KeepsBook (held : Held) (count : ℕ) (workers : List (ℕ × ℕ)) (sums : Sums) : Type 0 where
   pub normal : AreNormal held.terms.ranges
   pub below : AreBelow number_bound held.terms.ranges

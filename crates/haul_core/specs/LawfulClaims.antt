@@ -12,13 +12,15 @@ use Rattle.survey_core.specs.Seeds.{IsSeed}
 use Rattle.survey_core.specs.declared.job.Job.{Job}
 use Rattle.haul_core.specs.Reports.{IsWorker}
 
--- what a line says about a soup that settled: when, whether for good if it says so, and how many objects there are of each code
+-- what a line says about a soup that settled: the checkpoint, whether its objects stay for good (in version 2 only),
+-- and how many objects there are of each code
 pub record SaidOfSoup : Type 0 where
   pub checkpoint : ℕ
   pub for_good : Option Bool
   pub counts : List (List ℕ × ℕ)
 
--- who says what about which soup of a job, and the version of the line; `None` means an unsettled soup
+-- a claim: the version of its line, the job, the worker, the soup, and what the line says about it; `None` means that
+-- it is unsettled
 pub record Claimed : Type 0 where
   pub version : ℕ
   pub job : Job
@@ -44,11 +46,12 @@ pub record IsSaid (version : ℕ) (said : SaidOfSoup) : Type 0 where
   pub counts : All IsCount said.counts
   pub in_order : IsStrictlySortedBy (slice_cmp nat_cmp) (keys_of said.counts)
 
+-- what a line of this version may say about a soup
 abbrev pub IsFound : ℕ → Option SaidOfSoup → Type 0
 IsFound version None = Unit {0}
 IsFound version (Some said) = IsSaid version said
 
--- what a line may say, right or wrong
+-- a claim that a line may make, right or wrong
 pub record IsClaim (claim : Claimed) : Type 0 where
   pub version : (claim.version ≡ 1) ⊎ (claim.version ≡ 2)
   pub rule : IsRule claim.job.rule

@@ -17,6 +17,7 @@ use Rattle.haul_core.specs.Books.{Terms, has_closing, eligible, has_number}
 abbrev pub first_worker : ℕ → List Reported → Option ℕ
 first_worker n reports = option_map (λ r. r.worker) (find (has_number n) reports)
 
+-- the refusal of a double, if a worker reported the soup before
 abbrev pub double : Option ℕ → Option OfferError
 double None = None
 double (Some worker) = Some (Double worker)
@@ -30,11 +31,12 @@ refusal_of terms before r =
     else if not (is_in terms.ranges r.number) then Some OutOfRange
     else double (first_worker r.number (eligible terms before))
 
--- the reply to an arrival after these
+-- the reply to an offer that is refused for this reason, or taken
 abbrev pub reply_for : Option OfferError → Reply
 reply_for None = Taken
 reply_for (Some reason) = Refused reason
 
+-- the reply to an arrival after these
 abbrev pub reply_to : Terms → List Arrival → Arrival → Reply
 reply_to terms before (Offer report) = reply_for (refusal_of terms before report)
 reply_to terms before Closing = if has_closing before then AlreadyClosed else NowClosed
@@ -44,6 +46,6 @@ abbrev pub replies_to : Terms → List Arrival → List Arrival → List Reply
 replies_to terms before [] = []
 replies_to terms before (a ∷ more) = reply_to terms before a ∷ replies_to terms (before ++ a ∷ []) more
 
--- the reply of the book; or there was no memory for an offer that the book takes
+-- the given reply is the wanted one; or memory ran out for an offer that the book takes
 abbrev pub IsReply : Option OfferError → Option OfferError → Type 0
 IsReply given wanted = (given ≡ wanted) ⊎ ((given ≡ Some (Memory out_of_memory)) × (wanted ≡ None))

@@ -18,7 +18,7 @@ abbrev pub reply_of : Result (Unit {0}) Refused → Option OfferError
 reply_of (Ok u) = None
 reply_of (Err refused) = Some refused.reason
 
--- there was memory
+-- memory didn't run out
 abbrev pub IsAnswered : Option OfferError → Type 0
 IsAnswered reply = reply ≢ Some (Memory out_of_memory)
 
@@ -41,7 +41,8 @@ IsTakenNext terms before [] = ⊥
 IsTakenNext terms before (Offer report ∷ more) = refusal_of terms before report ≡ None
 IsTakenNext terms before (Closing ∷ more) = ⊥
 
--- memory ran out before any arrival, or for an offer that the book takes: the arrivals before it have arrived, and no others
+-- Memory ran out before any arrival, or at an offer that the book takes. The haul has got the arrivals before that, and
+-- no others.
 pub record StandsForPrefix (before arrivals : List Arrival) (held : Held) : Type 0 where
   pub prefix : List Arrival
   pub remainder : List Arrival

@@ -9,7 +9,7 @@ use Rattle.haul_core.specs.HaulTexts.{ended, line_of}
 use Rattle.haul_core.specs.Reports.{Reported}
 use Rattle.haul_core.specs.LawfulClaims.{SaidOfSoup, Claimed}
 
--- four decimals with a `,` between each two
+-- `profile=`, and four decimals with a `,` between each two
 unfoldable pub profile_field : Settling → List ℕ
 profile_field p =
     codes "profile=" ++ (decimal p.period ++ (codes "," ++ (decimal p.horizon ++ (codes "," ++ (decimal p.stride ++ (codes "," ++ decimal p.limit))))))
@@ -39,7 +39,7 @@ mark_fields (Some for_good) = mark_field for_good ∷ []
 abbrev pub count_field : (List ℕ × ℕ) → List ℕ
 count_field object = object.0 ++ (codes "*" ++ decimal object.1)
 
--- what was found
+-- what the line says about the soup: that it is unsettled, or the checkpoint, the mark and the counts
 unfoldable pub found_fields : Option SaidOfSoup → List (List ℕ)
 found_fields None = codes "unsettled" ∷ []
 found_fields (Some said) = (codes "at=" ++ decimal said.checkpoint) ∷ (mark_fields said.for_good ++ map count_field said.counts)

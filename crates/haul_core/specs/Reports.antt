@@ -6,7 +6,7 @@ use Rattle.survey_core.specs.declared.finding.Finding.{Finding}
 use Rattle.survey_core.specs.declared.job.Job.{Job}
 use Rattle.ranges.specs.Ranges.{number_bound}
 
--- who surveyed which soup of a job, and the finding
+-- a report: the job, the worker, the number of the soup, and the finding
 pub record Reported : Type 0 where
   pub job : Job
   pub worker : ℕ
@@ -18,7 +18,7 @@ pub record IsWorker (worker : ℕ) : Type 0 where
   pub least : 1 ≤ worker
   pub most : worker ≤ 16
 
--- the finding in a report is that of the soup
+-- the report is lawful: its worker and number are in range, and its finding is that of the soup
 pub record IsReport (report : Reported) : Type 0 where
   pub worker : IsWorker report.worker
   pub number : report.number < number_bound

@@ -7,7 +7,7 @@ use Rattle.haul_core.specs.Scores.{found_score}
 use Rattle.haul_core.specs.declared.book.census_rows.Row.{Row}
 use Rattle.haul_core.specs.declared.book.scores.Score.{Score}
 
--- a score, if it has an object
+-- the score, if its total isn't 0
 abbrev pub with_objects : Option Score → Option Score
 with_objects None = None
 with_objects (Some score) = if nat_lt 0 score.total then Some score else None
@@ -16,7 +16,7 @@ with_objects (Some score) = if nat_lt 0 score.total then Some score else None
 abbrev pub row_from : List ℕ → Score → Row
 row_from code score = record { code = code; total = score.total; samples = score.samples }
 
--- the rows of the codes whose scores have an object
+-- rows for the codes whose totals aren't 0, in ASCII order
 pub record AreRowsFrom (scores : List (List ℕ × Score)) (rows : List Row) : Type 0 where
   pub in_order : AreInOrder rows
   pub each : All (λ row. with_objects (found_score scores row.code) ≡ Some (record { total = row.total; samples = row.samples })) rows

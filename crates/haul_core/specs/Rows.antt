@@ -9,6 +9,7 @@ use Rattle.haul_core.specs.declared.book.census_rows.Row.{Row}
 use Rattle.haul_core.specs.Samples.{AreLeastThree}
 use Rattle.haul_core.specs.Totals.{Survey, numbers_with, total}
 
+-- the codes of rows
 abbrev pub codes_of : List Row → List (List ℕ)
 codes_of rows = map (λ row. row.code) rows
 

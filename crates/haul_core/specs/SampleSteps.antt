@@ -1,7 +1,7 @@
 -- How samples are kept, one number at a time.
 use Rattle.std.specs.Prelude.{ℕ, List, [], ◌∷◌, take, nat_le, if◌then◌else◌}
 
--- one more number, before the first that isn't lower
+-- the list with n inserted before the first number that isn't lower
 abbrev pub with_number : ℕ → List ℕ → List ℕ
 with_number n [] = n ∷ []
 with_number n (x ∷ more) = if nat_le n x then n ∷ x ∷ more else x ∷ with_number n more
@@ -15,7 +15,7 @@ ascending (n ∷ more) = with_number n (ascending more)
 abbrev pub least_three : List ℕ → List ℕ
 least_three numbers = take 3 (ascending numbers)
 
--- more numbers, of which the three lowest are kept after each
+-- the other numbers are inserted one after another, and the three lowest are kept each time
 abbrev pub with_each : List ℕ → List ℕ → List ℕ
 with_each xs [] = xs
 with_each xs (n ∷ more) = with_each (take 3 (with_number n xs)) more

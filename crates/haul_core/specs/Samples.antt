@@ -7,8 +7,8 @@ IsAscending [] = Unit {0}
 IsAscending (x ∷ []) = Unit {0}
 IsAscending (x ∷ y ∷ more) = (x ≤ y) × IsAscending (y ∷ more)
 
--- The three lowest of these numbers, ascending, or all if there are fewer: together with the others, none of which is lower, they
--- are the numbers.
+-- `least` has the three lowest of the numbers, ascending, or all if there are fewer. Together with `others`, none of
+-- which is lower, they are the numbers.
 pub record AreLeastThree (numbers least : List ℕ) : Type 0 where
   pub others : List ℕ
   pub all : (n : ℕ) → count_by (nat_eq n) (least ++ others) ≡ count_by (nat_eq n) numbers

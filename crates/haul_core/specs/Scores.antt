@@ -8,29 +8,32 @@ use Rattle.survey_core.specs.declared.finding.Finding.TheVariants.{Settled, Unse
 use Rattle.haul_core.specs.declared.book.scores.Score.{Score}
 use Rattle.haul_core.specs.SampleSteps.{with_each, with_number}
 
+-- a blank score
 abbrev pub no_score : Score
 no_score = record { total = 0; samples = [] }
 
--- the score of a code, or nothing if it has none
+-- the score of a code, if it has one
 abbrev pub found_score : List (List ℕ × Score) → List ℕ → Option Score
 found_score scores code = lookup (pointwise nat_eq code) scores
 
+-- the code has a score
 abbrev pub HasScore : List (List ℕ × Score) → List ℕ → Type 0
 HasScore scores code = IsSome (found_score scores code)
 
+-- the score of a code, or a blank one
 abbrev pub score_in : List (List ℕ × Score) → List ℕ → Score
 score_in scores code = unwrap_or (found_score scores code) no_score
 
--- a score after one more soup that left this many objects
+-- a score after one more soup, number `number`, that left this many objects, or none
 abbrev pub added : Option ℕ → ℕ → Score → Score
 added None number score = score
 added (Some count) number score = record { total = score.total + count; samples = take 3 (with_number number score.samples) }
 
--- two scores as one
+-- the score over the soups of both
 abbrev pub together : Score → Score → Score
 together t u = record { total = t.total + u.total; samples = with_each t.samples u.samples }
 
--- scores were added that have nothing in them
+-- only blank scores were added
 pub record Extends (old new : List (List ℕ × Score)) : Type 0 where
   pub more : List (List ℕ × Score)
   pub is : new ≡ old ++ more
@@ -41,10 +44,12 @@ abbrev pub found_in : List ℕ → Finding → Option ℕ
 found_in code (Settled checkpoint objects for_good) = lookup (is_code code) objects
 found_in code Unsettled = None
 
+-- each code of the finding has a score
 abbrev pub HasScores : Finding → List (List ℕ × Score) → Type 0
 HasScores (Settled checkpoint objects for_good) scores = All (λ object. HasScore scores object.0) objects
 HasScores Unsettled scores = Unit {0}
 
+-- the finding's codes are in ASCII order, each with a count of at least 1
 abbrev pub HasLawfulObjects : Finding → Type 0
 HasLawfulObjects (Settled checkpoint objects for_good) = AreObjects objects
 HasLawfulObjects Unsettled = Unit {0}

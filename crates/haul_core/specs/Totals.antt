@@ -43,8 +43,10 @@ has_object code s = nat_le 1 (count_in code s.finding)
 abbrev pub numbers_with : List Survey → List ℕ → List ℕ
 numbers_with surveys code = map (λ s. s.number) (filter (has_object code) surveys)
 
+-- how many of the soups are unsettled
 abbrev pub unsettled : List Survey → ℕ
 unsettled surveys = count_by (λ s. is_unsettled s.finding) surveys
 
+-- how many of the soups stay for good
 abbrev pub for_good : List Survey → ℕ
 for_good surveys = count_by (λ s. is_for_good s.finding) surveys

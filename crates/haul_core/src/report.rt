@@ -1,5 +1,5 @@
-//! Reports on soups, and their lines. A line that is read may say anything within its limits. It is a claim, and
-//! becomes a report only when the soup was run again.
+//! Reports on soups, and their lines. What a line says is only a claim, right or wrong. It becomes a report when the
+//! soup was surveyed again and the finding agrees.
 //!
 //! ```text
 //!           write                  read                check
@@ -28,7 +28,7 @@ use survey_core::job::Job;
 use survey_core::surveyor::Surveyor;
 use thiserror::Error;
 
-/// The most workers of a haul: as many threads as most machines run at a time. Workers are numbered from 1.
+/// The most workers of a haul: as many threads as most machines can run at a time. Workers are numbered from 1.
 pub(crate) const MOST_WORKERS: u8 = 16;
 
 /// Why no report was made.
@@ -66,7 +66,7 @@ impl<E: Into<OutOfMemory>> From<E> for ReportError {
 
 /// What a worker reports about a soup: the job, the worker, the soup's number, and its finding.
 ///
-/// However a report was made, its finding is the one that the definition gives for its job and number.
+/// A report is always correct: its finding is the one that the definition gives for its job and number.
 #[derive(Debug, Drop)]
 pub struct Report {
     job: Job,
@@ -102,8 +102,8 @@ impl Report {
         Report::make_by(alloc, &mut surveyor, job, worker, number)
     }
 
-    /// Makes the report that [`make`](Report::make) makes, with a surveyor that may have surveyed other soups. This is
-    /// faster.
+    /// Makes the same report as [`make`](Report::make), using a surveyor, which is faster. The surveyor may have
+    /// surveyed other soups before.
     ///
     /// # Errors
     ///
@@ -170,7 +170,7 @@ impl Report {
     }
 }
 
-/// Checks whether a worker may have this number.
+/// Checks whether `worker` is from 1 to 16.
 pub(crate) fn is_worker(worker: u8) -> bool
     ensures { IsTrue result ↔ IsWorker worker }
 {

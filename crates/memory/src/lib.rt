@@ -1,8 +1,8 @@
 //! Out of memory, as a witness.
 //!
-//! No contract refuses a body that reports "out of memory" while there is some. So no code here makes an
-//! [`OutOfMemory`] by itself: its one field is private, and each call that makes one takes the error that the library
-//! returned when it refused memory.
+//! A contract can't require that there is memory, so it would also accept a body that reports "out of memory" without
+//! cause. To rule such bodies out, an [`OutOfMemory`] is made only from the error with which the library refused
+//! memory: its one field is private, and each function that makes one takes such an error.
 #![tactic(auto)]
 
 ghost use Rattle.std.specs.Prelude.{◌≡◌};
@@ -42,7 +42,7 @@ impl From<AllocError> for OutOfMemory {
     }
 }
 
-/// Takes the witness from a value that found no room. The value is dropped.
+/// Returns the witness that there was no memory for a value. The value is dropped.
 impl<T: Drop> From<AllocFailed<T>> for OutOfMemory {
     ghost from_gives = { λ _ e. e ≡ out_of_memory };
 
@@ -54,7 +54,7 @@ impl<T: Drop> From<AllocFailed<T>> for OutOfMemory {
 }
 
 impl OutOfMemory {
-    /// Returns the witness that a stream's error carries.
+    /// Returns the witness for the error of a stream, whose kind has to be `OutOfMemory`.
     pub fn of_stream(error: &io::Error) -> OutOfMemory
         requires { error_kind error.now ≡ ErrorKind.OutOfMemory }
         ensures { result ≡ out_of_memory }
@@ -65,7 +65,8 @@ impl OutOfMemory {
         }
     }
 
-    /// Returns the closure for which no thread could be started, and the witness that there was no memory for one.
+    /// Returns the closure for which no thread could be started, and the witness that memory was refused for the
+    /// thread.
     pub fn of_start<F>(failed: SpawnError<F>) -> (F, OutOfMemory)
         ensures closure { result.0 ≡ failed.value }
         ensures witness { result.1 ≡ out_of_memory }

@@ -1,11 +1,12 @@
--- What a command is asked for.
+-- Answers: what a command writes, or why it doesn't.
 use Rattle.std.specs.Prelude.{◌≡◌, ℕ, List, [], Option, Result, Ok, Err, IfSome}
 use Rattle.std.specs.Result.{result_unwrap_or}
 use Rattle.pattern_commands.specs.declared.complaint.Complaint.{Complaint}
 use Rattle.pattern_commands.specs.declared.complaint.Complaint.TheVariants.{Refused, TooLong}
 use Rattle.pattern_commands.specs.declared.refusal.Refusal.TheVariants.{RangeTooLarge, RangesOverlap}
 
--- what a command that prints only a text writes to standard output, if memory lasts and no stream fails, or its complaint
+-- what a command that prints only a text writes to standard output, if memory lasts and no stream fails, or its
+-- complaint
 abbrev pub Answer : Type 0
 Answer = Result (List ℕ) Complaint
 
@@ -18,11 +19,11 @@ abbrev pub given : {A B : Type 0} → Result A Complaint → (A → Result B Com
 given (Ok x) next = next x
 given (Err complaint) next = Err complaint
 
--- These bytes may be the input of a reader: they are those that it has left, if these are known.
+-- the bytes are those that the reader has left, if these are known; otherwise they may be any
 abbrev pub IsInput : Option (List ℕ) → List ℕ → Type 0
 IsInput reader bytes = IfSome reader (λ left. bytes ≡ left)
 
--- a property of answers: that they are right for a request
+-- a property of answers: which of them are right for a request
 abbrev pub Right : Type 1
 Right = Answer → Type 0
 
@@ -30,12 +31,14 @@ Right = Answer → Type 0
 abbrev pub only : Answer → Right
 only answer other = answer ≡ other
 
--- the right answers after a step, which depend on its value; if the step ended with a complaint, that is the only right answer
+-- the right answers after a step, which depend on its value; if the step ended with a complaint, that is the only right
+-- answer
 abbrev pub IsRightGiven : {A : Type 0} → Result A Complaint → (A → Right) → Right
 IsRightGiven (Ok x) next = next x
 IsRightGiven (Err complaint) next = only (Err complaint)
 
--- The complaints that need memory: ranges have to be kept before they can be compared, and an input before it can be parsed.
+-- The complaints that can't be found without memory: ranges have to be kept before they can be compared, and an input
+-- before it can be parsed.
 abbrev pub NeedsMemory : Complaint → Type 0
 NeedsMemory (Refused RangeTooLarge) = Unit {0}
 NeedsMemory (Refused RangesOverlap) = Unit {0}

@@ -1,11 +1,11 @@
--- How commands may behave, and what they produce.
+-- What commands produce, and what they may do to their streams.
 use Rattle.std.specs.Prelude.{◌≡◌, ℕ, Bool, List, [], Option, Result, Ok, Err}
 use Rattle.std.specs.Io.KnownBytes.{Appends}
 use Rattle.pattern_commands.specs.declared.complaint.Complaint.{Complaint}
 use Rattle.pattern_commands.specs.Answers.{NeedsMemory, Right}
 
--- what a command produces: a text for standard output, diagnostics about its input for standard error, and the number of missing
--- soups
+-- what a command produces: a text for standard output, diagnostics about its input for standard error, and the number
+-- of missing soups
 pub record Made : Type 0 where
   pub text : List ℕ
   pub diagnostics : List ℕ
@@ -20,11 +20,11 @@ abbrev pub text_made : Result Made Complaint → List ℕ
 text_made (Ok made) = made.text
 text_made (Err complaint) = []
 
--- out of memory hides no complaint, except those that need memory
+-- a command that ends with out of memory has hidden no complaint, except those that need memory
 abbrev pub NeedsMemoryAlone : Makes → Type 0
 NeedsMemoryAlone right = (complaint : Complaint) → right (Err complaint) → NeedsMemory complaint
 
--- How a command may behave.
+-- The behaviour of a command: what is right for an input, and what the command may do besides.
 pub record Behaviour : Type 1 where
   -- what may be produced from an input
   pub right : List ℕ → Makes
@@ -34,7 +34,7 @@ pub record Behaviour : Type 1 where
   pub refuses : Bool
   -- the text is complete before its first byte is written
   pub whole : Bool
-  -- what the beginning of an input may add to standard error
+  -- what the command may have added to standard error after a beginning of its input
   pub begins : (reader before after : Option (List ℕ)) → Type 0
   -- diagnostics about the input may be added
   pub may_tell : Type 0

@@ -1,4 +1,4 @@
--- How a command ends: all commands end by the same rule.
+-- How every command ends.
 pub use Rattle.pattern_commands.specs.Reached.{Outcome, Reaches}
 use Rattle.std.specs.Prelude.{◌≡◌, ℕ, zero, suc, true, false, List, [], Option, Ok, Err}
 use Rattle.pattern_commands.specs.declared.status.Status.{Status}
@@ -13,6 +13,7 @@ last_line (Ok zero) = []
 last_line (Ok (suc n)) = missing_line (suc n)
 last_line (Err complaint) = complaint_line complaint
 
+-- the status of a command with this outcome
 abbrev pub status_after : Outcome → Status
 status_after (Ok zero) = statuses.Done
 status_after (Ok (suc n)) = statuses.Incomplete

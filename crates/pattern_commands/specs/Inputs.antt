@@ -50,7 +50,7 @@ input_complaint (input_error.Memory refused) = Memory refused
 abbrev pub rule_named : List ℕ → Result Numbers Complaint
 rule_named text = result_map_both (λ rule. rule) rule_complaint (rule_read text)
 
--- the pattern of an input, which is refused if it is longer than 2^24 bytes
+-- the pattern of an input, or why there is none; an input of more than 2^24 bytes is too long
 abbrev pub pattern_of : List ℕ → Result (List Cell) Complaint
 pattern_of bytes = if nat_le (length bytes) (2 ^ 24)
     then result_map_both (λ cells. cells) pattern_complaint (pattern bytes)
@@ -60,8 +60,8 @@ pattern_of bytes = if nat_le (length bytes) (2 ^ 24)
 abbrev pub LiesWithin999 : List Cell → Type 0
 LiesWithin999 cells = lies_within 999 cells ≡ true
 
--- a call that reads a value returns it, refuses its text or says that it is too long, or ends because memory runs out or a read
--- fails
+-- A call that reads a value returns it, refuses its text, or finds that the text is too long; or memory runs out or a
+-- read fails.
 abbrev pub Reads : {A : Type 0} → Result A Complaint → Result A Complaint → Type 0
 Reads answer (Ok x) = answer ≡ Ok x
 Reads answer (Err (Refused refusal)) = answer ≡ Err (Refused refusal)

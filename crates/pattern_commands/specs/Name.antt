@@ -1,4 +1,4 @@
--- What `census name` is asked for.
+-- The behaviour of `census name`.
 use Rattle.std.specs.Prelude.{◌++◌, ◌&&◌, true, is_ok, ℕ, List, Ok, codes, decimal, flat_map}
 use Rattle.plane_core.specs.declared.plane.cell.Cell.{Cell}
 use Rattle.plane_core.specs.plane.Rules.{Numbers}
@@ -21,7 +21,7 @@ abbrev pub finding_text : Finding → List ℕ
 finding_text (Settled checkpoint objects for_good) = codes "settled " ++ decimal checkpoint ++ codes "\n" ++ flat_map object_line objects
 finding_text Unsettled = codes "unsettled\n"
 
--- an answer that states the finding of a pattern
+-- the answer is the text of the pattern's finding
 abbrev pub TellsFinding : Numbers → Settling → List Cell → Right
 TellsFinding rule profile cells answer = (finding : Finding) × IsFinding rule profile cells finding × only (Ok (finding_text finding)) answer
 
@@ -30,7 +30,7 @@ abbrev pub name_right : ProfileNumbers → List ℕ → List ℕ → Right
 name_right numbers rule_text bytes =
     IsRightGiven (profile_named numbers) (λ profile. IsRightGiven (rule_named rule_text) (λ rule. IsRightGiven (pattern_of bytes) (TellsFinding rule profile)))
 
--- to write the finding of the input's pattern; the input is read if the profile and the rule are valid
+-- the behaviour of `name`; the input is read if the profile and the rule are valid
 abbrev pub name_behaviour : ProfileNumbers → List ℕ → Behaviour
 name_behaviour numbers rule_text =
     text_behaviour (is_ok (profile_named numbers) && is_ok (rule_named rule_text)) true (λ bytes. name_right numbers rule_text bytes)

@@ -1,4 +1,4 @@
--- The profiles that commands are asked for.
+-- Profiles, from the numbers that a call gives.
 use Rattle.std.specs.Prelude.{◌≤◌, Result, Ok, Err, nat_le, if◌then◌else◌}
 use Rattle.survey_core.specs.Profiles.{Settling}
 use Rattle.pattern_commands.specs.declared.complaint.Complaint.{Complaint}
@@ -15,6 +15,7 @@ pub record AreInRange (numbers : ProfileNumbers) : Type 0 where
   pub stride : numbers.stride ≤ 10000
   pub limit : numbers.limit ≤ 100000
 
+-- the numbers as a profile
 abbrev pub settling : ProfileNumbers → Settling
 settling n = record { period = n.period; horizon = n.horizon; stride = n.stride; limit = n.limit }
 

@@ -25,34 +25,35 @@ pub record IsSilent (output errors : Stream) : Type 0 where
   pub silent : Has errors []
   pub fine : errors.failed ≡ false
 
--- The input ended early: nothing was written to standard output, and standard error has the diagnostics about its beginning.
+-- The input ended early: nothing was written to standard output, and standard error has the diagnostics about its
+-- beginning.
 pub record IsCutOff (behaviour : Behaviour) (reader : Option (List ℕ)) (output errors : Stream) : Type 0 where
   pub reads : behaviour.reads ≡ true
   pub begun : behaviour.begins reader errors.before errors.after
   pub nothing : Has output []
   pub fine : errors.failed ≡ false
 
--- standard output if memory ran out: nothing of a text that is complete before it is written, and otherwise a prefix of each right
--- text
+-- what standard output has if memory ran out: nothing if the text is complete before it is written, and otherwise a
+-- prefix of each right text
 abbrev pub LeavesPart : Bool → Makes → Stream → Type 0
 LeavesPart true right output = Has output []
 LeavesPart false right output = (answer : Result Made Complaint) → right answer → HasPrefix output (text_made answer)
 
--- memory ran out, over the input or before it was read
+-- memory ran out, while the input was processed or before it was read
 pub record HasRunOutOfMemory (behaviour : Behaviour) (reader : Option (List ℕ)) (bytes : List ℕ) (output errors : Stream) : Type 0 where
   pub hides : behaviour.refuses ≡ false → NeedsMemoryAlone (behaviour.right bytes)
   pub left : LeavesPart behaviour.whole (behaviour.right bytes) output
   pub diagnostics : Has errors [] ⊎ behaviour.begins reader errors.before errors.after
   pub fine : errors.failed ≡ false
 
--- What was written if a write of the text failed. If the text was complete before: a prefix of it, and all diagnostics. If it is
--- written as it is made, its end isn't known: a prefix of each right text, and no complaint is right.
+-- What was written if a write of the text failed. If the text was complete before: a prefix of it, and all diagnostics.
+-- If it is written while it is made: a prefix of each right text, no diagnostics, and no complaint is right.
 abbrev pub WritesBeginning : Bool → Makes → Stream → Stream → Type 0
 WritesBeginning true right output errors = (made : Made) × right (Ok made) × HasPrefix output made.text × Has errors made.diagnostics
 WritesBeginning false right output errors = ((complaint : Complaint) → right (Err complaint) → ⊥)
     × ((made : Made) → right (Ok made) → HasPrefix output made.text) × Has errors []
 
--- standard output failed
+-- a write to standard output failed
 pub record IsCutShort (behaviour : Behaviour) (bytes : List ℕ) (output errors : Stream) : Type 0 where
   pub left : WritesBeginning behaviour.whole (behaviour.right bytes) output errors
   pub cut : output.failed ≡ true
@@ -64,7 +65,8 @@ pub record IsUntold (behaviour : Behaviour) (output errors : Stream) : Type 0 wh
   pub nothing : Has output []
   pub cut : errors.failed ≡ true
 
--- The streams before the last line of standard error. A refusal is a right answer, and so is that the input is too long.
+-- What the streams have before the last line of standard error, for each outcome. A refusal has to be right, and so
+-- does the complaint that the input is too long.
 abbrev pub Reaches : Behaviour → Option (List ℕ) → List ℕ → Outcome → Stream → Stream → Type 0
 Reaches behaviour reader bytes (Ok missing) output errors = IsPrinted (behaviour.right bytes) missing output errors
 Reaches behaviour reader bytes (Err (Refused refusal)) output errors = behaviour.right bytes (Err (Refused refusal)) × IsSilent output errors

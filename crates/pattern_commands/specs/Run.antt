@@ -1,4 +1,4 @@
--- What `census run` is asked for.
+-- The behaviour of `census run`.
 use Rattle.std.specs.Prelude.{ℕ, List, Ok, true, is_ok}
 use Rattle.plane_core.specs.plane.Generations.{after}
 use Rattle.plane_core.specs.Plaintext.{plain}
@@ -11,6 +11,6 @@ abbrev pub run_answer : List ℕ → ℕ → List ℕ → Answer
 run_answer rule_text n bytes =
     given (rule_named rule_text) (λ rule. given (pattern_of bytes) (λ cells. Ok (plain (after rule cells n))))
 
--- to run the pattern of the input for n generations; the input is read if the rule is valid
+-- the behaviour of `run`; the input is read if the rule is valid
 abbrev pub run_behaviour : List ℕ → ℕ → Behaviour
 run_behaviour rule_text n = text_behaviour (is_ok (rule_named rule_text)) true (λ bytes. only (run_answer rule_text n bytes))

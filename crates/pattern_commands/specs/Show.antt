@@ -1,4 +1,4 @@
--- What `census show` is asked for (LifeWiki, "Apgcode").
+-- The behaviour of `census show` (LifeWiki, "Apgcode").
 use Rattle.std.specs.Prelude.{◌==◌, ◌&&◌, ◌||◌, not, ℕ, Bool, true, false, List, [], ◌∷◌, Option, Some, None, Result, Ok, Err, length, nat_lt, if◌then◌else◌}
 use Rattle.std.specs.Char.{is_ascii_digit}
 use Rattle.std.specs.List.{after_first, before_first, list_all, position_or_len}
@@ -73,6 +73,6 @@ shown text = result_map_both (λ cells. cells) wechsler_complaint (wechsler_read
 abbrev pub show_answer : List ℕ → Answer
 show_answer code = given (text_in code) (λ text. given (shown text) (λ cells. Ok (plain cells)))
 
--- to write the object of a code
+-- the behaviour of `show`
 abbrev pub show_behaviour : List ℕ → Behaviour
 show_behaviour code = text_behaviour false true (λ bytes. only (show_answer code))

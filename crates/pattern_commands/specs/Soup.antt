@@ -1,4 +1,4 @@
--- What `census soup` is asked for.
+-- The behaviour of `census soup`.
 use Rattle.std.specs.Prelude.{ℕ, List, Result, Ok, true, false}
 use Rattle.std.specs.Result.{result_map_both}
 use Rattle.plane_core.specs.Plaintext.{plain}
@@ -25,6 +25,6 @@ seed_named text = result_map_both (λ seed. seed) seed_complaint (seed_read text
 abbrev pub soup_answer : List ℕ → ℕ → Answer
 soup_answer seed_text number = given (seed_named seed_text) (λ seed. Ok (plain (soup seed number)))
 
--- to write a soup
+-- the behaviour of `soup`
 abbrev pub soup_behaviour : List ℕ → ℕ → Behaviour
 soup_behaviour seed_text number = text_behaviour false true (λ bytes. only (soup_answer seed_text number))

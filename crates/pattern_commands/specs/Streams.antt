@@ -3,7 +3,7 @@ use Rattle.std.specs.Prelude.{◌≡◌, ℕ, Bool, false, List, [], Option, Mat
 use Rattle.std.specs.Io.KnownBytes.{Appends}
 use Rattle.plane_core.specs.Outputs.{Output, AppendsPrefix}
 
--- A stream over a call: the bytes before and after, if they are known, and whether a write failed.
+-- A stream during a call: the bytes before and after, if they are known, and whether a write failed.
 pub record Stream : Type 0 where
   pub before : Option (List ℕ)
   pub after : Option (List ℕ)

@@ -6,7 +6,7 @@ use Rattle.pattern_commands.specs.Answers.{Answer, NeedsMemory, Right, output_te
 use Rattle.pattern_commands.specs.Reached.{Outcome}
 use Rattle.pattern_commands.specs.Streams.{Stream, Has, HasPrefix}
 
--- the text was written, or there is a complaint
+-- the outcome of a command that writes only a text
 abbrev pub TextOutcome : Type 0
 TextOutcome = Result (Unit {0}) Complaint
 
@@ -34,7 +34,7 @@ abbrev pub LeavesTextPart : Bool → Right → Stream → Type 0
 LeavesTextPart true right output = Has output []
 LeavesTextPart false right output = (answer : Answer) → right answer → HasPrefix output (output_text answer)
 
--- standard output after the text of a right answer was to be written to it
+-- what standard output has when a command has tried to write the text of a right answer
 abbrev pub ReachesText : Bool → Bool → Right → TextOutcome → Stream → Type 0
 ReachesText reads whole right (Ok _) output = HasRight right output × (output.failed ≡ false)
 ReachesText reads whole right (Err (Memory error)) output =

@@ -1,4 +1,4 @@
--- What `--version` is asked for.
+-- The behaviour of `census --version`.
 use Rattle.std.specs.Prelude.{Ok, codes, true, false}
 use Rattle.pattern_commands.specs.Answers.{Answer, only}
 use Rattle.pattern_commands.specs.Behaviours.{Behaviour, text_behaviour}
@@ -7,6 +7,6 @@ use Rattle.pattern_commands.specs.Behaviours.{Behaviour, text_behaviour}
 abbrev pub version_answer : Answer
 version_answer = Ok (codes "census 0.2.0\n")
 
--- to write the program's name and version
+-- the behaviour of `--version`
 abbrev pub version_behaviour : Behaviour
 version_behaviour = text_behaviour false true (λ bytes. only version_answer)

@@ -105,6 +105,7 @@ pub fn put_missing<E: Write>(missing: u64, errors: &mut Out<E>) -> Result<(), Wr
     }
 }
 
+/// Writes the line piece by piece.
 fn put_missing_line<E: Write>(missing: u64, errors: &mut Out<E>) -> Result<(), WriteError>
     requires { errors.old.failed ≡ false }
     ensures { Writes E.contents errors.old errors.new result (missing_line missing) }

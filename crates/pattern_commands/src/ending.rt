@@ -12,8 +12,8 @@ use plane_core::output::Out;
 use std::io::Write;
 
 /// Ends a command with `outcome`: the number of soups that are missing, or a complaint. Writes the last line of
-/// standard error, if there is one, and returns the status. After a write that failed, nothing more is written. A
-/// failure to write the line is not reported.
+/// standard error, if there is one, and returns the status. If an earlier write to `errors` failed, nothing more is
+/// written. A failure to write the line is not reported.
 pub fn tell_end<E: Write>(outcome: Result<u64, Complaint>, errors: &mut Out<E>) -> Status
     requires { OnOk outcome (errors.old.failed ≡ false) }
     ensures status { result ≡ status_after outcome }
@@ -30,8 +30,8 @@ pub fn tell_end<E: Write>(outcome: Result<u64, Complaint>, errors: &mut Out<E>) 
     }
 }
 
-/// Ends a command that prints a text of which no soup can be missing, as [`tell_end`] does. No earlier write to
-/// `errors` may have failed.
+/// Ends a command that prints only a text, as [`tell_end`] does. No soups can be missing. No earlier write to `errors`
+/// may have failed.
 pub fn tell_end_of_text<E: Write>(outcome: Result<(), Complaint>, errors: &mut Out<E>) -> Status
     requires { errors.old.failed ≡ false }
     ensures status { result ≡ status_after (none_missing outcome) }

@@ -21,14 +21,14 @@ pub const INPUT_LIMIT: usize = 16_777_216;
 pub enum InputError {
     /// A read failed.
     Unreadable(ReadError),
-    /// There is more than the limit.
+    /// The input is longer than the limit.
     TooLong,
     /// Memory ran out for what was read.
     Memory(OutOfMemory),
 }
 
 impl InputError {
-    /// Returns the error that a failed read stands for.
+    /// Returns the error for a failed read.
     pub fn of_stream(error: &io::Error) -> InputError
         ensures { result ≢ TooLong }
     {

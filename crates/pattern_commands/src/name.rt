@@ -33,8 +33,9 @@ use std::alloc::Global;
 use std::io::{Read, Write};
 use survey_core::finding::{Finding, survey_pattern};
 
-/// Reads a plaintext pattern and writes its finding: the first checkpoint at which it is at rest, and then a line for
-/// each code, in ASCII order, with the number of objects that have it; or that it doesn't settle.
+/// Reads a plaintext pattern and writes its finding. If the pattern settles, that is the first checkpoint at which it
+/// is at rest, and then a line for each code, in ASCII order, with the number of objects that have it. Otherwise it is
+/// the line `unsettled`.
 ///
 /// Each number of the profile has to be in its range, and no earlier write to either writer may have failed. First the
 /// profile is checked, and then the rule. If one of them is refused, nothing of the input is read. `census name` is
@@ -68,6 +69,7 @@ pub fn do_name<R: Read, W: Write, E: Write>(
     tell_end_of_text(outcome, errors)
 }
 
+/// Reads the pattern, surveys it, and writes its finding.
 fn name<R: Read, W: Write>(
     alloc: Global,
     profile: ProfileNumbers,

@@ -18,11 +18,11 @@ use std::io::{BufWriter, Write};
 /// Each line is shorter than the buffer. A longer one would be written in pieces.
 pub type LineBuffer = ArrayVec<u8, 128>;
 
-/// Sends on what a command has left in the buffer, and returns the status that the process ends with. It is the
-/// command's, or `Failed` if the command printed its text and not all of it could be sent on.
+/// Flushes what a command has left in the buffer, and returns the status with which the process ends. This is `status`,
+/// the command's, or `Failed` if the command printed its text and a flush of it fails.
 ///
-/// If the command ended with another status than `Done` or `Incomplete`, nothing more is written, and the buffer isn't
-/// touched. The line about a failure goes to `errors`. A failure to write that line is not reported.
+/// If `status` is neither `Done` nor `Incomplete`, nothing is written, and the buffer isn't touched. The line about a
+/// failure goes to `errors`. A failure to write that line is not reported.
 pub fn send_buffered<W: Write + Drop, E: Write>(
     status: Status,
     buffered: &mut BufWriter<W, Global>,

@@ -6,15 +6,16 @@ ghost use Rattle.std.specs.declared.io.ErrorKind.TheVariants.{OutOfMemory};
 
 use std::io::{self, ErrorKind};
 
-/// The witness of a failed read. It comes from a stream, or from more reads than a number can count.
+/// The witness of a failed read. It comes from the error of a stream, or from 2^64 - 1 reads that didn't reach the end
+/// of the input.
 #[derive(Clone, Copy, Debug, PartialEq, Eq)]
 pub struct ReadError {
-    /// The stream's kind of error, or `None` if the stream doesn't end.
+    /// The kind of the stream's error, or `None` if the input didn't end.
     kind: Option<ErrorKind>,
 }
 
 impl ReadError {
-    /// Returns the witness that a stream's error carries, unless that error is out of memory.
+    /// Returns the witness for the error of a stream, whose kind can't be `OutOfMemory`.
     pub fn of_stream(error: &io::Error) -> ReadError
         requires { error_kind error.now ≢ OutOfMemory }
     {
@@ -23,7 +24,7 @@ impl ReadError {
         }
     }
 
-    /// Returns the witness of `reads` reads without an end.
+    /// Returns the witness that `reads` reads, 2^64 - 1, didn't reach the end of the input.
     pub fn after(reads: u64) -> ReadError
         requires { reads + 1 ≡ 2 ^ 64 }
     {

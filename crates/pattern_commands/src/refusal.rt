@@ -38,9 +38,9 @@ pub enum Refusal {
     /// A list of ranges whose byte at `place` isn't allowed there, or that ends there too early. Places count bytes
     /// from 0.
     BadList { place: usize },
-    /// Ranges of which one ends past 2^40, or that have more than 2^24 numbers together.
+    /// Ranges that have more than 2^24 numbers together, or one of which ends past 2^40.
     RangeTooLarge,
-    /// Ranges of which two share a number.
+    /// Ranges two of which share a number.
     RangesOverlap,
 }
 
@@ -84,6 +84,7 @@ impl Refusal {
     }
 }
 
+/// Writes the line about a bad byte of a pattern.
 fn put_bad_byte<E: Write>(errors: &mut Out<E>, line: usize, column: usize) -> Result<(), WriteError>
     requires { errors.old.failed ≡ false }
     ensures { Writes E.contents errors.old errors.new result (refusal_line (Refusal.BadByte line column)) }

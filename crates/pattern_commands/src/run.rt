@@ -62,6 +62,7 @@ pub fn do_run<R: Read, W: Write, E: Write>(
     tell_end_of_text(outcome, errors)
 }
 
+/// Reads the rule and the pattern, runs the pattern, and writes the result.
 fn run<R: Read, W: Write>(
     alloc: Global,
     generations: u32,

@@ -33,9 +33,9 @@ use std::io::Write;
 ///
 /// # Errors
 ///
-/// The status is `Refused` if the part before the first `_` isn't such a prefix, or the text isn't of its form;
-/// `Memory` if memory runs out; and `Failed` if the output can't be written. In these cases, a line is written to
-/// `errors`. A failure to write that line is not reported.
+/// The status is `Refused` if the part before the first `_` isn't such a prefix, or the text isn't in extended Wechsler
+/// format; `Memory` if memory runs out; and `Failed` if the output can't be written. In these cases, a line is written
+/// to `errors`. A failure to write that line is not reported.
 pub fn do_show<W: Write, E: Write>(
     alloc: Global,
     code: &str,
@@ -53,6 +53,7 @@ pub fn do_show<W: Write, E: Write>(
     tell_end_of_text(outcome, errors)
 }
 
+/// Reads the pattern of a code, and writes it.
 fn show<W: Write>(alloc: Global, code: &str, output: &mut Out<W>) -> Result<(), Complaint>
     requires { output.old.failed ≡ false }
     ensures reached { ReachesText false true (only (show_answer code.now)) result
@@ -82,7 +83,7 @@ fn text_in(code: &str) -> Result<&str, Complaint>
     }
 }
 
-/// Returns the parts of a code before and after its first `_`.
+/// Returns the parts of a code before and after its first `_`, or `None` if it has no `_`.
 fn parted(code: &str) -> Option<(&str, &str)>
     ensures { option_map (λ parts. (parts.0.now, parts.1.now)) result ≡ parted code.now }
 {
@@ -107,13 +108,14 @@ fn is_kind(byte: u8) -> bool
     matches!(byte, b's' | b'p' | b'q')
 }
 
-/// Checks whether these are digits, at least one.
+/// Checks whether these are only digits, at least one.
 fn is_number(bytes: &[u8]) -> bool
     ensures { result ≡ is_number bytes.now }
 {
     !bytes.is_empty() && are_digits(bytes)
 }
 
+/// Checks whether these are only digits.
 fn are_digits(bytes: &[u8]) -> bool
     ensures { result ≡ list_all is_ascii_digit bytes.now }
 {

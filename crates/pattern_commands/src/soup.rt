@@ -50,6 +50,7 @@ pub fn do_soup<W: Write, E: Write>(
     tell_end_of_text(outcome, errors)
 }
 
+/// Makes the soup, and writes it.
 fn put_soup<W: Write>(
     alloc: Global,
     seed_text: &str,

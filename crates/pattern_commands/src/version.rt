@@ -35,6 +35,7 @@ pub fn do_version<W: Write, E: Write>(output: &mut Out<W>, errors: &mut Out<E>) 
     tell_end_of_text(outcome, errors)
 }
 
+/// Writes the line.
 fn put_version<W: Write>(output: &mut Out<W>) -> Result<(), Complaint>
     requires { output.old.failed ≡ false }
     ensures reached { ReachesText false true (only version_answer) result (stream W.contents output.old output.new) }

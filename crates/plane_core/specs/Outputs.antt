@@ -1,4 +1,4 @@
--- What a call that writes a text has done if the writer may fail in the middle.
+-- What a call has done that writes a text to a writer that may fail in the middle.
 use Rattle.std.specs.Prelude.{◌≡◌, Bool, List, ℕ, ◌++◌, Option, Result, is_err, OnOk, OnErr}
 use Rattle.std.specs.Io.KnownBytes.{Appends}
 
@@ -7,12 +7,12 @@ pub record Output (V : Type 0) : Type 0 where
   pub writer : V
   pub failed : Bool
 
--- the known bytes grow by a prefix of the text
+-- the known bytes of a writer grow by a prefix of the text
 abbrev pub AppendsPrefix : Option (List ℕ) → Option (List ℕ) → List ℕ → Type 0
 AppendsPrefix known_old known_new text = (prefix remainder : List ℕ) × (text ≡ prefix ++ remainder) × Appends known_old known_new prefix
 
--- A call wrote the text; or it failed, wrote a prefix of the text, and the `Out` is failed from then on.
--- `contents` are the bytes that a writer holds, where they are known.
+-- A call wrote the whole text. Or it failed: it wrote a prefix of the text, and from then on the `Out` is marked as
+-- failed. `contents` are the bytes that a writer holds, if they are known.
 pub record Writes {V E : Type 0} (contents : V → Option (List ℕ)) (old new : Output V) (result : Result (Unit {0}) E) (text : List ℕ) : Type 0 where
   pub remembers : new.failed ≡ is_err result
   pub whole : OnOk result (Appends (contents old.writer) (contents new.writer) text)

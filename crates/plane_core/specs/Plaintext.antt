@@ -10,15 +10,15 @@ use Rattle.plane_core.specs.plane.Cells.{cell_at, distance, has}
 use Rattle.plane_core.specs.plane.Bounds.{box_of}
 use Rattle.plane_core.specs.PlaintextPlaces.{dot, letter_o, star, line_feed, side_limit, Place, places}
 
--- `O` and `*` are live
+-- the byte is a live cell: `O` or `*`
 abbrev pub is_live : ℕ → Bool
 is_live b = b == letter_o || b == star
 
--- and `.` is dead; no other byte is a cell
+-- the byte is a cell: `.`, which is dead, or a live cell
 abbrev pub is_cell : ℕ → Bool
 is_cell b = b == dot || is_live b
 
--- what is wrong at a place: a byte that isn't a cell, or otherwise a row or a column past the last
+-- the fault at a place: a byte that isn't a cell, or otherwise a column or a row past the 1,000th
 unfoldable pub fault_at : Place → Option PlaintextFault
 fault_at p = if not (is_cell p.byte) then Some (BadByte p.line (p.x + 1))
     else (if nat_lt p.x side_limit && nat_lt p.y side_limit then None else Some TooLarge)
@@ -27,7 +27,7 @@ fault_at p = if not (is_cell p.byte) then Some (BadByte p.line (p.x + 1))
 unfoldable pub first_fault : List Place → Option PlaintextFault
 first_fault ps = slice_get (filter_map fault_at ps) 0
 
--- the cells of those of the places that are live
+-- the live cells among those at some places
 unfoldable pub live_cells : List Place → List Cell
 live_cells ps = map (λ p. cell_at (pos p.x) (pos p.y)) (filter (λ p. is_live p.byte) ps)
 
@@ -40,12 +40,12 @@ cells_unless (Some fault) cells = Err fault
 abbrev pub pattern : List ℕ → Result (List Cell) PlaintextFault
 pattern text = cells_unless (first_fault (places text)) (live_cells (places text))
 
--- n numbers in a row, from a on
+-- n successive numbers, from a on
 abbrev pub run : ℤ → ℕ → List ℤ
 run a zero = []
 run a (suc n) = a ∷ run (a +ℤ pos 1) n
 
--- the numbers from one to another, both included
+-- the numbers from a to b, both included
 abbrev pub span : ℤ → ℤ → List ℤ
 span a b = run a (suc (distance a b))
 
@@ -53,16 +53,16 @@ span a b = run a (suc (distance a b))
 abbrev pub byte_of : Bool → ℕ
 byte_of live = if live then letter_o else dot
 
--- row y of the cells' box from the left, and a line feed
+-- the text of row y: a byte for each cell of the box's columns from the left, and a line feed
 unfoldable pub row_text : List Cell → Bounds → ℤ → List ℕ
 row_text cells b y = map (λ x. byte_of (has cells (cell_at x y))) (span b.left b.right) ++ line_feed ∷ []
 
--- the rows of the box from the top
+-- the text of all rows of the box, from the top
 unfoldable pub box_text : Option Bounds → List Cell → List ℕ
 box_text None cells = []
 box_text (Some b) cells = flat_map (row_text cells b) (span b.top b.bottom)
 
--- a pattern's plaintext
+-- the plaintext of a pattern: the rows of its smallest box
 unfoldable pub plain : List Cell → List ℕ
 plain cells = box_text (box_of cells) cells
 

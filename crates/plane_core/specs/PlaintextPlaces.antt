@@ -3,24 +3,27 @@ use Rattle.std.specs.Prelude.{◌==◌, ℕ, Bool, false, not, List, [], ◌∷�
 use Rattle.std.specs.List.{slice_index, slice_index_or, slice_split, flat_map, enumerate_from}
 use Rattle.std.specs.Str.Lines.{strip_carriage_return}
 
--- the bytes of the format (LifeWiki, "Plaintext"): `.` for a dead cell, `O` and `*` for a live one
+-- a dead cell: `.`
 abbrev pub dot : ℕ
 dot = 46
 
+-- a live cell: `O`
 abbrev pub letter_o : ℕ
 letter_o = 79
 
+-- another byte for a live cell: `*`
 abbrev pub star : ℕ
 star = 42
 
--- `!` at the start of a comment, and the end of a line
+-- the first byte of a comment: `!`
 abbrev pub exclamation_mark : ℕ
 exclamation_mark = 33
 
+-- the end of a line
 abbrev pub line_feed : ℕ
 line_feed = 10
 
--- the most columns, or rows, that a text may have, dead cells included: this project's choice
+-- the most columns, and the most rows, that a text may have, including dead cells: this project's limit
 abbrev pub side_limit : ℕ
 side_limit = 1000
 
@@ -28,7 +31,7 @@ side_limit = 1000
 unfoldable pub lines_of : List ℕ → List (List ℕ)
 lines_of text = map strip_carriage_return (slice_split (λ b. b == line_feed) text)
 
--- whether a line is a comment: it begins with `!`
+-- the line is a comment: it begins with `!`
 abbrev pub is_comment : List ℕ → Bool
 is_comment [] = false
 is_comment (b ∷ bs) = b == exclamation_mark
@@ -37,7 +40,7 @@ is_comment (b ∷ bs) = b == exclamation_mark
 unfoldable pub rows_of : List ℕ → List (ℕ × List ℕ)
 rows_of text = filter (λ line. not (is_comment line.1)) (enumerate_from 1 (lines_of text))
 
--- a byte of a row: the number of its line, and its cell's y and x
+-- a place: a byte of a row, the number of its line, and the y and x of its cell
 pub record Place : Type 0 where
   pub line : ℕ
   pub y : ℕ
@@ -52,6 +55,6 @@ places_of_row (y, row) = map (λ at. record { line = row.0; y = y; x = at.0; byt
 unfoldable pub places : List ℕ → List Place
 places text = flat_map places_of_row (enumerate_from 0 (rows_of text))
 
--- the byte at offset x of row y, and 0 where there is none
+-- the byte at column x of row y, or 0 if there is none
 abbrev pub byte_at : List ℕ → ℕ → ℕ → ℕ
 byte_at text x y = slice_index (slice_index_or (map (λ row. row.1) (rows_of text)) y []) x

@@ -6,7 +6,7 @@ use Rattle.plane_core.specs.declared.plane.bounds.Bounds.{Bounds}
 use Rattle.plane_core.specs.plane.Cells.{plane_bound, InOrder}
 use lib.IntN.{neg_ℤ}
 
--- the box has a cell of the plane at least, and no cell off the plane
+-- the box has at least one cell, and all its cells are on the plane
 pub record IsBox (b : Bounds) : Type 0 where
   pub left : neg_ℤ (pos plane_bound) ≤ℤ b.left
   pub top : neg_ℤ (pos plane_bound) ≤ℤ b.top
@@ -15,7 +15,8 @@ pub record IsBox (b : Bounds) : Type 0 where
   pub wide : b.left ≤ℤ b.right
   pub high : b.top ≤ℤ b.bottom
 
--- what a walk has before it at row y: cells in order, none above that row, and none beside the box
+-- the cells that are left when a walk is at row y: they are in order, none is above that row, and none is beside the
+-- box
 pub record IsAhead (y : ℤ) (b : Bounds) (cells : List Cell) : Type 0 where
   pub in_order : InOrder cells
   pub rows : AllByRecursion (λ c. y ≤ℤ c.y) cells

@@ -1,8 +1,10 @@
 //! Divides a pattern into clusters: each tree of its [forest](crate::clusters::union_find) is one.
 //!
-//!      O . O . . . O          place    0  1  2  3  4
-//!      . . . . . . O          leads to 0  0  2  2  0
-//!      . . . O . . .          cluster  0  0  1  1  0
+//! ```text
+//! O . O . . . O          place    0  1  2  3  4
+//! . . . . . . O          leads to 0  0  2  2  0
+//! . . . O . . .          cluster  0  0  1  1  0
+//! ```
 //!
 //! The places are visited in order. A root begins the next cluster. Any other place belongs to the cluster of the
 //! earlier place to which it leads, which by then has the number of its cluster instead. So the clusters are in the
@@ -49,7 +51,7 @@ impl Pattern {
     }
 }
 
-/// The law that linked cells are an equivalence.
+/// The law that being linked is an equivalence relation on the cells of a pattern.
 #[tactic(auto, using(crate::proofs::lemmas::clusters::ClusterLaws::linked_law))]
 pub fn linked_is_an_equivalence()
     ensures { LinkedIsAnEquivalence }
@@ -95,8 +97,8 @@ fn gathered(
     Ok(clusters)
 }
 
-/// Puts the cell at a place into the cluster of the place to which it leads, and replaces the place by the number of
-/// that cluster. A root begins a cluster.
+/// Puts the cell at a place into the cluster of the place to which it leads, and replaces the link of the place by the
+/// number of that cluster. A root begins a new cluster.
 fn gather(
     alloc: Global,
     cells: &[Cell],

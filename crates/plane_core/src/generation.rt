@@ -1,4 +1,4 @@
-//! The next generation of a pattern, and the one many generations later.
+//! Computes the next generation of a pattern, or one many generations later.
 //!
 //! ```text
 //! run:  stretch (at most 256 generations)  ->  stretch  ->  ..
@@ -58,11 +58,11 @@ impl fmt::Debug for StepError {
     }
 }
 
-/// The most generations on one board. Then the pattern is read back and a new board is made, so that the board never
-/// stays much wider than the pattern.
+/// The most generations that are run on one board. Then the pattern is read back and a new board is made, so that the
+/// board never is much wider than the pattern.
 const STRETCH: u32 = 256;
 
-/// The most cuts on the way to a part of a pattern. Each cut is near the middle, so there may be very many parts.
+/// The most cuts that lead to one part of a pattern. Each cut is near the middle, so there may be very many parts.
 const CUTS: u32 = 40;
 
 impl<E: Into<OutOfMemory>> From<E> for StepError {
@@ -76,14 +76,14 @@ impl<E: Into<OutOfMemory>> From<E> for StepError {
 impl Pattern {
     /// Returns the next generation under the rule.
     ///
-    /// The memory is proportional to the population. So is the time in a window, if the pattern fits one, or on a
-    /// board, if it needs at most 32 words per live cell. Otherwise the generation is computed cell by cell, and
-    /// sorting takes most of the time.
+    /// The memory is proportional to the population. A pattern that fits a window is run in one, and a pattern that
+    /// needs at most 32 words per live cell is run on a board. In both cases, the time is proportional to the
+    /// population too. Otherwise the generation is computed cell by cell, and sorting takes most of the time.
     ///
     /// # Errors
     ///
-    /// `Edge` if a cell has a coordinate of 1,000,000 in size, whether there is memory or not, and even if no cell
-    /// would be born past it. Otherwise `Memory` if memory runs out.
+    /// `Edge` if a cell has a coordinate of -1,000,000 or 1,000,000, whether there is memory or not, and even if no
+    /// cell would be born past it. Otherwise `Memory` if memory runs out.
     pub fn step(&self, alloc: Global, rule: &Rule) -> Result<Pattern, StepError>
         ensures next { IfOk result (λ pattern. pattern ≡ next rule.now self.now) }
         // For every cell of the plane: it is alive exactly if the rule's numbers say so.
@@ -103,8 +103,8 @@ impl Pattern {
         Ok(self.counted(alloc, rule)?)
     }
 
-    /// Checks whether a cell has a coordinate of 1,000,000 in size. In that case, there is no next generation, because
-    /// a neighbour would be past the plane.
+    /// Checks whether a cell has a coordinate of -1,000,000 or 1,000,000. In that case, there is no next generation,
+    /// because a neighbour is off the plane.
     pub fn touches_edge(&self) -> bool
         ensures { result ≡ touches_edge self.now }
     {
@@ -122,7 +122,7 @@ impl Pattern {
     ///
     /// The generations are made one after another, and the first failure is returned.
     ///
-    /// - `Edge` if a generation before the last has a cell with a coordinate of 1,000,000 in size. If the pattern
+    /// - `Edge` if a generation before the last has a cell with a coordinate of -1,000,000 or 1,000,000. If the pattern
     ///   itself has one, the error is `Edge` whether there is memory or not.
     /// - `Memory` if memory runs out.
     ///
@@ -161,8 +161,9 @@ impl Pattern {
         Ok(pattern)
     }
 
-    /// Returns the pattern after `generations` generations, each part that is far from the others on a board of its
-    /// own, or `None` if a board isn't worth it for some part. At most `cuts` cuts lead to a part.
+    /// Returns the pattern after `generations` generations, or `None` if a board isn't worth it, or is too small, for
+    /// some part. Each part that is far from the others is run on a board of its own. At most `cuts` cuts lead to a
+    /// part.
     #[cycle(run_in_parts)]
     fn run_in_parts(
         &self,
@@ -191,7 +192,8 @@ impl Pattern {
         later.transposed(alloc).map(Some)
     }
 
-    /// Returns what becomes of the cells above a cut and of those below it, together.
+    /// Runs the first `cut` cells and the others separately, as [`run_in_parts`](Pattern::run_in_parts) does, and
+    /// returns the union of the results.
     #[cycle(run_in_parts)]
     fn run_sides(
         &self,
@@ -216,7 +218,7 @@ impl Pattern {
         above.united(&below).map(Some)
     }
 
-    /// Returns what becomes of the cells on one side of a cut.
+    /// Runs the cells on one side of a cut, as [`run_in_parts`](Pattern::run_in_parts) does.
     #[cycle(run_in_parts)]
     fn run_side(
         alloc: Global,
@@ -234,7 +236,8 @@ impl Pattern {
         side.run_in_parts(alloc, rule, generations, cuts)
     }
 
-    /// Returns the pattern after `generations` generations on a board, if a board is worth it and has room for them.
+    /// Returns the pattern after `generations` generations on a board with the frame `at`. `None` if there is no frame,
+    /// because a board isn't worth it, or if the pattern comes too near to the border of the board.
     #[tactic(auto, using(crate::proofs::lemmas::plane::PartLemmas::ran_on_board))]
     fn run_on(
         &self,
@@ -282,7 +285,8 @@ pub fn isotropy()
     ensures turned { NextTurned }
 {}
 
-/// Returns what the board shows after `generations` generations, if it has room for them.
+/// Returns the pattern that the board shows after `generations` generations, or `None` if the board has no room for
+/// them.
 fn shown_after(
     alloc: Global,
     board: &mut Board,

@@ -1,5 +1,5 @@
-//! One-sided tests, which look at one cluster: `true` is a proof that a pattern isn't at rest or doesn't recur, and
-//! `false` says nothing. So which cluster is looked at, and when, is a free choice that needs no proof.
+//! One-sided tests, each of which looks at one cluster: `true` is a proof that a pattern isn't at rest or doesn't
+//! recur, and `false` says nothing. So which cluster is tested, and when, is a free choice that needs no proof.
 
 pub(crate) mod active_cells;
 pub(crate) mod crop;

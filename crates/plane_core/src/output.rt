@@ -7,10 +7,10 @@ use std::io::{self, ErrorKind, Write};
 use std::marker::Model;
 use thiserror::Error;
 
-/// The witness that a write failed or took no byte. It comes from a writer.
+/// The witness that a write failed or took no byte. It is made only from a writer's error, or by a write that failed.
 #[derive(Clone, Copy, PartialEq, Eq, Error)]
 pub struct WriteError {
-    /// The writer's kind of error, or `None` if it took no byte, or was called 2^64 times for one piece.
+    /// The writer's kind of error. `None` if it took no byte, or if writing one piece took 2^64 - 1 calls.
     kind: Option<ErrorKind>,
 }
 
@@ -80,8 +80,8 @@ impl<V: Write> Out<V> {
         self.writer
     }
 
-    /// Writes the whole piece. No earlier write may have failed. Only a write that a signal interrupts is tried again.
-    /// Nothing is flushed.
+    /// Writes the whole piece. A write that a signal interrupts is tried again. Nothing is flushed. No earlier write
+    /// may have failed.
     ///
     /// # Errors
     ///
@@ -113,7 +113,7 @@ impl<V: Write> Out<V> {
         Err(WriteError { kind })
     }
 
-    /// Flushes the writer, which sends on everything that it holds back. No earlier write may have failed.
+    /// Flushes the writer, which passes on everything that it has buffered. No earlier write may have failed.
     ///
     /// # Errors
     ///

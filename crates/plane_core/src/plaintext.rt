@@ -48,7 +48,7 @@ const COMMENT: u8 = b'!';
 
 const LINE_FEED: u8 = b'\n';
 
-/// Dead cells that are written in one write.
+/// The most dead cells that are written at once.
 const DEAD_CELLS: [u8; 64] = [DEAD; 64];
 
 /// Why a text isn't a plaintext pattern.
@@ -183,19 +183,22 @@ fn is_line_feed(byte: &u8) -> bool
     *byte == LINE_FEED
 }
 
+/// Checks whether the line is a comment: it begins with `!`.
 fn is_comment(line: &[u8]) -> bool
     ensures { result ≡ is_comment line.now }
 {
     matches!(line, [COMMENT, ..])
 }
 
+/// Checks whether the byte is a live cell: `O` or `*`.
 fn is_live(byte: u8) -> bool
     ensures { result ≡ is_live byte }
 {
     byte == LIVE || byte == STAR
 }
 
-/// Returns the first fault of a row. Lines count from 1, and x and y from 0.
+/// Returns the first fault of a row, which is row `y` of the pattern, counted from 0, and line `line` of the text,
+/// counted from 1.
 fn fault_in_row(line: usize, y: usize, row: &[u8]) -> Option<PlaintextFault>
     ensures { result ≡ first_fault (places_of_row (y, (line, row.now))) }
 {
@@ -234,7 +237,7 @@ fn fault_in(text: &[u8]) -> Option<PlaintextFault>
     None
 }
 
-/// Adds the cells of row y, whose bytes are all in the first 1,000 columns and rows.
+/// Appends the live cells of row `y`, whose bytes are all in the first 1,000 columns and rows, to the list.
 #[tactic(auto, using(crate::proofs::lemmas::plaintext::PlaintextRows::live_here, crate::proofs::lemmas::plaintext::PlaintextRows::dead_here, crate::proofs::lemmas::plaintext::PlaintextRows::no_cell_past))]
 fn push_row(cells: &mut Vec<Cell>, y: usize, row: &[u8]) -> Result<(), OutOfMemory>
     requires { (x : ℕ) → x < length row.now → (x < side_limit) × (y < side_limit) }
@@ -285,7 +288,7 @@ fn put_after_gap<V: Write>(out: &mut Out<V>, gap: u32, byte: u8) -> Result<(), W
     out.put(&[byte])
 }
 
-/// Returns how many of the cells, from the first on, are in row y.
+/// Returns the number of cells at the beginning of the list that are in row `y`.
 fn row_len(cells: &[Cell], y: i32) -> usize
     ensures value { result ≡ prefix_len (λ c. int_eq c.y y) cells.now }
     ensures bound { result ≤ length cells.now }
@@ -297,14 +300,14 @@ fn row_len(cells: &[Cell], y: i32) -> usize
     len
 }
 
-/// Returns the cells after those of row y.
+/// Returns the list without the cells of row `y` at its beginning.
 fn below(cells: &[Cell], y: i32) -> &[Cell]
     ensures { result.now ≡ drop (prefix_len (λ c. int_eq c.y y) cells.now) cells.now }
 {
     &cells[row_len(cells, y)..]
 }
 
-/// Writes row y of a box. No cell of an earlier row is left.
+/// Writes row `y` of the box and a line feed. None of the cells is above this row or beside the box.
 fn write_row<V: Write>(
     out: &mut Out<V>,
     cells: &[Cell],

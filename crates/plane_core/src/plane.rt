@@ -1,4 +1,4 @@
-//! The plane: cells, finite patterns of them, rules, and what moves and turns patterns.
+//! The plane: cells, patterns (finite sets of cells), rules, and the transforms that move and turn patterns.
 
 /// Bounding boxes.
 pub mod bounds;
@@ -9,7 +9,7 @@ pub mod coordinate;
 /// How fast patterns grow in diagonal directions.
 pub mod frontier;
 mod list_generation;
-/// How far a cell sees.
+/// Locality: how far influence reaches in a number of generations.
 pub mod locality;
 /// The eight orientations.
 pub mod orientation;
@@ -18,7 +18,7 @@ mod parts;
 pub mod pattern;
 /// Rules by birth and survival numbers.
 pub mod rule;
-/// Patterns moved and turned.
+/// Moving and turning patterns.
 pub mod transform;
 /// The translation from one pattern to another.
 pub mod translation;

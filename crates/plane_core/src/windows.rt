@@ -1,4 +1,4 @@
-//! Windows: pieces of the plane, 64 columns wide, in vectors of words, and a rule as operations on these.
+//! Windows: pieces of the plane, 64 columns wide, stored in vectors of words. A rule is applied to whole vectors.
 
 pub(crate) mod lane_sums;
 pub(crate) mod row_packing;

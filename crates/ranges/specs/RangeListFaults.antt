@@ -6,7 +6,7 @@ use Rattle.std.specs.Str.{all_ascii_digits}
 use Rattle.std.specs.Str.Parse.{digits_value}
 use Rattle.ranges.specs.RangeLists.{Written, joined, IsListText}
 
--- the text begins the text of some list of ranges
+-- the text is the beginning of a list of ranges
 pub record BeginsList (text : List ℕ) : Type 0 where
   pub remainder : List ℕ
   pub whole : IsListText (text ++ remainder)
@@ -17,14 +17,14 @@ pub record IsDecimal (text : List ℕ) : Type 0 where
   pub some : 1 ≤ length text
   pub plain : slice_index text 0 ≡ 48 → length text ≡ 1
 
--- the text begins the text of some list of ranges, if numbers of any size are allowed
+-- the text is the beginning of a list of ranges, if numbers of any size are allowed
 pub record BeginsLongList (text : List ℕ) : Type 0 where
   pub ranges : List Written
   pub remainder : List ℕ
   pub decimals : All (λ w. IsDecimal w.first × IsDecimal w.count) ranges
   pub spelled : joined ranges ≡ text ++ remainder
 
--- a decimal of 2^64 or more begins the text
+-- the text begins with a decimal of 2^64 or more
 pub record BeginsLargeDecimal (text : List ℕ) : Type 0 where
   pub number : List ℕ
   pub remainder : List ℕ
@@ -32,21 +32,22 @@ pub record BeginsLargeDecimal (text : List ℕ) : Type 0 where
   pub large : 2 ^ 64 ≤ digits_value 10 number
   pub spelled : text ≡ number ++ remainder
 
--- What comes before the place begins a list. With the byte at the place it doesn't, whatever the size of numbers; or the text ends
--- there too early.
+-- The text before the place is the beginning of a list. With the byte at the place, it no longer is, even if numbers of
+-- any size are allowed; or the text ends at the place, and isn't a list.
 pub record IsBadListByte (text : List ℕ) (place : ℕ) : Type 0 where
   pub within : place ≤ length text
   pub before : BeginsList (take place text)
   pub there : place < length text → ¬ BeginsLongList (take (place + 1) text)
   pub short : place ≡ length text → ¬ IsListText text
 
--- What comes before the place begins a list, and a decimal of 2^64 or more begins there. So the byte before the place is no digit.
+-- The text before the place is the beginning of a list, a decimal of 2^64 or more begins at the place, and the byte
+-- before the place is no digit.
 pub record IsLargeDecimal (text : List ℕ) (place : ℕ) : Type 0 where
   pub before : BeginsList (take place text)
   pub apart : 1 ≤ place → is_ascii_digit (slice_index text (place - 1)) ≡ false
   pub there : BeginsLargeDecimal (drop place text)
 
--- the leftmost fault: everything before the place is right
+-- the leftmost fault is at this place: the text before it is the beginning of a list
 abbrev pub IsFirstListFault : List ℕ → ℕ → Type 0
 IsFirstListFault text place = IsBadListByte text place ⊎ IsLargeDecimal text place
 

@@ -15,52 +15,54 @@ abbrev pub has_byte : ℕ → List ℕ → Type 0
 has_byte b [] = ⊥
 has_byte b (c ∷ remainder) = b ≡ c
 
--- a number of 64 bits begins the text, and its decimal ends before the rest
+-- the text begins with the decimal of n, which is below 2^64, and the remainder follows; only after `0` may a digit
+-- follow
 pub record BeginsDecimal (text : List ℕ) (n : ℕ) (remainder : List ℕ) : Type 0 where
   pub fits : n < 2 ^ 64
   pub spelled : text ≡ decimal n ++ remainder
   pub ends : has_digit remainder ≡ true → n ≡ 0
 
--- no digit begins the text, or its first digits are a number of 2^64 or more
+-- the text begins with no digit, or with a decimal of 2^64 or more
 abbrev pub BeginsNoDecimal : List ℕ → Type 0
 BeginsNoDecimal text = has_digit text ≡ true → BeginsLargeDecimal text
 
--- a range begins the text, and its count ends before the rest
+-- the text begins with a range of numbers below 2^64, and the remainder follows; only after the count `0` may a digit
+-- follow
 pub record BeginsRange (text : List ℕ) (r : Range) (remainder : List ℕ) : Type 0 where
   pub first : r.first < 2 ^ 64
   pub count : r.count < 2 ^ 64
   pub spelled : text ≡ pair_text (written r) ++ remainder
   pub ends : has_digit remainder ≡ true → r.count ≡ 0
 
--- a first number begins the text, and the rest doesn't begin with `+` (43)
+-- the text begins with a number, and no `+` (43) follows
 pub record LacksPlus (text remainder : List ℕ) : Type 0 where
   pub n : ℕ
   pub begins : BeginsDecimal text n remainder
   pub other : ¬ has_byte 43 remainder
 
--- a first number and a `+` (43) begin the text, and no count follows
+-- the text begins with a number and a `+` (43), and no count follows
 pub record LacksCount (text remainder : List ℕ) : Type 0 where
   pub n : ℕ
   pub begins : BeginsDecimal text n (43 ∷ remainder)
   pub none : BeginsNoDecimal remainder
 
--- no range begins the text; the rest is where the fault is
+-- the text doesn't begin with a range; the remainder is the text from the fault on
 abbrev pub IsNoRange : List ℕ → List ℕ → Type 0
 IsNoRange text remainder = ((remainder ≡ text) × BeginsNoDecimal text) ⊎ (LacksPlus text remainder ⊎ LacksCount text remainder)
 
--- a range begins the text, and neither the end nor a `,` (44) follows it
+-- the text begins with a range, and neither its end nor a `,` (44) follows
 pub record LacksComma (text remainder : List ℕ) : Type 0 where
   pub range : Range
   pub begins : BeginsRange text range remainder
   pub some : remainder ≢ []
   pub other : ¬ has_byte 44 remainder
 
--- where the first range begins, if there is one
+-- the first range begins where the text begins; an empty text has none
 abbrev pub Starts : List ℕ → Option (List ℕ) → Type 0
 Starts text None = text ≡ []
 Starts text (Some remainder) = (remainder ≡ text) × (remainder ≢ [])
 
--- a range is passed, and either it ends the text, or the next one begins after a `,` (44)
+-- the text begins with this range; either the text ends there, or a `,` (44) and the next range follow
 abbrev pub Passes : List ℕ → Range → Option (List ℕ) → Type 0
 Passes text r None = BeginsRange text r []
 Passes text r (Some remainder) = BeginsRange text r (44 ∷ remainder)
@@ -70,7 +72,8 @@ abbrev pub ranges_and_commas : List Range → List ℕ
 ranges_and_commas [] = []
 ranges_and_commas (r ∷ more) = pair_text (written r) ++ 44 ∷ ranges_and_commas more
 
--- these ranges have been passed, and the next one begins the rest, if there is one
+-- these ranges have been passed, and the next one begins the remainder; if there is no remainder, they are the whole
+-- list
 abbrev pub HasPassed : List ℕ → List Range → Option (List ℕ) → Type 0
 HasPassed text ranges None = list_text ranges ≡ text
 HasPassed text ranges (Some remainder) = text ≡ ranges_and_commas ranges ++ remainder

@@ -8,7 +8,7 @@ pub record Written : Type 0 where
   pub first : List ℕ
   pub count : List ℕ
 
--- the two with a `+` (43) between them
+-- the first number, a `+` (43), and the count
 abbrev pub pair_text : Written → List ℕ
 pair_text w = w.first ++ 43 ∷ w.count
 
@@ -18,6 +18,7 @@ joined [] = []
 joined (w ∷ []) = pair_text w
 joined (w ∷ v ∷ more) = pair_text w ++ 44 ∷ joined (v ∷ more)
 
+-- a range as it is written, in decimal
 abbrev pub written : Range → Written
 written r = record { first = decimal r.first; count = decimal r.count }
 
@@ -25,7 +26,7 @@ written r = record { first = decimal r.first; count = decimal r.count }
 unfoldable pub list_text : List Range → List ℕ
 list_text ranges = joined (map written ranges)
 
--- both numbers of each range have 64 bits
+-- both numbers of each range are below 2^64
 abbrev pub FitU64 : List Range → Type 0
 FitU64 ranges = All (λ r. (r.first < 2 ^ 64) × (r.count < 2 ^ 64)) ranges
 

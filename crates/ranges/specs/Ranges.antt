@@ -33,11 +33,12 @@ pub record ShareNumber (a b : List Range) : Type 0 where
 abbrev pub AreBelow : ℕ → List Range → Type 0
 AreBelow bound ranges = All (λ r. end_of r ≤ bound) ranges
 
--- soup numbers are below this, which is the project's choice
+-- soup numbers are below this bound, which is this project's choice
 abbrev pub number_bound : ℕ
 number_bound = 2 ^ 40
 
--- small enough for a haul: no number at or over the bound, and at most 2^24 numbers, which is also the project's choice
+-- small enough for a haul: no range ends past the bound, and there are at most 2^24 numbers, which is also this
+-- project's choice
 pub record AreSmall (ranges : List Range) : Type 0 where
   pub below : AreBelow number_bound ranges
   pub few : size_of ranges ≤ 2 ^ 24
@@ -52,7 +53,7 @@ abbrev pub AreNormal : List Range → Type 0
 AreNormal [] = Unit {0}
 AreNormal (r ∷ more) = (1 ≤ r.count) × BeginAfter (end_of r) more × AreNormal more
 
--- ranges in normal form that give the same set
+-- `normal` is in normal form, and gives the same set as the ranges
 pub record IsNormalForm (ranges normal : List Range) : Type 0 where
   pub normal_form : AreNormal normal
   pub same : (n : ℕ) → is_in normal n ≡ is_in ranges n

@@ -18,10 +18,10 @@ use std::alloc::Global;
 use std::fmt;
 use std::marker::Model;
 
-/// Soup numbers are below this bound, which is enough for anybody and keeps sums of numbers small.
+/// The bound of soup numbers: each is below 2^40. That is enough for any census, and keeps sums of numbers small.
 pub const NUMBER_BOUND: u64 = 1 << 40;
 
-/// The most soups of a haul that is opened, so that it fits into memory.
+/// The most numbers that the set of a haul may have when the haul is opened, 2^24, so that it fits into memory.
 pub const MOST_NUMBERS: u64 = 1 << 24;
 
 /// The `count` soup numbers from `first` on.
@@ -109,7 +109,11 @@ impl Ranges {
         }
     }
 
-    /// Returns the normal form of ranges of which no two share a number.
+    /// Returns the normal form of `ranges`. No two of them may share a number, and none may end past 2^40.
+    ///
+    /// # Errors
+    ///
+    /// [`OutOfMemory`] if memory runs out.
     pub fn normal_form(alloc: Global, ranges: &[Range]) -> Result<Ranges, OutOfMemory>
         requires below { AreBelow number_bound ranges.now }
         requires apart { ¬ Overlap ranges.now }
@@ -122,7 +126,11 @@ impl Ranges {
         Ok(Ranges { ranges })
     }
 
-    /// Returns the normal form of all numbers of both sets, which share none.
+    /// Returns the union of two sets that share no number.
+    ///
+    /// # Errors
+    ///
+    /// [`OutOfMemory`] if memory runs out.
     pub fn union(&self, alloc: Global, other: &Ranges) -> Result<Ranges, OutOfMemory>
         requires apart { ¬ ShareNumber self.now other.now }
         ensures form { IfOk result (IsNormalForm (self.now ++ other.now)) }
@@ -147,7 +155,11 @@ impl Ranges {
         false
     }
 
-    /// Returns equal ranges.
+    /// Returns a copy of the ranges.
+    ///
+    /// # Errors
+    ///
+    /// [`OutOfMemory`] if memory runs out.
     pub fn copy(&self, alloc: Global) -> Result<Ranges, OutOfMemory>
         ensures { IfOk result (λ ranges. ranges ≡ self.now) }
     {
@@ -163,7 +175,8 @@ pub fn one_normal_form()
     ensures { OneNormalForm }
 {}
 
-/// Returns how many numbers the ranges have together, or `None` if one ends past 2^40 or there are more than 2^24.
+/// Returns how many numbers the ranges have together, or `None` if a range ends past 2^40 or there are more than 2^24
+/// numbers.
 pub fn small_size(ranges: &[Range]) -> Option<u64>
     ensures small { IfSome result (λ size. (size ≡ size_of ranges.now) × AreSmall ranges.now) }
     ensures large { IfNone result (¬ AreSmall ranges.now) }
@@ -205,7 +218,7 @@ fn with_numbers(alloc: Global, ranges: &[Range]) -> Result<Vec<Range>, OutOfMemo
     Ok(some)
 }
 
-/// Joins ranges that touch. The ranges have to ascend.
+/// Joins ranges that touch. The ranges have to ascend and share no number, and none may be empty.
 fn joined(alloc: Global, ascending: &[Range]) -> Result<Vec<Range>, OutOfMemory>
     requires ascending { Ascending ascending.now }
     requires below { AreBelow number_bound ascending.now }

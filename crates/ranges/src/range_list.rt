@@ -1,5 +1,5 @@
-//! Reads a list of ranges: in one pass without memory for the first fault, and then, if there is no fault, range by
-//! range.
+//! Reads a list of ranges in two passes. The first looks for a fault, and needs no memory. If there is none, the second
+//! collects the ranges.
 //!
 //! ```text
 //! 0+4,10+2     whole ranges are passed one after another: 0+4, then 10+2
@@ -63,8 +63,8 @@ impl Range {
     ///
     /// # Errors
     ///
-    /// - [`ListError::BadList`] if the text isn't that of a list, whether there is memory or not. Its place is that of
-    ///   the leftmost fault.
+    /// - [`ListError::BadList`] if the text isn't that of a list, even if there is no memory. Its place is that of the
+    ///   leftmost fault.
     /// - [`ListError::Memory`] if memory runs out.
     pub fn read_list(alloc: Global, text: &str) -> Result<Vec<Range>, ListError>
         // The text of the list that is read is this text, and the text of every list can be read.
@@ -86,14 +86,13 @@ impl Range {
     }
 }
 
-/// The laws that a text is that of one list of ranges, and that a text that is no list has its first fault at one
-/// place.
+/// The laws that a text is that of at most one list of ranges, and that a text has its first fault at only one place.
 pub fn list_texts_tell_ranges()
     ensures one { TextsHaveOneList }
     ensures place { TextsHaveOneFault }
 {}
 
-/// Returns the place of the first fault of a text, if it isn't the text of a list of ranges.
+/// Returns the place of the first fault of a text, or `None` if it is the text of a list of ranges.
 #[tactic(auto, using(crate::proofs::ListLemmas::passed_first))]
 fn fault_in(text: &[u8]) -> Option<usize>
     ensures fault { IfSome result (IsFirstListFault text.now) }
@@ -131,15 +130,16 @@ fn ranges_in(alloc: Global, text: &[u8]) -> Result<Vec<Range>, OutOfMemory>
     Ok(ranges)
 }
 
-/// Returns the text in which the first range begins, unless it is empty.
+/// Returns the text, in which the first range begins, or `None` if it is empty.
 fn unless_empty(text: &[u8]) -> Option<&[u8]>
     ensures { Starts text.now (option_map (λ remainder. remainder.now) result) }
 {
     if text.is_empty() { None } else { Some(text) }
 }
 
-/// Returns the range at the beginning of a text, and where the next one begins if a comma follows. If there is no
-/// range, or if something other than the end or a comma follows it, the error is the text from the fault on.
+/// Returns the range at the beginning of a text, and the text after the comma that follows it, if there is one. If
+/// there is no range, or if something other than the end or a comma follows it, the error is the text from the fault
+/// on.
 fn next_range(text: &[u8]) -> Result<(Range, Option<&[u8]>), &[u8]>
     ensures ok { IfOk result (λ next. Passes text.now next.0 (option_map (λ remainder. remainder.now) next.1)) }
     ensures err { IfErr result (λ remainder. IsNoRange text.now remainder.now ⊎ LacksComma text.now remainder.now) }
@@ -201,7 +201,7 @@ fn more_digits(first: u8, text: &[u8]) -> Option<(u64, &[u8])>
     Some((number, remainder))
 }
 
-/// Appends a digit to a number, if the result is below 2^64.
+/// Returns the number with the digit appended, or `None` if that is 2^64 or more.
 fn with_digit(number: u64, digit: u8) -> Option<u64>
     requires { digit ≤ 9 }
     ensures some { IfSome result (λ more. more ≡ 10 * number + digit) }
@@ -210,7 +210,7 @@ fn with_digit(number: u64, digit: u8) -> Option<u64>
     number.checked_mul(10)?.checked_add(u64::from(digit))
 }
 
-/// Returns the digit at the beginning of a text, and the text after it.
+/// Returns the value of the digit at the beginning of a text, and the text after it, or `None` if there is no digit.
 fn first_digit(text: &[u8]) -> Option<(u8, &[u8])>
     ensures some { IfSome result (λ first. text.now ≡ (48 + first.0) ∷ first.1.now) }
     ensures digit { IfSome result (λ first. first.0 ≤ 9) }

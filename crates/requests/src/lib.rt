@@ -1,6 +1,6 @@
 //! What a call of `census` asks for, as plain values: texts, the numbers of a profile, sets of soups, plans.
 //!
-//! `arguments` reads them from a call, and the commands take them, so neither needs the other.
+//! `arguments` reads these values from a call, and the commands take them, so neither crate needs the other.
 #![tactic(auto)]
 
 /// Plans of a census: soups, profile and rule.

@@ -21,14 +21,14 @@ impl<'a> Model for Text<'a> {
 }
 
 impl<'a> Text<'a> {
-    /// Returns the text with these bytes.
+    /// Returns `text` as a value that hasn't been parsed yet.
     pub fn new(text: &'a str) -> Text<'a>
         ensures { result ≡ text.now }
     {
         Text { text }
     }
 
-    /// Returns its text.
+    /// Returns the text as a string slice.
     pub fn as_str(&self) -> &'a str
         ensures { result.now ≡ self.now }
     {

@@ -26,12 +26,12 @@ abbrev pub FindingsMoved : Type 0
 FindingsMoved = (dx dy : ℤ) (rule : Numbers) (profile : Settling) (cells : List Cell) (finding : Finding)
     → InOrder cells → IsFinding rule profile cells finding → IsFinding rule profile (shifted dx dy cells) finding
 
--- the image of a pattern, turned or mirrored, has its finding, wherever it lies
+-- a pattern that is turned or mirrored about the origin keeps its finding
 abbrev pub FindingsOfImages : Type 0
 FindingsOfImages = (o : Orientation) (rule : Numbers) (profile : Settling) (cells : List Cell) (finding : Finding)
     → InOrder cells → IsFinding rule profile cells finding → IsFinding rule profile (image o cells) finding
 
--- and at the corner
+-- and so does one that is then moved so that its bounding box begins at the origin
 abbrev pub FindingsTurned : Type 0
 FindingsTurned = (o : Orientation) (rule : Numbers) (profile : Settling) (cells : List Cell) (finding : Finding)
     → InOrder cells → IsFinding rule profile cells finding → IsFinding rule profile (turned o cells) finding

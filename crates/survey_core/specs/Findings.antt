@@ -1,4 +1,5 @@
--- Findings: at which checkpoint a pattern is at rest, which objects it consists of then, and whether they stay for good.
+-- Findings: at which checkpoint a pattern is at rest, which objects it consists of then, and whether they stay for
+-- good.
 use Rattle.std.specs.Prelude.{◌≡◌, ◌<◌, ◌^◌, ◌↔◌, ℕ, Bool, IsTrue, List, sum}
 use Rattle.std.specs.Map.{values_of}
 use Rattle.plane_core.specs.declared.plane.cell.Cell.{Cell}
@@ -15,24 +16,24 @@ abbrev pub objects_in : Finding → ℕ
 objects_in (Settled checkpoint objects for_good) = sum (values_of objects)
 objects_in Unsettled = 0
 
--- At no checkpoint before t is the pattern at rest.
+-- the pattern is at rest at no checkpoint before t
 abbrev pub NoRestBefore : Numbers → Settling → List Cell → ℕ → Type 0
 NoRestBefore rule profile cells t = (u : ℕ) → IsCheckpoint profile u → u < t → ¬ IsAtRest rule profile (after rule cells u)
 
--- After t generations the pattern is at rest, with these objects, which stay for good or not.
+-- The pattern is at rest and consists of these objects, and `for_good` says whether they stay for good.
 pub record IsSettled (rule : Numbers) (profile : Settling) (cells : List Cell) (objects : List (List ℕ × ℕ)) (for_good : Bool) : Type 0 where
   pub clusters : List (List Cell)
   pub rest : RestsAs rule profile cells clusters
   pub counted : AreObjectsOf rule profile.period clusters objects
   pub good : IsTrue for_good ↔ StayForGood profile.horizon objects
 
--- the pattern is at rest after t generations, and this is its finding then
+-- the finding of a pattern that settles at generation t, where `cells` is the pattern at that generation
 abbrev pub SettlesAt : Numbers → Settling → List Cell → ℕ → Finding → Type 0
 SettlesAt rule profile cells t (Settled u objects for_good) = (u ≡ t) × IsSettled rule profile cells objects for_good
 SettlesAt rule profile cells t Unsettled = ⊥
 
--- The finding of a pattern: the first checkpoint at which it is at rest, with its objects then, or that there is no such
--- checkpoint.
+-- The finding of a pattern: the first checkpoint at which it is at rest, with its objects then, or that there is no
+-- such checkpoint.
 abbrev pub IsFinding : Numbers → Settling → List Cell → Finding → Type 0
 IsFinding rule profile cells (Settled t objects for_good) =
     IsCheckpoint profile t × NoRestBefore rule profile cells t × IsSettled rule profile (after rule cells t) objects for_good

@@ -6,9 +6,11 @@ use Rattle.plane_core.specs.plane.Rules.{Numbers}
 use Rattle.survey_core.specs.Profiles.{Settling}
 use Rattle.survey_core.specs.declared.job.Job.{Job}
 
+-- two profiles have the same four numbers
 abbrev pub same_profile : Settling → Settling → Bool
 same_profile p q = (p.period == q.period) && ((p.horizon == q.horizon) && ((p.stride == q.stride) && (p.limit == q.limit)))
 
+-- two rules have the same births and survivals
 abbrev pub same_rule : Numbers → Numbers → Bool
 same_rule r s = pointwise beq r.births s.births && pointwise beq r.survivals s.survivals
 

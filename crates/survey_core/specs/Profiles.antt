@@ -3,8 +3,8 @@ use Rattle.std.specs.Prelude.{◌≡◌, ◌*◌, ◌≤◌, ◌&&◌, ℕ, Bool
 use Rattle.survey_core.specs.declared.profile.ProfileError.{ProfileError}
 use Rattle.survey_core.specs.declared.profile.ProfileError.TheVariants as error
 
--- the longest period that counts, how far the test of rest looks ahead, the distance between checkpoints, and the last generation
--- at which there may be one, all in generations
+-- the longest period that counts, how far the test of rest looks ahead, the distance between checkpoints, and the last
+-- generation that may be a checkpoint, all in generations
 pub record Settling : Type 0 where
   pub period : ℕ
   pub horizon : ℕ
@@ -21,10 +21,11 @@ pub record IsProfile (profile : Settling) : Type 0 where
   pub stride : profile.stride ≤ 10000
   pub limit : profile.limit ≤ 100000
 
+-- n is from `least` to `most`
 abbrev pub is_from_to : ℕ → ℕ → ℕ → Bool
 is_from_to least most n = nat_le least n && nat_le n most
 
--- the profile with four numbers, or the first of them that lies outside its range
+-- the profile with these four numbers, or an error that names the first of them outside its range
 abbrev pub profile_of : Settling → Result Settling ProfileError
 profile_of p =
     if not (is_from_to 1 64 p.period) then Err error.Period
@@ -33,11 +34,11 @@ profile_of p =
     else if not (nat_le p.limit 100000) then Err error.Limit
     else Ok p
 
--- the profile that is used where nothing else is said
+-- the default profile
 abbrev pub standard : Settling
 standard = record { period = 64; horizon = 512; stride = 101; limit = 30300 }
 
--- the generations at which a pattern is looked at: 0, the stride, twice the stride and so on, up to the limit
+-- the checkpoints: the generations 0, the stride, twice the stride and so on, up to the limit
 pub record IsCheckpoint (profile : Settling) (t : ℕ) : Type 0 where
   pub place : ℕ
   pub is : t ≡ place * profile.stride

@@ -20,11 +20,11 @@ pub record IsSeed (bytes : List ℕ) : Type 0 where
   pub short : length bytes ≤ most_bytes
   pub visible : list_all is_visible bytes ≡ true
 
--- the text, if this is its first byte that isn't visible
+-- the seed, or an error at the place of the first byte that isn't visible, if there is one
 abbrev pub seed_with_fault : List ℕ → Option ℕ → Result (List ℕ) SeedFault
 seed_with_fault text None = Ok text
 seed_with_fault text (Some place) = Err (BadByte place)
 
--- the seed with this text, or why there is none: first its length is checked, and then its bytes from the left
+-- the seed with this text, or why it isn't one: first its length is checked, and then its bytes from the left
 abbrev pub seed_read : List ℕ → Result (List ℕ) SeedFault
 seed_read text = if nat_lt most_bytes (length text) then Err TooLong else seed_with_fault text (position is_invisible text)

@@ -6,14 +6,16 @@ use Rattle.plane_core.specs.declared.plane.bounds.Bounds.{Bounds}
 use Rattle.plane_core.specs.plane.Cells.{cell_at, has, set_of}
 use Rattle.sha2.specs.Sha256.{sha256}
 
--- the digest's bit for column x of row y is set: bit 7 - x mod 8 of byte 2y + x div 8, where bit 7 is the most significant
+-- the digest's bit for column x of row y is set: bit 7 - x mod 8 of byte 2y + x div 8, where bit 7 is the most
+-- significant
 abbrev pub is_set : List ℕ → ℕ → ℕ → Bool
 is_set digest x y = (slice_index digest (2 * y + x / 8) / 2 ^ (7 - x % 8)) % 2 == 1
 
--- the places of the square are counted row by row, from 0 to 255: which cell stands at a place, and whether it is alive
+-- the cell at a place of the square; places are counted row by row, from 0 to 255
 abbrev pub square_cell : ℕ → Cell
 square_cell place = cell_at (pos (place % 16)) (pos (place / 16))
 
+-- the cell at this place is alive
 unfoldable pub is_alive_at : List ℕ → ℕ → Bool
 is_alive_at digest place = is_set digest (place % 16) (place / 16)
 

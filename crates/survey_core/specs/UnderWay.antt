@@ -1,11 +1,11 @@
--- A pattern as it evolves, and how far from the origin it may come in a survey.
+-- How far from the origin a pattern may come in a survey.
 use Rattle.std.specs.Prelude.{◌≡◌, ◌≤◌, ℕ, List, true}
 use Rattle.plane_core.specs.declared.plane.cell.Cell.{Cell}
 use Rattle.plane_core.specs.plane.Generations.{after, lies_within}
 use Rattle.plane_core.specs.plane.Rules.{Numbers}
 
--- how far from the origin a pattern may come in a survey: it begins within 1,000, and grows by one cell per generation for at most
--- 100,000 generations
+-- how far from the origin a pattern may come in a survey: it begins within 1,000, and grows by one cell per generation
+-- for at most 100,000 generations
 abbrev pub survey_reach : ℕ
 survey_reach = 101000
 

@@ -43,7 +43,8 @@ use std::alloc::Global;
 pub(crate) enum Evolution {
     /// The pattern is a list of cells.
     Listed(Pattern),
-    /// It is on a board, with the spaceships that have left it, as it was that many generations ago: none or one.
+    /// The pattern is on a board, together with the spaceships that were removed from it. The board shows it as it was
+    /// this many generations ago: 0 or 1.
     Shown(SplitPattern, u32),
 }
 
@@ -78,7 +79,8 @@ impl Evolution {
         }
     }
 
-    /// Returns `true` only if no even number of generations changes anything. `false` says nothing.
+    /// Returns `true` only if the pattern is the same again after every even number of generations. `false` says
+    /// nothing.
     pub(crate) fn is_still(&self) -> bool
         ensures { IsTrue result → (rule : Numbers) → IsKept rule self.now
             → (n : ℕ) → n % 2 ≡ 0 → after rule (kept rule self.now) n ≡ kept rule self.now }
@@ -89,7 +91,8 @@ impl Evolution {
         }
     }
 
-    /// Advances to the next checkpoint: on the spare board, if the pattern isn't on a board yet.
+    /// Advances to the next checkpoint. A pattern that isn't on a board yet is laid on the spare board, if that has
+    /// room.
     pub(crate) fn go_on(
         self,
         alloc: Global,
@@ -115,7 +118,7 @@ impl Evolution {
         }
     }
 
-    /// Gives the board back, for the next pattern.
+    /// Gives the board back to `spare`, for the next pattern.
     pub(crate) fn end(self, spare: &mut SpareBoard) {
         if let Evolution::Shown(split, _) = self {
             spare.give_back(split.board);
@@ -123,7 +126,7 @@ impl Evolution {
     }
 }
 
-/// Advances a list by `generations`: on the spare board, if it has room for the pattern.
+/// Advances a list by `generations`, on the spare board if that has room for the pattern.
 fn from_list(
     alloc: Global,
     rule: &Rule,

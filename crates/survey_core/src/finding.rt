@@ -5,7 +5,7 @@
 //!                                                        ->  or unsettled, at the limit
 //! ```
 //!
-//! The functions here survey one soup or pattern. A [`Surveyor`] surveys many, and is faster.
+//! The functions here survey one soup or pattern. For many, a [`Surveyor`] is faster.
 ghost use Rattle.std.specs.Prelude.{◌≡◌, IfOk, true};
 ghost use Rattle.plane_core.specs.plane.Generations.{lies_within};
 ghost use Rattle.survey_core.specs.FindingLaws.{CountsAddUp, FindingsAreDetermined, FindingsForGood, FindingsMoved};
@@ -31,7 +31,8 @@ pub enum Finding {
         checkpoint: u32,
         /// The objects that the pattern consists of at that checkpoint.
         objects: Objects,
-        /// Whether each object stays in its place and recurs there forever.
+        /// Whether the objects stay for good: none of them is a spaceship, and their periods have a common multiple
+        /// within the horizon. Then each stays in its place and recurs there forever.
         for_good: bool,
     },
     /// The pattern is at rest at no checkpoint.
@@ -55,11 +56,11 @@ pub fn survey(alloc: Global, job: &Job, number: u64) -> Result<Finding, OutOfMem
 
 /// Returns the finding of `pattern`, whose coordinates are from -1,000 to 1,000. It has fewer than 2^64 objects.
 ///
-/// The call takes time in proportion to the generations that are run and to the cells that are alive in them.
+/// The time is proportional to the number of generations that are run, and to the number of live cells in them.
 ///
 /// # Errors
 ///
-/// [`OutOfMemory`] if memory runs out. The pattern is dropped.
+/// [`OutOfMemory`] if memory runs out. The pattern is dropped in this case too.
 pub fn survey_pattern(
     alloc: Global,
     profile: &Profile,
@@ -89,8 +90,8 @@ pub fn findings_are_kept()
     ensures turned { FindingsTurned }
 {}
 
-/// The law that a finding for good means what it says: the clusters, each run alone, keep apart and make up the whole
-/// forever, and the pattern recurs after the least common multiple of their periods.
+/// The law that objects that stay for good do so forever: the clusters, each run alone, keep apart and make up the
+/// whole in every later generation, and the pattern recurs after the least common multiple of their periods.
 pub fn findings_for_good()
     ensures { FindingsForGood }
 {}

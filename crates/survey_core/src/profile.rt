@@ -39,9 +39,9 @@ impl fmt::Debug for ProfileError {
 
 /// When a pattern counts as settled, in four numbers of generations.
 ///
-/// A pattern is looked at in the generations 0, `stride`, twice the stride and so on, up to `limit`. It has settled if
-/// each of its clusters recurs within `period` generations, and if none of them influences another for `horizon`
-/// generations.
+/// The checkpoints of a pattern are the generations 0, `stride`, twice `stride` and so on, up to `limit`. The pattern
+/// has settled at the first of them at which each of its clusters recurs within `period` generations, and none of them
+/// influences another for `horizon` generations.
 #[derive(Clone, Copy, Debug, PartialEq, Eq)]
 pub struct Profile {
     period: u32,
@@ -97,7 +97,7 @@ impl Profile {
         })
     }
 
-    /// Returns the profile that is used where nothing else is said: 64, 512, 101 and 30,300.
+    /// Returns the default profile: period 64, horizon 512, stride 101 and limit 30,300.
     pub fn standard() -> Profile
         ensures { result ≡ standard }
     {
@@ -117,7 +117,7 @@ impl Profile {
         self.period
     }
 
-    /// Returns how many generations clusters must not influence each other, at least the period and at most 4,096.
+    /// Returns for how many generations clusters must not influence each other: at least the period, and at most 4,096.
     pub fn horizon(&self) -> u32
         ensures horizon { result ≡ self.now.horizon }
         ensures profile { IsProfile self.now }
@@ -133,7 +133,7 @@ impl Profile {
         self.stride
     }
 
-    /// Returns the last generation at which there may be a checkpoint, at most 100,000.
+    /// Returns the last generation that may be a checkpoint, at most 100,000.
     pub fn limit(&self) -> u32
         ensures limit { result ≡ self.now.limit }
         ensures profile { IsProfile self.now }
@@ -142,7 +142,7 @@ impl Profile {
     }
 }
 
-/// Checks whether n is one of the numbers from `least` to `most`.
+/// Checks whether `n` is from `least` to `most`.
 fn is_from_to(least: u32, most: u32, n: u32) -> bool
     ensures { result ≡ is_from_to least most n }
 {

@@ -13,11 +13,11 @@
 //!                     .O.
 //! ```
 //!
-//! Most patterns that are looked at are not at rest, and nearly always because some cluster doesn't recur. So this is
-//! asked first, and the envelope of each cluster is kept. Envelopes tell which clusters may come near each other: these
-//! are a group, and clusters of different groups are never run side by side. In a group the clusters are stepped, one
-//! generation at a time, until one influences another, or until all have recurred in place and nothing new can follow.
-//! A cluster that has recurred isn't stepped, since its next generation is known. While the clusters lie more than two
+//! At most checkpoints the pattern isn't at rest, nearly always because some cluster doesn't recur. So this is tested
+//! first, and the envelope of each cluster is kept. The envelopes show which clusters may come near each other. These
+//! clusters form a group, and each group is run by itself. In a group the clusters are stepped, one generation at a
+//! time, until one influences another, or until all have recurred in place and nothing new can follow. A cluster that
+//! is the same as at the start isn't stepped, since its next generation is known. While the clusters lie more than two
 //! cells apart, they evolve in the whole as they do alone. Only otherwise is the whole stepped too, and compared with
 //! their union.
 
@@ -46,7 +46,7 @@ use plane_core::plane::pattern::Pattern;
 use plane_core::plane::rule::Rule;
 use std::alloc::Global;
 
-/// Returns the clusters of the pattern, if it is at rest.
+/// Returns the clusters of the pattern if it is at rest, and otherwise `None`.
 pub(crate) fn clusters_at_rest(
     alloc: Global,
     profile: &Profile,
@@ -102,8 +102,8 @@ fn groups_keep_apart(
     Ok(true)
 }
 
-/// Returns the number of clusters in the group with this number. No branch depends on a group, so that several are
-/// compared at once.
+/// Returns the number of clusters in the group with this number. The loop has no branch that depends on a group, so the
+/// compiler can compare several groups at once.
 fn count_of(groups: &[usize], number: usize) -> usize
     ensures { result ≡ length (filter (λ group. group == number) groups.now) }
 {
@@ -171,8 +171,8 @@ fn keep_apart(
     Ok(true)
 }
 
-/// Runs each of the clusters for a generation. Returns whether they then share no cell and make up what their union
-/// becomes.
+/// Advances each of the clusters by one generation. Returns whether they then share no cell and make up what their
+/// union becomes.
 fn step_apart(alloc: Global, rule: &Rule, clusters: &mut [Alone]) -> Result<bool, OutOfMemory>
     requires first { All (λ alone. alone.first ≡ next rule.now alone.cluster) clusters.old }
     requires near { All (λ alone. lies_within 999999 alone.latest ≡ true) clusters.old }
@@ -184,7 +184,7 @@ fn step_apart(alloc: Global, rule: &Rule, clusters: &mut [Alone]) -> Result<bool
     ensures apart { IfOk result
         (λ apart. IsTrue apart ↔ KeepApart rule.now (union_of (latest_of clusters.old)) (latest_of clusters.old) 1) }
 {
-    // Their boxes nearly always show this, and then the whole needn't be made.
+    // Their boxes nearly always show that they are apart. Then the whole needn't be stepped.
     if lie_apart(clusters) {
         step_each(alloc, rule, clusters)?;
         return Ok(true);
@@ -209,8 +209,8 @@ pub fn at_rest_for_good()
     ensures forever { AtRestForGood }
 {}
 
-/// The laws of parts that stay apart: those that stay more than two cells apart evolve as if each were alone, and so do
-/// groups that stay apart from each other.
+/// The laws of parts: parts that stay more than two cells apart evolve in the whole as they do alone, and so do groups
+/// of parts that stay apart from each other.
 pub fn far_parts_run_alone()
     ensures parts { PartsRunAlone }
     ensures groups { GroupsRunAlone }

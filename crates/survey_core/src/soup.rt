@@ -1,5 +1,5 @@
-//! A soup has 16 rows of 16 cells, and a digest 32 bytes of 8 bits. A row is two bytes, and the greatest bit of a byte
-//! stands leftmost:
+//! A soup has 16 rows of 16 cells, and a digest 32 bytes of 8 bits. A row is two bytes, and the most significant bit of
+//! a byte is its leftmost cell:
 //!
 //! ```text
 //!            byte 2y            byte 2y + 1
@@ -23,7 +23,8 @@ use plane_core::plane::pattern::Pattern;
 use sha2::{Digest, Sha256};
 use std::alloc::Global;
 
-/// The number of cells that are reserved at the start. A soup has 128 on average, and hardly ever more than 160.
+/// The number of cells for which memory is reserved at the start. A soup has 128 live cells on average, and hardly ever
+/// more than 160.
 const ROOM: usize = 160;
 
 /// Returns soup `number`: the 256 bits of the SHA-256 digest of the job's seed and then the number in decimal, as a
@@ -69,7 +70,7 @@ pub fn soups_by_cells()
     ensures { SoupsByCells }
 {}
 
-/// Checks whether the cell at this place of the square is alive.
+/// Checks whether the cell at this place of the square, 0 to 255, is alive.
 #[tactic(auto, unfolding(crate::specs::Soups::is_alive_at))]
 fn is_alive_at(digest: &[u8; 32], place: u32) -> bool
     requires { place < 256 }
@@ -80,7 +81,7 @@ fn is_alive_at(digest: &[u8; 32], place: u32) -> bool
     (byte >> (7 - x % 8)) % 2 == 1
 }
 
-/// Returns the cell at this place of the square.
+/// Returns the cell at this place of the square, 0 to 255.
 fn square_cell(place: u32) -> Cell
     requires { place < 256 }
     ensures { result ≡ square_cell place }

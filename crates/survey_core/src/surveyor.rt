@@ -32,7 +32,8 @@ use std::alloc::Global;
 
 /// What a worker keeps from soup to soup: a memo table of shapes, and a board.
 ///
-/// It serves any job, one after another. What it has seen before changes no finding, only how long a survey takes.
+/// One surveyor can survey the soups of any jobs, one after another. What it remembers affects only how long a survey
+/// takes, never its finding.
 #[derive(Drop)]
 pub struct Surveyor {
     memo: Memo,
@@ -40,8 +41,8 @@ pub struct Surveyor {
 }
 
 impl Surveyor {
-    /// Returns a surveyor for many soups. Its memo has room for 4,096 shapes: half a megabyte, and some three if all of
-    /// them are large. If there is no memory for the memo, the surveyor does without.
+    /// Returns a surveyor for many soups. Its memo has room for 4,096 shapes, and takes half a megabyte, or about three
+    /// if all shapes are large. If there is no memory for the memo, the surveyor works without one.
     pub fn new(alloc: Global) -> Surveyor {
         Surveyor {
             memo: Memo::new(alloc),
@@ -71,11 +72,11 @@ impl Surveyor {
 
     /// Returns the finding of `pattern`, whose coordinates are from -1,000 to 1,000. It has fewer than 2^64 objects.
     ///
-    /// The call takes time in proportion to the generations that are run and to the cells that are alive in them.
+    /// The time is proportional to the number of generations that are run, and to the number of live cells in them.
     ///
     /// # Errors
     ///
-    /// [`OutOfMemory`] if memory runs out. The pattern is dropped.
+    /// [`OutOfMemory`] if memory runs out. The pattern is dropped in this case too.
     pub fn survey_pattern(
         &mut self,
         alloc: Global,
@@ -116,15 +117,15 @@ impl Surveyor {
     }
 }
 
-/// Returns the finding of a pattern at this checkpoint, if it is at rest.
+/// Returns the finding of a pattern if it is at rest at this checkpoint, and otherwise `None`.
 ///
-/// If an even number of generations changes nothing, the pattern is the same in every second generation. So once an
-/// examination says no, the answer is no an even number of generations later too. This is noted in one of the
-/// `known_restless`: the first is about even generations, and the second about odd ones.
+/// If an even number of generations changes nothing, the pattern is the same in every second generation. So if it isn't
+/// at rest at a checkpoint, it isn't at rest an even number of generations later either. `known_restless` records this:
+/// the first entry is about even generations, and the second about odd ones.
 ///
 /// ```text
 /// generation   404   505   606   707   808
-/// looked at    no    no    -     -     -       From 404 on nothing changes in two generations.
+/// at rest?     no    no    -     -     -       From 404 on, two generations change nothing.
 /// ```
 fn examine(
     alloc: Global,

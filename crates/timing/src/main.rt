@@ -1,14 +1,14 @@
-//! A program for `bench/run` to time. It reads a plaintext pattern from standard input, or surveys soups.
+//! A program for `bench/run` to time. It reads a plaintext pattern from standard input. N is 1 if it is left out.
 //!
 //! - `timing clusters N` finds the pattern's clusters N times, and prints their number.
 //! - `timing names N` names the pattern N times, and prints the name.
 //! - `timing surveys N` prints how many of the soups 0 to N - 1 settle.
 //! - `timing gliders N` prints the population of two far gliders after N generations.
-//! - `timing reports N` makes reports of N soups, under a profile that makes a survey cheap, and prints their number.
+//! - `timing reports N` makes reports of N soups, under a profile that makes surveys cheap, and prints their number.
 //! - `timing offers N` offers N such reports to a haul, and then a thousand more. It prints how many the haul has
 //!   taken, and the microseconds that the thousand took.
 //!
-//! Only the first two read their input.
+//! Only the first two use the pattern, but all of them read it.
 #![tactic(auto)]
 
 ghost use Rattle.std.specs.Prelude.{◌≡◌, IfOk, List, length};
@@ -47,7 +47,7 @@ fn cluster_count(alloc: Global, pattern: &Pattern) -> Result<usize, OutOfMemory>
     Ok(clusters.len())
 }
 
-/// Returns the name of the pattern in Life, if it has a cell and recurs within 64 generations.
+/// Returns the apgcode of the pattern in Life, or `None` if it has no cell or doesn't recur within 64 generations.
 fn name_in_life(alloc: Global, pattern: &Pattern) -> Result<Option<Apgcode>, StepError> {
     if pattern.population() == 0 {
         return Ok(None);
@@ -102,7 +102,7 @@ fn fly_gliders(rt: &HostRuntime, generations: u32) -> io::Result<()> {
     }
 }
 
-/// Returns how many of the first `soups` soups of the empty seed settle, in Life and under the standard profile.
+/// Returns how many of the first `soups` soups of `job` settle.
 fn settled_count(alloc: Global, job: &Job, soups: u32) -> Result<usize, OutOfMemory> {
     let mut settled = Vec::new(alloc);
     let mut surveyor = Surveyor::new(alloc);
@@ -115,7 +115,7 @@ fn settled_count(alloc: Global, job: &Job, soups: u32) -> Result<usize, OutOfMem
     Ok(settled.len())
 }
 
-/// Surveys `soups` soups, and prints how many settle.
+/// Surveys `soups` soups of `seed`, in Life and under the standard profile, and prints how many settle.
 fn survey_soups(rt: &HostRuntime, seed: Seed, soups: u32) -> io::Result<()> {
     let job = Job {
         seed,
@@ -141,7 +141,7 @@ fn cheap_job(seed: Seed) -> Option<Job> {
     })
 }
 
-/// Returns reports of the soups from `from` up to `to`.
+/// Returns the reports of worker 1 on the soups from `from` to below `to`.
 fn reports(alloc: Global, job: &Job, from: u32, to: u32) -> Result<Vec<Report>, OutOfMemory> {
     let mut reports = Vec::new(alloc);
     for number in from..to {
@@ -156,7 +156,7 @@ fn reports(alloc: Global, job: &Job, from: u32, to: u32) -> Result<Vec<Report>, 
     Ok(reports)
 }
 
-/// Opens a haul of the first `soups` soups.
+/// Opens a haul over the first `soups` soups, for one worker.
 fn open_haul(alloc: Global, job: Job, soups: u32) -> Result<Haul, OpenError> {
     let range = Range {
         first: 0,
@@ -181,7 +181,8 @@ fn make_reports(rt: &HostRuntime, job: &Job, count: u32) -> io::Result<()> {
     }
 }
 
-/// Offers `count` reports to a haul, and then times some more.
+/// Offers `count` reports to a haul, and then `TIMED` more. Prints how many the haul has taken, and the microseconds
+/// that the last ones took.
 fn offer_reports(rt: &HostRuntime, job: Job, count: u32) -> io::Result<()> {
     let all = count.saturating_add(TIMED);
     let Ok(first) = reports(rt.alloc(), &job, 0, count) else {
@@ -200,7 +201,7 @@ fn offer_reports(rt: &HostRuntime, job: Job, count: u32) -> io::Result<()> {
     println!(rt; "{} {}", haul.taken().len(), taken.as_micros())
 }
 
-/// Makes reports, or makes and offers them.
+/// Makes `count` reports. If `offered`, offers them to a haul, and times that.
 fn time_reports(rt: &HostRuntime, offered: bool, count: u32) -> io::Result<()> {
     let job = Seed::new("").ok().and_then(cheap_job);
     match job {

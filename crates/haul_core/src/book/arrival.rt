@@ -6,9 +6,9 @@ use crate::report::Report;
 /// What arrives at a haul.
 #[derive(Debug, Drop)]
 pub enum Arrival {
-    /// A report is offered.
+    /// An offer of a report.
     Offer(Report),
-    /// The haul is closed.
+    /// A closing of the haul.
     Closing,
 }
 

@@ -1,10 +1,10 @@
-//! The census of a haul: what the soups that it has taken left.
+//! The census of a haul: which objects its soups left.
 
 use crate::book::census_rows::Rows;
 use ranges::range::Ranges;
 use survey_core::job::Job;
 
-/// What the soups that a haul has taken left.
+/// The census of the soups that a haul has taken.
 #[derive(Debug, Drop)]
 pub struct Census {
     pub job: Job,
@@ -16,7 +16,7 @@ pub struct Census {
     pub soups: u64,
     /// The number of these that are unsettled.
     pub unsettled: u64,
-    /// The number of these that stay for good.
+    /// The number of these whose objects stay for good.
     pub for_good: u64,
     /// The number of objects that they left: the sum of all totals.
     pub objects: u128,

@@ -65,7 +65,7 @@ impl Rows {
         self.as_slice().iter()
     }
 
-    /// Returns the rows of the codes that have an object.
+    /// Returns a row for each code with a total of at least 1.
     pub(crate) fn of_scores(
         alloc: Global,
         scores: &IndexMap<Apgcode, Score>,
@@ -78,7 +78,7 @@ impl Rows {
     }
 }
 
-/// Returns the scores of the codes that have an object, in order of code.
+/// Returns the scores with a total of at least 1, in order of code.
 fn with_objects(
     alloc: Global,
     scores: &IndexMap<Apgcode, Score>,

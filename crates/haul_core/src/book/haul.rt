@@ -47,7 +47,7 @@ use survey_core::finding::Finding;
 use survey_core::job::{Job, is_same_job};
 use thiserror::Error;
 
-/// A haul that is closed can't be closed again.
+/// The error of closing a haul that is already closed.
 #[derive(Clone, Copy, PartialEq, Eq, Error)]
 pub struct AlreadyClosed;
 
@@ -103,7 +103,7 @@ impl<E: Into<OutOfMemory>> From<E> for OpenError {
     }
 }
 
-/// Which soups of a job have been taken, from which workers, and the totals over them.
+/// The soups of a job that have been taken, the worker of each, and the totals over them.
 ///
 /// A haul is opened for a job, a set of soup numbers and a number of workers. It takes each number of its set at most
 /// once. Contracts see what it was opened for, whether it is closed, and the worker and number of each report taken.
@@ -140,7 +140,7 @@ impl Model for Haul {
         (record { scores = h.totals.scores.entries; unsettled = h.totals.unsettled; for_good = h.totals.for_good }) };
 }
 
-// Written out, because a derived drop is proved anew wherever a haul is dropped.
+// Written out, because a derived drop is proved again wherever a haul is dropped.
 impl Drop for Haul {
     fn drop(self) {
         let Haul {
@@ -162,7 +162,7 @@ impl Drop for Haul {
 }
 
 impl Haul {
-    /// Opens a haul for a job, for the soup numbers of the ranges, and for workers that are numbered from 1.
+    /// Opens a haul for `job`, for the soup numbers of `ranges`, and for `workers` workers, numbered from 1.
     ///
     /// # Errors
     ///
@@ -177,7 +177,7 @@ impl Haul {
     ///
     /// `crates/tour_tests/src/hauls.rt` opens a haul, offers four reports, and writes its census.
     pub fn open(alloc: Global, job: Job, ranges: &[Range], workers: u8) -> Result<Haul, OpenError>
-        // What was passed in, and nothing taken.
+        // The haul has what was passed in, and has taken nothing.
         ensures job { IfOk result (λ haul. haul.terms.job ≡ job) }
         ensures ranges { IfOk result (λ haul. IsNormalForm ranges.now haul.terms.ranges) }
         ensures workers { IfOk result (λ haul. haul.terms.workers ≡ workers) }
@@ -300,7 +300,7 @@ impl Haul {
         self.workers();
     }
 
-    /// Recalls, for a proof, that a haul is complete exactly if nothing is missing.
+    /// Recalls, for a proof, that a haul is complete if and only if nothing is missing.
     pub fn recall_complete_if_none_missing(&self)
         ensures { (length (missing_of self.now.terms.ranges self.now.taken) ≡ 0)
             ↔ IsComplete self.now.terms.ranges self.now.taken }
@@ -328,7 +328,7 @@ impl Haul {
         missing(*alloc, ranges.as_slice(), worker_of)
     }
 
-    /// Returns how many numbers of the set haven't been taken. This takes the same time for any set.
+    /// Returns how many numbers of the set haven't been taken. This takes constant time.
     pub fn missing_count(&self) -> u64
         ensures count { result ≡ length (missing_of self.now.terms.ranges self.now.taken) }
         ensures none { (result ≡ 0) ↔ IsComplete self.now.terms.ranges self.now.taken }
@@ -378,11 +378,13 @@ impl Haul {
     }
 
     /// Offers a report. An open haul takes a report of its job, of one of its workers, and of a number that is missing.
-    /// The time is proportional to the report's objects, and grows with the logarithm of the number of ranges.
+    /// The time is proportional to the number of codes in the report, and grows with the logarithm of the number of
+    /// ranges.
     ///
     /// # Errors
     ///
-    /// [`Refused`] has the report, and the first [`OfferError`] that holds, in their order. The haul is unchanged.
+    /// [`Refused`] with the report and the first [`OfferError`] that applies, in the order of the variants. The haul is
+    /// unchanged.
     pub fn offer(&mut self, report: Report) -> Result<(), Refused>
         ensures reply { (arrivals : List Arrival) → StandsFor arrivals self.old
             → IsReply (reply_of result) (refusal_of self.old.terms arrivals report) }
@@ -419,12 +421,12 @@ impl Haul {
             report.number(),
         );
         self.totals.add(report.finding(), report.number());
-        // By a call: if it is dropped at the end of the function, the report takes the prover twice as long.
+        // Dropped by a call. If the report were dropped at the end of the function, its proof would take twice as long.
         drop(report);
         Ok(())
     }
 
-    /// Returns why a report is refused, memory apart, or `None`.
+    /// Returns why a report is refused, or `None` if it is taken unless memory runs out.
     fn refusal(&self, report: &Report) -> Option<OfferError>
         ensures { result ≡ refusal_at self.now report.now }
     {
@@ -445,7 +447,7 @@ impl Haul {
     }
 }
 
-/// Makes room for a report with this finding. Nothing that contracts see changes.
+/// Makes room for a report with this finding. Contracts see no change.
 fn make_room(
     alloc: Global,
     taken: &mut Vec<(u8, u64)>,
@@ -467,7 +469,7 @@ fn make_room(
     totals.make_room(alloc, finding)
 }
 
-/// Notes who reported the soup with this number, for which there is room.
+/// Records which worker reported the soup with this number. There is room for the entry.
 fn note(taken: &mut Vec<(u8, u64)>, worker_of: &mut IndexMap<u64, u8>, worker: u8, number: u64)
     requires room { vec_len taken.old + 1 ≤ vec_capacity taken.old }
     requires spare { 1 ≤ spare worker_of.old }

@@ -1,4 +1,4 @@
-//! Writes the text of a haul, which is that of its census.
+//! Writes the haul text of a census.
 //!
 //! ```text
 //! census ── head ── ranges ── sums ── totals, a line for each code ── samples, a line for each code

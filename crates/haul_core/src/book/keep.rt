@@ -13,16 +13,16 @@ use crate::book::refused::OfferError;
 use memory::OutOfMemory;
 use std::alloc::Global;
 
-/// Lets arrivals come to a haul, one after another, and returns the replies in order.
+/// Passes arrivals to a haul one after another, and returns the replies in order.
 ///
 /// Whatever arrived before, and in whatever order reports arrive, the haul takes each number of its set at most once,
-/// keeps each worker's reports in the order in which they were offered, and refuses doubles, strangers and everything
-/// after closing, by name.
+/// and keeps each worker's reports in the order in which they were offered. It refuses doubles, reports of another job,
+/// of an unknown worker or of a number outside the set, and everything after a closing, each with its reason.
 ///
 /// # Errors
 ///
-/// [`OutOfMemory`] if memory runs out. If there is no memory for the replies, nothing has arrived at the haul. If there
-/// is none for an offer that the book takes, the arrivals before it have arrived, and no others.
+/// [`OutOfMemory`] if memory runs out. If there is no memory for the replies, nothing has arrived at the haul. If
+/// memory runs out at an offer that the book takes, the arrivals before it have arrived, and no others.
 pub fn keep_book(
     alloc: Global,
     haul: &mut Haul,
@@ -50,8 +50,8 @@ pub fn workers_are_taken_in_order()
     ensures { WorkersAreTakenInOrder }
 {}
 
-/// Lets one arrival come to a haul. Memory can run out only for an offer that the book takes, and then nothing has
-/// arrived.
+/// Passes one arrival to a haul. Memory can run out only at an offer that the book takes, and then the haul is
+/// unchanged.
 fn answer(haul: &mut Haul, arrival: Arrival) -> Result<Reply, OutOfMemory>
     ensures reply { (before : List Arrived) → StandsFor before haul.old
         → IfOk result (λ reply. reply ≡ reply_to haul.old.terms before arrival) }
@@ -67,7 +67,8 @@ fn answer(haul: &mut Haul, arrival: Arrival) -> Result<Reply, OutOfMemory>
             Ok(()) => Ok(Reply::Taken),
             Err(refused) => {
                 let reason = refused.reason;
-                // By a call: if it is dropped after each case, what was refused takes the prover four times as long.
+                // Dropped by a call. If the refused report were dropped after each case, the proof would take four
+                // times as long.
                 drop(refused);
                 match reason {
                     OfferError::Memory(error) => Err(error),

@@ -12,7 +12,7 @@ pub enum OfferError {
     Closed,
     /// The report is of another job.
     OtherJob,
-    /// The haul has fewer workers than the report's number.
+    /// The number of the report's worker is higher than the haul's number of workers.
     UnknownWorker,
     /// The number isn't in the haul's set.
     OutOfRange,

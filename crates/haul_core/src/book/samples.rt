@@ -51,7 +51,7 @@ impl Samples {
         self.as_slice().iter()
     }
 
-    /// Returns no numbers.
+    /// Returns an empty list of samples.
     pub(crate) fn none() -> Samples
         ensures { result ≡ [] }
     {
@@ -61,7 +61,7 @@ impl Samples {
         }
     }
 
-    /// Returns equal samples.
+    /// Returns a copy of the samples.
     pub(crate) fn copy(&self) -> Samples
         ensures { result ≡ self.now }
     {
@@ -83,8 +83,8 @@ impl Samples {
         least
     }
 
-    /// Returns the three lowest of these numbers and `number`. It finds its place among those that are kept, and the
-    /// highest falls out if there are four.
+    /// Returns the three lowest of these numbers and `number`. The number is inserted in order, and if there are four
+    /// then, the highest is dropped.
     pub(crate) fn with_number(&self, number: u64) -> Samples
         ensures { result ≡ take 3 (with_number number self.now) }
     {
@@ -110,7 +110,8 @@ pub fn least_three_are_determined()
     ensures { LeastThreeAreDetermined }
 {}
 
-/// Inserts a number among the first `count`, and returns the one that then comes last.
+/// Inserts a number among the first `count`, which keep their order, and returns the highest of them all, which is left
+/// over.
 fn put(numbers: &mut [u64; MOST_SAMPLES], count: usize, number: u64) -> u64
     requires few { count ≤ 3 }
     requires ascending { IsAscending (take count numbers.old) }

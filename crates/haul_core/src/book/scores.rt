@@ -1,6 +1,5 @@
 //! The book's running totals: a score for each code, with its total and its samples so far. A report's counts are added
-//! in two steps. First, new codes get a score of 0, which takes memory. After that nothing can fail, and the counts are
-//! added.
+//! in two steps. First, new codes get a blank score, which takes memory. Then the counts are added, which can't fail.
 //!
 //! ```text
 //! scores         xs4_33  7 | xp2_7  5            a report with xs4_33 2, xq4_153 1:
@@ -94,7 +93,7 @@ impl Totals {
         })
     }
 
-    /// Adds a soup with its finding, each of whose codes has a score.
+    /// Adds soup `number` with this finding. Each code of the finding has to have a score.
     pub(crate) fn add(&mut self, finding: &Finding, number: u64)
         requires scores { HasScores finding.now self.old.scores.entries }
         requires lawful { HasLawfulObjects finding.now }
@@ -121,7 +120,7 @@ impl Totals {
 }
 
 impl Score {
-    /// Returns an equal score.
+    /// Returns a copy of the score.
     pub(crate) fn copy(&self) -> Score
         ensures { result ≡ self.now }
     {
@@ -132,7 +131,7 @@ impl Score {
         }
     }
 
-    /// Returns this score and another as one.
+    /// Returns the score over the soups of both.
     fn joined(&self, other: &Score) -> Score
         requires { self.now.total + other.now.total < 2 ^ 128 }
         ensures { result ≡ together self.now other.now }
@@ -176,7 +175,7 @@ fn add_scores(
     Ok(())
 }
 
-/// Adds another score to that of its code.
+/// Adds another score to the score of its code, which is made if there is none.
 fn add_score(
     alloc: Global,
     scores: &mut IndexMap<Apgcode, Score>,
@@ -194,7 +193,7 @@ fn add_score(
     Ok(())
 }
 
-/// Adds another score to that of a code that has one.
+/// Adds another score to the score of its code, which has to have one.
 fn put_together(scores: &mut IndexMap<Apgcode, Score>, code: &Apgcode, score: &Score)
     requires score { HasScore scores.old.entries code.now }
     requires room { (score_in scores.old.entries code.now).total + score.now.total < 2 ^ 128 }
@@ -263,7 +262,7 @@ fn make_score(
     Ok(())
 }
 
-/// Adds the objects of a soup, each of whose codes has a score.
+/// Adds the objects of soup `number`. Each of their codes has to have a score.
 pub(crate) fn add(scores: &mut IndexMap<Apgcode, Score>, objects: &[(Apgcode, u64)], number: u64)
     requires scores { All (λ object. HasScore scores.old.entries object.0) objects.now }
     requires lawful { AreObjects objects.now }
@@ -277,7 +276,7 @@ pub(crate) fn add(scores: &mut IndexMap<Apgcode, Score>, objects: &[(Apgcode, u6
     }
 }
 
-/// Adds the objects of one code, which has a score.
+/// Adds the objects of one code, which has to have a score.
 fn add_one(scores: &mut IndexMap<Apgcode, Score>, code: &Apgcode, count: u64, number: u64)
     requires score { HasScore scores.old.entries code.now }
     requires room { (score_in scores.old.entries code.now).total + count < 2 ^ 128 }

@@ -1,4 +1,4 @@
-//! Writes report lines, in which workers on other machines report what they found.
+//! Writes report lines, with which workers on other machines report what they found.
 //!
 //! ```text
 //! report 2 rule=b3s23 profile=64,512,101,30300 seed= worker=1 soup=5 at=404 good=no xp2_7*3 xs4_33*2

@@ -1,4 +1,4 @@
--- Definitions that only proofs name: what holds between two steps of a call, or in one turn of a loop.
+-- Definitions that only proofs use: what holds between two steps of a call, or in one iteration of a loop.
 use Rattle.plane_core.specs.plane.Bounds.{AreSidesWithin}
 use Rattle.plane_core.specs.engine.ActiveBoxes.{HoldAll, IsQuiet, box_bound}
 use Rattle.plane_core.specs.plane.Cells.{InOrder, cell_at, distance, has, king_distance, moved_by, plane_bound}

@@ -1,4 +1,4 @@
--- How calls that write in a row make one call that writes.
+-- Calls that write one after another are like one call that writes everything.
 use Rattle.std.proofs.Common.{◌≡◌, ℕ, ◌-◌, ◌≤◌, false, List, [], ◌++◌, length, take, drop, Option, None, Some, Result}
 use Rattle.std.proofs.Common.{Ok, Err, IsErr, sym, subst, ◌∙◌, ap, append_assoc, append-nil, length-drop}
 use Rattle.std.proofs.lemmas.List.{take-append-drop}

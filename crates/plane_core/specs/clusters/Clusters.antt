@@ -1,4 +1,4 @@
--- Clusters: the parts into which a pattern falls.
+-- Clusters: the largest parts of a pattern whose cells are connected by steps of at most two cells.
 use Rattle.std.specs.Prelude.{◌≡◌, ◌≤◌, true, false, ◌↔◌, List, [], ◌∷◌, All, Any, AllPairs, ℤ, map}
 use Rattle.plane_core.specs.declared.plane.cell.Cell.{Cell}
 use Rattle.std.specs.declared.cmp.Ordering.TheVariants.{Less}
@@ -6,37 +6,37 @@ use Rattle.std.specs.List.{list_any}
 use Rattle.plane_core.specs.plane.Bounds.{shifted}
 use Rattle.plane_core.specs.plane.Cells.{InOrder, cell_cmp, king_distance, has}
 
--- A list of cells of the pattern leads from c to d: each cell is at king distance at most 2 from the one before.
+-- a path leads over cells of the pattern from c to d: each cell is at king distance at most 2 from the one before
 abbrev pub Leads : List Cell → Cell → List Cell → Cell → Type 0
 Leads cells c [] d = c ≡ d
 Leads cells c (e ∷ es) d = (has cells e ≡ true) × (king_distance c e ≤ 2) × Leads cells e es d
 
--- c and d are cells of the pattern, and some such list leads from one to the other
+-- c and d are linked: both are cells of the pattern, and some path leads from c to d
 pub record Linked (cells : List Cell) (c d : Cell) : Type 0 where
   pub start : has cells c ≡ true
   pub path : List Cell
   pub leads : Leads cells c path d
 
--- all cells that are linked to one cell, in order
+-- a cluster: all cells that are linked to one cell, in order
 pub record IsCluster (cells cluster : List Cell) : Type 0 where
   pub in_order : InOrder cluster
   pub start : Cell
   pub has_start : has cells start ≡ true
   pub members : (d : Cell) → (has cluster d ≡ true) ↔ Linked cells start d
 
--- the first cell of one comes before that of the other
+-- the first cell of one cluster comes before that of the other
 abbrev pub FirstBefore : List Cell → List Cell → Type 0
 FirstBefore [] ds = ⊥
 FirstBefore (c ∷ cs) [] = ⊥
 FirstBefore (c ∷ cs) (d ∷ ds) = cell_cmp c d ≡ Less
 
--- the clusters of the pattern, all of them, each once, ordered by their first cells
+-- all clusters of the pattern, each once, ordered by their first cells
 pub record AreClusters (cells : List Cell) (clusters : List (List Cell)) : Type 0 where
   pub each : All (IsCluster cells) clusters
   pub every : (c : Cell) → has cells c ≡ true → Any (λ cluster. has cluster c ≡ true) clusters
   pub in_order : AllPairs FirstBefore clusters
 
--- an equivalence relation on the cells of a pattern
+-- R is an equivalence relation on the cells of the pattern
 pub record IsEquivalenceOn (cells : List Cell) (R : Cell → Cell → Type 0) : Type 0 where
   pub itself : (c : Cell) → has cells c ≡ true → R c c
   pub back : (c d : Cell) → R c d → R d c
@@ -46,22 +46,24 @@ pub record IsEquivalenceOn (cells : List Cell) (R : Cell → Cell → Type 0) : 
 abbrev pub LinkedIsAnEquivalence : Type 0
 LinkedIsAnEquivalence = (cells : List Cell) → IsEquivalenceOn cells (Linked cells)
 
--- the cells of one are at king distance 3 or more from those of the other
+-- each cell of one cluster is at king distance 3 or more from each cell of the other
 abbrev pub LieApart : List Cell → List Cell → Type 0
 LieApart a b = (c d : Cell) → has a c ≡ true → has b d ≡ true → 3 ≤ king_distance c d
 
--- no two of them share a cell, and together they are the pattern
+-- the clusters are a partition: no two of them share a cell, and together they are the pattern
 pub record Partition (cells : List Cell) (clusters : List (List Cell)) : Type 0 where
   pub disjoint : AllPairs (λ a b. (c : Cell) → has a c ≡ true → has b c ≡ false) clusters
   pub union : (c : Cell) → list_any (λ cluster. has cluster c) clusters ≡ has cells c
 
+-- the clusters of a pattern are a partition of it
 abbrev pub ClustersPartition : Type 0
 ClustersPartition = (cells : List Cell) (clusters : List (List Cell)) → AreClusters cells clusters → Partition cells clusters
 
+-- cells of different clusters are at king distance 3 or more
 abbrev pub ClustersLieApart : Type 0
 ClustersLieApart = (cells : List Cell) (clusters : List (List Cell)) → AreClusters cells clusters → AllPairs LieApart clusters
 
--- a pattern has one list of clusters
+-- a pattern has only one list of clusters
 abbrev pub ClustersAreDetermined : Type 0
 ClustersAreDetermined = (cells : List Cell) (one other : List (List Cell)) → AreClusters cells one → AreClusters cells other → one ≡ other
 

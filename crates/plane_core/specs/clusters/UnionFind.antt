@@ -1,5 +1,5 @@
--- How clusters are found: the places of a pattern's list become a forest, in which each place leads to an earlier place or is a
--- root.
+-- How clusters are found: the places of a pattern's list of cells become a forest, in which each place leads to an
+-- earlier place or is a root.
 use Rattle.std.specs.Prelude.{◌≡◌, ◌+◌, ◌-◌, ◌<◌, ◌≤◌, ◌==◌, ℕ, pos, List, [], ◌∷◌, cond, drop, get_or, length, take}
 use Rattle.std.specs.List.{AllPairs}
 use Rattle.std.specs.declared.cmp.Ordering.TheVariants.{Less}
@@ -19,13 +19,13 @@ parent_of parents k = get_or parents k 0
 abbrev pub LeadsBack : List ℕ → Type 0
 LeadsBack parents = (k : ℕ) → k < length parents → parent_of parents k ≤ k
 
--- each cell is linked to the one to which its place leads
+-- a forest: no place leads to a later one, and each cell is linked to the cell to whose place its own place leads
 pub record IsForest (cells : List Cell) (parents : List ℕ) : Type 0 where
   pub size : length parents ≡ length cells
   pub back : LeadsBack parents
   pub linked : (k : ℕ) → k < length parents → Linked cells (cell_of cells k) (cell_of cells (parent_of parents k))
 
--- each place has the label of the one to which it leads
+-- each place has the label of the place to which it leads
 abbrev pub Labels : List ℕ → (ℕ → ℕ) → Type 0
 Labels parents label = (k : ℕ) → k < length parents → label (parent_of parents k) ≡ label k
 
@@ -33,37 +33,37 @@ Labels parents label = (k : ℕ) → k < length parents → label (parent_of par
 abbrev pub Joined : List ℕ → ℕ → ℕ → Type 0
 Joined parents j k = (label : ℕ → ℕ) → Labels parents label → label j ≡ label k
 
--- places that were joined still are
+-- places that were joined are still joined
 abbrev pub Keeps : List ℕ → List ℕ → Type 0
 Keeps old new = (label : ℕ → ℕ) → Labels new label → Labels old label
 
--- places of near cells are joined, up to this place
+-- all places before this one whose cells are near each other are joined
 abbrev pub JoinsAll : List Cell → List ℕ → ℕ → Type 0
 JoinsAll cells parents place =
     (j k : ℕ) → j < k → k < place → king_distance (cell_of cells j) (cell_of cells k) ≤ 2 → Joined parents j k
 
--- the cell just before a place lies near both that place's cell and an earlier one, so it joins the two
+-- the cell just before a place is near both the cell of the place and an earlier cell, so it joins the two
 pub record IsBridged (cells : List Cell) (k place : ℕ) : Type 0 where
   pub earlier : k + 1 < place
   pub left : king_distance (cell_of cells k) (cell_of cells (place - 1)) ≤ 2
   pub right : king_distance (cell_of cells (place - 1)) (cell_of cells place) ≤ 2
 
--- near cells that aren't joined by the one between them
+-- two cells that are near, and that the cell just before the place doesn't join
 pub record NeedsJoin (cells : List Cell) (k place : ℕ) : Type 0 where
   pub near : king_distance (cell_of cells k) (cell_of cells place) ≤ 2
   pub alone : ¬ IsBridged cells k place
 
--- the places before the cursor are those of cells that come before this one
+-- all cells at places before the cursor come before the cell `from`
 abbrev pub IsPassed : List Cell → ℕ → Cell → Type 0
 IsPassed cells cursor from = (k : ℕ) → k < cursor → cell_cmp (cell_of cells k) from ≡ Less
 
--- the cells at places with this number
+-- the cells whose places have the number n
 abbrev pub numbered : ℕ → List ℕ → List Cell → List Cell
 numbered n [] cells = []
 numbered n (m ∷ ms) [] = []
 numbered n (m ∷ ms) (c ∷ cs) = cond (m == n) (c ∷ numbered n ms cs) (numbered n ms cs)
 
--- The places that were passed have the numbers of their clusters, and each cluster the cells that have its number.
+-- The places before `place` have the numbers of their clusters, and each cluster consists of the cells with its number.
 pub record ArePutInClusters (cells : List Cell) (parents numbers : List ℕ) (clusters : List (List Cell)) (place : ℕ) : Type 0 where
   pub size : length numbers ≡ place
   pub few : place ≤ length cells
@@ -74,7 +74,8 @@ pub record ArePutInClusters (cells : List Cell) (parents numbers : List ℕ) (cl
   pub linked : (j k : ℕ) → j < place → k < place → get_or numbers j 0 ≡ get_or numbers k 0 → Linked cells (cell_of cells j) (cell_of cells k)
   pub in_order : AllPairs FirstBefore clusters
 
--- The places that were passed have the numbers of their clusters, and the others lead as they did in the forest.
+-- The places before `place` have the numbers of their clusters, and the others lead to the same places as in the
+-- forest.
 pub record IsGatheringCells (cells : List Cell) (parents : List ℕ) (clusters : List (List Cell)) (place : ℕ) : Type 0 where
   pub forest : List ℕ
   pub is_forest : IsForest cells forest

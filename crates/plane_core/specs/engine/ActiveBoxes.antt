@@ -1,4 +1,4 @@
--- Boxes outside of which nothing changes from one generation to the next but one, and windows that cover them.
+-- Boxes outside of which every cell is the same two generations later, and windows that cover the boxes.
 use Rattle.std.specs.Prelude.{◌≡◌, ◌≢◌, ◌<◌, ◌≤◌, ℕ, true, List, Option, Any, IsSomeAnd, unsigned_abs}
 use Rattle.std.specs.Int.{bit_at}
 use Rattle.plane_core.specs.declared.plane.bounds.Bounds.{Bounds}
@@ -11,10 +11,11 @@ use Rattle.plane_core.specs.plane.Generations.{after}
 use Rattle.plane_core.specs.engine.LeapWindows.{IsCovered, IsInnerCell}
 use Rattle.plane_core.specs.plane.Rules.{Numbers}
 
--- how far from the origin the sides of a box may be, and of a rectangle of united boxes: no board is larger
+-- how far from the origin the sides of a box may be: no board is larger
 abbrev pub box_bound : ℕ
 box_bound = 8388608
 
+-- the same for a rectangle of united boxes, which has a margin of four
 abbrev pub rectangle_bound : ℕ
 rectangle_bound = 8388612
 
@@ -23,15 +24,15 @@ pub record IsInReach (p : LeapWindow) : Type 0 where
   pub left : unsigned_abs p.left ≤ 6291456
   pub top : unsigned_abs p.top ≤ 6291456
 
--- the cell lies in one of the boxes
+-- the cell is in one of the boxes
 abbrev pub IsInOne : List Bounds → Cell → Type 0
 IsInOne boxes c = Any (λ b. IsWithin b c) boxes
 
--- the cell lies within n columns and rows of one of the boxes
+-- the cell is within n columns and rows of one of the boxes
 abbrev pub IsNearOne : ℕ → List Bounds → Cell → Type 0
 IsNearOne n boxes c = Any (λ b. IsWithin (enlarged n b) c) boxes
 
--- boxes that have at least what others had
+-- the later boxes are wider: what is within n of one of the earlier ones is within n of a later one
 abbrev pub AreWider : List Bounds → List Bounds → Type 0
 AreWider boxes later = (n : ℕ) (c : Cell) → IsNearOne n boxes c → IsNearOne n later c
 
@@ -39,25 +40,25 @@ AreWider boxes later = (n : ℕ) (c : Cell) → IsNearOne n boxes c → IsNearOn
 abbrev pub IsQuiet : Numbers → List Cell → List Bounds → Type 0
 IsQuiet rule cells boxes = (c : Cell) → ¬ IsNearOne 2 boxes c → has (after rule cells 2) c ≡ has cells c
 
--- each live cell lies in a box
+-- each live cell is in a box
 abbrev pub HoldAll : List Bounds → List Cell → Type 0
 HoldAll boxes cells = (c : Cell) → has cells c ≡ true → IsInOne boxes c
 
--- each cell within 4 of a box lies in the inner part of a window
+-- each cell within 4 of a box is in the inner part of a window
 abbrev pub AreCovered : List LeapWindow → List Bounds → Type 0
 AreCovered places boxes = (c : Cell) → IsNearOne 4 boxes c → IsCovered places c
 
--- each bit that is 1 lies between the first and the last, which are below 64
+-- each bit of the word that is 1 is between the first and the last bit of the span, which are below 64
 pub record HasBits (word : ℕ) (span : BitSpan) : Type 0 where
   pub first : (i : ℕ) → bit_at word i ≡ 1 → span.first ≤ i
   pub last : (i : ℕ) → bit_at word i ≡ 1 → i ≤ span.last
   pub order : span.first ≤ span.last
   pub high : span.last < 64
 
--- the box, if there is one, has each inner cell of the window in it in which the two patterns differ
+-- each inner cell of the window in which the two patterns differ is in the box; without a box, there is no such cell
 abbrev pub HoldsDifference : LeapWindow → List Cell → List Cell → Option Bounds → Type 0
 HoldsDifference p one other found = (c : Cell) → IsInnerCell p c → has one c ≢ has other c → IsSomeAnd found (λ b. IsWithin b c)
 
--- each cell of an inner part in which the two patterns differ lies in one of the boxes
+-- each cell of an inner part in which the two patterns differ is in one of the boxes
 abbrev pub HoldDifferences : List LeapWindow → List Cell → List Cell → List Bounds → Type 0
 HoldDifferences places one other boxes = (c : Cell) → IsCovered places c → has one c ≢ has other c → IsInOne boxes c

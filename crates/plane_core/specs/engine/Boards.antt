@@ -17,7 +17,8 @@ pub record Running : Type 0 where
   pub rule : Numbers
   pub cells : List Cell
 
--- a board's words and boxes
+-- The words and the boxes of a board: the words fill the frame, each cell that isn't within 2 of a box is the same two
+-- generations later, and if `holds_all`, the boxes contain all live cells.
 pub record IsBoard (at : Frame) (rule : Numbers) (words : List ℕ) (boxes : List Bounds) (holds_all : Bool) : Type 0 where
   pub frame : IsFrame at
   pub long : FillsFrame at words
@@ -25,7 +26,7 @@ pub record IsBoard (at : Frame) (rule : Numbers) (words : List ℕ) (boxes : Lis
   pub quiet : IsQuiet rule (cells_on at words) boxes
   pub all : holds_all ≡ true → HoldAll boxes (cells_on at words)
 
--- and the spans of its word columns, which have all live cells; it lies on the plane
+-- a board on the plane, with the spans of its word columns, which contain all live cells
 pub record IsSpannedBoard (at : Frame) (rule : Numbers) (words : List ℕ) (boxes : List Bounds) (holds_all : Bool)
     (spans : List RowSpan) : Type 0 where
   pub board : IsBoard at rule words boxes holds_all

@@ -1,4 +1,4 @@
--- Diagonal directions, and the depth of a pattern in one: how far it reaches, where the column and the row of a cell count alike.
+-- Diagonal directions, and how deep cells are in each: how far they reach, if columns and rows count alike.
 use Rattle.std.specs.Prelude.{◌≡◌, ◌+◌, ◌-◌, ◌<◌, ◌≤◌, ℕ, ℤ, ◌+ℤ◌, ◌≤ℤ◌, neg_ℤ, Bool, true, false, List, Option, IfSome, IsSomeAnd}
 use Rattle.plane_core.specs.declared.plane.cell.Cell.{Cell}
 use Rattle.plane_core.specs.declared.engine.direction.Direction.{Direction}
@@ -7,36 +7,37 @@ use Rattle.plane_core.specs.declared.engine.row_spans.RowSpan.{RowSpan}
 use Rattle.plane_core.specs.plane.Cells.{has}
 use Rattle.plane_core.specs.engine.Frames.{board_cell}
 
--- a coordinate, counted forwards or backwards
+-- a coordinate, counted forwards or backwards: with its own sign or the other
 abbrev pub counted : Bool → ℤ → ℤ
 counted true at = at
 counted false at = neg_ℤ at
 
--- how deep a cell lies in a direction
+-- how deep a cell is in a direction
 abbrev pub depth_in : Direction → Cell → ℤ
 depth_in way c = counted way.right c.x +ℤ counted way.down c.y
 
--- something was found, and its depth is at least this
+-- a depth was found, and it is at least z
 abbrev pub IsReached : Option ℤ → ℤ → Type 0
 IsReached found z = IsSomeAnd found (λ m. z ≤ℤ m)
 
--- a cell of the pattern has this depth
+-- a live cell of the pattern has this depth
 pub record HasDepth (way : Direction) (cells : List Cell) (z : ℤ) : Type 0 where
   pub cell : Cell
   pub alive : has cells cell ≡ true
   pub depth : depth_in way cell ≡ z
 
--- what was found is at least as deep as before, and still the depth of a cell of the pattern
+-- the later depth is at least as deep as the one found before, and still the depth of a live cell of the pattern
 pub record GoesDeeper (way : Direction) (cells : List Cell) (found later : Option ℤ) : Type 0 where
   pub kept : (z : ℤ) → IsReached found z → IsReached later z
   pub some : IfSome found (HasDepth way cells) → IfSome later (HasDepth way cells)
 
--- the column of a word column that lies farthest to the right, or to the left
+-- the column of a word column that is farthest to the right, or to the left
 abbrev pub outer_column : Bool → ℕ
 outer_column true = 63
 outer_column false = 0
 
--- the row this many steps inwards from the outermost of some rows: the last one if rows count downwards, and otherwise the first
+-- the row `step` steps inwards from the outermost of some rows, which is the last one if rows count downwards, and
+-- otherwise the first
 abbrev pub inner_row : Bool → RowSpan → ℕ → ℕ
 inner_row true rows step = rows.end - (step + 1)
 inner_row false rows step = rows.from + step
@@ -45,12 +46,12 @@ inner_row false rows step = rows.from + step
 abbrev pub NoDeeperRow : Frame → Direction → ℕ → ℕ → Option ℤ → Type 0
 NoDeeperRow at way word_column row found = (i : ℕ) → i < 64 → IsReached found (depth_in way (board_cell at word_column row i))
 
--- nor in any of these rows, beginning this many steps inwards
+-- no cell in any of these rows, from `first` steps inwards on, is deeper than what was found
 abbrev pub NoDeeper : Frame → Direction → ℕ → RowSpan → ℕ → Option ℤ → Type 0
 NoDeeper at way word_column rows first found =
     (step : ℕ) → first ≤ step → step < rows.end - rows.from → NoDeeperRow at way word_column (inner_row way.down rows step) found
 
--- each live cell in this row of a word column has been seen: none is deeper than what was found
+-- the row of a word column has been read: no live cell in it is deeper than what was found
 abbrev pub IsSeen : Frame → Direction → List Cell → ℕ → ℕ → Option ℤ → Type 0
 IsSeen at way cells word_column row found =
     (i : ℕ) → i < 64 → has cells (board_cell at word_column row i) ≡ true → IsReached found (depth_in way (board_cell at word_column row i))

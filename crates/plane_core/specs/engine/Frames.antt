@@ -1,4 +1,5 @@
--- A board: a rectangle of cells in words, a word for each row of a word column of 64 columns, and where its cells lie on the plane.
+-- A board: a rectangle of cells, stored as a word for each row of a word column of 64 columns, and where the cells are
+-- on the plane.
 use Rattle.std.specs.Prelude.{◌≡◌, ◌==◌, ◌+◌, ◌*◌, ◌/◌, ◌<◌, ◌≤◌, ◌^◌, ℕ, ◌+ℤ◌, ◌-ℤ◌, pos, List, length, slice_index, true, unsigned_abs}
 use Rattle.std.specs.Int.{bit_at}
 use Rattle.plane_core.specs.declared.plane.bounds.Bounds.{Bounds}
@@ -7,20 +8,20 @@ use Rattle.plane_core.specs.declared.plane.cell.Cell.{Cell}
 use Rattle.plane_core.specs.plane.Bounds.{AreSidesWithin, IsWithin}
 use Rattle.plane_core.specs.plane.Cells.{cell_at, has, plane_bound}
 
--- the cell that bit i of row r of word column s is
+-- the cell at bit i of row r of word column s
 abbrev pub board_cell : Frame → ℕ → ℕ → ℕ → Cell
 board_cell at s r i = cell_at (at.left +ℤ pos (64 * s + i)) (at.top +ℤ pos r)
 
--- that row's place in the list of words
+-- the place of row r of word column s in the list of words
 abbrev pub word_of : Frame → ℕ → ℕ → ℕ
 word_of at s r = s * at.rows + r
 
--- on the board, the bits that are 1 are the cells of the list
+-- the board shows the list of cells: a cell of the board is in the list exactly if its bit is 1
 abbrev pub Shows : Frame → List ℕ → List Cell → Type 0
 Shows at words cells = (s r i : ℕ) → s < at.word_columns → r < at.rows → i < 64
     → has cells (board_cell at s r i) ≡ (bit_at (slice_index words (word_of at s r)) i == 1)
 
--- a frame round cells of the plane
+-- a frame: it begins near the plane, it isn't too large, and its rows are bands of eight
 pub record IsFrame (at : Frame) : Type 0 where
   pub left : unsigned_abs at.left ≤ 2 ^ 21
   pub top : unsigned_abs at.top ≤ 2 ^ 21
@@ -28,7 +29,7 @@ pub record IsFrame (at : Frame) : Type 0 where
   pub rows : at.rows ≤ 2 ^ 22
   pub bands : at.rows ≡ 8 * (at.rows / 8)
 
--- the board's rectangle
+-- the rectangle of the board
 abbrev pub bounds_of : Frame → Bounds
 bounds_of at = record {
   left = at.left;
@@ -48,10 +49,10 @@ pub record IsViewFrame (at : Frame) : Type 0 where
 abbrev pub FillsFrame : Frame → List ℕ → Type 0
 FillsFrame at words = length words ≡ at.word_columns * at.rows
 
--- There are at most 256 words per cell and two megabytes of them, plus a little.
+-- there are at most 256 words per cell, and 271,000 more, which take a little over two megabytes
 abbrev pub HasFewWords : Frame → List Cell → Type 0
 HasFewWords at cells = at.word_columns * at.rows ≤ 256 * length cells + 271000
 
--- all cells lie in it
+-- all cells are on the board
 abbrev pub LieOn : Frame → List Cell → Type 0
 LieOn at cells = (c : Cell) → has cells c ≡ true → IsWithin (bounds_of at) c

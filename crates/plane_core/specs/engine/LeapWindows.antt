@@ -9,19 +9,19 @@ use Rattle.plane_core.specs.plane.Cells.{cell_at, has}
 use Rattle.plane_core.specs.plane.Generations.{after}
 use Rattle.plane_core.specs.plane.Rules.{Numbers}
 
--- the cell lies in the inner part of the window: in its columns 4 to 59, and neither in its first four rows nor in its last four
+-- the cell is in the inner part of the window: in columns 4 to 59, and not in the first four or the last four rows
 pub record IsInnerCell (p : LeapWindow) (c : Cell) : Type 0 where
   pub left : (p.left +ℤ pos 4) ≤ℤ c.x
   pub top : (p.top +ℤ pos 4) ≤ℤ c.y
   pub right : c.x ≤ℤ (p.left +ℤ pos 59)
   pub bottom : (c.y +ℤ pos 4) <ℤ (p.top +ℤ pos p.rows)
 
--- the cell lies in one of the inner parts
+-- the cell is in the inner part of one of the windows
 abbrev pub IsCovered : List LeapWindow → Cell → Type 0
 IsCovered places c = Any (λ p. IsInnerCell p c) places
 
--- The whole window, of 8 to 64 rows, lies on the board, with a word column to its right: it is column x and row y of the board at
--- which it begins.
+-- The whole window, of 8 to 64 rows, is on the board, with a word column to its right. It begins in column x and row y
+-- of the board.
 pub record IsOnBoard (at : Frame) (p : LeapWindow) : Type 0 where
   pub x : ℕ
   pub y : ℕ
@@ -32,15 +32,17 @@ pub record IsOnBoard (at : Frame) (p : LeapWindow) : Type 0 where
   pub some : 8 ≤ p.rows
   pub few : p.rows ≤ 64
 
--- two patterns agree in the cell in column i and row r of the window
+-- the two patterns agree in the cell in column i and row r of the window
 abbrev pub IsSameAt : LeapWindow → List Cell → List Cell → ℕ → ℕ → Type 0
 IsSameAt p one other i r = has one (cell_at (p.left +ℤ pos i) (p.top +ℤ pos r)) ≡ has other (cell_at (p.left +ℤ pos i) (p.top +ℤ pos r))
 
--- The generation that the last one of a leap is compared with: the one two before it, or none after an odd number of generations.
+-- The generation with which the last one of a leap is compared: the one two before it, or an empty one after an odd
+-- number of generations.
 abbrev pub compared_with : Numbers → List Cell → ℕ → List Cell
 compared_with rule cells n = if n % 2 == 0 then after rule cells (n - 2) else []
 
--- Two patterns may differ in an inner cell of the window only where its column and its row are in the change.
+-- Where the two patterns differ in an inner cell of the window, the column and the row of the cell are marked in the
+-- change.
 pub record MarksDifferences (p : LeapWindow) (one other : List Cell) (change : DifferenceMask) : Type 0 where
   pub columns : (i r : ℕ) → 4 ≤ i → i < 60 → 4 ≤ r → r + 4 < p.rows → bit_at change.columns i ≡ 0 → IsSameAt p one other i r
   pub rows : (i r : ℕ) → 4 ≤ i → i < 60 → 4 ≤ r → r + 4 < p.rows → bit_at change.rows r ≡ 0 → IsSameAt p one other i r

@@ -1,4 +1,4 @@
--- Leaps: some generations of a board, made in windows that are all read first and put back afterwards.
+-- Leaps: some generations of a board, run in windows that are all read first and put back afterwards.
 use Rattle.std.specs.Prelude.{◌≡◌, ◌==◌, ◌+◌, ◌*◌, ◌<◌, ◌≤◌, ◌⊎◌, ℕ, ◌+ℤ◌, pos, All, List, length, slice_index, slice_index_or, []}
 use Rattle.std.specs.Int.{bit_at}
 use Rattle.plane_core.specs.declared.plane.bounds.Bounds.{Bounds}
@@ -16,22 +16,24 @@ use Rattle.plane_core.specs.engine.LeapWindows.{MarksDifferences, IsInnerCell, c
 use Rattle.plane_core.specs.plane.Rules.{Numbers}
 use Rattle.plane_core.specs.windows.Windows.{IsShownInside}
 
--- in the inner part of a window, whose rows these are, the bits are the cells of the list
+-- in the inner part of a window, whose rows these are, a cell is in the list exactly if its bit is 1
 abbrev pub ShowsInner : LeapWindow → List ℕ → List Cell → Type 0
 ShowsInner p rows cells = (r i : ℕ) → 4 ≤ r → r + 4 < p.rows → 4 ≤ i → i < 60
     → has cells (cell_at (p.left +ℤ pos i) (p.top +ℤ pos r)) ≡ (bit_at (slice_index rows r) i == 1)
 
--- A window of n vectors was run: it is right from four cells inside its border, and reports what has changed.
+-- A window of n vectors was run: it is right from four cells inside its border on, and the change marks what is
+-- different.
 abbrev pub IsRun : ℕ → Numbers → ℕ → List (List ℕ) → List (List ℕ) → DifferenceMask → Type 0
 IsRun n rule count x y change = (p : LeapWindow) (cells : List Cell) → p.rows ≡ 4 * n → InOrder cells → IsShownInside n p.left p.top 0 x cells
     → IsShownInside n p.left p.top 4 y (after rule cells count) × MarksDifferences p (after rule cells count) (compared_with rule cells count) change
 
--- The rows of a place are those of the board some generations later, and report what has changed.
+-- A window of the board was run: its inner rows are those of the board `count` generations later, and the change marks
+-- what is different.
 abbrev pub IsRunAt : Frame → List ℕ → Numbers → ℕ → LeapWindow → List ℕ → DifferenceMask → Type 0
 IsRunAt at words rule count p rows change = (cells : List Cell) → InOrder cells → Shows at words cells
     → ShowsInner p rows (after rule cells count) × MarksDifferences p (after rule cells count) (compared_with rule cells count) change
 
--- Each place was run. Every cell that differs lies in one of the boxes.
+-- Each window was run, and every cell that is different is in one of the boxes.
 pub record AreRun (at : Frame) (words : List ℕ) (rule : Numbers) (count : ℕ) (places : List LeapWindow) (held : List (List ℕ))
     (boxes : List Bounds) : Type 0 where
   pub long : length places ≤ length held
@@ -41,8 +43,8 @@ pub record AreRun (at : Frame) (words : List ℕ) (rule : Numbers) (count : ℕ)
       → HoldDifferences places (after rule cells count) (compared_with rule cells count) boxes
   pub sides : All (AreSidesWithin box_bound) boxes
 
--- The inner parts of the first places were put back: each cell of the board shows what one of them shows, or lies in none of them
--- and is unchanged.
+-- The inner parts of the first `count` windows were put back: each cell of the board shows what one of them shows, or
+-- is in none of them and is unchanged.
 abbrev pub ArePutBack : Frame → List LeapWindow → List (List ℕ) → ℕ → List ℕ → List ℕ → Type 0
 ArePutBack at places held count old new = (cells : List Cell)
     → ((k : ℕ) (p : LeapWindow) → k < count → ShowsInner (slice_index_or places k p) (slice_index_or held k []) cells)

@@ -1,8 +1,8 @@
--- A quick test of a pattern: where the window lies in which it is run.
+-- Where the window is in which a small pattern is run.
 use Rattle.std.specs.Prelude.{◌≤◌, unsigned_abs}
 use Rattle.plane_core.specs.declared.engine.window_origin.WindowOrigin.{WindowOrigin}
 
--- a window of 64 by 64 that lies far from the edge of the plane
+-- a window of 64 by 64 cells that is far from the edge of the plane
 pub record IsInland (p : WindowOrigin) : Type 0 where
   pub left : unsigned_abs p.left ≤ 950000
   pub top : unsigned_abs p.top ≤ 950000

@@ -1,4 +1,5 @@
--- How the next generation of a board is listed, window by window. Column u and row v of a board count from its first column and row.
+-- How the next generation of a board is listed, window by window. Column u and row v of a board count from its first
+-- column and row.
 use Rattle.std.specs.Prelude.{◌≡◌, ◌==◌, ◌+◌, ◌/◌, ◌<◌, ◌≤◌, ℕ, ◌+ℤ◌, ◌<ℤ◌, pos, All, Any, List, slice_index, true}
 use Rattle.std.specs.Int.{bit_at}
 use Rattle.plane_core.specs.declared.engine.frame.Frame.{Frame}
@@ -13,43 +14,44 @@ use Rattle.plane_core.specs.engine.RowSpans.{IsInHull}
 use Rattle.plane_core.specs.engine.Listing.{AreAmong}
 use Rattle.plane_core.specs.engine.WindowIo.{IsInnerColumn, cell_on}
 
--- in the inner part of a window that begins in column x and row y, its rows show the pattern
+-- in the inner part of a window that begins in column x and row y of the board, the rows show the pattern
 abbrev pub ShowsInnerRows : Frame → ℕ → ℕ → List ℕ → List Cell → Type 0
 ShowsInnerRows at x y rows cells = (r i : ℕ) → 4 ≤ r → r < 36 → 4 ≤ i → i < 60
     → has cells (cell_on at (x + i) (y + r)) ≡ (bit_at (slice_index rows r) i == 1)
 
--- the rows show each pattern that the board shows, a generation later
+-- in the inner part of the window, the rows show the board's pattern, one generation later
 abbrev pub AreNextRows : Frame → List ℕ → Numbers → ℕ → ℕ → List ℕ → Type 0
 AreNextRows at words rule x y rows = (cells : List Cell) → InOrder cells → Shows at words cells → ShowsInnerRows at x y rows (after rule cells 1)
 
--- the window lies on the board, with a word column to its right, and its rows show the pattern
+-- the window is on the board, with a word column to its right, and its rows show the pattern
 pub record IsNextWindowOf (at : Frame) (y : ℕ) (cells : List Cell) (window : NextRows) : Type 0 where
   pub word_columns : window.x / 64 + 1 < at.word_columns
   pub shown : ShowsInnerRows at window.x y window.rows cells
 
--- Windows of the band whose rows begin 4 below row y: each live cell of the band in the columns from `from` to before `end` lies in
--- one.
+-- The windows show the band of 32 rows that begins 4 below row y: each live cell of the band in the columns from `from`
+-- to before `end` is in one of the windows.
 pub record AreBandOf (at : Frame) (y from end : ℕ) (cells : List Cell) (windows : List NextRows) : Type 0 where
   pub each : All (IsNextWindowOf at y cells) windows
   pub covered : (u v : ℕ) → y + 4 ≤ v → v < y + 36 → from ≤ u → u < end → has cells (cell_on at u v) ≡ true → Any (λ window. IsInnerColumn window.x u) windows
 
--- the first n rows of the inner parts of windows have been listed
+-- the rows before row n of the inner parts of the windows have been listed: their live cells, and only cells of the
+-- pattern
 pub record HasListedRows (at : Frame) (y n : ℕ) (cells : List Cell) (windows : List NextRows) (old new : List Cell) : Type 0 where
   pub grows : AreAmong new old
   pub sound : AreAmong cells old → AreAmong cells new
   pub complete : (u r : ℕ) → 4 ≤ r → r < n → Any (λ window. IsInnerColumn window.x u) windows → has cells (cell_on at u (y + r)) ≡ true
       → has new (cell_on at u (y + r)) ≡ true
 
--- all live cells above row v of the board have been listed, and nothing else
+-- all live cells above row v of the board have been listed, and only live cells
 pub record HasListedAbove (at : Frame) (v : ℕ) (cells new : List Cell) : Type 0 where
   pub sound : AreAmong cells new
   pub complete : (c : Cell) → has cells c ≡ true → c.y <ℤ (at.top +ℤ pos v) → has new c ≡ true
 
--- each live cell of the board lies in the hull
+-- each live cell of the board is in the hull
 abbrev pub LiesInHull : Frame → Hull → List Cell → Type 0
 LiesInHull at hull cells = (s r i : ℕ) → s < at.word_columns → r < at.rows → i < 64 → has cells (board_cell at s r i) ≡ true → IsInHull hull s r
 
--- the hull has a word column on each side of it on the board, and rows above it and below it
+-- the board has a word column on each side of the hull, and rows above and below it
 pub record HasRim (at : Frame) (hull : Hull) : Type 0 where
   pub left : 1 ≤ hull.word_columns.from
   pub columns : hull.word_columns.from < hull.word_columns.end
@@ -58,7 +60,7 @@ pub record HasRim (at : Frame) (hull : Hull) : Type 0 where
   pub rows : hull.rows.from < hull.rows.end
   pub bottom : hull.rows.end < at.rows
 
--- a list has just the cells of the pattern, all of which lie on the board
+-- the list has exactly the cells of the pattern, all of which are on the board
 pub record AreOnBoard (at : Frame) (cells new : List Cell) : Type 0 where
   pub same : (c : Cell) → has new c ≡ has cells c
   pub on : LieOn at cells

@@ -6,15 +6,15 @@ use Rattle.plane_core.specs.declared.plane.cell.Cell.{Cell}
 use Rattle.plane_core.specs.plane.Cells.{set_of}
 use Rattle.plane_core.specs.engine.Frames.{board_cell}
 
--- bit k of a board's words, counted through the whole list, is 1
+-- bit k of the words of a board, counted through the whole list, is 1
 abbrev pub is_live_bit : List ℕ → ℕ → Bool
 is_live_bit words k = bit_at (slice_index words (k / 64)) (k % 64) == 1
 
--- and the cell that it stands for
+-- the cell of bit k of the words, counted through the whole list
 abbrev pub lit_cell : Frame → ℕ → Cell
 lit_cell at k = board_cell at (k / 64 / at.rows) (k / 64 % at.rows) (k % 64)
 
--- the live cells among the first n
+-- the live cells among the cells of the first n bits
 abbrev pub lit_before : Frame → List ℕ → ℕ → List Cell
 lit_before at words zero = []
 lit_before at words (suc k) = if is_live_bit words k then lit_cell at k ∷ lit_before at words k else lit_before at words k

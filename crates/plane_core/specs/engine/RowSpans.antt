@@ -9,45 +9,45 @@ use Rattle.plane_core.specs.plane.Cells.{has}
 use Rattle.plane_core.specs.engine.Frames.{board_cell}
 use Rattle.plane_core.specs.engine.LeapWindows.{IsCovered}
 
--- the number lies in the span
+-- the number is in the span
 pub record HasRow (span : RowSpan) (n : ℕ) : Type 0 where
   pub low : span.from ≤ n
   pub high : n < span.end
 
--- the span of a word column; a word column that isn't there has no rows
+-- the span of word column s, which has no rows if there is no such word column
 abbrev pub span_of : List RowSpan → ℕ → RowSpan
 span_of spans s = slice_index_or spans s (record { from = 0; end = 0 })
 
--- the row lies in the span of its word column
+-- row r is in the span of word column s
 abbrev pub IsInSpan : List RowSpan → ℕ → ℕ → Type 0
 IsInSpan spans s r = HasRow (span_of spans s) r
 
--- each live cell of the board lies in the span of its word column
+-- each live cell of the board is in the span of its word column
 abbrev pub LieInSpans : Frame → List RowSpan → List Cell → Type 0
 LieInSpans at spans cells = (s r i : ℕ) → s < at.word_columns → r < at.rows → i < 64 → has cells (board_cell at s r i) ≡ true → IsInSpan spans s r
 
--- or in one of the inner parts of windows
+-- each cell of the board in the inner part of a window is in the span of its word column
 abbrev pub HoldCovered : Frame → List RowSpan → List LeapWindow → Type 0
 HoldCovered at spans places = (s r i : ℕ) → s < at.word_columns → r < at.rows → i < 64 → IsCovered places (board_cell at s r i) → IsInSpan spans s r
 
--- what was in the old spans is in the new ones
+-- what is in the old spans is in the new ones
 abbrev pub AreWidened : List RowSpan → List RowSpan → Type 0
 AreWidened old new = (s r : ℕ) → IsInSpan old s r → IsInSpan new s r
 
--- the spans of a board that shows these cells
+-- the spans of a board that shows these cells: one for each word column, which together contain every live cell
 pub record AreSpans (at : Frame) (cells : List Cell) (spans : List RowSpan) : Type 0 where
   pub word_columns : length spans ≡ at.word_columns
   pub live : LieInSpans at spans cells
 
--- only these word columns have rows in their spans
+-- only word columns in this range have rows in their spans
 abbrev pub LieInWordColumns : Frame → List RowSpan → RowSpan → Type 0
 LieInWordColumns at spans word_columns = (s r : ℕ) → s < at.word_columns → IsInSpan spans s r → HasRow word_columns s
 
--- the word column is in the hull, and the row
+-- row r of word column s is in the hull
 pub record IsInHull (hull : Hull) (s r : ℕ) : Type 0 where
   pub word_column : HasRow hull.word_columns s
   pub row : HasRow hull.rows r
 
--- all that the first n spans have is in the hull
+-- all rows of the first n spans are in the hull
 abbrev pub HoldsSpans : List RowSpan → ℕ → Hull → Type 0
 HoldsSpans spans n hull = (s r : ℕ) → s < n → IsInSpan spans s r → IsInHull hull s r

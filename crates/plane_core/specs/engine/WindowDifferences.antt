@@ -4,11 +4,11 @@ use Rattle.std.specs.Int.{bit_at}
 use Rattle.plane_core.specs.declared.engine.difference_box.DifferenceMask.{DifferenceMask}
 use Rattle.plane_core.specs.windows.Windows.{row_at}
 
--- two windows have the same bit in column i of row r
+-- the two windows have the same bit in column i of row r
 abbrev pub IsSameBit : ℕ → List (List ℕ) → List (List ℕ) → ℕ → ℕ → Type 0
 IsSameBit n one other r i = bit_at (row_at n one r) i ≡ bit_at (row_at n other r) i
 
--- An inner place in which two windows differ has its column and its row in the change.
+-- where two windows differ in an inner place, its column and its row are marked in the change
 pub record DiffersOnlyIn (n : ℕ) (change : DifferenceMask) (one other : List (List ℕ)) : Type 0 where
   pub columns : (r i : ℕ) → 4 ≤ r → r + 4 < 4 * n → 4 ≤ i → i < 60 → bit_at change.columns i ≡ 0 → IsSameBit n one other r i
   pub rows : (r i : ℕ) → 4 ≤ r → r + 4 < 4 * n → 4 ≤ i → i < 60 → bit_at change.rows r ≡ 0 → IsSameBit n one other r i

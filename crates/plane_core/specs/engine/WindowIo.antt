@@ -1,4 +1,4 @@
--- Windows read from a board and put back. Column u and row v of a board count from its first column and row.
+-- Windows that are read from a board and put back. Column u and row v of a board count from its first column and row.
 use Rattle.std.specs.Prelude.{◌≡◌, ◌≢◌, ◌+◌, ◌*◌, ◌/◌, ◌%◌, ◌<◌, ◌≤◌, ℕ, List, slice_index, ◌⊎◌, ◌+ℤ◌, pos}
 use Rattle.std.specs.Int.{bit_at}
 use Rattle.plane_core.specs.declared.plane.cell.Cell.{Cell}
@@ -6,15 +6,15 @@ use Rattle.plane_core.specs.declared.engine.frame.Frame.{Frame}
 use Rattle.plane_core.specs.plane.Cells.{cell_at}
 use Rattle.plane_core.specs.engine.Frames.{word_of}
 
--- the cell in column u of row v
+-- the cell in column u and row v of the board
 abbrev pub cell_on : Frame → ℕ → ℕ → Cell
 cell_on at u v = cell_at (at.left +ℤ pos u) (at.top +ℤ pos v)
 
--- the board's bit in column u of row v
+-- the bit in column u and row v of the board
 abbrev pub bit_on : Frame → List ℕ → ℕ → ℕ → ℕ
 bit_on at words u v = bit_at (slice_index words (word_of at (u / 64) v)) (u % 64)
 
--- the first n rows of a window that begins in column x and row y have the board's bits
+-- the first n rows of a window that begins in column x and row y have the bits of the board
 abbrev pub AreRowsRead : Frame → List ℕ → ℕ → ℕ → ℕ → List ℕ → Type 0
 AreRowsRead at words x y n rows = (r i : ℕ) → r < n → i < 64 → bit_at (slice_index rows r) i ≡ bit_on at words (x + i) (y + r)
 
@@ -22,32 +22,32 @@ AreRowsRead at words x y n rows = (r i : ℕ) → r < n → i < 64 → bit_at (s
 abbrev pub inner_mask : ℕ
 inner_mask = 0x0fff_ffff_ffff_fff0
 
--- column u is one of the inner columns of a window that begins at column x: it is its column i
+-- column u of the board is inner column i, 4 to 59, of a window that begins in column x
 pub record IsInnerColumn (x u : ℕ) : Type 0 where
   pub i : ℕ
   pub low : 4 ≤ i
   pub high : i < 60
   pub is : u ≡ x + i
 
--- row v is row r of a window that begins at row y, from row 4 on and before row end
+-- row v of the board is row r, from 4 to before `end`, of a window that begins in row y
 pub record IsInnerRow (y end v : ℕ) : Type 0 where
   pub r : ℕ
   pub low : 4 ≤ r
   pub high : r < end
   pub is : v ≡ y + r
 
--- the place lies there in both ways
+-- column u and row v of the board are an inner column and an inner row of the window
 pub record IsInner (x y end u v : ℕ) : Type 0 where
   pub column : IsInnerColumn x u
   pub row : IsInnerRow y end v
 
--- the inner columns of a row have become those of a word, and all other bits are what they were
+-- the inner columns of a row are now those of the word, and all other bits are unchanged
 abbrev pub IsRowPut : Frame → ℕ → ℕ → ℕ → List ℕ → List ℕ → Type 0
 IsRowPut at x y word old new = (u v : ℕ) → u < 64 * at.word_columns → v < at.rows
     → ((c : IsInnerColumn x u) × (v ≡ y) × (bit_on at new u v ≡ bit_at word c.i))
     ⊎ ((IsInnerColumn x u → v ≢ y) × (bit_on at new u v ≡ bit_on at old u v))
 
--- the inner part of a window, down to row end, has become these rows, and all other bits are what they were
+-- the inner part of a window, from row 4 to before row `end`, now has these rows, and all other bits are unchanged
 abbrev pub IsPutBack : Frame → ℕ → ℕ → ℕ → List ℕ → List ℕ → List ℕ → Type 0
 IsPutBack at x y end rows old new = (u v : ℕ) → u < 64 * at.word_columns → v < at.rows
     → ((c : IsInner x y end u v) × (bit_on at new u v ≡ bit_at (slice_index rows c.row.r) c.column.i))

@@ -1,4 +1,5 @@
--- One cluster in a window of 64 rows, grown from one of its cells. Row r of the window is a word, as is row r of the flood.
+-- One cluster in a window of 64 rows, grown from one of its cells. Each row of the window is a word, and so is each row
+-- of the flood.
 use Rattle.std.specs.Prelude.{◌≡◌, ◌+◌, ◌<◌, ◌≤◌, ℕ, ℤ, ◌+ℤ◌, pos, List}
 use Rattle.plane_core.specs.declared.plane.cell.Cell.{Cell}
 use Rattle.plane_core.specs.plane.Cells.{cell_at}
@@ -14,32 +15,32 @@ pub record AreNear (reach a b : ℕ) : Type 0 where
 abbrev pub AreLinked : ℤ → ℤ → Cell → List Cell → List ℕ → Type 0
 AreLinked left top start cells flood = (r i : ℕ) → bit_in flood r i ≡ 1 → Linked cells start (cell_at (left +ℤ pos i) (top +ℤ pos r))
 
--- What was in the flood is still there, and if that was linked to some start, all of it is.
+-- the flood has grown: what was in it still is, and if all of that was linked to some start, all of the new flood is
 pub record HasGrown (rows old new : List ℕ) : Type 0 where
   pub kept : (r i : ℕ) → bit_in old r i ≡ 1 → bit_in new r i ≡ 1
   pub linked : (cells : List Cell) (start : Cell) (left top : ℤ) → ShowsInRows left top rows cells → AreLinked left top start cells old
       → AreLinked left top start cells new
 
--- the bit lies four or more inside the window
+-- the bit is at least four columns and rows inside the window
 pub record IsWellInside (r i : ℕ) : Type 0 where
   pub above : 4 ≤ r
   pub below : r < 60
   pub west : 4 ≤ i
   pub east : i < 60
 
--- each bit of the flood lies well inside
+-- each bit of the flood is well inside the window
 abbrev pub LiesInside : List ℕ → Type 0
 LiesInside flood = (r i : ℕ) → bit_in flood r i ≡ 1 → IsWellInside r i
 
--- if bit j of row q is one of the rows', and within 2 of one of the flood, it is in the flood
+-- if bit j of row q is alive and within 2 of a bit of the flood, it is in the flood
 abbrev pub IsClosedAt : List ℕ → List ℕ → ℕ → ℕ → Type 0
 IsClosedAt rows flood q j = (r i : ℕ) → bit_in flood r i ≡ 1 → AreNear 2 q r → AreNear 2 j i → bit_in rows q j ≡ 1 → bit_in flood q j ≡ 1
 
--- this holds everywhere except in the two rows at either border
+-- each live bit within 2 of the flood is in the flood, except in the two outer rows at either border
 abbrev pub IsClosed : List ℕ → List ℕ → Type 0
 IsClosed rows flood = (q j : ℕ) → 2 ≤ q → q < 62 → j < 64 → IsClosedAt rows flood q j
 
--- the flood is all that is linked to bit i of row r
+-- the flood is the cluster of bit i of row r: it is well inside the window, and has all that is linked to the bit
 pub record IsFlooded (rows flood : List ℕ) (r i : ℕ) : Type 0 where
   pub start : bit_in flood r i ≡ 1
   pub inside : LiesInside flood

@@ -10,7 +10,7 @@ use Rattle.plane_core.specs.plane.Rules.{Numbers}
 use Rattle.plane_core.specs.windows.Rows.{ShowsInside}
 use Rattle.plane_core.specs.windows.Windows.{IsShownInside, row_at}
 
--- at some generation up to the horizon the cluster, run alone, has a cell that the whole doesn't have
+-- the cluster diverges: run alone, it has a cell that the whole doesn't have, at some generation up to the horizon
 pub record Diverges (rule : Numbers) (whole cluster : List Cell) (horizon : ℕ) : Type 0 where
   pub generation : ℕ
   pub early : generation ≤ horizon
@@ -18,18 +18,18 @@ pub record Diverges (rule : Numbers) (whole cluster : List Cell) (horizon : ℕ)
   pub alone : has (after rule cluster generation) cell ≡ true
   pub missing : has (after rule whole generation) cell ≡ false
 
--- some cluster of the pattern diverges from it within the horizon, or never recurs within the period
+-- some cluster of the pattern diverges from it within the horizon, or doesn't recur within the period
 pub record HasRestlessCluster (rule : Numbers) (cells : List Cell) (horizon period : ℕ) : Type 0 where
   pub cluster : List Cell
   pub is : IsCluster cells cluster
   pub why : Diverges rule cells cluster horizon ⊎ NeverRecurs rule cluster period
 
--- each pattern that the window of n vectors shows at this depth has such a cluster
+-- each pattern that the window of n vectors shows from this depth on has such a cluster
 abbrev pub AreAllRestless : Numbers → ℕ → List (List ℕ) → ℕ → ℕ → ℕ → Type 0
 AreAllRestless rule n window depth horizon period =
     (cells : List Cell) (left top : ℤ) → InOrder cells → IsShownInside n left top depth window cells → HasRestlessCluster rule cells horizon period
 
--- At least so deep inside the windows there is a cell alone that the whole hasn't: in column i of row r.
+-- at least `depth` inside the windows, `alone` has a live cell that `whole` doesn't have: in column i of row r
 pub record HasDivergingCell (n : ℕ) (whole alone : List (List ℕ)) (depth : ℕ) : Type 0 where
   pub r : ℕ
   pub i : ℕ
@@ -40,13 +40,13 @@ pub record HasDivergingCell (n : ℕ) (whole alone : List (List ℕ)) (depth : �
   pub lit : bit_at (row_at n alone r) i ≡ 1
   pub dark : bit_at (row_at n whole r) i ≡ 0
 
--- what the one window shows diverges from what the other shows
+-- each cluster that the window `alone` shows diverges from each pattern that the window `whole` shows
 abbrev pub DivergesFromWhole : Numbers → ℕ → List (List ℕ) → List (List ℕ) → ℕ → ℕ → Type 0
 DivergesFromWhole rule n whole alone depth horizon =
     (cells cluster : List Cell) (left top : ℤ) → InOrder cells → InOrder cluster → IsShownInside n left top depth whole cells
     → IsShownInside n left top depth alone cluster → Diverges rule cells cluster horizon
 
--- what the one rows show alone diverges from what the other rows show
+-- each cluster that the rows `alone` hold diverges from each pattern that the rows `whole` show
 abbrev pub DivergesInRows : Numbers → List ℕ → List ℕ → ℕ → ℕ → Type 0
 DivergesInRows rule whole alone depth horizon =
     (cells cluster : List Cell) (left top : ℤ) → InOrder cells → ShowsInside left top depth whole cells → FillsRows left top alone cluster

@@ -1,4 +1,4 @@
--- The least box round a pattern, and a pattern moved to the corner (0, 0).
+-- The smallest box around a pattern, and a pattern moved to the corner (0, 0).
 use Rattle.std.specs.Prelude.{◌≡◌, ◌≤◌, unsigned_abs, ℕ, ℤ, ◌+ℤ◌, ◌≤ℤ◌, List, [], ◌∷◌, Option, None, Some, All, Any, map, ◌≢◌, pos, IfSome, IfNone}
 use Rattle.std.specs.Int.{int_min, int_max}
 use Rattle.plane_core.specs.declared.plane.cell.Cell.{Cell}
@@ -10,21 +10,21 @@ use lib.IntN.{◌-ℤ◌, neg_ℤ}
 abbrev pub box_at : Cell → Bounds
 box_at c = record { left = c.x; top = c.y; right = c.x; bottom = c.y }
 
--- the least box that has the box and the cell in it
+-- the smallest box that contains the box and the cell
 abbrev pub widened : Cell → Bounds → Bounds
 widened c b = record { left = int_min c.x b.left; top = int_min c.y b.top; right = int_max c.x b.right; bottom = int_max c.y b.bottom }
 
--- the least box that contains a cell and a box, if there is one
+-- the smallest box that contains the cell and, if there is one, the box
 abbrev pub grown : Cell → Option Bounds → Bounds
 grown c None = box_at c
 grown c (Some b) = widened c b
 
--- the least box round the cells
+-- the smallest box around the cells, if there are any
 abbrev pub box_of : List Cell → Option Bounds
 box_of [] = None
 box_of (c ∷ cs) = Some (grown c (box_of cs))
 
--- the cell lies in the box
+-- the cell is in the box
 pub record IsWithin (b : Bounds) (c : Cell) : Type 0 where
   pub left : b.left ≤ℤ c.x
   pub top : b.top ≤ℤ c.y
@@ -35,14 +35,14 @@ pub record IsWithin (b : Bounds) (c : Cell) : Type 0 where
 abbrev pub enlarged : ℕ → Bounds → Bounds
 enlarged n b = record { left = b.left -ℤ pos n; top = b.top -ℤ pos n; right = b.right +ℤ pos n; bottom = b.bottom +ℤ pos n }
 
--- the least box that contains both: each side is the outer one of the two
+-- the smallest box that contains both: each side is the outer one of the two
 pub record IsRoundBoth (one other b : Bounds) : Type 0 where
   pub left : b.left ≡ int_min one.left other.left
   pub top : b.top ≡ int_min one.top other.top
   pub right : b.right ≡ int_max one.right other.right
   pub bottom : b.bottom ≡ int_max one.bottom other.bottom
 
--- the box has every cell in it, and each of its four sides has a cell on it
+-- the box contains every cell, and each of its four sides has a cell on it
 pub record IsLeastBox (cells : List Cell) (b : Bounds) : Type 0 where
   pub within : All (IsWithin b) cells
   pub left : Any (λ c. c.x ≡ b.left) cells
@@ -50,26 +50,28 @@ pub record IsLeastBox (cells : List Cell) (b : Bounds) : Type 0 where
   pub right : Any (λ c. c.x ≡ b.right) cells
   pub bottom : Any (λ c. c.y ≡ b.bottom) cells
 
--- the sides of a box are at most `reach` from the origin
+-- each side of the box is at most `reach` from the origin
 pub record AreSidesWithin (reach : ℕ) (b : Bounds) : Type 0 where
   pub left : unsigned_abs b.left ≤ reach
   pub top : unsigned_abs b.top ≤ reach
   pub right : unsigned_abs b.right ≤ reach
   pub bottom : unsigned_abs b.bottom ≤ reach
 
--- S + v: every cell moved by (dx, dy)
+-- the pattern moved by (dx, dy): each cell is moved
 abbrev pub shifted : ℤ → ℤ → List Cell → List Cell
 shifted dx dy cells = map (moved_by dx dy) cells
 
--- the pattern moved so that its least x and its least y are 0
+-- the cells moved so that the corner of their box is (0, 0)
 abbrev pub cornered : Option Bounds → List Cell → List Cell
 cornered None cells = []
 cornered (Some b) cells = shifted (neg_ℤ b.left) (neg_ℤ b.top) cells
 
+-- the pattern moved so that its smallest x and its smallest y are 0
 abbrev pub at_corner : List Cell → List Cell
 at_corner cells = cornered (box_of cells) cells
 
--- The answer is a displacement that takes S to T, if there is one. There is only one, unless both are empty, and then it is (0, 0).
+-- What is found is a displacement that moves S to T, if there is one. There is at most one, unless both are empty. In
+-- that case, it is (0, 0).
 pub record TellsShift (S T : List Cell) (found : Option (ℤ × ℤ)) : Type 0 where
   pub some : IfSome found (λ v. shifted v.0 v.1 S ≡ T)
   pub none : IfNone found ((dx dy : ℤ) → shifted dx dy S ≢ T)

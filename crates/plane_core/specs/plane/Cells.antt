@@ -15,19 +15,19 @@ plane_bound = 1000000
 abbrev pub cell_at : ℤ → ℤ → Cell
 cell_at x y = record { y = y; x = x }
 
--- rows from the top, and each row from the left
+-- the order of cells: row by row from the top, and each row from the left
 abbrev pub cell_cmp : Cell → Cell → Ordering
 cell_cmp a b = ordering_then (int_cmp a.y b.y) (int_cmp a.x b.x)
 
--- the two are one cell
+-- the two are the same cell
 abbrev pub same_cell : Cell → Cell → Bool
 same_cell a b = is_eq (cell_cmp a b)
 
--- the cell is one of the list
+-- the cell is in the list
 abbrev pub has : List Cell → Cell → Bool
 has cells c = list_any (same_cell c) cells
 
--- the cells stand in order, each once
+-- the cells are in order, each once
 abbrev pub InOrder : List Cell → Type 0
 InOrder cells = IsStrictlySortedBy cell_cmp cells
 
@@ -35,7 +35,7 @@ InOrder cells = IsStrictlySortedBy cell_cmp cells
 abbrev pub distance : ℤ → ℤ → ℕ
 distance a b = unsigned_abs (a -ℤ b)
 
--- the greater of the distances in x and in y
+-- the larger of the distances in x and in y
 abbrev pub king_distance : Cell → Cell → ℕ
 king_distance a b = max (distance a.x b.x) (distance a.y b.y)
 
@@ -43,24 +43,25 @@ king_distance a b = max (distance a.x b.x) (distance a.y b.y)
 abbrev pub moved_by : ℤ → ℤ → Cell → Cell
 moved_by dx dy c = cell_at (c.x +ℤ dx) (c.y +ℤ dy)
 
--- c put in its place in a list in order, once
+-- a list in order with c put in its place, unless c is there already
 abbrev pub put : Cell → List Cell → List Cell
 put c [] = c ∷ []
 put c (d ∷ ds) = match_ordering (cell_cmp c d) (c ∷ d ∷ ds) (d ∷ ds) (d ∷ put c ds)
 
--- the set of the cells of any list: those cells in order, each once
+-- the set of the cells of any list, as a list: the same cells in order, each once
 abbrev pub set_of : List Cell → List Cell
 set_of [] = []
 set_of (c ∷ cs) = put c (set_of cs)
 
--- both coordinates have an absolute value of at most reach
+-- the absolute value of each coordinate is at most `reach`
 abbrev pub is_within : ℕ → Cell → Bool
 is_within reach c = nat_le (unsigned_abs c.x) reach && nat_le (unsigned_abs c.y) reach
 
--- the cell lies within the bound
+-- the cell is on the plane: each coordinate is within the bound
 unfoldable pub on_plane : Cell → Bool
 on_plane c = is_within plane_bound c
 
+-- the cell is off the plane
 abbrev pub off_plane : Cell → Bool
 off_plane c = not (on_plane c)
 
@@ -68,7 +69,7 @@ off_plane c = not (on_plane c)
 unfoldable pub near_plane : Cell → Bool
 near_plane c = is_within (plane_bound + 1) c
 
--- a coordinate has the absolute value of the bound
+-- the cell is on the edge of the plane: the absolute value of a coordinate is the bound
 unfoldable pub on_edge : Cell → Bool
 on_edge c = unsigned_abs c.x == plane_bound || unsigned_abs c.y == plane_bound
 

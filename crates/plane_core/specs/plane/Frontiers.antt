@@ -7,7 +7,7 @@ use Rattle.plane_core.specs.plane.Generations.{after}
 use Rattle.plane_core.specs.plane.Orientations.{turned_cell}
 use Rattle.plane_core.specs.plane.Rules.{Numbers, is_birth, is_survival}
 
--- the depth of a cell: its column and its row together
+-- the depth of a cell: the sum of its column and its row
 abbrev pub depth : Cell → ℤ
 depth c = c.x +ℤ c.y
 
@@ -19,12 +19,12 @@ LiesUpTo o m cells = (c : Cell) → has cells c ≡ true → depth (turned_cell 
 abbrev pub is_slow : Numbers → Bool
 is_slow rule = not (is_birth rule 1 || is_birth rule 2 || is_survival rule 4 || is_survival rule 5)
 
--- Under a slow rule a pattern grows by at most one cell in two generations, rounded up, in each of the diagonal directions.
+-- under a slow rule, a pattern grows in each diagonal direction by at most one cell in two generations, rounded up
 abbrev pub FrontiersAreSlow : Type 0
 FrontiersAreSlow = (rule : Numbers) (o : Orientation) (m : ℤ) (cells : List Cell) (n : ℕ) → InOrder cells → is_slow rule ≡ true → LiesUpTo o m cells
     → (c : Cell) → has (after rule cells n) c ≡ true → (pos 2 *ℤ depth (turned_cell o c)) ≤ℤ ((pos 2 *ℤ m) +ℤ pos (n + 1))
 
--- and by at most k cells in 2k generations
+-- under a slow rule, a pattern grows in each diagonal direction by at most k cells in 2k generations
 abbrev pub FrontiersGoOn : Type 0
 FrontiersGoOn = (rule : Numbers) (o : Orientation) (m : ℤ) (cells : List Cell) (k : ℕ) → InOrder cells → is_slow rule ≡ true → LiesUpTo o m cells
     → LiesUpTo o (m +ℤ pos k) (after rule cells (2 * k))

@@ -9,26 +9,27 @@ use Rattle.plane_core.specs.plane.Bounds.{IsWithin, enlarged, shifted}
 use Rattle.plane_core.specs.plane.Orientations.{image}
 use Rattle.plane_core.specs.plane.Rules.{Numbers, is_birth, is_survival}
 
--- how many cells of the pattern are at king distance 1 from c
+-- the number of live neighbours of c: the cells of the pattern at king distance 1 from c
 abbrev pub around : List Cell → Cell → ℕ
 around cells c = count_by (λ d. king_distance c d == 1) cells
 
--- c is alive one generation after the pattern: it is alive and survives, or it is dead and is born
+-- c is alive one generation later: either it is alive and survives, or it is dead and is born
 abbrev pub lives : Numbers → List Cell → Cell → Bool
 lives rule cells c = if has cells c then is_survival rule (around cells c) else is_birth rule (around cells c)
 
--- The same if `count` is the number of live cells in its neighbourhood, including itself.
+-- a cell is alive one generation later, if `count` is the number of live cells in its neighbourhood, including itself
 abbrev pub lives_by : Numbers → ℕ → Bool → Bool
 lives_by rule count alive = if alive then is_survival rule (count - 1) else is_birth rule count
 
--- the cells at king distance at most 1 from c: three rows of three
+-- c between its left and its right neighbour
 abbrev pub triple : Cell → List Cell
 triple c = moved_by (negsuc 0) (pos 0) c ∷ c ∷ moved_by (pos 1) (pos 0) c ∷ []
 
+-- the neighbourhood of c: the nine cells at king distance at most 1, in three rows of three
 abbrev pub neighbourhood : Cell → List Cell
 neighbourhood c = flat_map triple (moved_by (pos 0) (negsuc 0) c ∷ c ∷ moved_by (pos 0) (pos 1) c ∷ [])
 
--- the next generation: the cells in the pattern and beside it that are alive then
+-- the next generation: the cells in the pattern and next to it that are alive then
 unfoldable pub next : Numbers → List Cell → List Cell
 next rule cells = filter (lives rule cells) (set_of (flat_map neighbourhood cells))
 
@@ -37,15 +38,15 @@ unfoldable pub after : Numbers → List Cell → ℕ → List Cell
 after rule cells zero = cells
 after rule cells (suc g) = next rule (after rule cells g)
 
--- a cell lies so far out that a neighbour would lie off the plane
+-- a cell of the pattern is on the edge of the plane, so that a neighbour is off the plane
 abbrev pub touches_edge : List Cell → Bool
 touches_edge cells = list_any on_edge cells
 
--- every cell lies within reach of the origin
+-- every coordinate of the pattern has an absolute value of at most `reach`
 abbrev pub lies_within : ℕ → List Cell → Bool
 lies_within reach cells = list_all (is_within reach) cells
 
--- none of the generations from 1 to n is the pattern itself again, moved or not
+-- the pattern never recurs: none of the generations from 1 to n is the pattern again, moved or not
 abbrev pub NeverRecurs : Numbers → List Cell → ℕ → Type 0
 NeverRecurs rule cells n = (p : ℕ) (dx dy : ℤ) → 1 ≤ p → p ≤ n → after rule cells p ≢ shifted dx dy cells
 
@@ -53,23 +54,24 @@ NeverRecurs rule cells n = (p : ℕ) (dx dy : ℤ) → 1 ≤ p → p ≤ n → a
 abbrev pub CellsFollowTheRule : Type 0
 CellsFollowTheRule = (rule : Numbers) (cells : List Cell) (c : Cell) → has (next rule cells) c ≡ lives rule cells c
 
--- the next generation of a pattern moved, or turned, is its next generation, moved or turned
+-- the next generation of a moved pattern is its next generation, moved
 abbrev pub NextMoved : Type 0
 NextMoved = (dx dy : ℤ) (rule : Numbers) (cells : List Cell) → InOrder cells → next rule (shifted dx dy cells) ≡ shifted dx dy (next rule cells)
 
+-- the next generation of a turned pattern is its next generation, turned
 abbrev pub NextTurned : Type 0
 NextTurned = (o : Orientation) (rule : Numbers) (cells : List Cell) → InOrder cells → next rule (image o cells) ≡ image o (next rule cells)
 
--- The speed of light: no pattern grows by more than one cell on each side in a generation. So after g generations it lies in any
--- box that it lay in, with g more columns and rows on each side.
+-- The speed of light: no pattern grows by more than one cell on each side in a generation. So if a pattern is in a box,
+-- it is g generations later in that box with g more columns and rows on each side.
 abbrev pub SpeedOfLight : Type 0
 SpeedOfLight = (rule : Numbers) (cells : List Cell) (b : Bounds) (g : ℕ) → All (IsWithin b) cells → All (IsWithin (enlarged g b)) (after rule cells g)
 
--- and a pattern that lies within reach of the origin lies within g more after g generations
+-- a pattern that is within `reach` of the origin is within g more after g generations
 abbrev pub SpeedFromOrigin : Type 0
 SpeedFromOrigin = (rule : Numbers) (cells : List Cell) (reach g : ℕ) → lies_within reach cells ≡ true → lies_within (reach + g) (after rule cells g) ≡ true
 
--- And cell by cell: what is alive after g generations is within king distance g of a cell that was alive at the start.
+-- what is alive after g generations is within king distance g of a cell that was alive at the start
 abbrev pub SpeedOfCells : Type 0
 SpeedOfCells = (rule : Numbers) (cells : List Cell) (g : ℕ) (c : Cell) → has (after rule cells g) c ≡ true
     → (d : Cell) × (has cells d ≡ true) × (king_distance c d ≤ g)

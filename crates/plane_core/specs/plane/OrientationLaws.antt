@@ -1,4 +1,4 @@
--- The laws of the eight orientations: their products, and how they are undone.
+-- The laws of the eight orientations: their products and inverses.
 use Rattle.std.specs.Prelude.{◌≡◌, ℤ, List}
 use Rattle.plane_core.specs.declared.plane.cell.Cell.{Cell}
 use Rattle.plane_core.specs.declared.plane.orientation.Orientation.{Orientation}
@@ -6,7 +6,7 @@ use Rattle.plane_core.specs.declared.plane.orientation.Orientation.TheVariants.{
 use Rattle.plane_core.specs.plane.Bounds.{shifted}
 use Rattle.plane_core.specs.plane.Orientations.{turned_cell, turned}
 
--- another quarter turn, and another mirror
+-- the orientation, followed by a quarter turn
 abbrev pub quarter_after : Orientation → Orientation
 quarter_after Same = Quarter
 quarter_after Quarter = Half
@@ -17,6 +17,7 @@ quarter_after Flip = Diagonal
 quarter_after Diagonal = Mirror
 quarter_after AntiDiagonal = Flip
 
+-- the orientation, followed by a mirror
 abbrev pub mirror_after : Orientation → Orientation
 mirror_after Same = Mirror
 mirror_after Quarter = Diagonal
@@ -27,7 +28,7 @@ mirror_after Flip = Half
 mirror_after Diagonal = Quarter
 mirror_after AntiDiagonal = ThreeQuarter
 
--- one orientation and then the other: each is some quarter turns, after a mirror or not
+-- the product of two orientations: a, followed by b, which is some quarter turns, after a mirror or not
 abbrev pub product : Orientation → Orientation → Orientation
 product a Same = a
 product a Quarter = quarter_after a
@@ -42,11 +43,11 @@ product a Diagonal = quarter_after (quarter_after (quarter_after (mirror_after a
 abbrev pub ProductAssociates : Type 0
 ProductAssociates = (a b c : Orientation) → product (product a b) c ≡ product a (product b c)
 
--- `Same` is its identity
+-- `Same` is the identity of the product
 abbrev pub SameIsIdentity : Type 0
 SameIsIdentity = (a : Orientation) → (product Same a ≡ a) × (product a Same ≡ a)
 
--- different orientations take some cell to different places
+-- different orientations map some cell to different cells
 abbrev pub OrientationsDiffer : Type 0
 OrientationsDiffer = (a b : Orientation) → ((c : Cell) → turned_cell a c ≡ turned_cell b c) → a ≡ b
 
@@ -54,10 +55,10 @@ OrientationsDiffer = (a b : Orientation) → ((c : Cell) → turned_cell a c ≡
 abbrev pub TurningTwice : Type 0
 TurningTwice = (a b : Orientation) (cells : List Cell) → turned b (turned a cells) ≡ turned (product a b) cells
 
--- each orientation can be turned back
+-- each orientation has an inverse
 abbrev pub TurningBack : Type 0
 TurningBack = (a : Orientation) → (b : Orientation) × (product a b ≡ Same) × (product b a ≡ Same)
 
--- wherever a pattern lies, it is turned to the same image
+-- a moved pattern is turned to the same image
 abbrev pub TurningMoved : Type 0
 TurningMoved = (a : Orientation) (dx dy : ℤ) (cells : List Cell) → turned a (shifted dx dy cells) ≡ turned a cells

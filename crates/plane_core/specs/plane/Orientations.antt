@@ -12,7 +12,7 @@ use Rattle.plane_core.specs.plane.Cells.{cell_at, moved_by, set_of}
 abbrev pub orientations : List Orientation
 orientations = Same ∷ Quarter ∷ Half ∷ ThreeQuarter ∷ Mirror ∷ Flip ∷ Diagonal ∷ AntiDiagonal ∷ []
 
--- where an orientation takes a cell
+-- the cell to which an orientation maps a cell
 abbrev pub turned_cell : Orientation → Cell → Cell
 turned_cell Same c = c
 turned_cell Quarter c = cell_at (neg_ℤ c.y) c.x
@@ -23,18 +23,19 @@ turned_cell Flip c = cell_at c.x (neg_ℤ c.y)
 turned_cell Diagonal c = cell_at c.y c.x
 turned_cell AntiDiagonal c = cell_at (neg_ℤ c.y) (neg_ℤ c.x)
 
--- where a cell lands that is turned, and then moved
+-- the cell to which a transform maps a cell, which is turned and then moved
 abbrev pub landed : Transform → Cell → Cell
 landed p c = moved_by p.dx p.dy (turned_cell p.orientation c)
 
--- the placement that moves an image with this box to the corner; an image without a cell is there
+-- the transform that turns a pattern and moves its image, which has this box, to the corner; an empty image isn't moved
 abbrev pub corner_transform : Orientation → Option Bounds → Transform
 corner_transform o None = record { orientation = o; dx = pos 0; dy = pos 0 }
 corner_transform o (Some b) = record { orientation = o; dx = neg_ℤ b.left; dy = neg_ℤ b.top }
 
--- the image of a pattern, as it comes and at the corner
+-- the image of a pattern: its cells, turned around the origin or mirrored
 unfoldable pub image : Orientation → List Cell → List Cell
 image o cells = set_of (map (turned_cell o) cells)
 
+-- the image of a pattern, moved to the corner
 unfoldable pub turned : Orientation → List Cell → List Cell
 turned o cells = at_corner (image o cells)

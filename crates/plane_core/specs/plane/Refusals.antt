@@ -11,17 +11,17 @@ use Rattle.plane_core.specs.declared.generation.StepError.TheVariants as step
 use Rattle.plane_core.specs.plane.Cells.{off_plane, on_plane}
 use Rattle.plane_core.specs.plane.Generations.{touches_edge}
 
--- the first cell past the bound is named; `Memory` comes only if every cell is on the plane
+-- `OutOfPlane` has the index of the first cell off the plane; `Memory` is returned only if there is no such cell
 abbrev pub RefusesCells : List Cell → FromCellsError → Type 0
 RefusesCells cells (OutOfPlane index) = position off_plane cells ≡ Some index
 RefusesCells cells (Memory error) = position off_plane cells ≡ None
 
--- `Edge` comes if a cell is on the edge; `Memory` only if none is
+-- `Edge` is returned only if a cell is on the edge, and `Memory` only if none is
 abbrev pub RefusesStep : List Cell → StepError → Type 0
 RefusesStep cells step.Edge = touches_edge cells ≡ true
 RefusesStep cells (step.Memory error) = touches_edge cells ≡ false
 
--- `OutOfPlane` comes if a cell lies past the bound; `Memory` only if every cell is on the plane
+-- `OutOfPlane` is returned only if a cell would be off the plane, and `Memory` only if none would be
 abbrev pub RefusesPlace : List Cell → PlaceError → Type 0
 RefusesPlace cells place.OutOfPlane = list_all on_plane cells ≡ false
 RefusesPlace cells (place.Memory error) = list_all on_plane cells ≡ true

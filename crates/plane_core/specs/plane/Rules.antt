@@ -19,46 +19,50 @@ is_birth rule (suc n) = unwrap_or (slice_get rule.births n) false
 abbrev pub is_survival : Numbers → ℕ → Bool
 is_survival rule n = unwrap_or (slice_get rule.survivals n) false
 
--- the two tables of a rule are whole
+-- the tables of a rule are complete
 pub record IsRule (rule : Numbers) : Type 0 where
   pub births : length rule.births ≡ 8
   pub survivals : length rule.survivals ≡ 9
 
--- the digits, ascending, of the numbers for which a table answers true, if its first answer is for n; `0` is byte 48
+-- the digits, ascending, of the numbers for which a table answers true, if its first answer is that for n; `0` is byte
+-- 48
 unfoldable pub digits : ℕ → List Bool → List ℕ
 digits n [] = []
 digits n (true ∷ more) = (48 + n) ∷ digits (n + 1) more
 digits n (false ∷ more) = digits (n + 1) more
 
--- the only text of a rule, such as b3s23: each letter with the digits of its numbers
+-- the only text of a rule, such as b3s23: each letter and the digits of its numbers
 unfoldable pub rule_text : Numbers → List ℕ
 rule_text rule = codes "b" ++ (digits 1 rule.births ++ (codes "s" ++ digits 0 rule.survivals))
 
--- the text begins some rule's text
+-- the text is a prefix of the text of some rule
 pub record BeginsRule (text : List ℕ) : Type 0 where
   pub rule : Numbers
   pub remainder : List ℕ
   pub is_rule : IsRule rule
   pub spelled : rule_text rule ≡ text ++ remainder
 
--- The bytes before the place begin some rule's text, and with the byte there they don't. There is no byte at the text's end.
+-- The bytes before the place are a prefix of the text of some rule, and with the byte at the place they aren't. At the
+-- text's end, there is no such byte.
 pub record IsFirstFault (text : List ℕ) (place : ℕ) : Type 0 where
   pub within : place ≤ length text
   pub before : BeginsRule (take place text)
   pub there : place < length text → ¬ BeginsRule (take (place + 1) text)
 
--- the numbers read from the start of a text, as a table of answers, and the rest of the text
+-- the numbers that a text begins with, as a table of answers, and the remainder of the text
 pub record Reading : Type 0 where
   pub logic : List Bool
   pub remainder : List ℕ
 
+-- what was read, with one more answer before the others
 abbrev pub with_answer : Bool → Reading → Reading
 with_answer next_cells read = record { logic = next_cells ∷ read.logic; remainder = read.remainder }
 
+-- the text begins with the prefix
 abbrev pub begins : List ℕ → List ℕ → Bool
 begins text prefix = starts_with nat_eq text prefix
 
--- the given number of numbers from n on: each is one of the rule's if its digit comes next in the text
+-- reads the answers for some numbers from n on: true for each whose digit is next in the text
 unfoldable pub numbers_at : ℕ → ℕ → List ℕ → Reading
 numbers_at zero n text = record { logic = []; remainder = text }
 numbers_at (suc more) n text =
@@ -66,11 +70,11 @@ numbers_at (suc more) n text =
     then with_answer true (numbers_at more (n + 1) (drop 1 text))
     else with_answer false (numbers_at more (n + 1) text)
 
--- the fault at this rest of the text
+-- the fault at the place where this remainder of the text begins
 abbrev pub rule_fault_at : List ℕ → List ℕ → Result Numbers RuleFault
 rule_fault_at text remainder = Err (BadRule (length text - length remainder))
 
--- the rule of a text, or its first fault from the left
+-- the rule of a text, or its leftmost fault
 unfoldable pub rule_read : List ℕ → Result Numbers RuleFault
 rule_read text =
     let births = numbers_at 8 1 (drop 1 text) in

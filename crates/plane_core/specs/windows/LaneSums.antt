@@ -1,4 +1,4 @@
--- Vectors of four words, one word to a lane, and sums of cells in them.
+-- Vectors of four words, one in each lane, and sums of cells in them.
 use Rattle.std.specs.Prelude.{◌≡◌, ◌==◌, ◌+◌, ◌*◌, ◌<◌, ℕ, List, slice_index}
 use Rattle.std.specs.Int.{bit_at}
 use Rattle.plane_core.specs.declared.windows.lane_sums.RowSums.{RowSums}
@@ -12,23 +12,23 @@ use Rattle.plane_core.specs.windows.Words.{one_if, west_of, east_of}
 abbrev pub bit_of : List ℕ → ℕ → ℕ → ℕ
 bit_of v j i = bit_at (slice_index v j) i
 
--- a sum of two binary digits, at bit i of lane j
+-- the sum at bit i of lane j, of two binary digits
 abbrev pub sum_of : Sum → ℕ → ℕ → ℕ
 sum_of s j i = bit_of s.ones j i + 2 * bit_of s.twos j i
 
--- a sum of four binary digits there
+-- the total at bit i of lane j, of four binary digits
 abbrev pub total_of : Total → ℕ → ℕ → ℕ
 total_of t j i = bit_of t.ones j i + 2 * bit_of t.twos j i + 4 * bit_of t.fours j i + 8 * bit_of t.eights j i
 
--- the live cells among the three in columns i - 1, i and i + 1 of a row that is one word
+-- the number of live cells in columns i - 1, i and i + 1 of a row, which is one word
 abbrev pub row_sum : ℕ → ℕ → ℕ
 row_sum word i = west_of 0 word i + bit_at word i + east_of word 0 i
 
--- One sum counts the cells beside each cell, and the other these and the cell itself.
+-- at each cell, the sum `all` is the sum `beside` and the cell itself
 abbrev pub AreBeside : RowSums → List ℕ → Type 0
 AreBeside row now = (j i : ℕ) → j < 4 → sum_of row.all j i ≡ sum_of row.beside j i + bit_of now j i
 
--- the same, where the neighbourhood is three rows: the one above, the one here and the one below
+-- the cells of `next` are those that live by the rule, if the sums of the rows above, here and below are added up
 abbrev pub AnswersRows : Numbers → Sum → Sum → Sum → List ℕ → List ℕ → Type 0
 AnswersRows rule up here down now next =
     (j i : ℕ) → j < 4 → i < 64 → bit_of next j i ≡ one_if (lives_by rule (sum_of up j i + sum_of here j i + sum_of down j i) (bit_of now j i == 1))

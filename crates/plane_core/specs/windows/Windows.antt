@@ -14,7 +14,7 @@ use Rattle.plane_core.specs.windows.Words.{one_if}
 abbrev pub lane_at : List (List ℕ) → ℕ → ℕ → ℕ
 lane_at x k j = slice_index (slice_index_or x k []) j
 
--- row r
+-- row r of a window of n vectors
 abbrev pub row_at : ℕ → List (List ℕ) → ℕ → ℕ
 row_at n x r = lane_at x (r % n) (r / n)
 
@@ -27,17 +27,17 @@ row_above n x (suc r) = row_at n x r
 abbrev pub row_below : ℕ → List (List ℕ) → ℕ → ℕ
 row_below n x r = if r + 1 == 4 * n then 0 else row_at n x (r + 1)
 
--- the row is the middle one a generation later, if nothing lives beside the three
+-- `next` is the row `here` one generation later, if nothing is alive beside the three rows
 abbrev pub IsNextRow : Numbers → ℕ → ℕ → ℕ → ℕ → Type 0
 IsNextRow rule above here below next =
     (i : ℕ) → i < 64 → bit_at next i ≡ one_if (lives_by rule (row_sum above i + row_sum here i + row_sum below i) (bit_at here i == 1))
 
--- each row of the window is a generation later, if nothing lives around the window
+-- the second window is the first one generation later, if nothing is alive around it
 abbrev pub IsNextWindow : Numbers → ℕ → List (List ℕ) → List (List ℕ) → Type 0
 IsNextWindow rule n x y = (r : ℕ) → r < 4 * n → IsNextRow rule (row_above n x r) (row_at n x r) (row_below n x r) (row_at n y r)
 
--- Vector k of a window was made a generation later, by the sums of the rows above it, here and below it. Those below are the sums of
--- the next vector.
+-- Vector k of a window was advanced by one generation, from the sums of the rows above it, here and below it. Those
+-- below are the sums of the next vector.
 pub record IsVectorMade (rule : Numbers) (k : ℕ) (up : Sum) (here below : RowSums) (old new : List (List ℕ)) : Type 0 where
   pub next : List ℕ
   pub is : new ≡ set old k next
@@ -45,7 +45,7 @@ pub record IsVectorMade (rule : Numbers) (k : ℕ) (up : Sum) (here below : RowS
   pub sums : (j i : ℕ) → j < 4 → i < 64 → sum_of below.all j i ≡ row_sum (lane_at old (k + 1) j) i
   pub beside : AreBeside below (slice_index_or old (k + 1) [])
 
--- From this depth inside the window on, its bits are the cells of the list. The window's first cell is (left, top).
+-- at least `depth` inside the window, whose first cell is (left, top), its bits are the cells of the list
 abbrev pub IsShownInside : ℕ → ℤ → ℤ → ℕ → List (List ℕ) → List Cell → Type 0
 IsShownInside n left top depth x cells = (r i : ℕ) → depth ≤ r → r + depth < 4 * n → depth ≤ i → i + depth < 64
     → has cells (cell_at (left +ℤ pos i) (top +ℤ pos r)) ≡ (bit_at (row_at n x r) i == 1)

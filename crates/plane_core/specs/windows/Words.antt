@@ -1,4 +1,5 @@
--- Words of 64 cells of a row: bit i of a word is 1 if the cell in its column i is alive. Columns count from the left, from 0.
+-- Words of 64 cells of a row: bit i of a word is 1 if the cell in its column i is alive. Columns count from the left,
+-- from 0.
 use Rattle.std.specs.Prelude.{◌==◌, ◌+◌, ℕ, zero, suc, Bool, true, false, [], ◌∷◌, if◌then◌else◌}
 use Rattle.std.specs.Int.{bit_at}
 use Rattle.plane_core.specs.plane.Rules.{Numbers}
@@ -12,7 +13,7 @@ abbrev pub west_of : ℕ → ℕ → ℕ → ℕ
 west_of before here zero = bit_at before 63
 west_of before here (suc i) = bit_at here i
 
--- the cell to its right, which is the first one of the next word if i is 63
+-- the cell to the right of column i, which is the first one of the next word if i is 63
 abbrev pub east_of : ℕ → ℕ → ℕ → ℕ
 east_of here after i = if i == 63 then bit_at after 0 else bit_at here (i + 1)
 

@@ -1,8 +1,10 @@
 //! Finds which cells of a pattern share a cluster, with a forest over the places of its cells.
 //!
-//!      O . O . . . O          0 . 1 . . . 2          place    0  1  2  3  4
-//!      . . . . . . O          . . . . . . 3          leads to 0  0  2  2  0
-//!      . . . O . . .          . . . 4 . . .
+//! ```text
+//! O . O . . . O          0 . 1 . . . 2          place    0  1  2  3  4
+//! . . . . . . O          . . . . . . 3          leads to 0  0  2  2  0
+//! . . . O . . .          . . . 4 . . .
+//! ```
 //!
 //! Each place leads to an earlier place of its tree, or to itself if it is a root. At first, all places are roots. Then
 //! each place, in order, is joined with the earlier places whose cells are near, which means at most two columns and
@@ -26,7 +28,7 @@ use crate::plane::coordinate::{along, apart};
 use memory::OutOfMemory;
 use std::alloc::Global;
 
-/// The first places that may be near, in the two rows above a cell.
+/// For the row above a cell and the row above that one (`top`), the first place whose cell may be near.
 #[derive(Clone, Copy)]
 struct Cursors {
     above: usize,
@@ -77,8 +79,8 @@ pub(crate) fn join_all(cells: &[Cell], parents: &mut [usize])
     }
 }
 
-/// Joins this place with the earlier places whose cells are near and between two cells, these included. Returns the
-/// first place that may be one.
+/// Joins `place` with the earlier places whose cells are near its cell and in the range from `from` to `to`, both
+/// included. All cells at places before `cursor` come before `from`. Returns the first place whose cell doesn't.
 #[inline(always)]
 fn join_row(
     cells: &[Cell],
@@ -122,8 +124,9 @@ fn skipped(cells: &[Cell], cursor: usize, from: Cell) -> usize
     at
 }
 
-/// Returns the first cell of a row above this place that has to be joined with it, if cells from `from` on are near. If
-/// the cell just before is in the same row and near, this is the cell after all that are near both.
+/// Returns the first cell of a row above that still has to be joined with `place`. `from` is the first cell of that row
+/// that may be near. If the cell just before `place` is in the same row and near, the cells that are near both are
+/// joined already, and the result is the cell after them.
 fn fresh_from(cells: &[Cell], place: usize, from: Cell) -> Cell
     requires pattern { IsPattern cells.now }
     requires place { (0 < place) × (place < length cells.now) }

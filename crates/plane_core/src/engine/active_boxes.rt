@@ -21,7 +21,7 @@ use crate::plane::bounds::Bounds;
 use crate::plane::cell::Cell;
 use memory::OutOfMemory;
 
-/// The number of boxes, counted from the last, with which a cell is compared.
+/// The number of boxes, counted from the last, that may be widened by a new part.
 const LAST_BOXES: usize = 16;
 
 /// Widens boxes of the list, and adds others, so that they contain these cells too. If memory runs out, they contain at
@@ -61,14 +61,19 @@ pub(crate) fn put_in_box(part: Bounds, boxes: &mut Vec<Bounds>) -> Result<(), Ou
     Ok(())
 }
 
-/// Checks whether the part is at most eight columns and rows from the box, and both together fit one window.
+/// Checks whether the part is at most eight columns and rows from the box, and both together fit one window. The sides
+/// are near the plane, so no difference wraps around.
 #[inline(always)]
 fn is_near(bounds: Bounds, part: Bounds) -> bool {
-    let wide = bounds.joined(part);
-    part.left.saturating_sub(bounds.right) <= 8
-        && bounds.left.saturating_sub(part.right) <= 8
-        && part.top.saturating_sub(bounds.bottom) <= 8
-        && bounds.top.saturating_sub(part.bottom) <= 8
-        && wide.left.abs_diff(wide.right) < 48
-        && wide.top.abs_diff(wide.bottom) < 24
+    part.left.wrapping_sub(bounds.right) <= 8
+        && bounds.left.wrapping_sub(part.right) <= 8
+        && part.top.wrapping_sub(bounds.bottom) <= 8
+        && bounds.top.wrapping_sub(part.bottom) <= 8
+        && fit_window(bounds.joined(part))
+}
+
+/// Checks whether the box, with a margin of four columns and rows, fits the inner part of a window.
+#[inline(always)]
+fn fit_window(bounds: Bounds) -> bool {
+    bounds.left.abs_diff(bounds.right) < 48 && bounds.top.abs_diff(bounds.bottom) < 24
 }

@@ -41,17 +41,17 @@ use std::marker::Model;
 /// The word columns of a large board: 64, and one more, because a window needs a word column to its right.
 const LARGE_WORD_COLUMNS: usize = 65;
 
-/// The rows of a large board: as many as columns, and 72 more. With a multiple of 512, the same row of several word
-/// columns would share a place in the processor's cache.
+/// The rows of a large board: 4,096, and 72 more. If the number of rows were a multiple of 512, the same row of several
+/// word columns would share a place in the processor's cache.
 const LARGE_ROWS: usize = 4168;
 
 /// The word columns of a small board, whose words are cleared quickly: 8, and one more.
 const SMALL_WORD_COLUMNS: usize = 9;
 
-/// The rows of a small board: as many as columns, and 72 more.
+/// The rows of a small board: 512, and 72 more.
 const SMALL_ROWS: usize = 584;
 
-/// The number of cells for which there is room from the start when a pattern is read. It takes a kilobyte.
+/// The number of cells for which a list has room from the start when a pattern is read. They take a kilobyte.
 const ROOM: usize = 128;
 
 /// A pattern on a board, and a rule.
@@ -146,7 +146,7 @@ impl Board {
         Board::blank(alloc, rule, at)
     }
 
-    /// Makes a board that shows the pattern.
+    /// Makes a board with the frame `at` that shows the pattern.
     pub(crate) fn lay(
         alloc: Global,
         rule: &Rule,

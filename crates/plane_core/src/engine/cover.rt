@@ -1,4 +1,4 @@
-//! Covers the boxes, with a margin of four columns and rows, by the inner parts of windows.
+//! Covers the boxes, and a margin of four columns and rows around each, with the inner parts of windows.
 //!
 //! First, boxes that are close together are united into rectangles, if that is cheaper. Then windows are laid side by
 //! side over each rectangle, so that their inner parts leave no gap. They have as few rows as possible:
@@ -28,10 +28,10 @@ use memory::OutOfMemory;
 /// The number of rectangles, counted from the last, with which a box may be united.
 const UNITED_AT_ONCE: usize = 16;
 
-/// The most inner rows of a window. Higher windows have larger boxes, of which more is at rest.
+/// The most inner rows of a window. Larger windows would have larger boxes, and more of a box would be at rest.
 const INNER_ROWS: u32 = 48;
 
-/// The most that a union may cost in addition. See `slack`.
+/// The largest result of `slack`.
 const MOST_SLACK: u64 = 16;
 
 /// Spans of one length, side by side: where the first begins, and how many there are.
@@ -80,8 +80,8 @@ fn unite(boxes: &[Bounds], rectangles: &mut Vec<Bounds>) -> Result<(), OutOfMemo
     Ok(())
 }
 
-/// Returns the rectangle, united with those of the last sixteen for which that is cheaper. These are removed from the
-/// list.
+/// Returns the rectangle, united with each of the last sixteen of the list for which that is cheaper. Rectangles that
+/// were united with it are removed from the list.
 fn absorbed(rectangles: &mut Vec<Bounds>, rectangle: Bounds, slack: u64) -> Bounds
     requires all_sides { All (AreSidesWithin rectangle_bound) rectangles.old.items }
     requires sides { AreSidesWithin rectangle_bound rectangle }
@@ -104,16 +104,16 @@ fn absorbed(rectangles: &mut Vec<Bounds>, rectangle: Bounds, slack: u64) -> Boun
     all
 }
 
-/// Returns how much more a union may cost than the two rectangles. If there are many boxes, the pattern is dense, and
+/// Returns how much more a union may cost than its two rectangles. If there are many boxes, the pattern is dense, and
 /// rectangles that overlap would grow into each other from leap to leap, so that more and more windows run the same
 /// cells.
 fn slack(boxes: usize) -> u64 {
     (boxes as u64 / 8).min(MOST_SLACK)
 }
 
-/// Checks whether the smallest rectangle that contains both costs no more than the two, and the slack. Usually the two
-/// are far apart: if a column or a row of windows fits between them, nothing is saved. The sides are near the plane, so
-/// no difference wraps around.
+/// Checks whether the smallest rectangle that contains both costs at most as much as the two together, plus `slack`.
+/// Usually the two are far apart: if a column or a row of windows fits between them, nothing is saved. The sides are
+/// near the plane, so no difference wraps around.
 #[inline(always)]
 fn pays(one: Bounds, other: Bounds, slack: u64) -> bool {
     let rows = INNER_ROWS as i32;
@@ -127,7 +127,7 @@ fn pays(one: Bounds, other: Bounds, slack: u64) -> bool {
                 .saturating_add(slack)
 }
 
-/// Returns what it costs to run the windows that cover the rectangle: 1 for each vector, and 2 for each window.
+/// Returns the cost of running the windows that cover the rectangle: 1 for each vector, and 2 for each window.
 #[inline(always)]
 fn cost_of(rectangle: Bounds) -> u64 {
     let across = rectangle.left.abs_diff(rectangle.right) / 56 + 1;
@@ -139,15 +139,19 @@ fn cost_of(rectangle: Bounds) -> u64 {
         .saturating_mul(u64::from(each))
 }
 
-/// Returns the number of rows of windows that cover a row and `length` more: as few windows as possible, and as low as
-/// possible.
+/// Returns the number of rows of each window, if windows cover `length + 1` rows of cells. There are as few windows as
+/// possible, each with as few rows as possible.
 #[inline(always)]
 fn window_rows(length: u32) -> u32
     ensures some { 8 < result }
     ensures few { result ≤ 64 }
 {
-    let down = length / INNER_ROWS + 1;
-    let inner = length / down + 1;
+    // Usually one window is high enough, and a division would take longer than the other steps together.
+    let inner = if length < INNER_ROWS {
+        length + 1
+    } else {
+        length / (length / INNER_ROWS + 1) + 1
+    };
     (inner.saturating_add(11) / 4 * 4).max(20).min(56)
 }
 
@@ -194,8 +198,8 @@ fn lay_row(
     Ok(())
 }
 
-/// Returns spans of this length, side by side, that reach from the first number to the last, and as far past the one as
-/// past the other.
+/// Returns spans of `size` numbers each, side by side, that cover the numbers from `first` to `last`. They reach as far
+/// past one end as past the other, or one further past `last`.
 #[inline(always)]
 #[tactic(auto, using(crate::proofs::lemmas::engine::CoverLemmas::side_by_side_is))]
 fn side_by_side(first: i32, last: i32, size: u32) -> Spans

@@ -25,7 +25,7 @@ pub(crate) struct DifferenceMask {
     pub(crate) rows: u64,
 }
 
-/// The first and the last of some bits.
+/// The first and the last bit of a word that are 1.
 #[derive(Clone, Copy)]
 struct BitSpan {
     first: u32,
@@ -56,7 +56,7 @@ impl DifferenceMask {
     }
 }
 
-/// Returns the first and the last bit of a word that is 1, if there is one.
+/// Returns the first and the last bit of the word that are 1, or `None` if the word is 0.
 #[inline(always)]
 #[tactic(auto, using(crate::proofs::lemmas::engine::DifferenceBoxLemmas::spans))]
 fn span_of(word: u64) -> Option<BitSpan>

@@ -1,10 +1,10 @@
-//! The four diagonal directions, and how deep a cell lies in one:
+//! The four diagonal directions, and how deep a cell is in each:
 //!
 //! ```text
-//!  left and up  .       . right and up       A cell that is one column or one row further in the direction lies
-//!                 \   /                      deeper by 1. To the right and down, its depth is the sum of its column
-//!                   x                        and its row. Each other direction is that one, where the columns are
-//!                 /   \                      counted from right to left, or the rows from below.
+//!  left and up  .       . right and up       A cell that is one column or one row further in the direction is
+//!                 \   /                      deeper by 1. To the right and down, the depth is the sum of the
+//!                   x                        column and the row. In the other directions, columns are counted
+//!                 /   \                      from right to left, or rows from the bottom up, or both.
 //! left and down '       ' right and down
 //! ```
 ghost use Rattle.std.specs.Prelude.{◌≡◌, ◌<◌, ◌≤◌, ◌≤ℤ◌, ℕ, pos, true, unsigned_abs};
@@ -53,7 +53,7 @@ impl Orientation {
 }
 
 impl Direction {
-    /// Returns how deep a cell of the plane is in the direction.
+    /// Returns how deep a cell of the plane is in this direction.
     pub(crate) fn depth(self, cell: Cell) -> i32
         requires { on_plane cell ≡ true }
         ensures { result ≡ depth_in self cell }
@@ -61,7 +61,7 @@ impl Direction {
         counted(self.right, cell.x) + counted(self.down, cell.y)
     }
 
-    /// Returns the column of a word column that is farthest in the direction.
+    /// Returns the column of a word column, 0 or 63, that is farthest in the direction.
     pub(crate) fn outer_column(self) -> usize
         ensures column { result ≡ outer_column self.right }
         ensures small { result < 64 }
@@ -69,7 +69,7 @@ impl Direction {
         if self.right { 63 } else { 0 }
     }
 
-    /// Returns the column of a word's bit that is farthest in the direction.
+    /// Returns the column of the live cell of a word that is farthest in the direction. `word` isn't 0.
     pub(crate) fn farthest(self, word: u64) -> usize
         requires { 0 < word }
         ensures small { result < 64 }
@@ -84,7 +84,7 @@ impl Direction {
     }
 }
 
-/// Returns a coordinate, counted forwards or backwards.
+/// Returns `at` if coordinates are counted forwards, and `-at` otherwise.
 fn counted(forwards: bool, at: i32) -> i32
     requires { unsigned_abs at ≤ plane_bound }
     ensures counted { result ≡ counted forwards at }

@@ -1,5 +1,5 @@
-//! The first boxes of a board, which contain all cells of a pattern. Cells side by side in a row are a run, and are put
-//! in a box at once, because a dense pattern has many more cells than runs:
+//! The first boxes of a board, which contain all cells of a pattern. Cells that are close together in a row form a run,
+//! which is put in a box at once, because a dense pattern has many more cells than runs:
 //!
 //! ```text
 //! +-------------+

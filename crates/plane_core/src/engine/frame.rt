@@ -34,16 +34,17 @@ pub(crate) struct Frame {
     pub(crate) rows: usize,
 }
 
-/// The number of columns and rows that a board has in addition on each side of what its pattern may reach: a window
-/// that covers a cell begins at most 36 columns or rows before it, and ends as far past it.
+/// The margin of a board: the number of columns and rows on each side of the box that its pattern may reach. A window
+/// that covers a cell begins at most 36 columns or rows before the cell, and ends at most as far past it.
 const MARGIN: u32 = 40;
 
 /// The fewest columns and rows on each side of a pattern that is shown in the middle of a board.
 const ROOM: u32 = 200;
 
 impl Frame {
-    /// Returns a frame around the pattern that is usually large enough for `generations` generations, if a board is
-    /// worth it: the pattern has a cell, the frame is on the plane, and there are not many more words than cells.
+    /// Returns a frame around the pattern that is usually large enough for `generations` generations, or `None` if a
+    /// board isn't worth it. A board is worth it if the pattern has a cell, the frame is on the plane, and there are
+    /// not many more words than cells.
     pub(crate) fn round(pattern: &Pattern, generations: u32) -> Option<Frame>
         requires { generations ≤ 1000 }
         ensures frame { IfSome result IsFrame }
@@ -66,7 +67,8 @@ impl Frame {
         Some(at)
     }
 
-    /// Returns a frame around the pattern for one generation, if there are at most 32 words per cell.
+    /// Returns a frame around the pattern for one generation, or `None` if a board isn't worth it or there are more
+    /// than 32 words per cell.
     pub(crate) fn for_a_step(pattern: &Pattern) -> Option<Frame>
         ensures frame { IfSome result IsFrame }
         ensures plane { IfSome result (λ at. AreSidesWithin plane_bound (bounds_of at)) }
@@ -103,8 +105,8 @@ impl Frame {
         }
     }
 
-    /// Returns the frame of the same size around the pattern's middle, if the pattern has room there and the frame is
-    /// on the plane.
+    /// Returns the frame of the same size with the pattern in its middle, or `None` if the pattern has no room there or
+    /// the frame would be off the plane. For the empty pattern, it is the same frame.
     pub(crate) fn centred(self, pattern: &Pattern) -> Option<Frame>
         requires frame { IsFrame self }
         requires plane { AreSidesWithin plane_bound (bounds_of self) }
@@ -120,8 +122,8 @@ impl Frame {
         self.round_middle(bounds)
     }
 
-    /// Returns the frame of the same size around the box's middle, if the box has room there and the frame is on the
-    /// plane.
+    /// Returns the frame of the same size with the box in its middle, or `None` if the box has no room there or the
+    /// frame would be off the plane.
     fn round_middle(self, bounds: Bounds) -> Option<Frame>
         requires frame { IsFrame self }
         requires across { bounds.left ≤ℤ bounds.right }
@@ -158,8 +160,8 @@ impl Frame {
         })
     }
 
-    /// Checks whether there are many more words than cells: more than 262,144 words, which take 2 megabytes, and 256
-    /// per cell.
+    /// Checks whether there are many more words than cells: more than 262,144 words, which take 2 MiB, plus 256 per
+    /// cell.
     fn is_sparse(self, population: usize) -> bool
         requires { IsFrame self }
         ensures { result ≡ false → self.word_columns * self.rows ≤ 256 * population + 262400 }
@@ -177,7 +179,7 @@ impl Frame {
         self.word_columns * self.rows
     }
 
-    /// Returns the place of a row of a word column in the list of words.
+    /// Returns the place in the list of words of row `row` of word column `word_column`.
     pub(crate) fn index(self, word_column: usize, row: usize) -> usize
         requires frame { IsFrame self }
         requires word_column { word_column < self.word_columns }

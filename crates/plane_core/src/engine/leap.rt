@@ -29,8 +29,8 @@ use crate::windows::window::generations;
 use memory::OutOfMemory;
 use std::simd::u64x4;
 
-/// Runs a window for one to four generations. For an even number, it returns where the last generation differs from the
-/// one two before it, and for an odd number where there are live cells.
+/// Runs a window for `count` generations, 1 to 4. Returns where the last generation differs from the one two before it
+/// if `count` is even, and where there are live cells if `count` is odd.
 #[inline(always)]
 fn run<const N: usize>(window: &mut [u64x4; N], rule: &RuleLogic, count: usize) -> DifferenceMask
     requires height { 0 < N }
@@ -118,8 +118,8 @@ fn make_room(held: &mut Vec<[u64; 64]>, count: usize) -> Result<(), OutOfMemory>
 
 /// Runs all windows, and returns whether all are on the board.
 ///
-/// The rows of each window are stored, and `boxes` is replaced by a box for each window in which something has changed.
-/// So all memory is allocated before the first word is written.
+/// The rows of each window are stored, and `boxes` is replaced by a box for each window in which something has changed
+/// or, after an odd number of generations, is alive. So all memory is allocated before the first word is written.
 pub(crate) fn run_all(
     words: &[u64],
     at: Frame,
@@ -142,7 +142,7 @@ pub(crate) fn run_all(
     run_each(words, at, windows, rule, count, held.as_mut_slice(), boxes)
 }
 
-/// Runs one window after another. There is room for their rows.
+/// Runs one window after another. There is room in `held` for the rows of each.
 fn run_each(
     words: &[u64],
     at: Frame,
@@ -178,7 +178,7 @@ fn run_each(
     Ok(true)
 }
 
-/// Puts all inner parts back, and widens the spans by them. Each may be in two word columns.
+/// Puts all inner parts back, and widens the spans by them. An inner part may be in two word columns.
 pub(crate) fn put_all(
     words: &mut [u64],
     spans: &mut [RowSpan],

@@ -43,7 +43,7 @@ impl LeapWindow {
         x / 64 + 1 < at.word_columns && y + self.rows <= at.rows
     }
 
-    /// Returns the column of the plane of column `i` of the window.
+    /// Returns the column of the plane that is column `i` of the window.
     #[inline(always)]
     pub(crate) fn column(self, i: u32) -> i32
         requires reach { IsInReach self }
@@ -53,7 +53,7 @@ impl LeapWindow {
         self.left + i as i32
     }
 
-    /// Returns the row of the plane of row `r` of the window.
+    /// Returns the row of the plane that is row `r` of the window.
     #[inline(always)]
     pub(crate) fn row(self, r: u32) -> i32
         requires reach { IsInReach self }

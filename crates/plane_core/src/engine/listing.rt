@@ -1,14 +1,14 @@
 //! Lists the cells of a board in order: row by row, and each row from the left.
 //!
 //! The rows are read in bands of eight, from the first that a span reaches to the last. Most word columns have no live
-//! cell in a band: either their span doesn't reach it, or eight words at once are seen to be empty.
+//! cell in a band. Either their span doesn't reach the band, or its eight words are tested at once.
 //!
 //! ```text
-//! word column      0     1     2     3     4
-//! band 0    .     .     .     .     .
-//! band 1    .    [#]   [.]    .     .      Only where the spans reach, in brackets, a word is read.
-//! band 2    .    [#]   [#]   [#]    .
-//! band 3    .     .     .     .     .
+//! word column   0     1     2     3     4
+//! band 0        .     .     .     .     .
+//! band 1        .    [#]   [.]    .     .      A word is read only where a span reaches, in brackets.
+//! band 2        .    [#]   [#]   [#]    .
+//! band 3        .     .     .     .     .
 //! ```
 ghost use Rattle.std.specs.Prelude.{◌≡◌, ◌+◌, ◌*◌, ◌/◌, ◌<◌, ◌≤◌, ◌^◌, ◌+ℤ◌, ℕ, length, pos};
 ghost use Rattle.std.specs.Prelude.{slice_index, IfOk, IsTrue, OnOk, unsigned_abs};
@@ -29,8 +29,8 @@ use crate::plane::pattern::{Pattern, in_order};
 use memory::OutOfMemory;
 use std::alloc::Global;
 
-/// Returns the pattern of a board on the plane, whose cells are in these spans. There is room for `room` of them from
-/// the start. They are listed in order, so checking the order costs little.
+/// Returns the pattern that a board on the plane shows. Its live cells are all in the spans. The list of cells has room
+/// for `room` of them from the start. The cells are listed in order, so `in_order` doesn't sort them.
 pub(crate) fn list(
     alloc: Global,
     at: Frame,
@@ -57,7 +57,7 @@ pub(crate) fn list(
     Ok(Pattern::from_ordered(in_order(cells)))
 }
 
-/// Appends the cells of a word, whose first cell is given, to a list.
+/// Appends the live cells of a word to a list. `first` is the cell of bit 0.
 pub(crate) fn read_word(word: u64, first: Cell, cells: &mut Vec<Cell>) -> Result<(), OutOfMemory>
     requires { unsigned_abs first.x ≤ 2 ^ 24 }
     ensures { OnOk result (HasRead word first cells.old.items 64 cells.new.items) }
@@ -75,7 +75,7 @@ pub(crate) fn read_word(word: u64, first: Cell, cells: &mut Vec<Cell>) -> Result
     Ok(())
 }
 
-/// Returns the cell `columns` columns to the right.
+/// Returns the cell `columns` columns to the right, at most 63.
 pub(crate) fn along(cell: Cell, columns: usize) -> Cell
     requires cell { unsigned_abs cell.x ≤ 2 ^ 24 }
     requires columns { columns < 64 }
@@ -87,7 +87,8 @@ pub(crate) fn along(cell: Cell, columns: usize) -> Cell
     }
 }
 
-/// Returns the word of a row of a word column with this span. Outside the span nothing is alive, and no word is read.
+/// Returns the word of a row of a word column whose span is `span`. Outside the span nothing is alive, and no word is
+/// read.
 fn word_at(at: Frame, words: &[u64], span: RowSpan, word_column: usize, row: usize) -> u64
     requires frame { IsFrame at }
     requires word_column { word_column < at.word_columns }
@@ -103,7 +104,7 @@ fn word_at(at: Frame, words: &[u64], span: RowSpan, word_column: usize, row: usi
     words[at.index(word_column, row)]
 }
 
-/// Appends the cells of a band of eight rows, row by row, to a list. All are in these word columns.
+/// Appends the live cells of a band of eight rows to a list, row by row. They are all in these word columns.
 fn read_band(
     at: Frame,
     words: &[u64],
@@ -137,8 +138,8 @@ fn read_band(
     Ok(())
 }
 
-/// Returns the word columns from the first to the last, out of these, in which a cell of a band is alive. If there is
-/// none, the span is empty.
+/// Returns the word columns from the first to the last that have a live cell in a band. They are among `word_columns`.
+/// If no cell of the band is alive, the span is empty.
 fn word_columns_of_band(
     at: Frame,
     words: &[u64],

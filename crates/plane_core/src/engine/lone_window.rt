@@ -39,7 +39,7 @@ const INLAND: u32 = 900_000;
 /// The number of cells for which there is room from the start when a pattern is listed.
 const ROOM: usize = 20;
 
-/// Returns the next generation of a pattern, if it is small enough for a window.
+/// Returns the next generation of a pattern, or `None` if it is empty, too large for a window, or too far out.
 pub(crate) fn next_in_window(
     alloc: Global,
     rule: &Rule,
@@ -66,7 +66,7 @@ pub(crate) fn next_in_window(
     Ok(Some(later))
 }
 
-/// Returns the pattern whose cells are these rows of a window.
+/// Returns the pattern whose cells are these rows of a window. `at` is the window as a board of one word column.
 pub(crate) fn pattern_of(alloc: Global, at: Frame, rows: &[u64; 64]) -> Result<Pattern, OutOfMemory>
     requires frame { IsFrame at }
     requires plane { AreSidesWithin plane_bound (bounds_of at) }
@@ -78,7 +78,7 @@ pub(crate) fn pattern_of(alloc: Global, at: Frame, rows: &[u64; 64]) -> Result<P
     list(alloc, at, rows, &spans, ROOM)
 }
 
-/// Returns the origin of a window in whose middle a small pattern lies, far from the edge of the plane. `None` if the
+/// Returns the origin of a window that has the pattern in its middle, far from the edge of the plane. `None` if the
 /// pattern is empty, larger than 62 by 62 cells, or too far out.
 pub(crate) fn origin_round(pattern: &Pattern) -> Option<WindowOrigin>
     ensures inland { IfSome result IsInland }

@@ -2,11 +2,11 @@
 //! board that is nearly empty:
 //!
 //! ```text
-//! word column      0     1     2     3
-//! row 0     .     .     .     .
-//! row 1     .     #     .     .      The rows from the first that was written in a word column to the last. Outside of
-//! row 2     .     #     #     .      them everything is dead.
-//! row 3     .     .     #     .
+//! word column   0     1     2     3
+//! row 0         .     .     .     .
+//! row 1         .     #     .     .      The rows from the first that was written in a word column to the last.
+//! row 2         .     #     #     .      Outside of them, everything is dead.
+//! row 3         .     .     #     .
 //! ```
 ghost use Rattle.std.specs.Prelude.{◌≡◌, ◌+◌, ◌/◌, ◌<◌, ◌≤◌, ◌⊎◌};
 ghost use Rattle.std.specs.Prelude.{[], ℕ, length, slice_index};
@@ -17,7 +17,7 @@ ghost use Rattle.plane_core.specs.engine.RowSpans.{HasRow, IsInSpan, LieInSpans}
 
 use crate::engine::frame::Frame;
 
-/// The numbers from `from` on, up to `end`, which is excluded: usually rows.
+/// The numbers from `from` to before `end`: usually rows.
 #[derive(Clone, Copy)]
 pub(crate) struct RowSpan {
     pub(crate) from: usize,
@@ -46,7 +46,7 @@ impl RowSpan {
         }
     }
 
-    /// Returns its numbers below a limit.
+    /// Returns the part of the span that is below `limit`. It is never reversed: `from` is at most `end`.
     pub(crate) fn below(self, limit: usize) -> RowSpan
         ensures order { result.from ≤ result.end }
         ensures most { result.end ≤ limit }
@@ -69,14 +69,15 @@ pub(crate) fn widen(spans: &mut [RowSpan], word_column: usize, rows: RowSpan)
     spans[word_column] = spans[word_column].joined(rows);
 }
 
-/// The word columns from the first that has rows to the last, and the rows from the lowest to the highest number.
+/// The hull of some spans: the word columns from the first that has rows to the last, and the rows from the first to
+/// the last.
 #[derive(Clone, Copy)]
 pub(crate) struct Hull {
     pub(crate) word_columns: RowSpan,
     pub(crate) rows: RowSpan,
 }
 
-/// Returns the word columns and the rows in which spans are.
+/// Returns the hull of the spans.
 pub(crate) fn hull_of(at: Frame, spans: &[RowSpan]) -> Hull
     requires frame { IsFrame at }
     requires long { length spans.now ≡ at.word_columns }
@@ -100,7 +101,7 @@ pub(crate) fn hull_of(at: Frame, spans: &[RowSpan]) -> Hull
     hull
 }
 
-/// Clears a board whose live cells are all in these spans.
+/// Clears the board, whose live cells are all in the spans, and empties the spans.
 pub(crate) fn empty(at: Frame, words: &mut [u64], spans: &mut [RowSpan])
     requires frame { IsFrame at }
     requires long { FillsFrame at words.old }

@@ -20,7 +20,7 @@ use crate::windows::window_queries::{either, in_any_lane};
 use std::simd::cmp::SimdPartialEq;
 use std::simd::u64x4;
 
-/// Returns the inner columns of a row, or none.
+/// Returns the mask of the inner columns if `inside`, or 0 otherwise.
 #[inline(always)]
 fn inner_if(inside: bool) -> u64
     ensures { IsTrue inside → result ≡ inner_mask }
@@ -28,7 +28,7 @@ fn inner_if(inside: bool) -> u64
     if inside { INNER_COLUMNS } else { 0 }
 }
 
-/// Returns the places of vector k in the inner part of its window, out of those in which two windows differ.
+/// Returns where two windows differ in vector `k`, within their inner parts. `one` and `other` are this vector of each.
 #[inline(always)]
 fn differing<const N: usize>(one: u64x4, other: u64x4, k: usize) -> u64x4
     requires low { k < N }
@@ -45,7 +45,8 @@ fn differing<const N: usize>(one: u64x4, other: u64x4, k: usize) -> u64x4
         ])
 }
 
-/// Returns the rows of vector k of which a place is set, as bits of a word in each lane.
+/// Returns, in each lane, a word with the bit of the lane's row of the window if `places` has a 1 in the lane, or 0
+/// otherwise.
 #[inline(always)]
 fn marked<const N: usize>(places: u64x4, k: usize) -> u64x4
     requires low { k < N }

@@ -40,9 +40,9 @@ pub(crate) fn row_of(at: Frame, window: LeapWindow) -> usize
     (window.top - at.top) as usize
 }
 
-/// Reads the rows of a window that begins in column x and row y of the board. Each consists of the end of a word of the
-/// first word column and the beginning of one of the second. The rows are read in order, so that four of them are read
-/// at once.
+/// Reads the rows of a window that begins in column `x` and row `y` of the board. Each consists of the end of a word of
+/// the first word column and the beginning of one of the second. The rows are read in order, so that four of them are
+/// read at once.
 #[inline(always)]
 pub(crate) fn read_rows<const R: usize>(words: &[u64], at: Frame, x: usize, y: usize) -> [u64; R]
     requires long { FillsFrame at words.now }
@@ -60,7 +60,7 @@ pub(crate) fn read_rows<const R: usize>(words: &[u64], at: Frame, x: usize, y: u
     rows
 }
 
-/// Returns the columns of the word that are in the first word column, if the word begins in this column of it.
+/// Returns the part of `word` that is in the first word column, if the word begins in column `shift` of it.
 #[inline(always)]
 fn in_first(word: u64, shift: usize) -> u64
     requires { shift < 64 }
@@ -70,7 +70,7 @@ fn in_first(word: u64, shift: usize) -> u64
     word << shift
 }
 
-/// Returns the columns of the word that are in the second word column.
+/// Returns the part of `word` that is in the second word column, if the word begins in column `shift` of the first.
 #[inline(always)]
 #[tactic(auto, using(crate::proofs::lemmas::windows::ShiftLemmas::bit_second))]
 fn in_second(word: u64, shift: usize) -> u64
@@ -80,7 +80,7 @@ fn in_second(word: u64, shift: usize) -> u64
     word >> 1 >> (63 - shift)
 }
 
-/// Puts the bits of the value into a word where the mask has a 1.
+/// Replaces the bits of word `i` with those of `value` wherever the mask has a 1.
 #[inline(always)]
 fn put_word(words: &mut [u64], i: usize, mask: u64, value: u64)
     requires { i < length words.old }
@@ -92,7 +92,7 @@ fn put_word(words: &mut [u64], i: usize, mask: u64, value: u64)
     words[i] = old ^ ((old ^ value) & mask);
 }
 
-/// Puts the inner columns of a row back.
+/// Puts the inner columns of a window's row back. The row begins in column `x` and row `y` of the board.
 #[inline(always)]
 fn write_row(words: &mut [u64], at: Frame, x: usize, y: usize, word: u64)
     requires long { FillsFrame at words.old }
@@ -116,7 +116,8 @@ fn write_row(words: &mut [u64], at: Frame, x: usize, y: usize, word: u64)
     );
 }
 
-/// Puts the inner part of a window back, down to row `end`. The window begins in column x and row y of the board.
+/// Puts the inner part of a window back: the inner columns of its rows from 4 to before `end`. The window begins in
+/// column `x` and row `y` of the board.
 #[inline(always)]
 pub(crate) fn write(words: &mut [u64], at: Frame, x: usize, y: usize, end: usize, rows: &[u64; 64])
     requires long { FillsFrame at words.old }

@@ -1,4 +1,4 @@
-//! The origin of a window: where it lies on the plane.
+//! The origin of a window: where the window is on the plane.
 
 /// The first column and row of a window.
 #[derive(Clone, Copy)]

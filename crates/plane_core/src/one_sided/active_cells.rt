@@ -1,5 +1,5 @@
-//! The cells in the middle of a window that change within two generations. A part that is at rest or alternates has
-//! none:
+//! The live cells in the middle of a window that are dead two generations later. A part that is at rest or alternates
+//! has none:
 //!
 //! ```text
 //! . . . . . . . .      . . . . . . . .
@@ -22,8 +22,9 @@ pub(crate) struct Spot {
     pub(crate) column: u32,
 }
 
-/// Returns the live cells in columns 4 to 59 of the 32 rows in the middle that are dead two generations later. Others
-/// may be among them in the outer two of these rows. A cluster may be grown from each cell.
+/// Returns the live cells in columns 4 to 59 of rows 16 to 47 that are dead two generations later. In the first two and
+/// in the last two of these rows, the result may be wrong. This does no harm, because the cells are only places to grow
+/// a cluster from.
 pub(crate) fn changing_cells(rows: &[u64; 64], rule: &RuleLogic) -> [u64; 64] {
     let window: [u64x4; 8] = crop::<32, 8>(rows, 16);
     let mut cells = window;
@@ -35,7 +36,7 @@ pub(crate) fn changing_cells(rows: &[u64; 64], rule: &RuleLogic) -> [u64; 64] {
     uncrop::<32, 8>(&cells, 16)
 }
 
-/// Returns one of the cells in rows 18 to 45, if there is one. Cells in the middle come before others.
+/// Returns a cell of rows 18 to 45, or `None` if there is none. The rows in the middle come first.
 pub(crate) fn first_cell(rows: &[u64; 64]) -> Option<Spot> {
     for d in 0..14 {
         if rows[31 - d] != 0 {
@@ -48,7 +49,7 @@ pub(crate) fn first_cell(rows: &[u64; 64]) -> Option<Spot> {
     None
 }
 
-/// Returns the first cell of a row. Cells in the middle come before others.
+/// Returns the leftmost cell of a row, among those in the middle columns if there are any. `cells` isn't 0.
 fn spot_in(row: usize, cells: u64) -> Spot {
     let middle = cells & MIDDLE;
     let found = if middle == 0 { cells } else { middle };

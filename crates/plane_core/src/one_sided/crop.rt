@@ -14,8 +14,7 @@ ghost use Rattle.plane_core.specs.one_sided.Crops.{IsCrop, LiesInCrop};
 use crate::windows::row_packing::{packed, unpacked};
 use std::simd::u64x4;
 
-/// The fewest empty rows of a crop, those above and those below the live ones together. With fewer, the cells soon come
-/// to its rim.
+/// The fewest empty rows of a crop, above and below its live rows together. With fewer, live cells soon reach its rim.
 const ROOM: usize = 8;
 
 /// The first and the last row with a live cell. They only decide which crops are tried.
@@ -34,13 +33,14 @@ impl LiveRows {
         }
     }
 
-    /// Checks whether `rows` rows leave room for the cells to come, or are all 64.
+    /// Checks whether a crop of `rows` rows leaves room for the pattern to grow, or has all 64 rows.
     pub(crate) fn leave_room_in(self, rows: usize) -> bool {
         let height = self.last.saturating_sub(self.first).saturating_add(1);
         rows >= 64 || height.saturating_add(ROOM) <= rows
     }
 
-    /// Returns the first row of a crop of `rows` rows that has about as many rows above these as below.
+    /// Returns the first row of a crop of `rows` rows that has the live rows in its middle, as far as the window
+    /// allows.
     pub(crate) fn crop_round(self, rows: usize) -> usize {
         let ends = self.first.saturating_add(self.last).saturating_add(1);
         (ends.saturating_sub(rows) / 2).min(64usize.saturating_sub(rows))
@@ -81,7 +81,7 @@ pub(crate) fn crop<const R: usize, const N: usize>(rows: &[u64; 64], from: usize
     packed(&part)
 }
 
-/// Returns 64 rows that have those of a window from row `from` on, and no live cell elsewhere.
+/// Returns 64 rows: those of the window from row `from` on, and empty rows elsewhere.
 pub(crate) fn uncrop<const R: usize, const N: usize>(window: &[u64x4; N], from: usize) -> [u64; 64]
     requires some { 0 < N }
     requires rows { R ≡ 4 * N }

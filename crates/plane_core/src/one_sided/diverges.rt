@@ -1,4 +1,4 @@
-//! A one-sided test that a cluster, run alone, comes to have a cell that the whole pattern doesn't have:
+//! A one-sided test that a cluster, run alone, gets a cell that the whole pattern doesn't have in that generation:
 //!
 //! ```text
 //! the whole              one cluster alone
@@ -8,7 +8,7 @@
 //! . . O . . . . .        . . O . . . . .
 //! ```
 //!
-//! Both are run in windows, which with each generation are right one cell further inside.
+//! Both are run in windows. With each generation, a window is right only one cell further inside.
 ghost use Rattle.std.specs.Prelude.{◌+◌, ◌≤◌, ◌<◌, IsTrue};
 ghost use Rattle.plane_core.specs.windows.RuleLogic.{rule_of};
 ghost use Rattle.plane_core.specs.one_sided.RestlessClusters.{HasDivergingCell, DivergesFromWhole};
@@ -27,8 +27,8 @@ const LIMIT: u32 = 11;
 /// diverge, 97 have one.
 const NEAR: usize = 4;
 
-/// Returns `true` only if what one window shows alone diverges within `most` generations from the whole that the other
-/// window shows. Both windows are right at this depth. `false` says nothing.
+/// Returns `true` only if the cluster that `alone` shows diverges within `most` generations from the pattern that
+/// `whole` shows. Both windows are right from `depth` cells inside their border on. `false` says nothing.
 pub(crate) fn diverges_from_whole<const N: usize>(
     whole: &[u64x4; N],
     alone: &[u64x4; N],
@@ -71,14 +71,14 @@ pub(crate) fn is_near_others(rows: &[u64; 64], cluster: &[u64; 64], live: LiveRo
     others & columns != 0
 }
 
-/// Checks whether at this depth there is a cell alone that the whole doesn't have.
+/// Checks whether `alone` has a live cell that `whole` doesn't have, at least `depth` cells inside the border.
 fn has_diverging_cell<const N: usize>(whole: &[u64x4; N], alone: &[u64x4; N], depth: usize) -> bool
     requires some { 10 ≤ N }
     requires few { N ≤ 16 }
     requires depth { depth < 20 }
     ensures { IsTrue result → HasDivergingCell N whole.now alone.now depth }
 {
-    // The columns at this depth.
+    // The columns that are at least `depth` inside the border.
     let inside = u64::MAX >> (2 * depth) << depth;
     if diverging_columns(whole, alone) & inside == 0 {
         return false;
@@ -93,7 +93,7 @@ fn has_diverging_cell<const N: usize>(whole: &[u64x4; N], alone: &[u64x4; N], de
     false
 }
 
-/// Returns the columns that have a cell alone which the whole doesn't have.
+/// Returns the columns in which `alone` has a live cell that `whole` doesn't have.
 fn diverging_columns<const N: usize>(whole: &[u64x4; N], alone: &[u64x4; N]) -> u64 {
     let mut all = u64x4::splat(0);
     for k in 0..N {

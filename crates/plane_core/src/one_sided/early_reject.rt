@@ -4,7 +4,7 @@
 //!
 //! ```text
 //! boxes      small  LARGE  small  small  LARGE  small
-//! tried       3rd    1st    4th           2nd           Boxes larger than that of any small oscillator are tried first.
+//! tried       3rd    1st    4th           2nd           Boxes larger than those of small oscillators come first.
 //! ```
 //!
 //! At most four boxes are tried. If they show nothing, the board usually consists of objects at rest.
@@ -18,7 +18,7 @@ use crate::one_sided::rules_out_rest::rules_out_rest;
 use crate::windows::row_packing::packed;
 use crate::windows::window::generations;
 
-/// The most columns and rows of the box of what changes in a small oscillator.
+/// The most columns and rows of the active box of a small oscillator.
 const SMALL: u32 = 6;
 
 /// The most boxes that are tried.
@@ -54,8 +54,8 @@ impl Board {
         self.rules_out_rest_by(asked, false, &mut tries)
     }
 
-    /// Tries the boxes that are large, or those that aren't, as long as there are tries left. A test looks at the view
-    /// of each box, if the view is on the board.
+    /// Tests the boxes that are large, or those that aren't, until no tries are left. A test looks at the view of a
+    /// box. If the view isn't on the board, the box only uses up a try.
     fn rules_out_rest_by(&self, asked: RestQuestion, large: bool, tries: &mut u32) -> bool
         requires { asked.ahead ≤ 1 }
         ensures { IsTrue result → HasRestlessCluster self.now.rule

@@ -1,9 +1,9 @@
 //! Grows a cluster of a window of 64 rows from one of its cells:
 //!
 //! ```text
-//! . O . . O      . 1 . . O      . 2 . . O     The start, then the cells within 2 of it, then the cells within 2 of those.
-//! . O . . O      . 1 . . O      . 2 . . O     When nothing new is found, one pass over all rows checks whether this is
-//! . S . . O      . S . . O      . S . . O     the whole cluster.
+//! . O . . O      . 1 . . O      . 2 . . O     S is the start. Cells within 2 of it are found next, then cells within 2
+//! . O . . O      . 1 . . O      . 2 . . O     of those. When nothing new is found, one pass over all rows checks
+//! . S . . O      . S . . O      . S . . O     whether this is the whole cluster.
 //! ```
 //!
 //! Near the border of the window, not all cells may be right, and what is outside isn't known. So a flood that comes
@@ -21,8 +21,8 @@ const COLUMNS: u64 = 0x3fff_ffff_ffff_fffc;
 /// The most passes over the rows. A cluster that winds more is rejected.
 const ROUNDS: usize = 64;
 
-/// Grows the cluster of the cell in a row and a column, which replaces `flood`. Returns `true` only if it is complete
-/// and well inside the window. `false` says nothing.
+/// Grows the cluster of the cell in row `row` and column `column`, and stores it in `flood`. Returns `true` only if the
+/// cluster is complete and well inside the window. `false` says nothing.
 pub(crate) fn flood(rows: &[u64; 64], flood: &mut [u64; 64], row: usize, column: u32) -> bool
     ensures { IsTrue result → IsFlooded rows.now flood.new row column }
 {
@@ -44,8 +44,8 @@ pub(crate) fn flood(rows: &[u64; 64], flood: &mut [u64; 64], row: usize, column:
     false
 }
 
-/// Grows the flood downwards from row `first` up to row `end`, and on as long as it grows further. Returns the row
-/// where it ended.
+/// Grows the flood downwards from row `first` to the row before `end`, and on as long as it grows further. Returns the
+/// row before which it stopped.
 fn grow_down(rows: &[u64; 64], flood: &mut [u64; 64], first: usize, end: usize) -> usize
     requires { 2 ≤ first }
     ensures grown { HasGrown rows.now flood.old flood.new }
@@ -60,14 +60,15 @@ fn grow_down(rows: &[u64; 64], flood: &mut [u64; 64], first: usize, end: usize) 
     62
 }
 
-/// The result of growing upwards: the new bits, in any row, and the first row that may have a bit of the flood near it.
+/// The result of growing upwards: the new bits of all rows together, and the first row that may have a bit of the flood
+/// near it.
 #[derive(Clone, Copy)]
 struct Grown {
     new: u64,
     first: usize,
 }
 
-/// Grows the flood upwards from row `end` up to row `first`, and on as long as it grows further.
+/// Grows the flood upwards from the row before `end` to row `first`, and on as long as it grows further.
 fn grow_up(rows: &[u64; 64], flood: &mut [u64; 64], first: usize, end: usize) -> Grown
     requires { end ≤ 62 }
     ensures grown { HasGrown rows.now flood.old flood.new }
@@ -83,7 +84,7 @@ fn grow_up(rows: &[u64; 64], flood: &mut [u64; 64], first: usize, end: usize) ->
     Grown { new, first: 2 }
 }
 
-/// Grows the flood in one row. Returns the new bits.
+/// Grows the flood in row `r`. Returns the new bits.
 #[inline(always)]
 fn grow_row(rows: &[u64; 64], flood: &mut [u64; 64], r: usize) -> u64
     requires low { 2 ≤ r }
@@ -97,7 +98,7 @@ fn grow_row(rows: &[u64; 64], flood: &mut [u64; 64], r: usize) -> u64
     grown ^ here
 }
 
-/// Returns the bits of the rows that are at most two away.
+/// Returns the bits of row `r` and of the rows that are at most two away, together.
 #[inline(always)]
 fn near_rows(flood: &[u64; 64], r: usize) -> u64
     requires low { 2 ≤ r }
@@ -108,7 +109,7 @@ fn near_rows(flood: &[u64; 64], r: usize) -> u64
     flood[r - 2] | flood[r - 1] | flood[r] | flood[r + 1] | flood[r + 2]
 }
 
-/// Returns the bits and their neighbours.
+/// Returns the bits of a word and the bits next to them.
 #[inline(always)]
 fn beside(word: u64) -> u64
     ensures from { (i : ℕ) → bit_at result i ≡ 1 → (i < 64) × (j : ℕ) × (AreNear 1 i j) × (bit_at word j ≡ 1) }
@@ -140,7 +141,7 @@ fn outside(word: u64, r: usize) -> u64
     word & !INNER_COLUMNS
 }
 
-/// Checks whether no cell near the flood is missing.
+/// Checks whether the flood contains every live cell that is near it.
 fn is_closed(rows: &[u64; 64], flood: &[u64; 64]) -> bool
     ensures { IsTrue result → IsClosed rows.now flood.now }
 {

@@ -2,12 +2,12 @@
 //! window is right as long as no live cell reaches its rim:
 //!
 //! ```text
+//! +----------------+    A generation that is a translate of the start has the same rows, if rows and columns are
+//! |                |    counted from the first ones with a live cell. Usually the columns with a live cell already
+//! |    OO.         |    differ.
+//! |     OO.        |
+//! |      O         |    If a generation equals an earlier one, all later generations have been there before.
 //! +----------------+
-//! |                |    A generation that is a translate of the start has live cells in the same columns, counted from
-//! |    OO.         |    the first one, and in the same rows, counted from the first row and column. Usually the columns
-//! |     OO.        |    already differ.
-//! |      O         |
-//! +----------------+    If a generation equals an earlier one, all that follow were there before too.
 //! ```
 ghost use Rattle.std.specs.Prelude.{◌≡◌, ◌+◌, ◌-◌, ◌*◌, ◌/◌, ◌^◌, ◌<◌, ◌≤◌, ℕ, ℤ, IfSome, IsTrue, List, max};
 ghost use Rattle.std.specs.Int.{bit_at};
@@ -71,7 +71,7 @@ pub(crate) fn follow<const N: usize>(
         if columns == kept_columns && are_alike(now, &kept) {
             return Followed::NeverAgain;
         }
-        // Most clusters that settle come to alternate. So every fourth generation is kept and compared with the next
+        // Most clusters that settle end up alternating. So every fourth generation is kept and compared with the next
         // ones.
         if age % 4 == 1 {
             kept = *now;
@@ -81,7 +81,7 @@ pub(crate) fn follow<const N: usize>(
     Followed::NeverAgain
 }
 
-/// Returns a row of the window, or an empty one past its end.
+/// Returns row `r` of the window, or an empty row if `r` is past its end.
 fn row_or_none<const N: usize>(window: &[u64x4; N], r: usize) -> u64
     requires some { 0 < N }
     requires few { N ≤ 16 }
@@ -91,9 +91,9 @@ fn row_or_none<const N: usize>(window: &[u64x4; N], r: usize) -> u64
     if r < 4 * N { row(window, r) } else { 0 }
 }
 
-/// Checks whether the second window may show a translate of what the first one shows. The columns of both that have a
-/// live cell are given. If they are alike, the rows are compared, counted from the first row and the first column with
-/// a live cell.
+/// Checks whether `now` may show a translate of what `start` shows. `from` and `columns` are the columns of `start` and
+/// of `now` that have a live cell. If these are alike, the rows are compared, counted from the first row and the first
+/// column with a live cell.
 fn may_be_again<const N: usize>(
     start: &[u64x4; N],
     from: u64,

@@ -1,12 +1,12 @@
-//! A one-sided test that a pattern never recurs. The pattern is run by itself in a window of few rows. If it comes to
+//! A one-sided test that a pattern never recurs. The pattern is run by itself in a window of few rows. If it reaches
 //! the rim, the run goes on in a larger window:
 //!
 //! ```text
 //!                      . . . . . . . .
 //! . . . . . . . .      . . . . . . . .
-//! . . . O O . . .      . . . O O . . .     If a cell is alive in the first or the last row of the small window, the pattern
-//! . . O O . . . .      . . O O . . . .     is copied into the next larger window. No generation is run twice.
-//! . . . O . . . .      . . . O . . . .
+//! . . . O O . . .      . . . O O . . .     If a cell is alive in the first or the last row of the small window,
+//! . . O O . . . .      . . O O . . . .     the pattern is copied into the next larger window. No generation is
+//! . . . O . . . .      . . . O . . . .     run twice.
 //!                      . . . . . . . .
 //! ```
 //!
@@ -24,7 +24,7 @@ use crate::windows::rule_logic::RuleLogic;
 use std::simd::u64x4;
 
 /// Returns `true` only if no generation from 1 to `most` is a translate of the pattern. The 64 rows of `start` show all
-/// of the pattern.
+/// of the pattern. `false` says nothing.
 pub(crate) fn never_recurs(start: &[u64; 64], rule: &RuleLogic, most: u32) -> bool
     ensures { IsTrue result → (cells : List Cell) (left top : ℤ) → FillsRows left top start.now cells
         → NeverRecurs (rule_of rule.now) cells most }

@@ -21,8 +21,9 @@ use crate::windows::row_packing::unpacked;
 use crate::windows::rule_logic::RuleLogic;
 use std::simd::u64x4;
 
-/// Returns `true` only if no pattern that the window shows at depth `depth` is at rest: one of its clusters diverges
-/// from it within `horizon` generations, or doesn't recur within `period` generations.
+/// Returns `true` only if no pattern that the window shows is at rest: one of its clusters diverges from it within
+/// `horizon` generations, or doesn't recur within `period` generations. The window is right from `depth` cells inside
+/// its border on. `false` says nothing.
 pub(crate) fn rules_out_rest(
     window: &[u64x4; 16],
     rule: &RuleLogic,

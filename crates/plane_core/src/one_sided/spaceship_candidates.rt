@@ -1,17 +1,17 @@
 //! Candidates for spaceships: clusters of a few cells that change.
 //!
-//! In the view of each box, cells that change within two generations are looked for, and the cluster of one after
-//! another is grown:
+//! In the view of each box, the cells are found that change within two generations, and their clusters are grown, one
+//! after another:
 //!
 //! ```text
 //! . . . . . . . . . .      . . . . . . . . . .
-//! . . O . . . . O . .      . . x . . . . . . .     Two cells change. The cluster of the first has five cells. The second
-//! . . . O . . . O . .      . . . . . . . . . .     is one of them, so it is no longer looked at. A part that alternates
-//! . O O O . . . O . .      . . x . . . . . . .     has no cell that changes in two generations.
+//! . . O . . . . O . .      . . x . . . . . . .     Two cells change. The cluster of the first has five cells. The
+//! . . . O . . . O . .      . . . . . . . . . .     second cell is one of them, so no cluster is grown from it. A part
+//! . O O O . . . O . .      . . x . . . . . . .     that alternates has no cell that changes in two generations.
 //! . . . . . . . . . .      . . . . . . . . . .
 //! ```
 //!
-//! A lone spaceship has a small box, so only small boxes are looked at, and only those that are ahead of all others.
+//! A lone spaceship has a small box, so only small boxes are examined, and only those that are ahead of all others.
 ghost use Rattle.std.specs.Prelude.{All, IfOk, List, OnOk};
 ghost use Rattle.plane_core.specs.plane.Cells.{InOrder};
 ghost use Rattle.plane_core.specs.clusters.Clusters.{IsCluster};
@@ -30,11 +30,11 @@ use crate::plane::pattern::Pattern;
 use memory::OutOfMemory;
 use std::alloc::Global;
 
-/// The most boxes that are looked at.
+/// The most boxes that are examined.
 const BOXES: u32 = 32;
 
-/// The most columns and rows of the box of what changes in a spaceship: a heavyweight spaceship's has nine. A spaceship
-/// that has just left a larger group shares its box, and soon gets one of its own.
+/// The most columns and rows of a spaceship's active box: a heavyweight spaceship's has nine. A spaceship that has just
+/// left a larger group shares its box, and soon gets one of its own.
 const SPACESHIP: u32 = 10;
 
 /// The most clusters that are grown for each box.
@@ -59,7 +59,7 @@ impl Board {
             if tries == 0 {
                 break;
             }
-            // A small box rarely contains anything other than a spaceship that changes.
+            // In a small box, hardly anything changes except a spaceship.
             if longer_side(*bounds) >= SPACESHIP || !leads_somewhere(boxes, *bounds) {
                 continue;
             }
@@ -74,8 +74,8 @@ impl Board {
     }
 }
 
-/// Checks whether the box is ahead of all others in some diagonal direction. What is in another box can't be ahead of
-/// everything else, unless what is ahead of it goes first.
+/// Checks whether the box is ahead of all others in some diagonal direction. Otherwise, nothing in it can be ahead of
+/// everything else, until what is ahead of it has been removed.
 fn leads_somewhere(boxes: &[Bounds], bounds: Bounds) -> bool {
     let mut right_down = true;
     let mut right_up = true;
@@ -88,7 +88,7 @@ fn leads_somewhere(boxes: &[Bounds], bounds: Bounds) -> bool {
         let left = other.left.saturating_sub(bounds.right);
         let down = bounds.top.saturating_sub(other.bottom);
         let up = other.top.saturating_sub(bounds.bottom);
-        // Boxes that it meets don't count, because a spaceship has boxes from more than one window.
+        // Boxes that touch it don't count, because a spaceship has boxes from more than one window.
         if right.max(left).max(down).max(up) <= 1 {
             continue;
         }
@@ -103,8 +103,8 @@ fn leads_somewhere(boxes: &[Bounds], bounds: Bounds) -> bool {
     true
 }
 
-/// Adds the clusters of the cells that change in a window, if they are small and not among the others yet (two boxes
-/// may be near each other). Their cells are removed.
+/// Grows the clusters of the cells that change in a window, and appends those that are small and not in the list yet
+/// (two boxes may be near each other). The cells of each cluster are removed from `changing`.
 fn add_grown(
     alloc: Global,
     at: Frame,
@@ -135,7 +135,7 @@ fn add_grown(
     Ok(())
 }
 
-/// Removes the cells of a cluster from others. Returns the number of cells of the cluster.
+/// Removes the cells of the cluster from `cells`. Returns the population of the cluster.
 fn strike_out(cells: &mut [u64; 64], cluster: &[u64; 64]) -> u32 {
     let mut count = 0u32;
     for row in 0..64 {
@@ -146,7 +146,7 @@ fn strike_out(cells: &mut [u64; 64], cluster: &[u64; 64]) -> u32 {
     count
 }
 
-/// Checks whether the cluster is one of the others.
+/// Checks whether the cluster is in the list.
 fn has(clusters: &[Pattern], cluster: &Pattern) -> bool {
     for other in clusters {
         if other.cells() == cluster.cells() {

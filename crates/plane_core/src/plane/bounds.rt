@@ -80,7 +80,7 @@ impl Bounds {
     }
 }
 
-/// Returns the smallest box that contains the cell and the box, if there is one.
+/// Returns the smallest box that contains the cell and, if there is one, the box.
 pub(crate) fn grown(bounds: Option<Bounds>, cell: Cell) -> Bounds
     ensures { result ≡ grown cell bounds }
 {

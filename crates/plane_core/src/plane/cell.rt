@@ -10,7 +10,7 @@ ghost use Rattle.plane_core.specs.plane.Cells.{moved_by, near_plane, on_plane, o
 
 use crate::plane::coordinate::stepped;
 
-/// The largest size of a coordinate of a pattern's cell: coordinates are from -1,000,000 to 1,000,000.
+/// The largest absolute value of a coordinate of a pattern's cell: coordinates are from -1,000,000 to 1,000,000.
 pub const BOUND: u32 = 1_000_000;
 
 /// A cell of the plane: x grows to the right, y grows downwards.
@@ -24,7 +24,7 @@ pub struct Cell {
 }
 
 impl Cell {
-    /// Checks whether a pattern may have this cell: both coordinates are at most [`BOUND`] in size.
+    /// Checks whether a pattern may have this cell: the absolute value of each coordinate is at most [`BOUND`].
     #[tactic(auto, unfolding(crate::specs::plane::Cells::on_plane))]
     pub fn is_on_plane(self) -> bool
         ensures { result ≡ on_plane self }
@@ -32,7 +32,7 @@ impl Cell {
         self.x.unsigned_abs() <= BOUND && self.y.unsigned_abs() <= BOUND
     }
 
-    /// Checks whether a coordinate is [`BOUND`] in size, so that a neighbour may be off the plane.
+    /// Checks whether the absolute value of a coordinate is [`BOUND`], so that a neighbour is off the plane.
     #[tactic(auto, unfolding(crate::specs::plane::Cells::on_edge))]
     pub fn is_on_edge(self) -> bool
         ensures { result ≡ on_edge self }
@@ -40,7 +40,8 @@ impl Cell {
         self.x.unsigned_abs() == BOUND || self.y.unsigned_abs() == BOUND
     }
 
-    /// Returns the cell (x + dx, y + dy), at most two steps away.
+    /// Returns the cell (x + dx, y + dy). `dx` and `dy` are from -2 to 2, and this cell is at most one step off the
+    /// plane.
     #[tactic(auto, unfolding(crate::specs::plane::Cells::near_plane))]
     pub(crate) fn moved(self, dx: i32, dy: i32) -> Cell
         requires near { near_plane self ≡ true }

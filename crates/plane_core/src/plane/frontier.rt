@@ -1,19 +1,20 @@
-//! How fast the frontier of a pattern grows in a diagonal direction. Under rules such as Life it takes two generations
-//! for each cell. So nothing that a glider leaves behind catches up with it:
+//! How fast the frontier of a pattern advances in a diagonal direction. Under rules such as Life, it advances by at
+//! most one cell in two generations, which is the speed of a glider. So nothing that a glider leaves behind catches up
+//! with it:
 //!
 //! ```text
-//! . . . O .     The depth of a cell is the sum of its column and its row. A cell past the frontier sees
-//! . . O / .     at most three live cells. If all three have just come to the frontier, the one behind
-//! . O / x .     them had four neighbours or more, and died.
-//! O / . . .
+//! . . . O .     The depth of a cell is the sum of its column and its row. Cell x, just past the frontier, has at
+//! . . O / .     most three live neighbours: two on the frontier, /, and one behind both. If these two were born in
+//! . O / x .     the last generation, the one behind them had four or five live neighbours then, and has died. So
+//! O / . . .     x isn't born.
 //! ```
 ghost use Rattle.std.specs.Prelude.{◌≡◌};
 ghost use Rattle.plane_core.specs.plane.Frontiers.{FrontiersAreSlow, FrontiersGoOn, is_slow};
 
 use crate::plane::rule::Rule;
 
-/// The law of frontiers: under a slow rule, no pattern grows by more than one cell in two generations in a diagonal
-/// direction.
+/// The laws of frontiers: under a slow rule, the frontier of a pattern in a diagonal direction advances by at most one
+/// cell per two generations, rounded up.
 #[tactic(auto, using(crate::proofs::lemmas::plane::FrontierLemmas::frontiers_are_slow, crate::proofs::lemmas::plane::FrontierLemmas::frontiers_go_on))]
 pub fn frontiers()
     ensures slow { FrontiersAreSlow }

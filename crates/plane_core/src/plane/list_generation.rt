@@ -29,7 +29,7 @@ use memory::OutOfMemory;
 use std::alloc::Global;
 
 impl Pattern {
-    /// Returns the next generation, computed cell by cell.
+    /// Returns the next generation, computed cell by cell. No cell may be on the edge of the plane.
     pub(crate) fn counted(&self, alloc: Global, rule: &Rule) -> Result<Pattern, OutOfMemory>
         requires { touches_edge self.now ≡ false }
         ensures { IfOk result (λ pattern. pattern ≡ next rule.now self.now) }

@@ -1,10 +1,10 @@
-//! How far a cell sees. If a pattern is cut off at the sides of a box, each generation is right one cell further
-//! inside:
+//! How far a cell sees. If everything outside a box is cut off, each generation is right one cell further inside the
+//! box:
 //!
 //! ```text
 //! +-----------------+
-//! |  ?  ?  ?  ?  ?  |    The cells next to a side may see what was cut off. Those one column and row further in
-//! |  ?  1  1  1  ?  |    don't, in one generation. Those two columns and rows further in don't, in two.
+//! |  ?  ?  ?  ?  ?  |    A cell that is marked ? has neighbours that were cut off, so it may be wrong after one
+//! |  ?  1  1  1  ?  |    generation. A number says for how many generations a cell is right.
 //! |  ?  1  2  1  ?  |
 //! |  ?  1  1  1  ?  |
 //! |  ?  ?  ?  ?  ?  |
@@ -12,8 +12,8 @@
 //! ```
 ghost use Rattle.plane_core.specs.plane.Locality.{RightInside, SeesNoFurther};
 
-/// The law of locality: a cell after k generations depends only on the cells at most k away from it. So if everything
-/// outside a box is cut off, the box is right k cells inside its sides.
+/// The laws of locality. After k generations, a cell depends only on the cells that are at most k away from it. So if
+/// everything outside a box is cut off, the cells that are at least k inside its sides are right.
 pub fn cut_off()
     ensures sees { SeesNoFurther }
     ensures inside { RightInside }

@@ -89,10 +89,11 @@ impl Orientation {
     }
 }
 
-/// The laws of the eight orientations, which are the group of the square.
+/// The laws of the eight orientations: they are the symmetry group of the square.
 ///
-/// They are different maps, and their product is that of a group. Turning a pattern by one of them and then by another
-/// is turning it by their product. A pattern has the same image wherever it is.
+/// Their product is associative, `Same` is its identity, and each orientation has an inverse. Different orientations
+/// are different maps. Turning a pattern by one orientation and then by another is turning it by their product. The
+/// image of a pattern doesn't depend on where the pattern is.
 pub fn square_group()
     ensures associative { ProductAssociates }
     ensures identity { SameIsIdentity }

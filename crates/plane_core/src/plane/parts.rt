@@ -1,17 +1,18 @@
-//! Two parts of a pattern that are so far apart that they don't meet for a number of generations. Each runs as if it
-//! were alone.
+//! Cuts a pattern into two parts that are so far apart that they don't meet for a number of generations, so that each
+//! can be run by itself.
 //!
-//! Cells are listed row by row, so a cut between two rows is a place in the list: it exists if a cell is far enough
-//! below the cell before it. If the rows of a pattern are too close together, the pattern is turned and cut between two
-//! of its columns. Each part is cut again. So a spaceship that has left costs only a board of its own.
+//! Cells are listed row by row, so a cut between two rows is a place in the list, where a cell is far enough below the
+//! one before it. If there is no such place, columns and rows are exchanged, and the pattern is cut between two of its
+//! columns. Each part is cut again. So a spaceship that has left the rest costs only a board of its own.
 ghost use Rattle.std.specs.Prelude.{◌<◌, IfSome, OnSome};
 ghost use Rattle.plane_core.specs.plane.Parts.{IsCut};
 
 use crate::plane::pattern::Pattern;
 
 impl Pattern {
-    /// Returns the number of cells above a cut between two rows that are more than `far` apart, if there is such a cut
-    /// and `cuts` isn't 0. It is the first cut from the middle of the cells on, or otherwise the last one before.
+    /// Returns the number of cells above a cut, or `None` if there is no cut or `cuts` is 0. A cut is between two
+    /// successive cells whose rows are more than `far` apart. The first cut from the middle of the list on is chosen,
+    /// or otherwise the last one before the middle.
     pub(crate) fn cut(&self, far: u32, cuts: u32) -> Option<usize>
         ensures cut { IfSome result (IsCut far self.now) }
         ensures cuts { OnSome result (0 < cuts) }
@@ -32,9 +33,10 @@ impl Pattern {
         cut
     }
 
-    /// Checks whether the pattern is worth a turn, which sorts its cells: there may be a cut between two columns that
-    /// are more than `far` apart. The columns are divided into at most 64 stripes. If the stripes are narrow, a gap of
-    /// that width contains an empty one.
+    /// Checks whether it is worth turning the pattern, which sorts its cells, to cut it between two columns that are
+    /// more than `far` apart. The columns are divided into at most 64 stripes of equal width. If a stripe is at most
+    /// half as wide as `far`, a gap between such columns contains an empty one. So the result is `false` only if there
+    /// is no such cut.
     pub(crate) fn is_worth_a_turn(&self, far: u32) -> bool {
         let Some(bounds) = self.bounds() else {
             return false;

@@ -71,7 +71,7 @@ impl Drop for Pattern {
 }
 
 impl Pattern {
-    /// Returns the set of the cells of a list, which may be in any order and may repeat cells.
+    /// Returns the pattern with the cells of a list, which may be in any order and may repeat cells.
     ///
     /// # Errors
     ///
@@ -98,7 +98,7 @@ impl Pattern {
         })
     }
 
-    /// Returns the pattern of cells that are already in order, each once.
+    /// Returns the pattern with these cells, which are already in order, each once.
     pub(crate) fn from_ordered(cells: Vec<Cell>) -> Pattern
         requires { IsPattern cells.items }
         ensures { result ≡ cells.items }
@@ -115,7 +115,7 @@ impl Pattern {
         Ok(())
     }
 
-    /// Returns an equal pattern.
+    /// Returns a copy of the pattern.
     ///
     /// # Errors
     ///
@@ -127,7 +127,7 @@ impl Pattern {
         Ok(Pattern::from_ordered(cells))
     }
 
-    /// Returns the cells of both patterns together. It is fastest if all cells of `other` come after those of `self`.
+    /// Returns the union of both patterns. It is fastest if all cells of `other` come after those of `self`.
     ///
     /// # Errors
     ///
@@ -175,8 +175,8 @@ impl Pattern {
     }
 }
 
-/// Merges `others` with the first `count` cells of the list. Both are in order. It goes from the end, and stops when
-/// the last of the others is in its place:
+/// Merges `others` into a list whose first `count` cells are in use, and which has just enough room for both. The merge
+/// goes from the end, and stops when all of `others` are in place. If both lists are in order, so is the result:
 ///
 /// ```text
 /// a b f g h . .      the others: c e
@@ -201,7 +201,7 @@ fn merge(cells: &mut [Cell], count: usize, others: &[Cell])
     }
 }
 
-/// Checks whether there is a last one among the first `count` cells, and it comes after `cell`.
+/// Checks whether the last of the first `count` cells comes after `cell`. Returns `false` if `count` is 0.
 fn comes_later(cells: &[Cell], count: usize, cell: Cell) -> bool
     requires { count ≤ length cells.now }
     ensures { IsTrue result → 1 ≤ count }
@@ -209,13 +209,14 @@ fn comes_later(cells: &[Cell], count: usize, cell: Cell) -> bool
     count > 0 && cell < cells[count - 1]
 }
 
-/// The law of sets of cells: each has one list in order. So two patterns with the same cells are the same list.
+/// The law of sets of cells: each has only one list in order. So two patterns with the same cells are the same list.
 #[tactic(auto, using(crate::proofs::lemmas::plane::SetLemmas::same_lists))]
 pub fn sets_have_one_list()
     ensures { SetsHaveOneList }
 {}
 
-/// Returns the cells in order, each once. Cells that are read from a board usually are so already.
+/// Returns the cells in order, each once. Cells that were read from a board usually are in order already, and aren't
+/// sorted.
 pub(crate) fn in_order(cells: Vec<Cell>) -> Vec<Cell>
     ensures { result.items ≡ set_of cells.items }
 {

@@ -12,7 +12,7 @@ use std::marker::Model;
 use std::str::FromStr;
 use thiserror::Error;
 
-/// The most bytes of a rule's text: two letters and 17 digits.
+/// The length of the longest text of a rule, in bytes: two letters and 17 digits.
 const LONGEST: usize = 19;
 
 /// Why a text isn't a rule.
@@ -110,12 +110,12 @@ impl Rule {
     /// - [`RuleFault::BadRule`] if a byte isn't allowed where it is, or the text ends too early.
     /// - [`RuleFault::BirthZero`] if there is a `0` directly after the `b`.
     pub fn read(text: &str) -> Result<Rule, RuleFault>
-        // The text of the rule that is read is this text, and the text of each rule is read as that rule.
+        // If a rule is read, `text` is the text of that rule. The text of each rule is read as that rule.
         ensures rule { IfOk result IsRule }
         ensures text { IfOk result (λ rule. rule_text rule ≡ text.now) }
         ensures complete { (rule : Numbers) → IsRule rule → rule_text rule ≡ text.now → result ≡ Ok rule }
 
-        // Which fault it is.
+        // Which fault is returned.
         ensures bad_rule { (place : ℕ) → result ≡ Err (RuleFault.BadRule place) → IsFirstFault text.now place }
         ensures birth_zero { (result ≡ Err RuleFault.BirthZero) ↔ IsTrue (begins text.now (codes "b0")) }
 
@@ -190,7 +190,7 @@ impl Rule {
         out.put(&text[..end])
     }
 
-    /// Puts the text of the rule at the beginning of `text`, and returns the place after it.
+    /// Puts the text of the rule at the beginning of `text`, and returns its length in bytes.
     fn put_text(&self, text: &mut [u8; LONGEST]) -> usize
         ensures end { result ≤ 19 }
         ensures text { take result text.new ≡ rule_text self.now }
@@ -201,8 +201,8 @@ impl Rule {
     }
 }
 
-/// Puts a letter at a place of the text, followed by the digits of the numbers from `least` on that are true in the
-/// table. Returns the place after them.
+/// Puts `letter` at `place` in the text, and after it the digits of the numbers that have the answer `true`. The first
+/// answer is for the number `least`. Returns the place after the last digit.
 fn put_numbers(
     text: &mut [u8; LONGEST],
     place: usize,
@@ -226,7 +226,8 @@ fn put_numbers(
     end
 }
 
-/// Reads the numbers from `least` on whose digits begin the text in ascending order, and returns the text after them.
+/// Reads the ascending digits with which the text begins, each for one of the `N` numbers from `least` on. Returns
+/// which of these numbers were read, and the text after them.
 fn read_numbers<const N: usize>(text: &[u8], least: u8) -> ([bool; N], &[u8])
     requires { least + N ≤ 10 }
     ensures logic { result.0 ≡ (numbers_at N least text.now).logic }

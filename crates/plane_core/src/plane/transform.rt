@@ -143,7 +143,7 @@ impl Transform {
         }
     }
 
-    /// Returns the images of the cells.
+    /// Returns the images of the cells, in the order of the cells. All images are on the plane.
     fn transform_all(self, alloc: Global, cells: &[Cell]) -> Result<Vec<Cell>, OutOfMemory>
         requires cells { list_all on_plane cells.now ≡ true }
         requires landed { list_all on_plane (map (landed self) cells.now) ≡ true }
@@ -157,8 +157,8 @@ impl Transform {
     }
 }
 
-/// Returns the transformation that turns the cells and moves their image to the corner, if the image is on the plane
-/// there.
+/// Returns the transform that turns the cells and then moves the smallest column and the smallest row of their image to
+/// 0, or `None` if a cell would be past the bound there.
 fn to_corner(cells: &[Cell], orientation: Orientation) -> Option<Transform>
     requires { list_all on_plane cells.now ≡ true }
     ensures transform { IfSome result

@@ -14,8 +14,8 @@ use crate::plane::coordinate::difference;
 use crate::plane::pattern::Pattern;
 
 impl Pattern {
-    /// Returns the displacement (dx, dy) that turns this pattern into the other, or `None` if there is none. It is (0,
-    /// 0) if both are empty.
+    /// Returns the displacement (dx, dy) by which this pattern has to be moved to become the other, or `None` if there
+    /// is none. It is (0, 0) if both are empty.
     pub fn shift_to(&self, other: &Pattern) -> Option<(i32, i32)>
         ensures { TellsShift self.now other.now result }
     {

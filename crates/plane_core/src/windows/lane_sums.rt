@@ -20,7 +20,7 @@ pub(crate) struct Sum {
     pub(crate) twos: u64x4,
 }
 
-/// The sums across each cell in its row: of its two neighbours, and of all three.
+/// The sums within a row, for each cell: of its two neighbours, and of these and the cell itself.
 #[derive(Clone, Copy)]
 pub(crate) struct RowSums {
     pub(crate) beside: Sum,
@@ -36,7 +36,7 @@ pub(crate) struct Total {
     pub(crate) eights: u64x4,
 }
 
-/// Returns the sum of three bits, at each place.
+/// Returns the sum of three bits, for each bit of four words.
 #[inline(always)]
 #[tactic(auto, using(crate::proofs::lemmas::windows::LaneLemmas::lane_adder))]
 pub(crate) fn added(a: u64x4, b: u64x4, c: u64x4) -> Sum
@@ -48,7 +48,7 @@ pub(crate) fn added(a: u64x4, b: u64x4, c: u64x4) -> Sum
     }
 }
 
-/// Returns the sums of the rows in a vector: for each bit, those beside it, and these together with the bit itself.
+/// Returns the row sums of a vector: for each bit, of the two bits beside it, and of these and the bit itself.
 #[inline(always)]
 pub(crate) fn across(words: u64x4) -> RowSums
     ensures all { (j i : ℕ) → j < 4 → i < 64 → sum_of result.all j i ≡ row_sum (slice_index words j) i }
@@ -65,7 +65,7 @@ pub(crate) fn across(words: u64x4) -> RowSums
     }
 }
 
-/// Returns the sum of three rows' sums.
+/// Returns the sum of the sums of three rows.
 #[inline(always)]
 pub(crate) fn summed(up: Sum, here: Sum, down: Sum) -> Total
     ensures { (j i : ℕ) → j < 4 → total_of result j i ≡ sum_of up j i + sum_of here j i + sum_of down j i }
@@ -82,7 +82,7 @@ pub(crate) fn summed(up: Sum, here: Sum, down: Sum) -> Total
     }
 }
 
-/// Returns, at each place, the bit of `yes` if the test has a 1, and that of `no` if it has a 0.
+/// Returns the bit of `yes` wherever `test` has a 1, and the bit of `no` wherever it has a 0.
 #[inline(always)]
 #[tactic(auto, using(crate::proofs::lemmas::windows::LaneLemmas::lane_choice))]
 pub(crate) fn choice(test: u64x4, yes: u64x4, no: u64x4) -> u64x4
@@ -92,7 +92,7 @@ pub(crate) fn choice(test: u64x4, yes: u64x4, no: u64x4) -> u64x4
     no ^ ((no ^ yes) & test)
 }
 
-/// Checks whether exactly one of four bits is 1, at each place.
+/// Returns a 1 wherever exactly one of the four bits is 1.
 #[inline(always)]
 #[tactic(auto, using(crate::proofs::lemmas::windows::RuleLogicLemmas::lane_only_one))]
 pub(crate) fn only_one(a: u64x4, b: u64x4, c: u64x4, d: u64x4) -> u64x4
@@ -104,7 +104,7 @@ pub(crate) fn only_one(a: u64x4, b: u64x4, c: u64x4, d: u64x4) -> u64x4
     odd ^ (odd & two)
 }
 
-/// Returns the sums moved one lane on; the first lane is empty.
+/// Returns the sums, each moved to the next lane. The first lane becomes 0.
 #[inline(always)]
 pub(crate) fn later_sum(sum: Sum) -> Sum
     ensures first { (i : ℕ) → sum_of result 0 i ≡ 0 }
@@ -117,7 +117,7 @@ pub(crate) fn later_sum(sum: Sum) -> Sum
     }
 }
 
-/// Returns the sums moved one lane back; the last lane is empty.
+/// Returns the sums, each moved to the previous lane. The last lane becomes 0.
 #[inline(always)]
 pub(crate) fn earlier_sum(sum: Sum) -> Sum
     ensures others { (j i : ℕ) → j < 3 → sum_of result j i ≡ sum_of sum (j + 1) i }

@@ -44,7 +44,7 @@ pub(crate) fn unpacked<const N: usize, const R: usize>(window: &[u64x4; N]) -> [
     rows
 }
 
-/// Writes the rows of a window in order.
+/// Stores the rows of a window, in order, at the beginning of `rows`.
 #[inline(always)]
 pub(crate) fn unpack<const N: usize>(window: &[u64x4; N], rows: &mut [u64; 64])
     requires few { N ≤ 16 }

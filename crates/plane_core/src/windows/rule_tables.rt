@@ -29,7 +29,7 @@ use std::simd::u64x4;
 pub(crate) trait CellLogic {
     ghost rule: { Self → Numbers };
 
-    /// Returns the words one generation after `now`, from the sums of the rows above, here and below.
+    /// Returns the words one generation after `now`, from the sums of the rows above (`up`), here and below (`down`).
     fn next_cells(&self, up: Sum, here: RowSums, down: Sum, now: u64x4) -> u64x4
         requires { AreBeside here now }
         ensures { AnswersRows (rule self.now) up here.all down now result };
@@ -51,7 +51,8 @@ impl CellLogic for Life {
     }
 }
 
-/// The answers of any rule: for each total, the answer for a dead cell, and where the answer for a live cell differs.
+/// The answers of any rule, as words of equal bits: for each total from 0 to 9, the answer for a dead cell, and whether
+/// the answer for a live cell differs.
 #[derive(Clone, Copy)]
 pub(crate) struct RuleTables {
     rule: Rule,
@@ -81,7 +82,7 @@ impl RuleTables {
         }
     }
 
-    /// Returns the answer for the total n.
+    /// Returns which cells are alive next if the total is `n`.
     #[inline(always)]
     fn at_one(&self, n: usize, now: u64x4) -> u64x4
         requires { n ≤ 9 }
@@ -91,7 +92,7 @@ impl RuleTables {
         u64x4::splat(self.dead[n]) ^ (u64x4::splat(self.change[n]) & now)
     }
 
-    /// Returns the answer for the totals n and n + 1.
+    /// Returns which cells are alive next if the total is `n`, plus 1 where `ones` has a 1.
     #[inline(always)]
     fn at_two(&self, n: usize, ones: u64x4, now: u64x4) -> u64x4
         requires { n ≤ 8 }
@@ -101,7 +102,8 @@ impl RuleTables {
         choice(ones, self.at_one(n + 1, now), self.at_one(n, now))
     }
 
-    /// Returns the answer for the totals n to n + 3.
+    /// Returns which cells are alive next if the total is `n`, plus 1 where `ones` has a 1, and plus 2 where `twos` has
+    /// a 1.
     #[inline(always)]
     fn at_four(&self, n: usize, ones: u64x4, twos: u64x4, now: u64x4) -> u64x4
         requires { n ≤ 6 }

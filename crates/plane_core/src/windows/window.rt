@@ -1,7 +1,8 @@
-//! Windows: a piece of the plane, 64 columns wide, in vectors.
+//! Windows: pieces of the plane, 64 columns wide, stored in vectors.
 //!
-//! A window of N vectors has 4 N rows. Row r is lane r / N of vector r % N. So the rows above and below those of a
-//! vector are those of the neighbouring vectors, and at the two ends those of the next lane:
+//! A window of N vectors has 4 N rows. Row r is lane r / N of vector r % N. So the rows above and below a vector's rows
+//! are in the neighbouring vectors. The rows above the first vector are in the last one, moved to the next lane, and
+//! the rows below the last vector are in the first one, moved to the previous lane:
 //!
 //! ```text
 //!            lane 0    lane 1    lane 2    lane 3
@@ -28,7 +29,7 @@ use std::simd::u64x4;
 /// The mask of a window's inner columns, 4 to 59: after four generations, the other columns may be wrong.
 pub(crate) const INNER_COLUMNS: u64 = 0x0fff_ffff_ffff_fff0;
 
-/// Makes the next generation. Life has a loop of its own.
+/// Advances the window by one generation. Life has a loop of its own.
 #[inline(always)]
 pub(crate) fn generation<const N: usize>(window: &mut [u64x4; N], rule: &RuleLogic)
     requires { 0 < N }
@@ -40,8 +41,9 @@ pub(crate) fn generation<const N: usize>(window: &mut [u64x4; N], rule: &RuleLog
     }
 }
 
-/// Makes the next generation. The sums of a vector are computed once, and are used for the three rows that they belong
-/// to. Three vectors are computed per iteration, so that no sums have to be moved from one register to another.
+/// Advances the window by one generation. The sums of a vector are computed once, and are used for the three rows that
+/// they belong to. Three vectors are computed per iteration, so that no sums have to be moved from one register to
+/// another.
 #[inline(always)]
 fn generation_by<const N: usize, A: CellLogic>(window: &mut [u64x4; N], rule: &A)
     requires { 0 < N }
@@ -68,7 +70,8 @@ fn generation_by<const N: usize, A: CellLogic>(window: &mut [u64x4; N], rule: &A
     window[N - 1] = rule.next_cells(up, here, earlier_sum(first.all), window[N - 1]);
 }
 
-/// Makes the next generation of vector k, from the sums above it and its own. Returns the sums of the vector below it.
+/// Advances vector `k` by one generation, from the sums `up` of the rows above it and its own sums `here`. Returns the
+/// sums of the rows below it.
 #[inline(always)]
 fn next_vector<const N: usize, A: CellLogic>(
     window: &mut [u64x4; N],
@@ -86,7 +89,7 @@ fn next_vector<const N: usize, A: CellLogic>(
     below
 }
 
-/// Makes `count` generations.
+/// Advances the window by `count` generations.
 #[inline(always)]
 pub(crate) fn generations<const N: usize>(window: &mut [u64x4; N], rule: &RuleLogic, count: usize)
     requires { 0 < N }

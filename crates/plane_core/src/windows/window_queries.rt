@@ -14,7 +14,7 @@ ghost use Rattle.plane_core.specs.windows.Windows.{row_at};
 
 use std::simd::u64x4;
 
-/// Returns the columns that have a live cell.
+/// Returns the columns that have a live cell, a bit for each.
 #[inline(always)]
 pub(crate) fn columns_of<const N: usize>(window: &[u64x4; N]) -> u64
     ensures columns { IsColumns N window.now result }
@@ -27,7 +27,7 @@ pub(crate) fn columns_of<const N: usize>(window: &[u64x4; N]) -> u64
     in_any_lane(all)
 }
 
-/// Returns the bits of both.
+/// Returns the bits that are 1 in `a` or in `b`.
 #[inline(always)]
 pub(crate) fn either(a: u64x4, b: u64x4) -> u64x4
     ensures bits { (j i : ℕ) → j < 4 → bit_of result j i ≡ max (bit_of a j i) (bit_of b j i) }
@@ -36,7 +36,7 @@ pub(crate) fn either(a: u64x4, b: u64x4) -> u64x4
     a | b
 }
 
-/// Returns the bits of all four lanes.
+/// Returns the bits that are 1 in at least one of the four lanes.
 #[inline(always)]
 #[tactic(auto, using(crate::proofs::lemmas::one_sided::NeverRecursLemmas::four_words))]
 pub(crate) fn in_any_lane(vector: u64x4) -> u64
@@ -47,7 +47,7 @@ pub(crate) fn in_any_lane(vector: u64x4) -> u64
     (words[0] | words[1]) | (words[2] | words[3])
 }
 
-/// Returns a row of the window.
+/// Returns row `r` of the window.
 #[inline(always)]
 pub(crate) fn row<const N: usize>(window: &[u64x4; N], r: usize) -> u64
     requires some { 0 < N }
@@ -57,7 +57,7 @@ pub(crate) fn row<const N: usize>(window: &[u64x4; N], r: usize) -> u64
     window[r % N].to_array()[r / N]
 }
 
-/// Checks whether no live cell is on the rim.
+/// Checks whether no live cell is on the rim. `columns` are the columns of the window that have a live cell.
 #[inline(always)]
 pub(crate) fn is_rim_clear<const N: usize>(window: &[u64x4; N], columns: u64) -> bool
     requires some { 0 < N }
@@ -88,7 +88,7 @@ pub(crate) fn are_alike<const N: usize>(one: &[u64x4; N], other: &[u64x4; N]) ->
     in_any_lane(differ) == 0
 }
 
-/// Returns the marks, with a mark added where the two differ.
+/// Returns `marks` with a 1 added wherever `a` and `b` differ.
 #[inline(always)]
 fn marked(marks: u64x4, a: u64x4, b: u64x4) -> u64x4
     ensures before { (j i : ℕ) → j < 4 → bit_of result j i ≡ 0 → bit_of marks j i ≡ 0 }
@@ -97,7 +97,7 @@ fn marked(marks: u64x4, a: u64x4, b: u64x4) -> u64x4
     marks | (a ^ b)
 }
 
-/// Returns the first row with a live cell.
+/// Returns the first row with a live cell, or `None` if there is none.
 pub(crate) fn first_row<const N: usize>(window: &[u64x4; N]) -> Option<usize>
     requires some { 0 < N }
     requires few { N ≤ 16 }

@@ -17,14 +17,14 @@ use Rattle.survey_core.specs.declared.shapes.envelope_bounds.EnvelopeBounds.{Env
 abbrev pub LiesFrom : Orientation → ℤ → List Cell → Type 0
 LiesFrom o m cells = (c : Cell) → has cells c ≡ true → m ≤ℤ depth (turned_cell o c)
 
--- a pattern in order that recurs like this
+-- a pattern that recurs with this period and displacement, its cells in order
 pub record IsSpaceship (rule : Numbers) (r : Recurrence) (cells : List Cell) : Type 0 where
   pub in_order : InOrder cells
   pub some : 1 ≤ r.period
   pub back : after rule cells r.period ≡ shifted r.dx r.dy cells
 
--- A spaceship that is ahead of everything up to depth m in a diagonal direction: it moves that way by at least one cell in two
--- generations, and begins far enough past m.
+-- A spaceship that is ahead of everything up to depth m in a diagonal direction: it moves that way by at least one cell
+-- in two generations, and begins far enough past m.
 pub record IsAheadOf (rule : Numbers) (way : Orientation) (m : ℤ) (r : Recurrence) (spaceship : List Cell) : Type 0 where
   pub comes : IsSpaceship rule r spaceship
   pub fast : pos r.period ≤ℤ (pos 2 *ℤ depth (turned_cell way (cell_at r.dx r.dy)))
@@ -32,8 +32,8 @@ pub record IsAheadOf (rule : Numbers) (way : Orientation) (m : ℤ) (r : Recurre
   pub none_behind : (g : ℕ) → g < r.period → LiesFrom way from (after rule spaceship g)
   pub room : ((pos 2 *ℤ m) +ℤ pos (r.period + 10)) ≤ℤ (pos 2 *ℤ from)
 
--- Under a slow rule, everything up to depth m now stays more than two cells away from the spaceship, and so does everything that
--- lies up to depth m + k another n generations later, where k is at most half of n + 1.
+-- Under a slow rule, everything up to depth m now stays more than two cells away from the spaceship, and so does
+-- everything that lies up to depth m + k another n generations later, where k is at most half of n + 1.
 abbrev pub SpaceshipsStayAhead : Type 0
 SpaceshipsStayAhead = (rule : Numbers) (way : Orientation) (m : ℤ) (r : Recurrence) (spaceship cells : List Cell) (n k g : ℕ) → is_slow rule ≡ true
     → IsAheadOf rule way m r spaceship → InOrder cells → LiesUpTo way (m +ℤ pos k) cells → 2 * k ≤ n + 1
@@ -51,7 +51,7 @@ pub record IsForemost (rule : Numbers) (whole : List Cell) (r : Recurrence) (spa
   pub ahead : IsAheadOf rule way m r spaceship
   pub behind : LiesUpTo way m (without whole spaceship)
 
--- the pattern evolves as such a spaceship and the rest do alone
+-- a pattern with such a part evolves as that part and the rest do, each run alone
 abbrev pub SpaceshipsRunAlone : Type 0
 SpaceshipsRunAlone = (rule : Numbers) (whole : List Cell) (r : Recurrence) (spaceship : List Cell) → is_slow rule ≡ true → InOrder whole
     → IsForemost rule whole r spaceship

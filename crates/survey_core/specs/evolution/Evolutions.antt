@@ -13,7 +13,7 @@ abbrev pub kept : Numbers → Evolution → List Cell
 kept rule (Listed cells) = cells
 kept rule (Shown split ahead) = after rule (whole_of rule split) ahead
 
--- it lies near the origin; a split pattern is under the rule, and at most one generation behind
+-- the pattern lies near the origin; a split pattern is run under this rule, and is at most one generation behind
 abbrev pub IsKept : Numbers → Evolution → Type 0
 IsKept rule (Listed cells) = lies_within survey_reach cells ≡ true
 IsKept rule (Shown split ahead) = IsSplit rule split × (ahead ≤ 1) × (lies_within survey_reach (whole_of rule split) ≡ true)

@@ -1,4 +1,4 @@
--- A board, and the spaceships that have left it.
+-- A board, and the spaceships that were removed from it.
 use Rattle.std.specs.Prelude.{◌≡◌, ◌≢◌, ◌+◌, ◌*◌, ◌-◌, ◌≤◌, ℕ, ℤ, pos, ◌+ℤ◌, true, List, ◌∷◌, All, map, unsigned_abs}
 use Rattle.plane_core.specs.declared.plane.cell.Cell.{Cell}
 use Rattle.plane_core.specs.declared.plane.orientation.Orientation.{Orientation}
@@ -13,7 +13,7 @@ use Rattle.survey_core.specs.rest.Groups.{union_of}
 use Rattle.survey_core.specs.UnderWay.{survey_reach}
 use Rattle.survey_core.specs.evolution.EscapedSpaceships.{IsAheadOf, IsPartOf, IsSpaceship}
 
--- where a spaceship is at time t
+-- the cells of a spaceship at time t
 abbrev pub spaceship_at : Numbers → ℕ → Spaceship → List Cell
 spaceship_at rule t spaceship = after rule spaceship.cells (t - spaceship.since)
 
@@ -31,8 +31,8 @@ pub record AreCandidates (board : List Cell) (spaceships : List Spaceship) (clus
   pub each : All (IsCluster before) clusters
   pub still : (cluster : List Cell) → IsCluster before cluster → IsNoneOf spaceships cluster → IsPartOf board cluster
 
--- The spaceship was removed from the board an even number of generations ago, twice `half`. It was ahead then, and since then the
--- board has grown by at most one cell in two generations.
+-- The spaceship was removed from the board an even number of generations ago, twice `half`. It was ahead then, and
+-- since then the board has grown by at most one cell in two generations.
 pub record IsOff (rule : Numbers) (t : ℕ) (board : List Cell) (spaceship : Spaceship) : Type 0 where
   pub slow : is_slow rule ≡ true
   pub half : ℕ
@@ -42,7 +42,7 @@ pub record IsOff (rule : Numbers) (t : ℕ) (board : List Cell) (spaceship : Spa
   pub ahead : IsAheadOf rule way m spaceship.recurrence spaceship.cells
   pub behind : LiesUpTo way (m +ℤ pos half) board
 
--- the spaceships are removed for good: the whole pattern evolves as the board and each of them do alone
+-- no spaceship ever meets the rest again: the whole pattern evolves as the board and each spaceship do, each run alone
 pub record AreOff (rule : Numbers) (t : ℕ) (board : List Cell) (spaceships : List Spaceship) : Type 0 where
   pub in_order : InOrder board
   pub each : All (IsOff rule t board) spaceships
@@ -65,7 +65,7 @@ pub record IsTraced (rule : Numbers) (t : ℕ) (spaceship : Spaceship) : Type 0 
 abbrev pub latest_time : ℕ
 latest_time = 800000
 
--- a board and the spaceships that were removed from it
+-- a board and the spaceships that were removed from it, at a time at which all their positions can be computed
 pub record IsSplitAt (rule : Numbers) (t : ℕ) (board : List Cell) (spaceships : List Spaceship) : Type 0 where
   pub off : AreOff rule t board spaceships
   pub small : All HasSmallNumbers spaceships

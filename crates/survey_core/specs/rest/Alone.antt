@@ -10,13 +10,15 @@ use Rattle.survey_core.specs.declared.rest.alone.Alone.{Alone}
 abbrev pub alone_at : Numbers → ℕ → List Cell → Alone
 alone_at rule g cluster = record { cluster = cluster; first = next rule cluster; latest = after rule cluster g }
 
--- the same one generation later
+-- the same, with the cluster one generation further
 abbrev pub stepped : Numbers → Alone → Alone
 stepped rule alone = record { cluster = alone.cluster; first = alone.first; latest = next rule alone.latest }
 
+-- the clusters as they were at first
 abbrev pub clusters_of : List Alone → List (List Cell)
 clusters_of list = map (λ alone. alone.cluster) list
 
+-- the clusters as they are now
 abbrev pub latest_of : List Alone → List (List Cell)
 latest_of list = map (λ alone. alone.latest) list
 

@@ -9,7 +9,7 @@ pub record AreNumbers (envelopes : List EnvelopeBounds) (groups : List ℕ) : Ty
   pub count : length groups ≡ length envelopes
   pub below : All (λ k. k < length envelopes) groups
 
--- two that were in one group still are
+-- envelopes that were in one group still are
 abbrev pub Coarser : List ℕ → List ℕ → Type 0
 Coarser old new = (a b : ℕ) → a < length old → b < length old → get_or new a 0 ≢ get_or new b 0 → get_or old a 0 ≢ get_or old b 0
 

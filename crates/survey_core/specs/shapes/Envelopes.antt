@@ -12,7 +12,7 @@ use Rattle.plane_core.specs.plane.Rules.{Numbers}
 use Rattle.code_core.specs.Recurrences.{Recurs}
 use Rattle.survey_core.specs.declared.shapes.envelope_bounds.EnvelopeBounds.{EnvelopeBounds}
 
--- n steps by d
+-- n times d
 abbrev pub times : ℕ → ℤ → ℤ
 times zero d = pos 0
 times (suc n) d = times n d +ℤ d
@@ -32,11 +32,12 @@ pub record AreEnvelopes (rule : Numbers) (limit : ℕ) (parts : List (List Cell)
 abbrev pub Serves : ℕ → EnvelopeBounds → Type 0
 Serves period envelope = (period ≡ envelope.recurrence.period) ⊎ ((envelope.recurrence.dx ≡ pos 0) × (envelope.recurrence.dy ≡ pos 0))
 
--- what begins here, moved by s, begins more than two past the end, moved by t
+-- `begin`, moved by s, lies more than two past `end`, moved by t
 abbrev pub is_past : ℤ → ℤ → ℤ → ℤ → Bool
 is_past end t begin s = int_lt ((end +ℤ t) +ℤ pos 2) (begin +ℤ s)
 
--- the sides of the box beyond which the other, moved by (x, y), lies with at least two empty columns or rows between them
+-- the sides of the box beyond which the other, moved by (x, y), lies with at least two empty columns or rows between
+-- them
 abbrev pub gaps_of : Bounds → Bounds → ℤ → ℤ → Gaps
 gaps_of one other x y = record {
   right = is_past one.right (pos 0) other.left x;
@@ -49,7 +50,7 @@ gaps_of one other x y = record {
 abbrev pub is_gap : Gaps → Bool
 is_gap gaps = gaps.right || gaps.left || gaps.below || gaps.above
 
--- there is a gap over which no step by (dx, dy) leads back
+-- there is a gap that no step by (dx, dy) narrows
 abbrev pub gap_stays : Gaps → ℤ → ℤ → Bool
 gap_stays gaps dx dy = gaps.right && int_le (pos 0) dx || gaps.left && int_le dx (pos 0) || gaps.below && int_le (pos 0) dy || gaps.above && int_le dy (pos 0)
 
@@ -62,7 +63,7 @@ abbrev pub StayClear : ℕ → EnvelopeBounds → EnvelopeBounds → Type 0
 StayClear cycles one other = (n : ℕ) → n < cycles → is_clear one.bounds other.bounds (times n (other.recurrence.dx -ℤ one.recurrence.dx))
     (times n (other.recurrence.dy -ℤ one.recurrence.dy)) ≡ true
 
--- Patterns with these envelopes that are at king distance 3 or more stay so up to the horizon, each run alone.
+-- If patterns with these envelopes are at king distance 3 or more, they stay so up to the horizon, each run alone.
 abbrev pub StayApart : ℕ → EnvelopeBounds → EnvelopeBounds → Type 0
 StayApart horizon one other = (rule : Numbers) (limit : ℕ) (cells others : List Cell) → IsEnvelope rule limit cells one → IsEnvelope rule limit others other
     → LieApart cells others → (g : ℕ) → g ≤ horizon → LieApart (after rule cells g) (after rule others g)

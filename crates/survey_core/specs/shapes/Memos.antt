@@ -15,12 +15,12 @@ pub record Fact : Type 0 where
   pub envelope : EnvelopeBounds
   pub code : List ℕ
 
--- it is true: the envelope and the code are those of the shape
+-- the fact is true: the envelope and the code are those of the shape
 pub record IsKnown (fact : Fact) : Type 0 where
   pub enveloped : IsEnvelope fact.rule fact.limit fact.shape fact.envelope
   pub named : IsCode fact.rule fact.shape fact.limit fact.code
 
--- it is about a pattern: rule and limit are the same, and the shape, moved, is the pattern
+-- the fact is about this pattern: rule and limit are the same, and the shape, moved by `shift`, is the pattern
 pub record IsAbout (rule : Numbers) (limit : ℕ) (cells : List Cell) (shift : ℤ × ℤ) (fact : Fact) : Type 0 where
   pub rule_is : fact.rule ≡ rule
   pub limit_is : fact.limit ≡ limit

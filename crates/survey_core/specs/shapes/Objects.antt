@@ -12,11 +12,11 @@ use Rattle.code_core.specs.declared.apgcode.Kind.TheVariants.{Still, Oscillator,
 use Rattle.code_core.specs.Apgcodes.{kind_in, number_in}
 use Rattle.code_core.specs.Names.{IsCode}
 
--- the two texts are one
+-- the two texts are equal
 abbrev pub is_code : List ℕ → List ℕ → Bool
 is_code a b = is_eq (slice_cmp nat_cmp a b)
 
--- how many objects of a list have this code: the count beside it, or 0
+-- the number of objects with this code: the count beside the code, or 0
 abbrev pub count_of : List (List ℕ × ℕ) → List ℕ → ℕ
 count_of objects code = unwrap_or (lookup (is_code code) objects) 0
 
@@ -41,19 +41,21 @@ pub record IsCounted (rule : Numbers) (limit : ℕ) (cluster : List Cell) (old n
   pub named : IsCode rule cluster limit code
   pub more : IsOneMore code old new
 
--- the objects of some clusters: each cluster has its code, and of each code there are as many objects as clusters have it
+-- the objects of some clusters: each cluster has its code, and of each code there are as many objects as clusters have
+-- it
 pub record AreObjectsOf (rule : Numbers) (limit : ℕ) (clusters : List (List Cell)) (objects : List (List ℕ × ℕ)) : Type 0 where
   pub lawful : AreObjects objects
   pub codes : List (List ℕ)
   pub named : AllZip (λ cluster code. IsCode rule cluster limit code) clusters codes
   pub counts : (code : List ℕ) → count_of objects code ≡ count_by (is_code code) codes
 
--- the period in a code: 1 for a still life
+-- the period of an object of this kind, given the number in its code: 1 for a still life
 abbrev pub period_of_kind : Kind → ℕ → ℕ
 period_of_kind Still number = 1
 period_of_kind Oscillator number = number
 period_of_kind Ship number = number
 
+-- the period of the object with this code
 abbrev pub period_in : List ℕ → ℕ
 period_in code = period_of_kind (kind_in code) (number_in code)
 
@@ -66,7 +68,8 @@ pub record IsCommonMultiple (objects : List (List ℕ × ℕ)) (m : ℕ) : Type 
   pub some : 1 ≤ m
   pub each : All (λ object. IsMultiple m (period_in object.0)) objects
 
--- Objects stay for good if none of them is a spaceship, and if the least common multiple of their periods is at most the horizon.
+-- Objects stay for good if none of them is a spaceship, and if the least common multiple of their periods is at most
+-- the horizon.
 pub record StayForGood (horizon : ℕ) (objects : List (List ℕ × ℕ)) : Type 0 where
   pub none : All (λ object. kind_in object.0 ≢ Ship) objects
   pub multiple : ℕ

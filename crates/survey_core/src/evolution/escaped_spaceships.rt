@@ -39,8 +39,8 @@ use plane_core::plane::rule::Rule;
 use plane_core::plane::transform::PlaceError;
 use std::alloc::Global;
 
-/// The longest period of a spaceship that is removed from the board, in generations. All spaceships that soups of Life
-/// leave recur within four.
+/// A part of a board that the memo doesn't know is skipped if it surely doesn't recur within this many generations.
+/// Nearly all spaceships that soups of Life leave recur within four.
 const SHORT: u32 = 8;
 
 /// A spaceship that was removed from a board.
@@ -48,21 +48,21 @@ const SHORT: u32 = 8;
 pub(crate) struct Spaceship {
     /// Its cells when it was removed.
     pub(crate) cells: Pattern,
-    /// The number of generations that had been made on the board by then.
+    /// The number of generations that the board had made by then.
     pub(crate) since: u32,
     /// How it recurs.
     pub(crate) recurrence: Recurrence,
 }
 
-/// The laws of spaceships. Under a slow rule, a pattern that a spaceship is ahead of never comes within two cells of
-/// it. If a spaceship is ahead of all the rest of a pattern, the pattern evolves as the rest and the spaceship do
-/// alone.
+/// The laws of spaceships. Under a slow rule, the rest of a pattern never comes within two cells of a spaceship that is
+/// ahead of it. The pattern evolves as the rest and the spaceship do, each run alone.
 pub fn spaceships_are_never_caught()
     ensures ahead { SpaceshipsStayAhead }
     ensures alone { SpaceshipsRunAlone }
 {}
 
-/// Returns the spaceship that `part` of the board is, if it recurs and is ahead of all the rest.
+/// Returns `part` of the board as a spaceship that is removed at `time`, or `None` if it doesn't recur within `limit`
+/// generations, 1 to 64, or isn't surely ahead of all the rest.
 pub(crate) fn spaceship_of(
     alloc: Global,
     rule: &Rule,
@@ -110,9 +110,9 @@ pub(crate) fn spaceship_of(
     }))
 }
 
-/// Guesses whether a part of a board is no spaceship: the memo doesn't know it, and it doesn't recur within a few
-/// generations. Few clusters that change are spaceships, so this is asked first. What the memo knows isn't run: most of
-/// it is a spaceship that isn't ahead yet.
+/// Guesses that a part of a board isn't a spaceship: the memo doesn't know its shape, and the part surely doesn't recur
+/// within `SHORT` generations. This test is cheap and comes first, since few changing clusters are spaceships. A shape
+/// that the memo knows isn't run: it is mostly that of a spaceship that isn't ahead yet.
 fn is_unlikely(rule: &Rule, limit: u32, part: &Pattern, memo: &Memo) -> bool {
     if memo.knows(rule, limit, part) {
         return false;
@@ -186,7 +186,7 @@ fn least_depth(way: Orientation, bounds: Bounds) -> i64
     }
 }
 
-/// Returns the sum of both.
+/// Returns `one` + `other`.
 fn sum(one: i32, other: i32) -> i64
     ensures sum { result ≡ one +ℤ other }
     ensures small { unsigned_abs result ≤ 2 ^ 33 }
@@ -194,8 +194,8 @@ fn sum(one: i32, other: i32) -> i64
     i64::from(one) + i64::from(other)
 }
 
-/// Returns the spaceship at `time`: whole periods are a displacement, and the remainder is made generation by
-/// generation.
+/// Returns the cells of the spaceship at `time`. Whole periods are made by displacing it, and the remainder generation
+/// by generation.
 pub(crate) fn at_time(
     alloc: Global,
     rule: &Rule,

@@ -2,7 +2,7 @@
 //! again.
 //!
 //! ```text
-//! first soups      a small board, which is made in no time
+//! first soups      a small board, which is made quickly
 //! one outgrows it  the next board is a large one, and stays
 //! ```
 ghost use Rattle.std.specs.Prelude.{◌≡◌, IfOk, IfSome};
@@ -16,7 +16,7 @@ use std::alloc::Global;
 /// A board for the next pattern.
 #[derive(Drop)]
 pub(crate) struct SpareBoard {
-    /// The board, unless there is none yet, or a pattern is on it.
+    /// The board, or `None` if none was made yet or a pattern is on it.
     board: Option<Board>,
     /// The size of the next board that is made.
     size: Size,
@@ -32,7 +32,7 @@ enum Size {
 }
 
 impl SpareBoard {
-    /// Returns a place for a board, without one. It takes no memory.
+    /// Returns a `SpareBoard` that has no board yet. This takes no memory.
     pub(crate) fn none() -> SpareBoard {
         SpareBoard {
             board: None,
@@ -43,7 +43,7 @@ impl SpareBoard {
     /// Returns a board that shows `pattern` under `rule`: the spare one, or a new one. The board belongs to the caller
     /// until [`give_back`](SpareBoard::give_back) or [`outgrow`](SpareBoard::outgrow) returns it.
     ///
-    /// `None` if there is no memory for a board, or if the board has no room for the pattern.
+    /// Returns `None` if there is no memory for a board, or if the board has no room for the pattern.
     ///
     /// # Errors
     ///
@@ -73,12 +73,13 @@ impl SpareBoard {
         Ok(None)
     }
 
-    /// Takes a board back that can show the next pattern.
+    /// Takes back a board, to show the next pattern on it.
     pub(crate) fn give_back(&mut self, board: Board) {
         self.board = Some(board);
     }
 
-    /// Takes a board back on which a pattern had no room. If it was a small one, the next one that is made is large.
+    /// Takes back a board that had no room for a pattern. A small one is dropped, and the next board that is made is
+    /// large. A large one is kept.
     pub(crate) fn outgrow(&mut self, board: Board) {
         match self.size {
             Size::Small => self.size = Size::Large,

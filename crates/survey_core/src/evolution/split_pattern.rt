@@ -7,8 +7,8 @@
 //! spaceships                              the glider, since 404     the glider, since 404
 //! ```
 //!
-//! Such a board advances by even numbers of generations only: repeated odd numbers could bring the rest nearer to a
-//! spaceship than half their sum.
+//! Such a board advances by even numbers of generations only. In n generations the rest gets at most n / 2 cells
+//! nearer, rounded up. Repeated odd numbers would add up the roundings.
 
 ghost use Rattle.std.specs.Prelude.{◌≡◌, ◌+◌, ◌≤◌, All, IfOk, OnOk, false, true};
 ghost use Rattle.plane_core.specs.plane.Frontiers.{is_slow};
@@ -43,7 +43,7 @@ const SHORTEST_PERIOD: u32 = 4;
 pub(crate) struct SplitPattern {
     pub(crate) board: Board,
     pub(crate) spaceships: Vec<Spaceship>,
-    /// The number of generations that were made on the board.
+    /// The number of generations that the board has made.
     pub(crate) time: u32,
 }
 
@@ -160,7 +160,7 @@ fn has_escaped(spaceships: &[Spaceship], cells: &Pattern) -> bool
     false
 }
 
-/// Returns the pattern that a board and some spaceships are together.
+/// Returns the whole pattern at `time`: the cells of a board and of some spaceships.
 pub(crate) fn whole(
     alloc: Global,
     rule: &Rule,

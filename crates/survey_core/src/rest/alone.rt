@@ -25,7 +25,7 @@ use plane_core::plane::pattern::Pattern;
 use plane_core::plane::rule::Rule;
 use std::alloc::Global;
 
-/// The most clusters that are compared with each other. With more, a step of the whole costs less.
+/// The most clusters that are compared with each other. If there are more, a step of the whole costs less.
 const MOST_COMPARED: usize = 8;
 
 /// The most cells of a cluster that is compared with another cell by cell. Larger ones are compared only by their
@@ -43,7 +43,7 @@ pub(crate) struct Alone {
 }
 
 impl Alone {
-    /// Returns the next generation, which is known if the cluster has recurred. A still life always has.
+    /// Returns the next generation. It is known if the cluster is the same as at the start, as a still life always is.
     fn next(&self, alloc: Global, rule: &Rule) -> Result<Pattern, OutOfMemory>
         requires first { self.now.first ≡ next rule.now self.now.cluster }
         requires near { lies_within 999999 self.now.latest ≡ true }
@@ -57,7 +57,7 @@ impl Alone {
     }
 }
 
-/// Runs each of the clusters for a generation.
+/// Advances each of the clusters by one generation.
 pub(crate) fn step_each(
     alloc: Global,
     rule: &Rule,
@@ -73,7 +73,7 @@ pub(crate) fn step_each(
     Ok(())
 }
 
-/// Checks whether each of the clusters has recurred.
+/// Checks whether each of the clusters is the same as at the start.
 pub(crate) fn have_recurred(clusters: &[Alone]) -> bool
     ensures { IsTrue result ↔ (latest_of clusters.now ≡ clusters_of clusters.now) }
 {
@@ -103,7 +103,8 @@ pub(crate) fn lie_apart(clusters: &[Alone]) -> bool
     true
 }
 
-/// Returns `true` only if the cluster at `place` lies more than two cells apart from those before it.
+/// Returns `true` only if the cluster at `place` lies more than two cells apart from each one before it. `false` says
+/// nothing.
 fn lies_apart(clusters: &[Alone], place: usize) -> bool
     requires { place < length clusters.now }
     ensures { IsTrue result → LiesApartFrom place place clusters.now }
@@ -117,8 +118,8 @@ fn lies_apart(clusters: &[Alone], place: usize) -> bool
     true
 }
 
-/// Returns `true` only if two patterns lie more than two cells apart. Mostly their boxes do. If not, cells are
-/// compared, unless there are many.
+/// Returns `true` only if two patterns lie more than two cells apart. `false` says nothing. First their boxes are
+/// compared, which usually suffices, and then their cells, unless there are many.
 fn are_apart(one: &Pattern, other: &Pattern) -> bool
     ensures { IsTrue result → LieApart one.now other.now }
 {

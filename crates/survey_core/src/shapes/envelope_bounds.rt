@@ -1,5 +1,5 @@
-//! The envelope of a cluster that recurs: the least box of all its phases, which moves along with it. This is the
-//! glider's, with its four phases, and its place a cycle of four generations later:
+//! The envelope of a cluster that recurs: the bounding box of all its phases, which moves along with it. These are the
+//! four phases of the glider, its envelope, and the envelope a cycle of four generations later:
 //!
 //! ```text
 //! .O..    ....    ....    ....    cycle 0    cycle 1
@@ -11,8 +11,8 @@
 //!
 //! Two clusters stay apart if their envelopes, one of them grown by 2, do so in every cycle up to the horizon. Only
 //! their relative displacement counts. Once one lies past a side of the other, and no step leads back over that side,
-//! they never meet again, and no later cycle is looked at. A cluster that stays in place has cycles of any length. Two
-//! that move with different periods are taken to come near each other, and are run. Two still lifes stay apart whatever
+//! they never meet, and later cycles aren't tested. A cluster that stays in place has cycles of any length. Two that
+//! move with different periods are assumed to come near each other, and are run. Two still lifes stay apart whatever
 //! their boxes are, since they don't change, and clusters lie apart from the start.
 
 ghost use Rattle.std.specs.Prelude.{◌≡◌, ◌↔◌, ◌+◌, ◌*◌, ◌/◌, ◌-ℤ◌, ◌+ℤ◌, ◌<◌, ◌≤◌, ◌<ℤ◌, ◌≤ℤ◌, ◌⊎◌, ◌^◌};
@@ -55,7 +55,7 @@ impl EnvelopeBounds {
     }
 }
 
-/// Returns the bounding box of the pattern. For the empty pattern it is any box.
+/// Returns the bounding box of the pattern, or an arbitrary box if the pattern is empty.
 pub(crate) fn box_round(pattern: &Pattern) -> Bounds
     ensures { All (IsWithin result) pattern.now }
 {
@@ -81,7 +81,7 @@ pub(crate) fn stay_apart(horizon: u32, one: &EnvelopeBounds, other: &EnvelopeBou
     if are_still_lives(one, other) {
         return true;
     }
-    // The generations of a cycle of both, if there is such a number.
+    // The length of a cycle that suits both, if there is one.
     let period = if is_still(one) {
         other.recurrence.period
     } else {
@@ -94,7 +94,7 @@ pub(crate) fn stay_apart(horizon: u32, one: &EnvelopeBounds, other: &EnvelopeBou
 }
 
 /// Returns `true` only if neither pattern moves, and at least two empty columns or rows lie between the boxes. This
-/// settles nearly all pairs, most of them with one comparison of two rows.
+/// decides nearly all pairs, most of them with one comparison of two rows.
 fn are_still_and_apart(one: &EnvelopeBounds, other: &EnvelopeBounds) -> bool
     ensures { IsTrue result → (horizon : ℕ) → StayApart horizon one.now other.now }
 {
@@ -124,8 +124,8 @@ fn is_still_life(envelope: &EnvelopeBounds) -> bool
     envelope.recurrence.period == 1 && is_still(envelope)
 }
 
-/// Checks whether there are at least two empty columns or rows between the boxes. Clusters come in the order of their
-/// first rows, so nearly all that come earlier lie above, which is asked first.
+/// Checks whether there are at least two empty columns or rows between the boxes. Clusters are ordered by their first
+/// rows, so nearly all earlier ones lie above. This is tested first.
 pub(crate) fn are_boxes_apart(one: Bounds, other: Bounds) -> bool
     ensures { result ≡ is_clear one other (pos 0) (pos 0) }
 {
@@ -167,9 +167,9 @@ fn is_still(envelope: &EnvelopeBounds) -> bool
     envelope.recurrence.dx == 0 && envelope.recurrence.dy == 0
 }
 
-/// Returns `true` only if the boxes are clear of each other for `cycles` cycles. Once they part, or if neither moves
-/// relative to the other, no later cycle is looked at.
-// Inlined, it would take the registers that the loop over pairs needs.
+/// Returns `true` only if the boxes are clear of each other for `cycles` cycles. Later cycles aren't tested once the
+/// boxes move apart, or if neither moves relative to the other.
+// Not inlined, because it would take the registers that the loop over pairs needs.
 #[inline(never)]
 fn are_clear_for(one: &EnvelopeBounds, other: &EnvelopeBounds, cycles: u32) -> bool
     requires { cycles ≤ 4097 }
@@ -191,7 +191,7 @@ fn are_clear_for(one: &EnvelopeBounds, other: &EnvelopeBounds, cycles: u32) -> b
     true
 }
 
-/// How far the other box has moved relative to the one.
+/// How far one box has moved relative to another.
 #[derive(Clone, Copy)]
 struct Offset {
     x: i64,
@@ -234,7 +234,7 @@ pub(crate) fn difference(one: i32, other: i32) -> i64
     i64::from(other) - i64::from(one)
 }
 
-/// The sides of a box beyond which another one lies, moved, with at least two empty columns or rows between them.
+/// The sides of a box beyond which another box lies, with at least two empty columns or rows between them.
 #[derive(Clone, Copy)]
 struct Gaps {
     right: bool,
@@ -258,7 +258,7 @@ impl Gaps {
         }
     }
 
-    /// Checks whether there is a gap over which no step leads back.
+    /// Checks whether there is a gap that no further step narrows.
     fn stay(self, step: Offset) -> bool
         ensures { result ≡ gap_stays self step.x step.y }
     {
@@ -278,7 +278,7 @@ fn is_past(end: i32, t: i64, begin: i32, s: i64) -> bool
     two_past(placed(end, t)) < placed(begin, s)
 }
 
-/// Returns where a column or row comes to lie.
+/// Returns the column or row `at`, moved by `by`.
 fn placed(at: i32, by: i64) -> i64
     requires { unsigned_abs by ≤ 2 ^ 46 }
     ensures place { result ≡ at +ℤ by }
@@ -287,7 +287,7 @@ fn placed(at: i32, by: i64) -> i64
     i64::from(at) + by
 }
 
-/// Returns the second column or row further on.
+/// Returns the column or row two further on.
 fn two_past(at: i64) -> i64
     requires { unsigned_abs at ≤ 2 ^ 47 }
     ensures { result ≡ at +ℤ pos 2 }

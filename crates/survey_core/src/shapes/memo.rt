@@ -9,12 +9,11 @@
 //! ```
 //!
 //! The slot is chosen by a hash of the cells relative to the first one, so a shape finds its slot wherever it lies. An
-//! entry is about a cluster if rule and limit are the same, and if some displacement turns the shape into the cluster.
-//! Then the cluster recurs as the shape does and has its apgcode, and its envelope is that of the shape, displaced.
-//! Otherwise the cluster is run and named, and replaces the entry.
+//! entry is about a cluster if rule and limit are the same, and if the shape, displaced, is the cluster. Then the
+//! cluster recurs as the shape does and has its apgcode, and its envelope is that of the shape, displaced. Otherwise
+//! the cluster is run and named, and replaces the entry.
 //!
-//! Which slot is chosen and what is kept are free choices: a memo that forgets makes a survey slower, and changes no
-//! finding.
+//! Which slot is chosen and what is kept are free choices: a memo that forgets only makes a survey slower.
 
 ghost use Rattle.std.specs.Prelude.{◌≡◌, ◌≢◌, ◌++◌, ◌+ℤ◌, ◌≤◌, [], All, IfNone, IfOk, IfSome, IsTrue, List, length, take, true};
 ghost use Rattle.plane_core.specs.declared.plane.cell.Cell.{Cell};
@@ -40,14 +39,14 @@ use plane_core::plane::rule::Rule;
 use std::alloc::Global;
 use std::marker::Model;
 
-/// The number of slots of a memo. Soups leave some hundred shapes again and again, and some thousand only once.
+/// The number of slots of a memo. Soups leave several hundred shapes again and again, and several thousand only once.
 const SLOTS: usize = 4096;
 
-/// The most cells of a shape that is kept. Larger ones hardly ever come twice, and would take memory.
+/// The most cells of a shape that is kept. Larger ones hardly ever occur twice, and would take memory.
 const MOST_CELLS: usize = 64;
 
-/// A table of the shapes of clusters that recur, with what is known of each. It serves any rule and profile, one after
-/// another. It changes no finding, only how long a survey takes.
+/// A table of the shapes of clusters that recur, with what is known of each. It can be used for any rules and profiles,
+/// one after another. It affects only how long a survey takes, never its finding.
 pub(crate) struct Memo {
     slots: Vec<Option<Known>>,
 }
@@ -73,7 +72,7 @@ impl Model for Known {
         (record { rule = k.rule; limit = k.limit; shape = k.shape; envelope = k.envelope; code = k.code }) };
 }
 
-// Written out, since a derived drop is proved anew wherever a memo is given up.
+// Written out, since a derived drop is proved again wherever a memo is dropped.
 impl Drop for Memo {
     fn drop(self) {
         let Memo { slots } = self;
@@ -96,8 +95,8 @@ impl Drop for Known {
 }
 
 impl Memo {
-    /// Returns a memo that knows nothing yet, with room for 4,096 shapes: half a megabyte, and about three if all of
-    /// them are large. If there is no memory for it, it has no room.
+    /// Returns a memo that knows nothing yet. It has room for 4,096 shapes, and takes half a megabyte, or about three
+    /// if all shapes are large. If there is no memory for the slots, it has none.
     pub(crate) fn new(alloc: Global) -> Memo {
         let Ok(mut slots) = Vec::with_capacity(alloc, SLOTS) else {
             return Memo::without_room(alloc);
@@ -110,7 +109,7 @@ impl Memo {
         Memo { slots }
     }
 
-    /// Returns a memo without room, which remembers no shape. It takes no memory.
+    /// Returns a memo without slots, which remembers no shape. It takes no memory.
     pub(crate) fn without_room(alloc: Global) -> Memo {
         Memo {
             slots: Vec::new(alloc),
@@ -136,14 +135,14 @@ impl Memo {
     {
         let known = self.recalled_envelopes(alloc, rule, limit, patterns)?;
         let (_, others) = patterns.split_at(known.len());
-        // A large pattern takes long to follow, and mostly a small one fails a quick test.
+        // Following a large pattern takes long, and usually a small one fails a quick test.
         if self.any_surely_changes(rule, limit, others) {
             return Ok(None);
         }
         self.other_envelopes(alloc, rule, limit, others, known)
     }
 
-    /// Returns the envelopes of the first patterns, up to one that isn't remembered. Mostly all are.
+    /// Returns the envelopes of the first patterns, up to the first that isn't remembered. Usually all are.
     fn recalled_envelopes(
         &self,
         alloc: Global,
@@ -165,8 +164,8 @@ impl Memo {
         Ok(envelopes)
     }
 
-    /// Adds the envelopes of the other patterns to the known ones. `None` if one of them doesn't recur within `limit`
-    /// generations.
+    /// Adds the envelopes of the other patterns to the known ones. Returns `None` if one of them doesn't recur within
+    /// `limit` generations.
     fn other_envelopes(
         &mut self,
         alloc: Global,
@@ -282,7 +281,8 @@ impl Memo {
         self.recalled(rule, limit, pattern).is_some()
     }
 
-    /// Returns the envelope of a pattern, if it is remembered: that of the shape, moved, if its numbers fit in 32 bits.
+    /// Returns the envelope of a pattern, or `None` if the pattern isn't remembered or the envelope's numbers don't fit
+    /// in 32 bits. It is the envelope of the shape, moved.
     fn recalled_envelope(
         &self,
         rule: &Rule,
@@ -310,8 +310,8 @@ impl Memo {
         Some(EnvelopeBounds { recurrence, bounds })
     }
 
-    /// Returns what is known of a pattern, if it is remembered, and the displacement that turns the shape into the
-    /// pattern.
+    /// Returns what is known of a pattern, and the displacement of the pattern from the shape that is kept, or `None`
+    /// if the pattern isn't remembered.
     fn recalled(&self, rule: &Rule, limit: u32, pattern: &Pattern) -> Option<(&Known, (i32, i32))>
         ensures { IfSome result (λ found. IsAbout rule.now limit pattern.now found.1 found.0.now) }
     {
@@ -329,7 +329,7 @@ impl Memo {
     }
 }
 
-/// Returns the first and the last column or row, moved.
+/// Returns the first and the last column or row, moved by `by`, or `None` if one of them doesn't fit in 32 bits.
 fn moved(first: i32, last: i32, by: i32) -> Option<(i32, i32)>
     ensures first { IfSome result (λ to. to.0 ≡ first +ℤ by) }
     ensures last { IfSome result (λ to. to.1 ≡ last +ℤ by) }
@@ -359,7 +359,7 @@ pub(crate) fn code_of(
     }
 }
 
-/// Follows a pattern until it recurs. `None` if it doesn't within `limit` generations.
+/// Returns the cycle of a pattern, or `None` if it doesn't recur within `limit` generations, 1 to 64.
 fn cycle_of(
     alloc: Global,
     rule: &Rule,

@@ -57,7 +57,7 @@ impl Objects {
         self.as_slice().iter()
     }
 
-    /// Counts the objects of clusters that all recur within `limit` generations.
+    /// Returns the objects of clusters that all recur within `limit` generations, 1 to 64.
     pub(crate) fn of_clusters(
         alloc: Global,
         rule: &Rule,
@@ -123,7 +123,7 @@ fn count_cluster(
     count_one(alloc, &code, counts)
 }
 
-/// Counts one more object with an apgcode. Only the first one takes a copy of it.
+/// Counts one more object with an apgcode. The code is copied only for its first object.
 fn count_one(
     alloc: Global,
     code: &Apgcode,
@@ -154,8 +154,7 @@ fn none_is_spaceship(objects: &[(Apgcode, u64)]) -> bool
     true
 }
 
-/// Checks whether `multiple`, which isn't 0, is a multiple of the period of each object. The period of a still life is
-/// 1.
+/// Checks whether `multiple`, at least 1, is a multiple of the period of each object. The period of a still life is 1.
 fn is_common_multiple(objects: &[(Apgcode, u64)], multiple: u32) -> bool
     requires { 1 ≤ multiple }
     ensures { IsTrue result ↔ IsCommonMultiple objects.now multiple }

@@ -1,4 +1,4 @@
-//! Joins two hauls. The joined haul is made beside them, so nothing has changed if memory runs out.
+//! Joins two hauls. The joined haul is made beside them, so both are unchanged if memory runs out.
 
 ghost use Rattle.std.specs.Prelude.{◌≡◌, ◌++◌, List, IfErr, IfNone, IfOk, IfSome, OnOk, map, nat_eq};
 ghost use Rattle.std.specs.List.{IsDistinct};
@@ -49,8 +49,8 @@ impl fmt::Debug for JoinError {
 }
 
 impl Haul {
-    /// Joins two hauls into one. It is closed, and has taken what the first has taken and then what the second has. It
-    /// has the larger number of workers, and may have more than 2^24 numbers.
+    /// Joins two hauls into one. The joined haul is closed, and has taken what the first took, followed by what the
+    /// second took. Its number of workers is the higher of the two, and it may have more than 2^24 numbers.
     ///
     /// # Errors
     ///
@@ -61,7 +61,7 @@ impl Haul {
     /// - [`JoinError::Overlap`] if a number is in both sets.
     /// - [`JoinError::Memory`] if memory runs out.
     pub fn join(self, other: Haul) -> Result<Haul, (Haul, Haul, JoinError)>
-        // One haul of both, and which arrivals lead to it.
+        // The joined haul, and arrivals that lead to it.
         ensures can { OnOk result (CanJoin self other) }
         ensures joined { IfOk result (IsJoined self other) }
         ensures stands { (before after : List Arrival) → StandsFor before self → StandsFor after other
@@ -73,8 +73,8 @@ impl Haul {
     {
         match one_of(&self, &other) {
             Ok(joined) => {
-                // By calls: if they are dropped at the end of the function, the two hauls take the prover many times as
-                // long.
+                // Dropped by calls. If the two hauls were dropped at the end of the function, its proof would take many
+                // times as long.
                 drop(self);
                 drop(other);
                 Ok(joined)
@@ -108,7 +108,7 @@ fn one_of(first: &Haul, second: &Haul) -> Result<Haul, JoinError>
     }
 }
 
-/// Returns why the hauls can't be joined, memory apart, or `None`.
+/// Returns why the hauls can't be joined, or `None` if only memory can prevent it.
 fn hindrance(first: &Haul, second: &Haul) -> Option<JoinError>
     ensures some { IfSome result (Hinders first.now second.now) }
     ensures none { IfNone result (CanJoin first.now second.now) }
@@ -148,7 +148,7 @@ fn joined(first: &Haul, second: &Haul) -> Result<Haul, OutOfMemory>
     })
 }
 
-/// Returns what the first has taken, and then what the second has.
+/// Returns what the first took, followed by what the second took.
 fn all_taken(
     alloc: Global,
     first: &[(u8, u64)],

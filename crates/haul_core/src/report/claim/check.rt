@@ -49,8 +49,8 @@ impl Claim {
         self.check_by(alloc, &mut surveyor, job)
     }
 
-    /// Checks the claim as [`check`](Claim::check) does, with a surveyor that may have surveyed other soups. This is
-    /// faster.
+    /// Checks the claim as [`check`](Claim::check) does, using a surveyor, which is faster. The surveyor may have
+    /// surveyed other soups before.
     ///
     /// # Errors
     ///
@@ -146,8 +146,8 @@ fn is_same_count(count: &(ClaimedCode, u64), object: &(Apgcode, u64)) -> bool
     count.0.bytes() == object.0.text().as_bytes() && count.1 == object.1
 }
 
-/// The law that a report's line is that of a claim, and that the claim is found to be right: checking it gives the
-/// report back, if there is memory.
+/// The law that a report's line is the line of a lawful claim, and that checking this claim gives the report back, if
+/// there is memory.
 pub fn reports_are_claims(report: &Report)
     ensures claim { IsClaim (claim_of 2 report.now) }
     ensures confirmed { IsConfirmed (claim_of 2 report.now) report.now.job report.now }
@@ -159,7 +159,7 @@ pub fn reports_are_claims(report: &Report)
     codes_have_shape(report.finding());
 }
 
-/// Recalls that each code of a finding has the shape of an apgcode.
+/// Recalls, for a proof, that each code of a finding has the shape of an apgcode.
 fn codes_have_shape(finding: &Finding)
     ensures { HaveShape finding.now }
 {
@@ -169,7 +169,7 @@ fn codes_have_shape(finding: &Finding)
     }
 }
 
-/// Recalls that each of these codes has the shape of an apgcode.
+/// Recalls, for a proof, that each of these codes has the shape of an apgcode.
 fn have_shape(objects: &[(Apgcode, u64)])
     ensures { All (λ object. HasCodeShape object.0) objects.now }
 {

@@ -1,4 +1,5 @@
-//! The fields of a report line: a text is cut at a byte, and each field is read from its whole text.
+//! The fields of a report line. A text is cut at a byte, and each field is read from its whole text. A function that
+//! reads a field returns `None` if no lawful claim has that field.
 
 ghost use Rattle.std.specs.Prelude.{◌≡◌, ◌≢◌, ◌↔◌, ◌<◌, ◌≤◌, ◌^◌, ◌++◌, ◌==◌, ℕ, IsTrue, List, MatchOption, codes};
 ghost use Rattle.std.specs.Prelude.{decimal, option_map, position};
@@ -43,7 +44,7 @@ fn place_of(byte: u8, text: &[u8]) -> Option<usize>
     text.iter().position(|own| *own == byte)
 }
 
-/// Returns the number below 2^64 whose decimal is the text.
+/// Returns the number below 2^64 whose decimal is the text, or `None` if there is none.
 #[tactic(auto, using(crate::proofs::FieldLemmas::whole_decimal, crate::proofs::FieldLemmas::no_decimal, crate::proofs::FieldLemmas::longer_decimal))]
 pub(crate) fn number_in(text: &[u8]) -> Option<u64>
     ensures { Tells IsNumber decimal text.now result }
@@ -63,7 +64,7 @@ pub(crate) fn number_after(name: &[u8], field: &[u8]) -> Option<u64>
     number_in(after(name, field)?)
 }
 
-/// Returns what follows the name, if the field begins with it.
+/// Returns what follows the name, or `None` if the field doesn't begin with it.
 fn after<'a>(name: &[u8], field: &'a [u8]) -> Option<&'a [u8]>
     ensures { MatchOption result ((remainder : List ℕ) → field.now ≢ name.now ++ remainder)
         (λ remainder. field.now ≡ name.now ++ remainder.now) }
@@ -89,7 +90,7 @@ pub(crate) fn version_in(field: &[u8]) -> Option<u8>
     if known { Some(number as u8) } else { None }
 }
 
-/// Checks whether n is at least `least` and at most `most`.
+/// Checks whether `n` is from `least` to `most`.
 fn is_from_to(least: u64, most: u64, n: u64) -> bool
     ensures { IsTrue result ↔ (least ≤ n × n ≤ most) }
 {

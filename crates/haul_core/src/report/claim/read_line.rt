@@ -1,5 +1,5 @@
-//! Reads a report line: in one pass without memory for the first fault, and then, if there is no fault, with its
-//! counts.
+//! Reads a report line in two passes. The first looks for a fault, and needs no memory. If there is none, the second
+//! collects the counts.
 
 ghost use Rattle.std.specs.Prelude.{◌≡◌, ◌↔◌, ◌-◌, ℕ, IfNone, IfOk, IfSome, IsErrOf, IsTrue, MatchResult, length};
 ghost use Rattle.std.specs.Prelude.{option_map};
@@ -22,7 +22,7 @@ use std::alloc::Global;
 use std::fmt;
 use thiserror::Error;
 
-/// Why a line can't be read as that of a claim.
+/// Why a line can't be read as a claim.
 #[derive(Clone, Copy, PartialEq, Eq, Error)]
 pub enum LineError {
     /// The field that begins at `place` isn't allowed there, or a field is missing at the end of the line. Places count
@@ -61,8 +61,8 @@ impl Claim {
     ///
     /// # Errors
     ///
-    /// - [`LineError::BadLine`] if the line isn't that of a claim, whether there is memory or not. Its place is where
-    ///   the first wrong field begins. If no field is wrong but one is missing, it is the length of the line.
+    /// - [`LineError::BadLine`] if the line isn't that of a claim, even if there is no memory. Its place is where the
+    ///   first wrong field begins. If no field is wrong but one is missing, it is the length of the line.
     /// - [`LineError::Memory`] if memory runs out.
     pub fn read_line(alloc: Global, line: &[u8]) -> Result<Claim, LineError>
         // The line of the claim that is read is this line, and the line of each claim can be read.
@@ -83,7 +83,7 @@ impl Claim {
     }
 }
 
-/// Returns the place of the first fault of a line, if it isn't the line of a claim.
+/// Returns the place of the first fault of a line, or `None` if it is the line of a claim.
 fn fault_in(line: &[u8]) -> Option<usize>
     ensures fault { IfSome result (IsFirstFaultOf line.now) }
     ensures refused { IfSome result (λ _. ¬ IsClaimLine line.now) }
@@ -95,7 +95,7 @@ fn fault_in(line: &[u8]) -> Option<usize>
     }
 }
 
-/// Returns the place of the first fault among the counts of a line.
+/// Returns the place of the first fault among the counts of a line, or `None` if there is none.
 fn fault_in_counts(line: &[u8], counts: Option<&[u8]>) -> Option<usize>
     requires { (start : Before) × HasReadStart line.now start (option_map (λ remainder. remainder.now) counts) }
     ensures fault { IfSome result (IsFirstFaultOf line.now) }
@@ -184,7 +184,7 @@ fn claim_of(start: LineStart, counts: Vec<(ClaimedCode, u64)>) -> Claim
     }
 }
 
-/// Returns the code and the number of a count that may follow the code `last`.
+/// Returns the code and the number of a count, or `None` if the field isn't a count that may follow the code `last`.
 fn count_after<'a>(last: Option<&[u8]>, field: &'a [u8]) -> Option<(&'a [u8], u64)>
     ensures { Tells (MayFollow (option_map (λ own. own.now) last.entry)) count_field field.now
         (option_map (λ object. (object.0.now, object.1)) result) }
@@ -207,8 +207,8 @@ fn is_after(last: Option<&[u8]>, code: &[u8]) -> bool
     }
 }
 
-/// The laws of lines: a line is that of at most one claim, a line with a fault is that of none, and a line has its
-/// first fault at one place.
+/// The laws of lines: a line is the line of at most one claim, a line with a fault is the line of none, and a line has
+/// its first fault at only one place.
 #[tactic(auto, using(crate::proofs::OneClaim::one_claim))]
 pub fn lines_tell_claims()
     ensures one { LinesHaveOneClaim }

@@ -95,7 +95,7 @@ fn head_in(line: &[u8]) -> Result<(LineStart, Option<&[u8]>), &[u8]>
     Ok((head, remainder))
 }
 
-/// Returns some head, to begin with.
+/// Returns a lawful head, whose fields are then replaced one by one.
 fn blank() -> LineStart
     ensures { IsHead result }
 {

@@ -1,4 +1,4 @@
--- Boxes in lists: what lies in one of them, or near.
+-- Lists of boxes: which cells are in one of the boxes, or near one.
 use Rattle.std.proofs.Common.{◌≡◌, ◌≢◌, ◌+◌, ◌-◌, ◌/◌, ◌^◌, ◌<◌, ◌≤◌, ℕ, ℤ, pos, ◌+ℤ◌, ◌-ℤ◌}
 use Rattle.std.proofs.Common.{◌≤ℤ◌, List, [], ◌∷◌, ◌++◌, length, get_or, set, take, get_or-set_other, get_or-set_same}
 use Rattle.std.proofs.Common.{Bool, true, false, leb, unsigned_abs, refl, arith, ap, ◌∙◌, sym, subst, inl, inr, ◌⊎◌, Option, IsSomeAnd}

@@ -1,4 +1,4 @@
--- Windows over rectangles: what a union has in it, and that windows side by side leave no gap.
+-- Windows over rectangles: what a union contains, and that windows side by side leave no gap.
 use Rattle.std.proofs.Common.{◌/◌, ◌%◌, ◌-◌, ◌<◌, ◌-ℤ◌, ◌≡◌, ◌+◌, ◌*◌, ◌^◌, ◌≤◌, ℕ, ℤ, pos, ◌+ℤ◌, ◌≤ℤ◌, ◌<ℤ◌, List, length, get_or, unsigned_abs}
 use Rattle.std.proofs.Common.{◌*ℤ◌, arith, sym, subst, inl, inr, ◌⊎◌, FitsSigned, of_z, to_z, w32}
 use Rattle.std.specs.Int.{int_max, int_min}

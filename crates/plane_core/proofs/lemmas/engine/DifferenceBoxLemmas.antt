@@ -1,4 +1,4 @@
--- The box round a change: each inner cell in which two patterns differ has its column and its row in it.
+-- The box around a change: it contains the column and the row of each inner cell in which two patterns differ.
 use Rattle.std.proofs.Common.{◌≡◌, ◌≢◌, ◌+◌, ◌-◌, ◌^◌, ◌<◌, ◌≤◌, ℕ, zero, suc, ℤ, pos, ◌+ℤ◌, ◌-ℤ◌, ◌<ℤ◌, ◌≤ℤ◌, w64, unsigned_abs}
 use Rattle.std.proofs.Common.{arith, refl, ap, ◌∙◌, sym, inl, inr, ◌⊎◌, List}
 use Rattle.std.specs.Int.{bit_at, leading_zeros, trailing_zeros}

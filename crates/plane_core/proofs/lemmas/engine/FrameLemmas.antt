@@ -1,4 +1,4 @@
--- Where cells stand on a board, and a frame round a pattern.
+-- Where cells are on a board, and a frame around a pattern.
 use Rattle.std.proofs.Common.{◌≡◌, ◌≢◌, ◌+◌, ◌-◌, ◌*◌, ◌/◌, ◌%◌, ◌^◌, ◌<◌, ◌≤◌, ℕ, pos, ◌+ℤ◌, ◌-ℤ◌, List}
 use Rattle.std.proofs.Common.{◌≤ℤ◌, arith, refl, ap, ◌∙◌, sym, subst, inl, inr, ◌⊎◌}
 use Rattle.std.proofs.lemmas.Int.{ints}

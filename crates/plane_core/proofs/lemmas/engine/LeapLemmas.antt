@@ -1,4 +1,4 @@
--- What a leap makes of a board.
+-- The board after a leap.
 use Rattle.std.proofs.Common.{◌≡◌, ◌==◌, ◌+◌, ◌-◌, ◌*◌, ◌/◌, ◌%◌, ◌<◌, ◌≤◌, ℕ, ℤ, pos, ◌+ℤ◌, cond, List, [], length, length-set, set}
 use Rattle.std.proofs.Common.{arith, refl, ap, ◌∙◌, sym, subst, inl, inr, ◌⊎◌, replicate, get_or, slice_index, slice_index_or}
 use Rattle.std.proofs.Common.{IsSomeAnd, Option}

@@ -1,4 +1,4 @@
--- Cells that are taken off a board.
+-- Cells that are removed from a board.
 use Rattle.std.proofs.Common.{◌≡◌, ◌≢◌, ◌==◌, ◌+◌, ◌*◌, ◌/◌, ◌%◌, ◌^◌, ◌<◌, ◌≤◌, ℕ, pos, ◌-ℤ◌, Bool, true, false, not, ◌&&◌, ◌||◌}
 use Rattle.std.proofs.Common.{List, [], ◌∷◌, ◌++◌, arith, refl, ap, ◌∙◌, sym, subst, inl, inr, ◌⊎◌, length, take, set, get_or, get_or-set_same}
 use Rattle.std.proofs.Common.{get_or-set_other, slice_index, bit_and, w64, leb, unsigned_abs}

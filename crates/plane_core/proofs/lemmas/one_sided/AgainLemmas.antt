@@ -1,4 +1,4 @@
--- Whether a window shows the start again, moved or not, and what follows where it doesn't.
+-- Whether a window shows the start again, moved or not, and what follows if it doesn't.
 use Rattle.std.proofs.Common.{◌≡◌, ◌≢◌, ◌==◌, ◌+◌, ◌*◌, ◌/◌, ◌^◌, ◌<◌, ◌≤◌, ℕ, ℤ, pos, ◌+ℤ◌, ◌≤ℤ◌, zero, suc, Bool, true, false}
 use Rattle.std.proofs.Common.{List, [], ◌∷◌, arith, refl, ap, ◌∙◌, sym, subst, inl, inr, ◌⊎◌, w64}
 use Rattle.std.specs.Cmp.{both_ways as both_true}

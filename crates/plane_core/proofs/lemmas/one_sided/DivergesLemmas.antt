@@ -1,4 +1,4 @@
--- A cluster alone beside the whole, generation after generation.
+-- A cluster that is run alone, beside the whole pattern, generation by generation.
 use Rattle.std.proofs.Common.{◌≡◌, ◌≢◌, ◌==◌, ◌+◌, ◌-◌, ◌*◌, ◌/◌, ◌%◌, ◌^◌, ◌<◌, ◌≤◌, ℕ, ◌+ℤ◌, pos, List, arith, ap, sym, ◌∙◌, ◌⊎◌, inl, inr}
 use Rattle.std.proofs.Common.{bit_and, bit_xor, min, w64}
 use Rattle.std.specs.Int.{bit_at, trailing_zeros}

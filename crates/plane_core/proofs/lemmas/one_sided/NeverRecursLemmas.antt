@@ -1,4 +1,4 @@
--- A pattern alone in a window: its generations, and what the window says of the start.
+-- A pattern alone in a window: its generations, and what the window says about the start.
 use Rattle.std.proofs.Common.{◌≡◌, ◌≢◌, ◌==◌, ◌+◌, ◌-◌, ◌*◌, ◌/◌, ◌%◌, ◌^◌, ◌<◌, ◌≤◌, ℕ}
 use Rattle.std.proofs.Common.{ℤ, pos, negsuc, ◌+ℤ◌, ◌-ℤ◌, ◌≤ℤ◌, ◌<ℤ◌, zero, suc, Bool, true, false, cond}
 use Rattle.std.proofs.Common.{List, [], arith, refl, ap, ◌∙◌, sym, subst, inl, inr, ◌⊎◌, slice_index, slice_index_or, unsigned_abs, max, bit_or}

@@ -1,4 +1,4 @@
--- By one cluster it is seen that each pattern which a window shows isn't at rest.
+-- One cluster proves that no pattern that a window shows is at rest.
 use Rattle.std.proofs.Common.{◌≡◌, ◌==◌, ◌<◌, ℕ, ℤ, ◌+ℤ◌, pos, List, slice_index, ap, ◌∙◌, sym, arith, inl, inr}
 use Rattle.std.specs.Int.{bit_at}
 use Rattle.plane_core.specs.windows.LonePatterns.{FillsRows}

@@ -1,4 +1,4 @@
--- The least box of a pattern, as a walk of the writer needs it.
+-- The smallest box of a pattern, as a walk of the writer needs it.
 use Rattle.std.proofs.Common.{◌≡◌, ◌≤ℤ◌, true, nat_le, List, [], ◌∷◌, Some, refl, sym, ap, subst, ◌∙◌, arith}
 use Rattle.std.specs.List.{AllByRecursion, list_all}
 use Rattle.std.specs.Prelude.{unsigned_abs}

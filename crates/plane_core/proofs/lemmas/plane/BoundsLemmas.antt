@@ -1,4 +1,4 @@
--- The least box round a list of cells.
+-- The smallest box around a list of cells.
 use Rattle.std.proofs.Common.{◌≡◌, ℕ, ℤ, true, false, List, [], ◌∷◌, ◌++◌, arith, refl, ap, ◌∙◌, sym, inl, inr, ◌⊎◌, Option}
 use Rattle.std.proofs.Common.{Some, None, Any, IsNone, IfSome, ◌↔◌, ◌+◌, ◌<◌, cond, length, map, take, get_or, suc, int_lt}
 use Rattle.std.specs.Int.{int_min, int_max}

@@ -1,4 +1,4 @@
--- A box round a pattern, and how far it lies from the origin.
+-- A box around a pattern, and how far it is from the origin.
 use Rattle.std.proofs.Common.{◌≡◌, ◌≤◌, ℕ, true, List, arith, unsigned_abs, leb}
 use Rattle.std.proofs.lemmas.Int.{ints}
 use Rattle.std.proofs.lemmas.Bool.{le-leb, and_from}

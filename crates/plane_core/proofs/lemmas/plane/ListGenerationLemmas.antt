@@ -1,4 +1,4 @@
--- A sorted list of cells, gone along run by run of equal ones.
+-- A sorted list of cells, read run by run, where a run consists of equal cells.
 use Rattle.std.proofs.Common.{◌≡◌, ℕ, ◌+◌, ◌<◌, ◌≤◌, Bool, true, false, List, [], ◌∷◌, ◌++◌, arith, suc, cond, refl, ap, ◌∙◌, sym, subst}
 use Rattle.std.proofs.Common.{filter, get_or, length, drop, append-nil, append_assoc, add-zero, Fits, w8, pos, set, take, length-set}
 use mathlib.Core.Bool.{beq}

@@ -1,4 +1,4 @@
--- Plain facts on numbers in order, which say in a word what else would be looked for among all that is known.
+-- Simple facts about the order of numbers, each with a name, so that a proof needs no search for them.
 use Rattle.std.proofs.Common.{◌≡◌, ◌≢◌, ◌+◌, ◌-◌, ◌*◌, ◌<◌, ◌≤◌, Fits, ℕ, arith, w64}
 
 pub below_too : (a b m : ℕ) → a < b → b ≤ m → a < m

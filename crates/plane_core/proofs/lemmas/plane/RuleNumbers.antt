@@ -1,4 +1,4 @@
--- Numbers read off the prefix of a text, digit by digit.
+-- Numbers that are read from the beginning of a text, digit by digit.
 use Rattle.std.proofs.Common.{◌≡◌, ◌<◌, ◌≤◌, ◌+◌, ◌-◌, ℕ, suc, Bool, true, false, List, [], ◌∷◌, ◌++◌, length, take, drop, get_or}
 use Rattle.std.proofs.Common.{set, refl, sym, ◌∙◌, ap, arith, append_assoc, append-nil, get_or-set_other, length-set}
 use Rattle.std.proofs.lemmas.List.{take_more_set}

@@ -1,4 +1,4 @@
--- Looking for a cell in a list in order, and cells of the plane.
+-- Finding a cell in a list in order, and cells of the plane.
 use Rattle.std.proofs.Common.{◌≡◌, ℕ, ◌+◌, ◌≤◌, Bool, true, false, not, List, [], ◌∷◌, ◌<◌, drop, arith, cond, refl, ap, ◌∙◌, sym, subst}
 use Rattle.std.proofs.Common.{inl, inr, length, position, Some, None, Result, Ok, Err, is_ok, get_or, nat_lt, ◌||◌, ◌&&◌}
 use Rattle.std.specs.List.{dedup, list_all, Contains, position_from, prefix_len}

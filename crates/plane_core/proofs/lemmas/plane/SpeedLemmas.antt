@@ -1,4 +1,4 @@
--- How fast a pattern grows: a cell a side in a generation.
+-- How fast a pattern grows: at most one cell on each side per generation.
 use Rattle.std.proofs.Common.{◌≡◌, ℕ, ℤ, pos, ◌+ℤ◌, ◌-ℤ◌, ◌≤ℤ◌, ◌+◌, ◌<◌, ◌≤◌, zero, suc, true, false, List, [], ◌∷◌}
 use Rattle.std.proofs.Common.{arith, refl, ◌∙◌, sym, subst, inl, inr, ◌⊎◌, add-zero, unsigned_abs, leb}
 use Rattle.std.proofs.lemmas.Int.{ints}

@@ -1,4 +1,4 @@
--- Bits of words that were moved by a place, and sums in binary digits.
+-- Bits of words that were shifted by one place, and sums in binary digits.
 use Rattle.std.proofs.Common.{◌≡◌, ◌==◌, ◌+◌, ◌-◌, ◌*◌, ◌/◌, ◌%◌, ◌^◌, ◌<◌, ◌≤◌, ℕ, zero, suc, Bool}
 use Rattle.std.proofs.Common.{true, false, cond, arith, refl, ap, ◌∙◌, sym, add-one, bit_and, bit_or, bit_xor, min, max}
 use Rattle.std.specs.Int.{bit_at}

@@ -18,8 +18,9 @@ use memory::OutOfMemory;
 use std::mem::swap;
 
 impl Board {
-    /// Advances by at most `most` generations, and returns the number made. It is smaller than `most` if the next leap
-    /// would have come too near to the border of the board.
+    /// Advances by at most `most` generations, and returns the number made. The number is smaller than `most` if the
+    /// next leap would come too near to the border of the board. If `most` is odd, it may also be smaller by one,
+    /// because an odd leap is made only while the boxes hold all live cells.
     ///
     /// # Errors
     ///

@@ -35,7 +35,7 @@ use crate::windows::window::{INNER_COLUMNS, generation};
 use memory::OutOfMemory;
 use std::alloc::Global;
 
-/// The number of cells for which there is room from the start.
+/// The number of cells for which the list has room from the start.
 const ROOM: usize = 128;
 
 /// A window after one generation: its rows, of which the inner ones are right.
@@ -47,8 +47,8 @@ pub(crate) struct NextRows {
 }
 
 impl Board {
-    /// Returns the next generation of the pattern that the board shows. `None` if the rows and columns that may have a
-    /// live cell come near the border of the board.
+    /// Returns the next generation of the pattern that the board shows, or `None` if the rows and columns that may have
+    /// a live cell come near the border of the board.
     ///
     /// # Errors
     ///
@@ -111,8 +111,9 @@ fn has_rim(at: Frame, hull: Hull) -> bool
     5 <= rows.from && rows.from < rows.end && rows.end < at.rows
 }
 
-/// Runs windows side by side, from column `from` on, so that their inner parts have all columns up to `end`. Windows
-/// without a live cell are left out. Returns whether all of them are on the board, with a word column to their right.
+/// Runs windows side by side, from column `from` and row `y` on, so that their inner parts have all columns from `from`
+/// plus 4 to `end`. Windows without a live cell are left out. Returns whether all of them are on the board, with a word
+/// column to their right.
 fn run_band(
     words: &[u64],
     at: Frame,
@@ -150,7 +151,7 @@ fn run_band(
     Ok(true)
 }
 
-/// Returns the rows of a window that begins in column x and row y of the board, one generation later.
+/// Returns the rows, one generation later, of a window that begins in column `x` and row `y` of the board.
 fn next_rows(words: &[u64], at: Frame, x: usize, y: usize, rule: &RuleLogic) -> [u64; 40]
     requires long { FillsFrame at words.now }
     requires word_columns { x / 64 + 1 < at.word_columns }

@@ -6,9 +6,9 @@
 //! ```text
 //! . . . . . . . O
 //! . . . . . . O .
-//! . . . O . . . .     To the right and down. The last row is read first, and has cell d. A row above can only do
-//! . . . . . . . .     better if it reaches further to the right, by more than the rows between them.
-//! . . . d . . . .
+//! . . . O . . . .     Here the direction is right and down. The last row is read first, and has cell d. A cell of
+//! . . . . . . . .     a higher row is deeper only if it is further to the right by more than the number of rows
+//! . . . d . . . .     between the two.
 //! ```
 ghost use Rattle.std.specs.Prelude.{◌≡◌, ◌==◌, ◌-◌, ◌<◌, ◌≤◌, ◌+ℤ◌, ℕ, IfSome, pos};
 ghost use Rattle.std.specs.Prelude.{slice_index};
@@ -31,9 +31,8 @@ use crate::plane::orientation::Orientation;
 use crate::plane::pattern::Pattern;
 
 impl Board {
-    /// Returns how far the pattern reaches in a diagonal direction without these cells. When the pattern is turned by
-    /// the orientation, the sum of column and row of each of its other cells is at most this number. Returns `None` if
-    /// it has no other cell.
+    /// Returns how far the pattern without `cells` reaches in a diagonal direction: when it is turned by `way`, the sum
+    /// of column and row of each remaining cell is at most this number. Returns `None` if no cell remains.
     pub fn frontier_without(&self, way: Orientation, cells: &Pattern) -> Option<i32>
         ensures { IfSome result (λ m. LiesUpTo way m (without self.now.cells cells.now)) }
     {
@@ -54,7 +53,7 @@ impl Board {
     }
 }
 
-/// Returns the depth of the deepest cell that was found so far or is in these rows of a word column.
+/// Returns the depth of the deepest cell that was found so far or is in these rows of a word column, if there is one.
 fn deepest_in_word_column(
     at: Frame,
     words: &[u64],
@@ -120,8 +119,8 @@ fn rows_to_see(
     count.min(outermost.abs_diff(deepest) as usize)
 }
 
-/// Returns the first step inwards, from this one on, to a row of a word column that has a live cell, or the end or more
-/// if there is none.
+/// Returns the first number of steps inwards, from `from` on, that leads to a row of the word column with a live cell.
+/// If there is none below `end`, the result is `end` or more.
 fn next_live(
     at: Frame,
     words: &[u64],
@@ -151,7 +150,7 @@ fn next_live(
     step
 }
 
-/// Returns the row that is this many steps inwards from the outermost of these rows.
+/// Returns the row that is `step` steps inwards from the outermost of these rows.
 #[inline(always)]
 fn row_inwards(rows: RowSpan, way: Direction, step: usize) -> usize
     requires { step < rows.end - rows.from }
@@ -166,7 +165,7 @@ fn row_inwards(rows: RowSpan, way: Direction, step: usize) -> usize
     }
 }
 
-/// Returns the depth of the deepest cell that was found so far or is in this row of a word column.
+/// Returns the depth of the deepest cell that was found so far or is in this row of a word column, if there is one.
 fn deepest_in_row(
     at: Frame,
     words: &[u64],
@@ -197,7 +196,7 @@ fn deepest_in_row(
     Some(found.unwrap_or(depth).max(depth))
 }
 
-/// Returns the depth of the cell in this column of a row of a word column.
+/// Returns the depth of the cell in column `column`, 0 to 63, of a row of a word column.
 #[inline(always)]
 fn depth_at(at: Frame, word_column: usize, row: usize, column: usize, way: Direction) -> i32
     requires frame { IsFrame at }
@@ -210,7 +209,7 @@ fn depth_at(at: Frame, word_column: usize, row: usize, column: usize, way: Direc
     way.depth(along(at.corner(word_column, row), column))
 }
 
-/// Returns the bit of a cell, if it is in the 64 columns from the first cell on, in the same row.
+/// Returns a word with the bit of `cell`, if the cell is among the 64 cells of a row from `first` on, or 0 otherwise.
 fn bit_of(cell: Cell, first: Cell) -> u64
     ensures { (i : ℕ) → i < 64 → (bit_at result i == 1) ≡ same_cell (cell_at (first.x +ℤ pos i) first.y) cell }
 {

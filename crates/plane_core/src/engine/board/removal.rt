@@ -5,8 +5,8 @@
 //! ```text
 //! +-----+                    +-----+
 //! |.OO. |      O             |.OO. |
-//! |OO.. |     O      ->      |OO.. |   +---+     One more box, or a wider one, until the next leap has seen what
-//! |.O.. |     OOO            |.O.. |   |   |     changes in it.
+//! |OO.. |     O      ->      |OO.. |   +---+     One more box, or a wider one, so that the next leap runs
+//! |.O.. |     OOO            |.O.. |   |   |     whatever may change there.
 //! +-----+                    +-----+   +---+
 //! ```
 ghost use Rattle.std.specs.Prelude.{◌≡◌, ◌*◌, OnErr, OnOk};
@@ -39,7 +39,7 @@ impl Board {
     }
 }
 
-/// Removes those of the cells that are on the board.
+/// Removes the cells that are on the board, and ignores the others.
 fn take_off(at: Frame, words: &mut [u64], cells: &[Cell])
     requires frame { IsFrame at }
     requires long { FillsFrame at words.old }

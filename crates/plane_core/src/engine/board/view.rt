@@ -4,8 +4,8 @@
 //! board
 //! +-------------------------------------+
 //! |        view                         |
-//! |        +----------+                 |     Everything that changes is in the boxes of the board, so a test looks there.
-//! |        |   +--+   |        +-+      |     If a box is larger than a view, the view shows its middle.
+//! |        +----------+                 |     Everything that changes is in a box of the board or near one, so tests
+//! |        |   +--+   |        +-+      |     look there. If a box is larger than a view, the view shows its middle.
 //! |        |   +--+   |        +-+      |
 //! |        |    box   |       box       |
 //! |        +----------+                 |
@@ -29,7 +29,8 @@ pub(crate) struct View {
 }
 
 impl Board {
-    /// Returns the view around the middle of the box, if it is on the board, with a word column to its right.
+    /// Returns the view around the middle of the box, or `None` if it isn't on the board with a word column to its
+    /// right.
     pub(crate) fn view(&self, bounds: Bounds) -> Option<View>
         ensures frame { IfSome result (λ view. IsViewFrame view.at) }
         ensures shown { IfSome result
@@ -61,14 +62,15 @@ impl Board {
     }
 }
 
-/// Returns the longer side of the box: the distance of its columns or of its rows.
+/// Returns the longer side of the box: the distance between its first and last column, or between its first and last
+/// row.
 pub(crate) fn longer_side(bounds: Bounds) -> u32 {
     let across = bounds.left.abs_diff(bounds.right);
     across.max(bounds.top.abs_diff(bounds.bottom))
 }
 
-/// Returns where on a board that begins here a view begins that has the middle of these ends in its middle, if all of
-/// it is on the board.
+/// Returns the first column (or row) of a view whose middle is halfway between `from` and `to`. It is counted from
+/// `start`, the first column (or row) of the board. `None` if the view would begin before the board.
 #[tactic(auto, using(crate::proofs::lemmas::engine::FrameFits::middle_low))]
 fn first_of(from: i32, to: i32, start: i32) -> Option<usize>
     ensures { IfSome result (λ first. first < 2 ^ 32) }
