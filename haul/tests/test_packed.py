@@ -136,6 +136,8 @@ class Packed(Searches):
                                   preexec_fn=lambda: signal.signal(signal.SIGINT, signal.SIG_DFL)) as program:
                 time.sleep(moment * 0.01)
                 program.send_signal(signal.SIGINT)
+                # Its input stays open until then, since an empty haul would be a fault to tell of.
+                program.wait(60)
                 errors = program.communicate()[1]
             self.assertEqual((program.returncode, errors), (-signal.SIGINT, b""))
 
