@@ -15,7 +15,7 @@ complete -c haul -n __fish_use_subcommand -a rle -d 'Print a plaintext pattern a
 complete -c haul -n __fish_use_subcommand -l version -d 'Print the version'
 complete -c haul -s h -l help -d 'Print help'
 complete -c haul -n '__fish_seen_subcommand_from search' -l until -x -d 'End when the haul has N soups'
-complete -c haul -n '__fish_seen_subcommand_from search' -l part -x -d 'Run N soups per part'
+complete -c haul -n '__fish_seen_subcommand_from search' -l part -x -d 'Run N soups per batch'
 complete -c haul -n '__fish_seen_subcommand_from search' -l workers -x -d 'Run soups with W workers'
 complete -c haul -n '__fish_seen_subcommand_from search' -l finds -r -d 'Call PROGRAM for each find'
 complete -c haul -n '__fish_seen_subcommand_from search' -l seed -x -d 'Begin FILE with this seed'

@@ -1,7 +1,7 @@
 """Finds: the parts of objects that a search comes upon for the first time.
 
 A find is a part whose code no object of the haul had as a part before, and that isn't common. docs/HAUL.md says what the parts of an
-object are. The soups that one call of `census take` runs are a batch here.
+object are. The soups that one call of `census take` runs are a batch, as in search.py.
 """
 
 from __future__ import annotations
@@ -48,9 +48,10 @@ def command_of(job: Job, soup: int) -> str:
 
 
 @dataclass
-class Batch:
-    """The codes that came for the first time with a batch of soups, each with the lowest soup that left it."""
+class NewCodes:
+    """The codes that a batch of soups brought for the first time, until their finds are known."""
 
+    # Those that aren't separated yet, each with the lowest soup that left it.
     codes: deque[tuple[str, int]]
     # The parts of those that have been separated, each with its lowest soup.
     parts: dict[str, int] = field(default_factory=dict)
@@ -107,42 +108,43 @@ class Finder:
         # The objects whose parts aren't known yet, although they were there before.
         self.unread = Unread(haul.totals)
         self.known: set[str] = set()
-        self.batches: deque[Batch] = deque()
+        # One item for each batch with new codes; the oldest is first.
+        self.queue: deque[NewCodes] = deque()
 
     def add(self, codes: Iterable[tuple[str, int]]) -> None:
         """Takes the new codes of the next batch, each with its lowest soup, once they are in the file."""
-        batch = Batch(deque(codes))
+        new = NewCodes(deque(codes))
         if self.is_silent:
-            self.unread.add(code for code, _ in batch.codes)
+            self.unread.add(code for code, _ in new.codes)
             self.is_silent = False
-        elif batch.codes:
-            self.batches.append(batch)
+        elif new.codes:
+            self.queue.append(new)
 
     def left(self) -> int:
         """Returns how many objects have to be separated still, as far as is known."""
-        codes = sum(len(batch.codes) for batch in self.batches)
-        first = self.batches[0].parts if self.batches and not self.batches[0].codes else {}
+        codes = sum(len(new.codes) for new in self.queue)
+        first = self.queue[0].parts if self.queue and not self.queue[0].codes else {}
         return codes + self.unread.holding(filter(self.is_new, first))
 
     def is_done(self) -> bool:
-        return not self.batches
+        return not self.queue
 
     def step(self) -> list[Find]:
-        """Separates an object, and returns the finds of a batch if that was its last one. There is a batch."""
-        batch = self.batches[0]
-        if batch.codes:
-            code, soup = batch.codes.popleft()
+        """Separates an object, and returns the finds of a batch if that was its last one. The queue isn't empty."""
+        first = self.queue[0]
+        if first.codes:
+            code, soup = first.codes.popleft()
             for part in self.parts_of(code):
-                batch.add(part, soup)
-        if batch.codes:
+                first.add(part, soup)
+        if first.codes:
             return []
-        new = {part: soup for part, soup in batch.parts.items() if self.is_new(part)}
+        new = {part: soup for part, soup in first.parts.items() if self.is_new(part)}
         for codes in self.unread.holders(new):
             # They may be in one of these objects.
             self.known.update(self.parts_of(codes.pop()))
             return []
-        self.known.update(batch.parts)
-        self.batches.popleft()
+        self.known.update(first.parts)
+        self.queue.popleft()
         return sorted((Find(part, soup) for part, soup in new.items()), key=lambda find: (find.soup, find.code))
 
     def is_new(self, part: str) -> bool:

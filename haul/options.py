@@ -90,7 +90,7 @@ def add_search(commands: Commands) -> None:
         "search", "run soups until it is stopped, and keep their haul in FILE",
         "FILE always\nhas a whole haul, even if this program is killed. If FILE exists, the search goes on after\nits last soup. "
         "Otherwise FILE is made, with a random seed unless --seed is given.\n\n"
-        "The search runs one part after another, each a call of `census take`. Ctrl-C finishes the\nrunning part, so nothing is lost. "
+        "The search runs one batch of soups after another, each in one call of `census take`.\nCtrl-C finishes the running batch, so nothing is lost. "
         "A second Ctrl-C drops it.\n\n"
         "A find is an object that is new in FILE and not common. Each find is printed as a line of\nfive values with tabs between them: the "
         "time, the code, the name or `-`, the soup, and a\ncommand that shows what the soup leaves.\n\n"
@@ -98,7 +98,7 @@ def add_search(commands: Commands) -> None:
     )
     search.add_argument("--until", type=count, metavar="N", help="end when the haul has N soups (default: no limit)")
     search.add_argument("--part", type=within(1, NUMBERS_IN_A_CALL), default=100_000, metavar="N",
-                        help="run N soups per part, 1 to 16777216 (default: 100000). A part that is dropped is lost")
+                        help="run N soups per batch, 1 to 16777216 (default: 100000). A batch that is dropped is lost")
     search.add_argument("--workers", type=workers, metavar="W", help="run soups with W workers, 1 to 16 (default: one per processor, up to 16)")
     search.add_argument("--finds", type=path, metavar="PROGRAM", help="call PROGRAM for each find, with its five values as arguments; "
                         "a call is ended after 60 seconds")

@@ -1,12 +1,12 @@
 """`haul search`: takes soups until it is stopped, and keeps their haul in a file.
 
-The census program takes one part of the soups after another:
+The census program takes one batch of soups after another, each in one call of `census take`:
 
-    part 1  ->  added to the haul in memory  ->  written to the file  ->  its finds are told
-    part 2           while this part runs, all that is done for part 1
+    batch 1  ->  added to the haul in memory  ->  written to the file  ->  its finds are told
+    batch 2           while this batch runs, all that is done for batch 1
     ..
 
-One thread does everything except running soups. While a part runs, it looks for finds, one object at a time, and waits for streams.
+One thread does everything except running soups. While a batch runs, it looks for finds, one object at a time, and waits for streams.
 """
 
 from __future__ import annotations
@@ -30,18 +30,18 @@ from haul.text import NUMBER_LIMIT, BadHaul, Haul, read_one_haul
 from haul.words import counted
 
 MOST_WORKERS = 16
-# No more than a fiftieth of the running time goes to writing the file, unless parts have waited for ten minutes.
+# No more than a fiftieth of the running time goes to writing the file, unless batches have waited for ten minutes.
 SHARE_OF_WRITING, MOST_SECONDS_UNKEPT = 50, 600.0
 # The longest time for which it waits for streams, and for which it looks for finds before it looks at streams again.
 SECONDS_AT_A_TIME, SECONDS_OF_FINDING = 0.5, 0.02
 # The time for which finds are still told after a signal that ends the search at once.
 LAST_SECONDS = 1.0
-# If finds are still told this long after the last part, a line says so.
+# If finds are still told this long after the last batch, a line says so.
 SECONDS_WITHOUT_A_WORD = 5.0
 
 
 class Dropped(Exception):
-    """A signal ends the search without the part that runs."""
+    """A signal ends the search without the batch that runs."""
 
 
 @dataclass(frozen=True)
@@ -52,16 +52,16 @@ class Plan:
     next: int
     # How many soups the haul has at the end; none if there is no end.
     until: int | None
-    # How many soups a part has.
-    part: int
+    # How many soups a batch has.
+    batch_size: int
     workers: int
     # The program that is called for each find.
     finds: str | None
 
 
 @dataclass
-class Part:
-    """A part that runs: the numbers of its soups, and the call that takes them."""
+class Batch:
+    """A batch that runs: the numbers of its soups, and the call that takes them."""
 
     first: int
     count: int
@@ -80,13 +80,13 @@ class Search:
         self.joining = Joining()
         self.joining.add(haul)
         self.objects = haul.objects()
-        # The soups of the haul with those of parts that were begun, and the next number.
+        # The soups of the haul with those of batches that were begun, and the next number.
         self.begun, self.next = haul.soups, plan.next
-        # The soups of whole parts.
+        # The soups of finished batches.
         self.run_soups = 0
-        # The new codes of each part that isn't in the file yet, each code with its lowest soup.
+        # The new codes of each batch that isn't in the file yet, each code with its lowest soup.
         self.unkept: list[list[tuple[str, int]]] = []
-        self.part: Part | None = None
+        self.batch: Batch | None = None
         self.waiter = Waiter()
         self.waiter.add(stopping.heard, stopping.hear)
         self.finder = Finder(haul.job, haul)
@@ -102,59 +102,59 @@ class Search:
         """Takes soups until the haul has as many as it should, or until it is stopped. Raises `Dropped` if a signal ends it."""
         try:
             try:
-                self.take_parts()
+                self.take_batches()
             finally:
-                self.drop_part()
+                self.drop_batch()
                 self.keep()
         finally:
             self.tell_rest()
             tell("")
 
-    # ---- Parts
+    # ---- Batches
 
-    def take_parts(self) -> None:
-        self.part = self.begin_part()
-        if self.part is None and not self.keeper.is_there():
+    def take_batches(self) -> None:
+        self.batch = self.begin_batch()
+        if self.batch is None and not self.keeper.is_there():
             self.keeper.write(self.joining.joined())
-        while self.part is not None:
-            self.wait_until(self.part.call.is_ended)
-            taken = self.haul_of(self.part)
-            self.part = None
+        while self.batch is not None:
+            self.wait_until(self.batch.call.is_ended)
+            taken = self.haul_of(self.batch)
+            self.batch = None
             try:
-                # The next part runs while this one is added, written and looked at.
-                self.part = self.begin_part()
+                # The next batch runs while this one is added, written and looked at.
+                self.batch = self.begin_batch()
             finally:
                 self.add(taken)
-            if self.part is not None and self.may_keep():
+            if self.batch is not None and self.may_keep():
                 self.keep()
 
-    def begin_part(self) -> Part | None:
-        """Starts the next part; there is none if the search is at its end."""
-        most = self.plan.until - self.begun if self.plan.until is not None else self.plan.part
-        count = min(self.plan.part, most, NUMBER_LIMIT - self.next)
+    def begin_batch(self) -> Batch | None:
+        """Starts the next batch; there is none if the search is at its end."""
+        most = self.plan.until - self.begun if self.plan.until is not None else self.plan.batch_size
+        count = min(self.plan.batch_size, most, NUMBER_LIMIT - self.next)
         if count <= 0 or self.stopping.finishes:
             return None
         words = ["take", *job_words(self.job), f"--first={self.next}", f"--count={count}", f"--workers={self.plan.workers}", "--progress"]
-        part = Part(self.next, count, RunningTake(self.waiter, [self.census.path, *words]))
+        batch = Batch(self.next, count, RunningTake(self.waiter, [self.census.path, *words]))
         self.next += count
         self.begun += count
-        return part
+        return batch
 
-    def haul_of(self, part: Part) -> Haul:
-        """Returns the haul of a part that has ended. Raises `Ended` if its call failed."""
-        text = part.call.haul_text()
+    def haul_of(self, batch: Batch) -> Haul:
+        """Returns the haul of a batch that has ended. Raises `Ended` if its call failed."""
+        text = batch.call.haul_text()
         try:
             haul = read_one_haul(io.BytesIO(text))
         except BadHaul:
             raise missing(self.census.path) from None
-        if (haul.job, haul.ranges, haul.soups) != (self.job, [(part.first, part.count)], part.count):
+        if (haul.job, haul.ranges, haul.soups) != (self.job, [(batch.first, batch.count)], batch.count):
             raise missing(self.census.path)
         return haul
 
-    def drop_part(self) -> None:
-        if self.part is not None:
-            self.part.call.end()
-            self.part = None
+    def drop_batch(self) -> None:
+        if self.batch is not None:
+            self.batch.call.end()
+            self.batch = None
 
     def add(self, taken: Haul) -> None:
         self.unkept.append([(code, soups[0]) for code, soups in taken.samples.items() if code not in self.joining.totals])
@@ -173,7 +173,7 @@ class Search:
         return bool(self.unkept) and time.monotonic() - self.kept_at + self.latest_writing >= MOST_SECONDS_UNKEPT
 
     def keep(self) -> None:
-        """Writes whole parts that aren't in the file. Their objects are looked at for finds after that."""
+        """Writes the finished batches that aren't in the file. Their objects are looked at for finds after that."""
         if not self.unkept:
             return
         began = time.monotonic()
@@ -189,7 +189,7 @@ class Search:
             self.finder.add(codes)
         self.unkept.clear()
 
-    # ---- What is done while a part runs
+    # ---- What is done while a batch runs
 
     def wait_until(self, is_over: Callable[[], bool]) -> None:
         while not is_over():
@@ -240,16 +240,16 @@ class Search:
 
     def say_that_it_finishes(self) -> None:
         self.said_that_it_finishes = True
-        if self.part is None:
+        if self.batch is None:
             self.say_what_is_left()
             return
         rate = self.status().rate()
-        left = self.part.count - self.part.call.soups()
+        left = self.batch.count - self.batch.call.soups()
         when = f", in about {duration(left / rate)}" if rate > 0 else ""
-        complain(f"stops after this part{when}; Ctrl-C again drops the part")
+        complain(f"stops after this batch{when}; Ctrl-C again drops the batch")
 
     def say_what_is_left(self) -> None:
-        """Says once what is still to be done after the last part."""
+        """Says once what is still to be done after the last batch."""
         if not self.said_what_is_left:
             self.said_what_is_left = True
             again = "again" if self.stopping.finishes else "twice"
@@ -261,7 +261,7 @@ class Search:
         return ", ".join(left)
 
     def status(self) -> Status:
-        running = self.part.call.soups() if self.part is not None else 0
+        running = self.batch.call.soups() if self.batch is not None else 0
         soups = self.joining.soups + running
         left = max(0, self.plan.until - soups) if self.plan.until is not None else None
         return Status(soups, self.run_soups + running, self.objects, len(self.joining.totals), self.finds, time.monotonic() - self.began, left)

@@ -20,7 +20,7 @@ USUAL_WIDTH = 80
 class Status:
     """How far a search is."""
 
-    # The soups of the haul, with those of the part that runs.
+    # The soups of the haul, with those of the batch that runs.
     soups: int
     # The soups that this call has run.
     run: int

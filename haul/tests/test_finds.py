@@ -21,7 +21,7 @@ from haul.life import rule_of
 from haul.parts import Separator
 from haul.program import Census
 from haul.running import FIND, Waiter, starter
-from haul.search import Dropped, Part, Plan, Search
+from haul.search import Batch, Dropped, Plan, Search
 from haul.status_line import Status, StatusLine, duration, short
 from haul.stopping import Stopping
 from haul.tests.called import CENSUS, HAUL, TOP, census, run
@@ -89,7 +89,7 @@ class Finds(unittest.TestCase):
             self.assertEqual(found(finder, [(TRIPOLE, 9), ("xp3_695qc8zx33", 11)]), [Find("xp3_695qc8zx33", 11)])
 
     def test_a_haul_without_objects(self) -> None:
-        """Its soups have begun the file, though they left nothing, so that later parts tell finds."""
+        """Its soups have begun the file, though they left nothing, so that later batches tell finds."""
         self.assertEqual(found(Finder(OTHER_PROFILE, Haul(OTHER_PROFILE, [(0, 9)], 9, 9, 0, {}, {})), [(TRIPOLE, 9)]), [Find(TRIPOLE, 9)])
 
     def test_what_is_common_under_another_profile(self) -> None:
@@ -309,7 +309,7 @@ class Telling(Searches):
             keeper = Keeper(str(self.file))
             search = Search(Plan(100, 200, 30, 1, None), haul_of(LIFE, BLOCK, TRIPOLE), keeper, Census(CENSUS), Stopping())
             search.add(Haul(LIFE, [(100, 30)], 30, 0, 0, {BLINKER: 7, BLOCK: 1}, {BLINKER: [100], BLOCK: [101]}))
-            search.part = Part(130, 30, Mock(**{"soups.return_value": 10}))
+            search.batch = Batch(130, 30, Mock(**{"soups.return_value": 10}))
             now.return_value = 1010.0
             self.assertEqual(search.status(), Status(140, 40, 10, 3, 0, 10.0, 60))
         os.close(keeper.lock)
@@ -398,25 +398,25 @@ class Pace(Searches):
             self.assertFalse(stopping.is_writing)
         os.close(keeper.lock)
 
-    def test_a_signal_while_parts_wait(self) -> None:
-        """They are written, and the part that runs isn't."""
+    def test_a_signal_while_batches_wait(self) -> None:
+        """They are written, and the batch that runs isn't."""
         keeper, stopping = Keeper(str(self.file)), Stopping()
         search = Search(Plan(0, None, 10, 1, None), haul_of(LIFE), keeper, Census(CENSUS), stopping)
-        begin_part = search.begin_part
+        begin_batch = search.begin_batch
 
-        def begin_the_last() -> Part | None:
+        def begin_the_last() -> Batch | None:
             if search.next == 30:
                 stopping.came(signal.SIGTERM)
-            return begin_part()
+            return begin_batch()
 
-        with patch.object(search, "may_keep", return_value=False), patch.object(search, "begin_part", begin_the_last), self.assertRaises(Dropped):
+        with patch.object(search, "may_keep", return_value=False), patch.object(search, "begin_batch", begin_the_last), self.assertRaises(Dropped):
             search.run()
         self.assertEqual(self.soups(), 30)
         self.assert_right()
         self.assert_nothing_runs()
         os.close(keeper.lock)
 
-    def test_parts_that_wait_in_memory(self) -> None:
+    def test_batches_that_wait_in_memory(self) -> None:
         """They are written together, at the end at the latest."""
         keeper = Keeper(str(self.file))
         search = Search(Plan(0, 60, 10, 2, None), haul_of(LIFE), keeper, Census(CENSUS), Stopping())

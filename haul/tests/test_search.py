@@ -47,9 +47,9 @@ class Soups(Searches):
         self.assertEqual(self.file.read_bytes(), census("take", *words, "--count", "30"))
 
     def test_goes_on(self) -> None:
-        """In parts of other sizes, and up to just as many soups as are asked for."""
-        for until, part in ((10, 100), (50, 7), (51, 1), (200, 40)):
-            self.assertEqual(self.search("--seed=a", "--until", str(until), "--part", str(part))[0], 0)
+        """In batches of other sizes, and up to just as many soups as are asked for."""
+        for until, size in ((10, 100), (50, 7), (51, 1), (200, 40)):
+            self.assertEqual(self.search("--seed=a", "--until", str(until), "--part", str(size))[0], 0)
             self.assertEqual(self.file.read_bytes(), census("take", "--seed=a", "--count", str(until)))
 
     def test_goes_on_without_words(self) -> None:
@@ -186,7 +186,7 @@ class Faults(Searches):
     """The file is always a right haul, whatever fails."""
 
     def test_a_program_that_fails(self) -> None:
-        """Its status and its line are passed on, and the parts before are in the file."""
+        """Its status and its line are passed on, and the batches before are in the file."""
         for how, status, line in (("echo census: because >&2; exit 4", 4, "because"), ("exit 70", 5, "census ended with status 70"),
                                   ("kill -9 $$", 5, "census was ended by signal 9"),
                                   ("printf '\\r3 of 9 soups, 5 a second' >&2; kill -9 $$", 5, "census was ended by signal 9"), ("printf '\\r3 of 9 soups\\rcensus: why\\n' >&2; exit 5", 5, "why")):
@@ -233,7 +233,7 @@ class Faults(Searches):
         self.assertFalse(self.file.exists())
 
     def test_nobody_reads(self) -> None:
-        """The part whose find can't be told is in the file."""
+        """The batch whose find can't be told is in the file."""
         with self.start("--seed=", "--first=23473", "--part", "20") as program:
             assert program.stdout
             program.stdout.close()
@@ -263,13 +263,13 @@ class Faults(Searches):
 
 
 class Signals(Searches):
-    """A signal loses no more than the part that runs, and leaves nothing running."""
+    """A signal loses no more than the batch that runs, and leaves nothing running."""
 
-    # In this program the part from soup 40 on goes on for long.
+    # In this program the batch from soup 40 on goes on for long.
     SLOW = 'case "$*" in *--first=40*) echo census >&2; touch slow; exec sleep 1000 ;; *) real "$@" ;; esac'
 
     def slow(self) -> subprocess.Popen[bytes]:
-        """A search whose third part goes on for long."""
+        """A search whose third batch goes on for long."""
         program = self.start("--seed=a", "--part", "20", program=self.stub(self.SLOW))
         self.wait_for(20)
         while not (self.folder / "slow").exists():
@@ -277,19 +277,19 @@ class Signals(Searches):
         return program
 
     def test_the_first_interrupt(self) -> None:
-        """The part that runs is finished."""
+        """The batch that runs is finished."""
         with self.start("--seed=a", "--part", "300") as program:
             self.wait_for(300)
             os.killpg(program.pid, signal.SIGINT)
             output, errors = program.communicate(timeout=60)
         self.assertEqual((program.returncode, output), (0, b""))
-        self.assertRegex(errors.decode(), r"^haul: stops after this part, in about 0:00:\d\d; Ctrl-C again drops the part\n$")
+        self.assertRegex(errors.decode(), r"^haul: stops after this batch, in about 0:00:\d\d; Ctrl-C again drops the batch\n$")
         self.assertEqual(self.soups() % 300, 0)
         self.assertGreaterEqual(self.soups(), 600)
         self.assert_right()
         self.assert_left("mine.haul", "mine.haul.lock")
 
-    def test_signals_that_drop_the_part(self) -> None:
+    def test_signals_that_drop_the_batch(self) -> None:
         for numbers in ([signal.SIGTERM], [signal.SIGHUP], [signal.SIGINT, signal.SIGINT], [signal.SIGINT, signal.SIGTERM]):
             with self.subTest(numbers=numbers):
                 self.file.unlink(missing_ok=True)
@@ -301,7 +301,7 @@ class Signals(Searches):
                     output, errors = program.communicate(timeout=60)
                 self.assertEqual((program.returncode, output), (-numbers[-1], b""))
                 self.assertEqual(len(errors.splitlines()), len(numbers) - 1)
-                # The parts in memory are written first.
+                # The batches in memory are written first.
                 self.assertEqual(self.soups(), 40)
                 self.assert_right()
                 self.assert_nothing_runs()
