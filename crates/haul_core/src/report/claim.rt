@@ -98,7 +98,8 @@ impl Model for SettledClaim {
 }
 
 impl SettledClaim {
-    /// Returns the codes in ASCII order, each once, with the number of objects that are said to have it, at least 1.
+    /// Returns each code with the number of objects that are said to have it. As `IsClaim` says of each claim, the codes
+    /// are in ASCII order, each once, and the numbers are at least 1.
     pub fn counts(&self) -> &[(ClaimedCode, u64)]
         ensures { result.now ≡ self.now.counts }
     {

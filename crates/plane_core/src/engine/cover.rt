@@ -12,7 +12,7 @@
 //! | +-----+-----+ |
 //! +-------+-------+
 //! ```
-ghost use Rattle.std.specs.Prelude.{◌+◌, ◌*◌, ◌^◌, ◌<◌, ◌≤◌, ◌⊎◌, All};
+ghost use Rattle.std.specs.Prelude.{◌≡◌, ◌+◌, ◌*◌, ◌/◌, ◌^◌, ◌<◌, ◌≤◌, ◌⊎◌, All};
 ghost use Rattle.std.specs.Prelude.{OnOk, unsigned_abs};
 ghost use Rattle.plane_core.specs.plane.Bounds.{IsWithin};
 ghost use Rattle.plane_core.specs.engine.ActiveBoxes.{AreCovered, IsInOne, IsNearOne, box_bound, rectangle_bound};
@@ -32,7 +32,7 @@ const UNITED_AT_ONCE: usize = 16;
 const INNER_ROWS: u32 = 48;
 
 /// The largest result of `slack`.
-const MOST_SLACK: u64 = 16;
+const MOST_SLACK: u64 = 64;
 
 /// Spans of one length, side by side: where the first begins, and how many there are.
 #[derive(Clone, Copy)]
@@ -104,11 +104,11 @@ fn absorbed(rectangles: &mut Vec<Bounds>, rectangle: Bounds, slack: u64) -> Boun
     all
 }
 
-/// Returns how much more a union may cost than its two rectangles. If there are many boxes, the pattern is dense, and
-/// rectangles that overlap would grow into each other from leap to leap, so that more and more windows run the same
-/// cells.
+/// Returns how much more a union may cost than its two rectangles, in rows. If there are many boxes, the pattern is
+/// dense, and rectangles that overlap would grow into each other from leap to leap, so that more and more windows run
+/// the same cells.
 fn slack(boxes: usize) -> u64 {
-    (boxes as u64 / 8).min(MOST_SLACK)
+    (boxes as u64 / 8).saturating_mul(4).min(MOST_SLACK)
 }
 
 /// Checks whether the smallest rectangle that contains both costs at most as much as the two together, plus `slack`.
@@ -127,16 +127,14 @@ fn pays(one: Bounds, other: Bounds, slack: u64) -> bool {
                 .saturating_add(slack)
 }
 
-/// Returns the cost of running the windows that cover the rectangle: 1 for each vector, and 2 for each window.
+/// Returns about the cost, in rows, of running the windows that cover the rectangle. A window has about 12 rows more
+/// than it covers, and costs another 8 by itself. No branch depends on the rectangle.
 #[inline(always)]
 fn cost_of(rectangle: Bounds) -> u64 {
     let across = rectangle.left.abs_diff(rectangle.right) / 56 + 1;
     let length = rectangle.top.abs_diff(rectangle.bottom);
     let down = length / INNER_ROWS + 1;
-    let each = window_rows(length) / 4 + 2;
-    u64::from(across)
-        .saturating_mul(u64::from(down))
-        .saturating_mul(u64::from(each))
+    u64::from(across) * (u64::from(length) + 20 * u64::from(down))
 }
 
 /// Returns the number of rows of each window, if windows cover `length + 1` rows of cells. There are as few windows as
@@ -201,7 +199,7 @@ fn lay_row(
 /// Returns spans of `size` numbers each, side by side, that cover the numbers from `first` to `last`. They reach as far
 /// past one end as past the other, or one further past `last`.
 #[inline(always)]
-#[tactic(auto, using(crate::proofs::lemmas::engine::CoverLemmas::side_by_side_is))]
+#[tactic(auto, using(crate::proofs::lemmas::engine::CoverLemmas::beside_few))]
 fn side_by_side(first: i32, last: i32, size: u32) -> Spans
     requires first { unsigned_abs first ≤ rectangle_bound }
     requires last { unsigned_abs last ≤ rectangle_bound }
@@ -210,10 +208,25 @@ fn side_by_side(first: i32, last: i32, size: u32) -> Spans
     ensures { AreSideBySide first last size result }
 {
     let length = first.abs_diff(last);
-    let count = length / size + 1;
+    let count = spans_needed(length, size);
     let beside = count * size - length - 1;
     Spans {
         first: first - (beside / 2) as i32,
         count,
     }
+}
+
+/// Returns how many spans of `size` numbers cover `length + 1` numbers.
+#[inline(always)]
+#[tactic(auto, using(crate::proofs::lemmas::engine::CoverLemmas::one_is_enough))]
+fn spans_needed(length: u32, size: u32) -> u32
+    requires length { length ≤ 2 ^ 26 }
+    requires size { 1 ≤ size }
+    ensures { result ≡ length / size + 1 }
+{
+    // Usually one is enough, and a division would take longer than all the rest.
+    if length < size {
+        return 1;
+    }
+    length / size + 1
 }

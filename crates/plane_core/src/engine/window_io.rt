@@ -8,15 +8,17 @@
 //!             column x
 //! ```
 ghost use Rattle.std.specs.Prelude.{◌≡◌, ◌≢◌, ◌==◌, ◌+◌, ◌-◌, ◌*◌, ◌/◌, ◌<◌, ◌≤◌, ℕ, ◌+ℤ◌, pos, length};
-ghost use Rattle.std.specs.Prelude.{if◌then◌else◌, slice_index};
+ghost use Rattle.std.specs.Prelude.{◌⊎◌, if◌then◌else◌, slice_index};
 ghost use Rattle.std.specs.Int.{bit_at};
 ghost use Rattle.plane_core.specs.engine.Frames.{FillsFrame, IsFrame};
-ghost use Rattle.plane_core.specs.engine.WindowIo.{AreRowsRead, IsPutBack, IsRowPut};
+ghost use Rattle.plane_core.specs.engine.WindowIo.{AreRowsPut, AreRowsRead, IsPutBack, IsRowPut};
 ghost use Rattle.plane_core.specs.engine.LeapWindows.{IsOnBoard};
 
 use crate::engine::frame::Frame;
 use crate::engine::leap_window::LeapWindow;
+use crate::windows::lane_sums::choice;
 use crate::windows::window::INNER_COLUMNS;
+use std::simd::u64x4;
 
 /// Returns the column of the board in which a window begins.
 #[inline(always)]
@@ -92,6 +94,75 @@ fn put_word(words: &mut [u64], i: usize, mask: u64, value: u64)
     words[i] = old ^ ((old ^ value) & mask);
 }
 
+/// Returns the four words from word `i` on.
+#[inline(always)]
+fn four_words(words: &[u64], i: usize) -> [u64; 4]
+    requires { i + 4 ≤ length words.now }
+    ensures { (j : ℕ) → j < 4 → slice_index result j ≡ slice_index words.now (i + j) }
+{
+    let mut four = [0; 4];
+    for j in 0..4 {
+        four[j] = words[i + j];
+    }
+    four
+}
+
+/// Replaces the four words from word `i` on.
+#[inline(always)]
+fn set_words(words: &mut [u64], i: usize, four: [u64; 4])
+    requires { i + 4 ≤ length words.old }
+    ensures at { (j : ℕ) → j < 4 → slice_index words.new (i + j) ≡ slice_index four j }
+    ensures others { (m : ℕ) → (m < i) ⊎ (i + 4 ≤ m) → slice_index words.new m ≡ slice_index words.old m }
+{
+    for j in 0..4 {
+        words[i + j] = four[j];
+    }
+}
+
+/// Replaces the bits of four words, from word `i` on, with those of the values wherever the mask has a 1. All four are
+/// read before one is written, so that the compiler can do it with vectors.
+#[inline(always)]
+fn put_words(words: &mut [u64], i: usize, mask: u64, values: [u64; 4])
+    requires { i + 4 ≤ length words.old }
+    ensures at { (j b : ℕ) → j < 4 → bit_at (slice_index words.new (i + j)) b
+        ≡ (if bit_at mask b == 1 then bit_at (slice_index values j) b else bit_at (slice_index words.old (i + j)) b) }
+    ensures others { (m : ℕ) → (m < i) ⊎ (i + 4 ≤ m) → slice_index words.new m ≡ slice_index words.old m }
+{
+    let old = u64x4::from_array(four_words(words, i));
+    let new = choice(u64x4::splat(mask), u64x4::from_array(values), old);
+    set_words(words, i, new.to_array());
+}
+
+/// Returns, for each of the four rows from row `r` on, the part of its word that is in the first word column.
+#[inline(always)]
+fn in_first_of(rows: &[u64; 64], r: usize, shift: usize) -> [u64; 4]
+    requires rows { r + 4 ≤ 64 }
+    requires shift { shift < 64 }
+    ensures { (j i : ℕ) → j < 4 → shift ≤ i → i < 64
+        → bit_at (slice_index result j) i ≡ bit_at (slice_index rows.now (r + j)) (i - shift) }
+{
+    let mut values = [0; 4];
+    for j in 0..4 {
+        values[j] = in_first(rows[r + j], shift);
+    }
+    values
+}
+
+/// Returns, for each of the four rows from row `r` on, the part of its word that is in the second word column.
+#[inline(always)]
+fn in_second_of(rows: &[u64; 64], r: usize, shift: usize) -> [u64; 4]
+    requires rows { r + 4 ≤ 64 }
+    requires shift { shift < 64 }
+    ensures { (j i : ℕ) → j < 4
+        → bit_at (slice_index result j) i ≡ bit_at (slice_index rows.now (r + j)) (i + 64 - shift) }
+{
+    let mut values = [0; 4];
+    for j in 0..4 {
+        values[j] = in_second(rows[r + j], shift);
+    }
+    values
+}
+
 /// Puts the inner columns of a window's row back. The row begins in column `x` and row `y` of the board.
 #[inline(always)]
 fn write_row(words: &mut [u64], at: Frame, x: usize, y: usize, word: u64)
@@ -116,8 +187,26 @@ fn write_row(words: &mut [u64], at: Frame, x: usize, y: usize, word: u64)
     );
 }
 
+/// Puts the inner columns of the four rows of a window from row `r` on back. Row `r` begins in column `x` and row `y` of
+/// the board.
+#[inline(always)]
+fn write_rows(words: &mut [u64], at: Frame, x: usize, y: usize, rows: &[u64; 64], r: usize)
+    requires long { FillsFrame at words.old }
+    requires word_columns { x / 64 + 1 < at.word_columns }
+    requires inside { y + 4 ≤ at.rows }
+    requires rows { r + 4 ≤ 64 }
+    ensures { AreRowsPut at x y r rows.now words.old words.new }
+{
+    let i = x / 64 * at.rows + y;
+    let shift = x % 64;
+    let first = in_first_of(rows, r, shift);
+    let second = in_second_of(rows, r, shift);
+    put_words(words, i, in_first(INNER_COLUMNS, shift), first);
+    put_words(words, i + at.rows, in_second(INNER_COLUMNS, shift), second);
+}
+
 /// Puts the inner part of a window back: the inner columns of its rows from 4 to before `end`. The window begins in
-/// column `x` and row `y` of the board.
+/// column `x` and row `y` of the board. Four rows are put back at a time, and what is left of them one by one.
 #[inline(always)]
 pub(crate) fn write(words: &mut [u64], at: Frame, x: usize, y: usize, end: usize, rows: &[u64; 64])
     requires long { FillsFrame at words.old }
@@ -127,7 +216,13 @@ pub(crate) fn write(words: &mut [u64], at: Frame, x: usize, y: usize, end: usize
     requires few { end ≤ 64 }
     ensures { IsPutBack at x y end rows.now words.old words.new }
 {
-    for r in 4..end {
+    let mut r = 4;
+    while end - r >= 4 {
+        write_rows(words, at, x, y + r, rows, r);
+        r += 4;
+    }
+    while r < end {
         write_row(words, at, x, y + r, rows[r]);
+        r += 1;
     }
 }

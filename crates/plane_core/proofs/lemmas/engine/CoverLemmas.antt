@@ -1,9 +1,10 @@
 -- Windows over rectangles: what a union contains, and that windows side by side leave no gap.
 use Rattle.std.proofs.Common.{◌/◌, ◌%◌, ◌-◌, ◌<◌, ◌-ℤ◌, ◌≡◌, ◌+◌, ◌*◌, ◌^◌, ◌≤◌, ℕ, ℤ, pos, ◌+ℤ◌, ◌≤ℤ◌, ◌<ℤ◌, List, length, get_or, unsigned_abs}
-use Rattle.std.proofs.Common.{◌*ℤ◌, arith, sym, subst, inl, inr, ◌⊎◌, FitsSigned, of_z, to_z, w32}
+use Rattle.std.proofs.Common.{◌*ℤ◌, ap, arith, sym, subst, inl, inr, ◌⊎◌, FitsSigned, of_z, to_z, w32}
 use Rattle.std.specs.Int.{int_max, int_min}
 use Rattle.std.specs.List.{swap_remove}
 use Rattle.std.proofs.lemmas.Nat.{div-add-mod', mod_below}
+use Rattle.std.proofs.Math.Nat.{div-eq_of_lt}
 use Rattle.std.proofs.lemmas.Int.{by_lt_z, clamps, ints}
 use Rattle.plane_core.specs.declared.plane.bounds.Bounds.{Bounds}
 use Rattle.plane_core.specs.declared.plane.cell.Cell.{Cell}
@@ -149,6 +150,10 @@ left_over length size some =
     let rest : length % size < size = mod_below length size some in
     omega arith
 
+-- a division by a larger number gives 0
+pub one_is_enough : (length size : ℕ) → length < size → 1 ≡ length / size + 1
+one_is_enough length size low = sym (ap (λ (n : ℕ). n + 1) (div-eq_of_lt low))
+
 pub side_by_side_is : (first last begin : ℤ) (size length : ℕ) → 1 ≤ size → length ≡ distance first last
     → begin ≡ first -ℤ pos (((length / size + 1) * size - length - 1) / 2)
     → AreSideBySide first last size (record { first = begin; count = length / size + 1 })
@@ -173,6 +178,16 @@ side_by_side_is first last begin size length some is at = record {
 
     reach : last ≤ℤ (first +ℤ pos length)
     reach = omega (arith, ints)
+
+pub side_by_side_of : (first last begin : ℤ) (size length count : ℕ) → 1 ≤ size → length ≡ distance first last → count ≡ length / size + 1
+    → begin ≡ first -ℤ pos ((count * size - length - 1) / 2) → AreSideBySide first last size (record { first = begin; count = count })
+side_by_side_of first last begin size length count some is needed at =
+    subst (λ (n : ℕ). AreSideBySide first last size (record { first = begin; count = n })) (sym needed)
+    (side_by_side_is first last begin size length some is
+    (subst (λ (n : ℕ). begin ≡ first -ℤ pos ((n * size - length - 1) / 2)) needed at))
+
+pub beside_few : (size length count : ℕ) → 1 ≤ size → count ≡ length / size + 1 → count * size - length - 1 < size
+beside_few size length count some needed = subst (λ (n : ℕ). n * size - length - 1 < size) (sym needed) (left_over length size some)
 
 -- ---- how far spans reach
 

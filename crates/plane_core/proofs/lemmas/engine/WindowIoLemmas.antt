@@ -7,7 +7,7 @@ use Rattle.std.proofs.lemmas.List.{get_or-set_same, get_or-set_other}
 use Rattle.std.proofs.lemmas.Nat.Bits.{bit_at_mask_above, bit_at_mask_below, bit_at_mask_inside}
 use Rattle.plane_core.specs.declared.engine.frame.Frame.{Frame}
 use Rattle.plane_core.specs.engine.Frames.{FillsFrame, word_of}
-use Rattle.plane_core.specs.engine.WindowIo.{bit_on, inner_mask, AreRowsRead, IsInnerColumn, IsInner, IsRowPut, IsPutBack}
+use Rattle.plane_core.specs.engine.WindowIo.{bit_on, inner_mask, AreRowsRead, IsInnerColumn, IsInner, IsOneOfFour, AreRowsPut, IsRowPut, IsPutBack}
 use Rattle.plane_core.specs.windows.Windows.{row_at}
 use Rattle.plane_core.proofs.lemmas.engine.FrameLemmas.{one_word as same_spot, word-inside}
 use Rattle.plane_core.proofs.lemmas.Between.{IsReadAt}
@@ -90,6 +90,59 @@ put_there x y word old new u v i mask value row there back m w is = split (inner
           is ∙ chosen_no mask value old (m ∙ none),
         )
 
+-- one place of the board, whose row is put back into two words
+pub place_put : (at : Frame) (x y word m1 v1 m2 v2 u v old new : ℕ) → y < at.rows → v < at.rows
+    → ((i : ℕ) → i < x % 64 → bit_at m1 i ≡ 0) → ((i : ℕ) → x % 64 ≤ i → i < 64 → bit_at m1 i ≡ bit_at inner_mask (i - x % 64))
+    → ((i : ℕ) → x % 64 ≤ i → i < 64 → bit_at v1 i ≡ bit_at word (i - x % 64))
+    → ((i : ℕ) → bit_at m2 i ≡ bit_at inner_mask (i + 64 - x % 64)) → ((i : ℕ) → bit_at v2 i ≡ bit_at word (i + 64 - x % 64))
+    → (word_of at (u / 64) v ≡ x / 64 * at.rows + y → new ≡ cond (bit_at m1 (u % 64) == 1) (bit_at v1 (u % 64)) old)
+    → (word_of at (u / 64) v ≡ x / 64 * at.rows + y + at.rows → new ≡ cond (bit_at m2 (u % 64) == 1) (bit_at v2 (u % 64)) old)
+    → (word_of at (u / 64) v ≢ x / 64 * at.rows + y → word_of at (u / 64) v ≢ x / 64 * at.rows + y + at.rows → new ≡ old)
+    → IsOnePut x y word old new u v
+place_put at x y word m1 v1 m2 v2 u v old new inside hv m1low m1high v1high m2is v2is new_first new_second kept =
+    split (cases_eq spot a) (cases_eq spot b)
+  where
+    a : ℕ
+    a = x / 64 * at.rows + y
+
+    b : ℕ
+    b = x / 64 * at.rows + y + at.rows
+
+    spot : ℕ
+    spot = word_of at (u / 64) v
+
+    in_first : spot ≡ a → (u / 64 ≡ x / 64) × (v ≡ y) → (u % 64 < x % 64) ⊎ (x % 64 ≤ u % 64) → IsOnePut x y word old new u v
+    in_first e (word_column, row) (inl left) =
+        inr (
+          λ c same. let is = c.is in absurd (omega arith),
+          new_first e ∙ chosen_no (bit_at m1 (u % 64)) (bit_at v1 (u % 64)) old (m1low (u % 64) left),
+        )
+    in_first e (word_column, row) (inr right) =
+        put_there x y word old new u v (u % 64 - x % 64) (bit_at m1 (u % 64)) (bit_at v1 (u % 64)) row
+        (λ less. omega arith) (λ c. omega arith) (m1high (u % 64) right (omega arith)) (v1high (u % 64) right (omega arith)) (new_first e)
+
+    in_second : spot ≡ b → (u / 64 ≡ x / 64 + 1) × (v ≡ y) → IsOnePut x y word old new u v
+    in_second e (word_column, row) =
+        put_there x y word old new u v (u % 64 + 64 - x % 64) (bit_at m2 (u % 64)) (bit_at v2 (u % 64)) row
+        (λ less. omega arith) (λ c. omega arith) (m2is (u % 64)) (v2is (u % 64)) (new_second e)
+
+    outside : (spot ≡ a → ⊥) → (spot ≡ b → ⊥) → IsInnerColumn x u → v ≢ y
+    outside apart further c row = word_columns (cases_eq (u / 64) (x / 64))
+      where
+        word_columns : (u / 64 ≡ x / 64) ⊎ (u / 64 ≡ x / 64 → ⊥) → ⊥
+        word_columns (inl same) = apart (λ t. same t * at.rows + row t)
+        word_columns (inr other) =
+            let is = c.is in
+            let high = c.high in
+            let word_column : u / 64 ≡ x / 64 + 1 = omega arith in
+            let rows : u / 64 * at.rows ≡ (x / 64 + 1) * at.rows = ap (λ (m : ℕ). m * at.rows) word_column in
+            further (omega arith)
+
+    split : (spot ≡ a) ⊎ (spot ≡ a → ⊥) → (spot ≡ b) ⊎ (spot ≡ b → ⊥) → IsOnePut x y word old new u v
+    split (inl e) other = in_first e (same_spot at.rows (u / 64) v (x / 64) y e hv inside) (cases_lt (u % 64) (x % 64))
+    split (inr apart) (inl e) = in_second e (same_spot at.rows (u / 64) v (x / 64 + 1) y (omega arith) hv inside)
+    split (inr apart) (inr further) = inr (outside apart further, kept apart further)
+
 -- both words of a row
 pub row_put : (at : Frame) (old mid new : List ℕ) (x y word m1 v1 m2 v2 : ℕ) → y < at.rows
     → ((i : ℕ) → i < x % 64 → bit_at m1 i ≡ 0) → ((i : ℕ) → x % 64 ≤ i → i < 64 → bit_at m1 i ≡ bit_at inner_mask (i - x % 64))
@@ -101,7 +154,9 @@ pub row_put : (at : Frame) (old mid new : List ℕ) (x y word m1 v1 m2 v2 : ℕ)
     ≡ cond (bit_at m2 b == 1) (bit_at v2 b) (bit_at (slice_index mid (x / 64 * at.rows + y + at.rows)) b))
     → ((m : ℕ) → m ≢ x / 64 * at.rows + y + at.rows → slice_index new m ≡ slice_index mid m) → IsRowPut at x y word old new
 row_put at old mid new x y word m1 v1 m2 v2 inside m1low m1high v1high m2is v2is first first_others second second_others u v hu hv =
-    split (cases_eq spot a) (cases_eq spot b)
+    place_put at x y word m1 v1 m2 v2 u v (bit_on at old u v) (bit_on at new u v) inside hv m1low m1high v1high m2is v2is
+    new_first new_second
+    (λ apart further. ap (λ (w : ℕ). bit_at w (u % 64)) (second_others spot further ∙ first_others spot apart))
   where
     a : ℕ
     a = x / 64 * at.rows + y
@@ -122,17 +177,6 @@ row_put at old mid new x y word m1 v1 m2 v2 inside m1low m1high v1high m2is v2is
         ∙ first (u % 64)
         ∙ ap (λ (m : ℕ). cond (bit_at m1 (u % 64) == 1) (bit_at v1 (u % 64)) (bit_at (slice_index old m) (u % 64))) (sym e)
 
-    in_first : spot ≡ a → (u / 64 ≡ x / 64) × (v ≡ y) → (u % 64 < x % 64) ⊎ (x % 64 ≤ u % 64) → IsOnePut x y word (bit_on at old u v) (bit_on at new u v) u v
-    in_first e (word_column, row) (inl left) =
-        inr (
-          λ c same. let is = c.is in absurd (omega arith),
-          new_first e
-              ∙ chosen_no (bit_at m1 (u % 64)) (bit_at v1 (u % 64)) (bit_on at old u v) (m1low (u % 64) left),
-        )
-    in_first e (word_column, row) (inr right) =
-        put_there x y word (bit_on at old u v) (bit_on at new u v) u v (u % 64 - x % 64) (bit_at m1 (u % 64)) (bit_at v1 (u % 64)) row
-        (λ less. omega arith) (λ c. omega arith) (m1high (u % 64) right (omega arith)) (v1high (u % 64) right (omega arith)) (new_first e)
-
     new_second : spot ≡ b → bit_on at new u v ≡ cond (bit_at m2 (u % 64) == 1) (bit_at v2 (u % 64)) (bit_on at old u v)
     new_second e =
         ap (λ (m : ℕ). bit_at (slice_index new m) (u % 64)) e
@@ -140,28 +184,126 @@ row_put at old mid new x y word m1 v1 m2 v2 inside m1low m1high v1high m2is v2is
         ∙ ap (λ (w : ℕ). cond (bit_at m2 (u % 64) == 1) (bit_at v2 (u % 64)) (bit_at w (u % 64))) (first_others b (λ f. later (sym f)))
         ∙ ap (λ (m : ℕ). cond (bit_at m2 (u % 64) == 1) (bit_at v2 (u % 64)) (bit_at (slice_index old m) (u % 64))) (sym e)
 
-    in_second : spot ≡ b → (u / 64 ≡ x / 64 + 1) × (v ≡ y) → IsOnePut x y word (bit_on at old u v) (bit_on at new u v) u v
-    in_second e (word_column, row) =
-        put_there x y word (bit_on at old u v) (bit_on at new u v) u v (u % 64 + 64 - x % 64) (bit_at m2 (u % 64)) (bit_at v2 (u % 64)) row
-        (λ less. omega arith) (λ c. omega arith) (m2is (u % 64)) (v2is (u % 64)) (new_second e)
+-- a number that is none of four numbers from a on
+out_of_four : (n a : ℕ) → ((j : ℕ) → j < 4 → n ≡ a + j → ⊥) → (n < a) ⊎ (a + 4 ≤ n)
+out_of_four n a none = split (cases_lt n a) (cases_lt n (a + 4))
+  where
+    split : (n < a) ⊎ (a ≤ n) → (n < a + 4) ⊎ (a + 4 ≤ n) → (n < a) ⊎ (a + 4 ≤ n)
+    split (inl low) other = inl low
+    split (inr least) (inr high) = inr high
+    split (inr least) (inl low) = absurd (none (n - a) (omega arith) (omega arith))
 
-    outside : (spot ≡ a → ⊥) → (spot ≡ b → ⊥) → IsInnerColumn x u → v ≢ y
-    outside apart further c row = word_columns (cases_eq (u / 64) (x / 64))
+-- four words of each of two word columns
+pub rows_put : (at : Frame) (old mid new rows first second : List ℕ) (x y r m1 m2 : ℕ) → y + 4 ≤ at.rows
+    → ((i : ℕ) → i < x % 64 → bit_at m1 i ≡ 0) → ((i : ℕ) → x % 64 ≤ i → i < 64 → bit_at m1 i ≡ bit_at inner_mask (i - x % 64))
+    → ((j i : ℕ) → j < 4 → x % 64 ≤ i → i < 64 → bit_at (slice_index first j) i ≡ bit_at (slice_index rows (r + j)) (i - x % 64))
+    → ((i : ℕ) → bit_at m2 i ≡ bit_at inner_mask (i + 64 - x % 64))
+    → ((j i : ℕ) → j < 4 → bit_at (slice_index second j) i ≡ bit_at (slice_index rows (r + j)) (i + 64 - x % 64))
+    → ((j b : ℕ) → j < 4 → bit_at (slice_index mid (x / 64 * at.rows + y + j)) b
+    ≡ cond (bit_at m1 b == 1) (bit_at (slice_index first j) b) (bit_at (slice_index old (x / 64 * at.rows + y + j)) b))
+    → ((m : ℕ) → (m < x / 64 * at.rows + y) ⊎ (x / 64 * at.rows + y + 4 ≤ m) → slice_index mid m ≡ slice_index old m)
+    → ((j b : ℕ) → j < 4 → bit_at (slice_index new (x / 64 * at.rows + y + at.rows + j)) b
+    ≡ cond (bit_at m2 b == 1) (bit_at (slice_index second j) b) (bit_at (slice_index mid (x / 64 * at.rows + y + at.rows + j)) b))
+    → ((m : ℕ) → (m < x / 64 * at.rows + y + at.rows) ⊎ (x / 64 * at.rows + y + at.rows + 4 ≤ m) → slice_index new m ≡ slice_index mid m)
+    → AreRowsPut at x y r rows old new
+rows_put at old mid new rows first second x y r m1 m2 inside m1low m1high v1high m2is v2is put1 put1_others put2 put2_others u v hu hv =
+    split (cases_lt v y) (cases_lt v (y + 4))
+  where
+    a : ℕ
+    a = x / 64 * at.rows + y
+
+    b : ℕ
+    b = x / 64 * at.rows + y + at.rows
+
+    spot : ℕ
+    spot = word_of at (u / 64) v
+
+    row_first : (j : ℕ) → j < 4 → spot ≡ a + j → v ≡ y + j
+    row_first j low e = (same_spot at.rows (u / 64) v (x / 64) (y + j) (omega arith) hv (omega arith)).1
+
+    row_second : (j : ℕ) → j < 4 → spot ≡ b + j → v ≡ y + j
+    row_second j low e = (same_spot at.rows (u / 64) v (x / 64 + 1) (y + j) (omega arith) hv (omega arith)).1
+
+    same : ((j : ℕ) → j < 4 → spot ≡ a + j → ⊥) → ((j : ℕ) → j < 4 → spot ≡ b + j → ⊥) → bit_on at new u v ≡ bit_on at old u v
+    same apart further =
+        ap (λ (w : ℕ). bit_at w (u % 64)) (put2_others spot (out_of_four spot b further) ∙ put1_others spot (out_of_four spot a apart))
+
+    off : ((j : ℕ) → j < 4 → v ≡ y + j → ⊥)
+        → ((c : IsInnerColumn x u) × (k : IsOneOfFour y v) × (bit_on at new u v ≡ bit_at (slice_index rows (r + k.j)) c.i))
+        ⊎ ((IsInnerColumn x u → IsOneOfFour y v → ⊥) × (bit_on at new u v ≡ bit_on at old u v))
+    off none =
+        inr (
+          λ c k. none k.j k.low k.is,
+          same (λ j low e. none j low (row_first j low e)) (λ j low e. none j low (row_second j low e)),
+        )
+
+    new_first : (j : ℕ) → j < 4 → spot ≡ a + j → bit_on at new u v ≡ cond (bit_at m1 (u % 64) == 1) (bit_at (slice_index first j) (u % 64)) (bit_on at old u v)
+    new_first j low e =
+        ap (λ (w : ℕ). bit_at w (u % 64)) (put2_others spot (inl (omega arith)))
+        ∙ ap (λ (m : ℕ). bit_at (slice_index mid m) (u % 64)) e
+        ∙ put1 j (u % 64) low
+        ∙ ap (λ (m : ℕ). cond (bit_at m1 (u % 64) == 1) (bit_at (slice_index first j) (u % 64)) (bit_at (slice_index old m) (u % 64))) (sym e)
+
+    new_second : (j : ℕ) → j < 4 → spot ≡ b + j → bit_on at new u v ≡ cond (bit_at m2 (u % 64) == 1) (bit_at (slice_index second j) (u % 64)) (bit_on at old u v)
+    new_second j low e =
+        ap (λ (m : ℕ). bit_at (slice_index new m) (u % 64)) e
+        ∙ put2 j (u % 64) low
+        ∙ ap (λ (w : ℕ). cond (bit_at m2 (u % 64) == 1) (bit_at (slice_index second j) (u % 64)) (bit_at w (u % 64))) (put1_others (b + j) (inr (omega arith)))
+        ∙ ap (λ (m : ℕ). cond (bit_at m2 (u % 64) == 1) (bit_at (slice_index second j) (u % 64)) (bit_at (slice_index old m) (u % 64))) (sym e)
+
+    on : (j : ℕ) → j < 4 → v ≡ y + j
+        → ((c : IsInnerColumn x u) × (k : IsOneOfFour y v) × (bit_on at new u v ≡ bit_at (slice_index rows (r + k.j)) c.i))
+        ⊎ ((IsInnerColumn x u → IsOneOfFour y v → ⊥) × (bit_on at new u v ≡ bit_on at old u v))
+    on j low row =
+        told (place_put at x (y + j) (slice_index rows (r + j)) m1 (slice_index first j) m2 (slice_index second j) u v (bit_on at old u v) (bit_on at new u v)
+        (omega arith) hv m1low m1high (λ i least high. v1high j i low least high) m2is (λ i. v2is j i low)
+        (λ e. new_first j low (omega arith)) (λ e. new_second j low (omega arith))
+        (λ apart further. same
+        (λ k less e. let same_row = row_first k less e in apart (omega arith))
+        (λ k less e. let same_row = row_second k less e in further (omega arith))))
       where
-        word_columns : (u / 64 ≡ x / 64) ⊎ (u / 64 ≡ x / 64 → ⊥) → ⊥
-        word_columns (inl same) = apart (λ t. same t * at.rows + row t)
-        word_columns (inr other) =
-            let is = c.is in
-            let high = c.high in
-            let word_column : u / 64 ≡ x / 64 + 1 = omega arith in
-            let rows : u / 64 * at.rows ≡ (x / 64 + 1) * at.rows = ap (λ (m : ℕ). m * at.rows) word_column in
-            further (omega arith)
+        told : IsOnePut x (y + j) (slice_index rows (r + j)) (bit_on at old u v) (bit_on at new u v) u v
+            → ((c : IsInnerColumn x u) × (k : IsOneOfFour y v) × (bit_on at new u v ≡ bit_at (slice_index rows (r + k.j)) c.i))
+            ⊎ ((IsInnerColumn x u → IsOneOfFour y v → ⊥) × (bit_on at new u v ≡ bit_on at old u v))
+        told (inl (c, same_row, is)) = inl (c, record { j = j; low = low; is = row }, is)
+        told (inr (none, kept)) = inr (λ c k. none c row, kept)
 
-    split : (spot ≡ a) ⊎ (spot ≡ a → ⊥) → (spot ≡ b) ⊎ (spot ≡ b → ⊥) → IsOnePut x y word (bit_on at old u v) (bit_on at new u v) u v
-    split (inl e) other = in_first e (same_spot at.rows (u / 64) v (x / 64) y e hv inside) (cases_lt (u % 64) (x % 64))
-    split (inr apart) (inl e) = in_second e (same_spot at.rows (u / 64) v (x / 64 + 1) y (omega arith) hv inside)
-    split (inr apart) (inr further) =
-        inr (outside apart further, ap (λ (w : ℕ). bit_at w (u % 64)) (second_others spot further ∙ first_others spot apart))
+    split : (v < y) ⊎ (y ≤ v) → (v < y + 4) ⊎ (y + 4 ≤ v)
+        → ((c : IsInnerColumn x u) × (k : IsOneOfFour y v) × (bit_on at new u v ≡ bit_at (slice_index rows (r + k.j)) c.i))
+        ⊎ ((IsInnerColumn x u → IsOneOfFour y v → ⊥) × (bit_on at new u v ≡ bit_on at old u v))
+    split (inl left) other = off (λ j low e. absurd (omega arith))
+    split (inr least) (inr high) = off (λ j low e. absurd (omega arith))
+    split (inr least) (inl low) = on (v - y) (omega arith) (omega arith)
+
+-- four rows more
+pub four_more : (at : Frame) (x y end : ℕ) (rows old mid new : List ℕ) → 4 ≤ end → IsPutBack at x y end rows old mid
+    → AreRowsPut at x (y + end) end rows mid new → IsPutBack at x y (end + 4) rows old new
+four_more at x y end rows old mid new least put four u v hu hv = split (four u v hu hv) (put u v hu hv)
+  where
+    split : ((c : IsInnerColumn x u) × (k : IsOneOfFour (y + end) v) × (bit_on at new u v ≡ bit_at (slice_index rows (end + k.j)) c.i))
+        ⊎ ((IsInnerColumn x u → IsOneOfFour (y + end) v → ⊥) × (bit_on at new u v ≡ bit_on at mid u v))
+        → ((c : IsInner x y end u v) × (bit_on at mid u v ≡ bit_at (slice_index rows c.row.r) c.column.i))
+        ⊎ ((IsInner x y end u v → ⊥) × (bit_on at mid u v ≡ bit_on at old u v))
+        → ((c : IsInner x y (end + 4) u v) × (bit_on at new u v ≡ bit_at (slice_index rows c.row.r) c.column.i))
+        ⊎ ((IsInner x y (end + 4) u v → ⊥) × (bit_on at new u v ≡ bit_on at old u v))
+    split (inl (c, k, is)) before =
+        let low = k.low in
+        let row = k.is in
+        inl (record { column = c; row = record { r = end + k.j; low = omega arith; high = omega arith; is = omega arith } }, is)
+    split (inr (off, kept)) (inl (c, is)) =
+        let high = c.row.high in
+        inl (record { column = c.column; row = record { r = c.row.r; low = c.row.low; high = omega arith; is = c.row.is } }, kept ∙ is)
+    split (inr (off, kept)) (inr (outside, same)) = inr (none, kept ∙ same)
+      where
+        none : IsInner x y (end + 4) u v → ⊥
+        none c = rows_of (cases_lt c.row.r end)
+          where
+            rows_of : (c.row.r < end) ⊎ (end ≤ c.row.r) → ⊥
+            rows_of (inl before) = outside (record { column = c.column; row = record { r = c.row.r; low = c.row.low; high = before; is = c.row.is } })
+            rows_of (inr from) =
+                let high = c.row.high in
+                let row = c.row.is in
+                off c.column (record { j = c.row.r - end; low = omega arith; is = omega arith })
 
 -- one row more
 pub put_more : (at : Frame) (x y end : ℕ) (rows old mid new : List ℕ) → 4 ≤ end → IsPutBack at x y end rows old mid

@@ -1,0 +1,10 @@
+use Rattle.std.proofs.Common.{◌*◌, ◌-◌, ◌<◌, rules}
+use Rattle.plane_core.proofs.lemmas.engine.CoverLemmas.{beside_few, side_by_side_of}
+use Rattle.plane_core.proofs.engine.cover.side_by_side.Goals as goal
+
+pub returns : goal.returns
+returns c =
+    let few : c.spans_needed-count.result * c.args.size - c.abs_diff-length.result - 1 < c.args.size =
+    beside_few c.args.size c.abs_diff-length.result c.spans_needed-count.result c.requires.some c.spans_needed-count.ensures in
+    side_by_side_of c.args.first c.args.last _ c.args.size c.abs_diff-length.result c.spans_needed-count.result c.requires.some (search rules) (search rules)
+    (search rules)
