@@ -132,18 +132,18 @@ pub const ALSO: Parameter = Parameter {
     kind: ValueKind::Text,
     default: Some(""),
     heading: None,
-    help: "More ranges of soup numbers, such as 100+20,500+1: the numbers 100 to\n\
-         119, and 500",
+    help: "More ranges of soup numbers, each as FIRST+COUNT: 100+20,500+1 has the\n\
+         numbers 100 to 119, and the number 500",
 };
 
-/// The longest period that counts, in generations.
+/// The longest period that an object may have, in generations.
 pub const PERIOD: Parameter = Parameter {
     name: "period",
     place: Place::Named("PERIOD"),
     kind: ValueKind::Number(1, 64),
     default: Some("64"),
     heading: SETTLING,
-    help: "The longest period that counts, from 1 to 64",
+    help: "The longest period that an object may have, from 1 to 64",
 };
 
 /// For how many generations objects must keep apart.
@@ -173,8 +173,8 @@ pub const LIMIT: Parameter = Parameter {
     kind: ValueKind::Number(0, 100_000),
     default: Some("30300"),
     heading: SETTLING,
-    help: "The last generation that may be a checkpoint, from 0 to 100000. If\n\
-         patterns explode under the rule, time and memory grow until then",
+    help: "The last generation that may be a checkpoint, from 0 to 100000. Under\n\
+         an explosive rule, time and memory grow until this generation",
 };
 
 /// The number of workers that run soups.
