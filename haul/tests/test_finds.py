@@ -337,8 +337,9 @@ class Telling(Searches):
     def test_on_a_terminal(self) -> None:
         """One line that is written again, no wider than the terminal, and wiped at the end."""
         ours, its = pty.openpty()
-        with subprocess.Popen([sys.executable, HAUL, "search", "--seed=a", "--until", "9000", "--part", "600", "--census", CENSUS, "mine.haul"], cwd=self.folder,
-                              stdin=subprocess.DEVNULL, stdout=subprocess.DEVNULL, stderr=its):
+        program = self.stub('sleep 0.1; real "$@"')
+        with subprocess.Popen([sys.executable, HAUL, "search", "--seed=a", "--limit=500", "--until=150", "--part=10", "--workers=4", "--census", program,
+                               "mine.haul"], cwd=self.folder, stdin=subprocess.DEVNULL, stdout=subprocess.DEVNULL, stderr=its):
             os.close(its)
             said = b""
             with suppress(OSError):
