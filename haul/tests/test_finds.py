@@ -219,6 +219,17 @@ class Calls(Searches):
             self.assertEqual((status, len(output.splitlines()), errors), (0, 1, f"haul: {name}: {line}\n"))
             self.assert_right()
 
+    def test_it_cant_be_started(self) -> None:
+        """The reason of the system is told, if there is one, and the next one is called."""
+        said: list[str] = []
+        calls = FindCalls(Waiter(), "program", said.append)
+        calls.add(["a"])
+        calls.add(["b"])
+        with patch("haul.find_calls.Running", side_effect=[OSError(24, "Too many open files"), OSError()]):
+            calls.step()
+            calls.step()
+        self.assertEqual((said, calls.is_done()), (["program: Too many open files", "program: can't be started"], True))
+
     def test_what_is_left_is_told(self) -> None:
         """If that takes over five seconds."""
         program = self.stub("sleep 5.5; touch done")
