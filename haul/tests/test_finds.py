@@ -11,6 +11,9 @@ import sys
 import time
 import unittest
 from contextlib import redirect_stderr, suppress
+from fcntl import ioctl
+from struct import pack
+from termios import TIOCSWINSZ
 from unittest.mock import Mock, patch
 
 from haul.common import COMMON, LEAST
@@ -312,6 +315,7 @@ class Telling(Searches):
     def test_text(self) -> None:
         self.assertEqual(self.STATUS.text(), "1,234,567 soups, 2,000 per second, 30 objects, 4 codes, 1 find, running for 0:00:10, 0:00:20 left")
         self.assertEqual(Status(1, 0, 1, 1, 0, 0.0, 5).text(), "1 soup, 0 per second, 1 object, 1 code, 0 finds, running for 0:00:00, ? left")
+        self.assertEqual(Status(10, 10, 1, 1, 0, 10.0, 5).text(), "10 soups, 1 per second, 1 object, 1 code, 0 finds, running for 0:00:10, 0:00:05 left")
         self.assertTrue(Status(1, 0, 1, 1, 0, 0.0, None).text().endswith("running for 0:00:00"))
 
     def test_a_search_that_goes_on(self) -> None:
@@ -344,6 +348,38 @@ class Telling(Searches):
             line.show(self.STATUS)
             self.assertFalse(line.is_due())
         self.assertEqual(said.getvalue(), f"haul: {self.STATUS.text()}\n")
+
+    def shown(self, status: Status, columns: int) -> str:
+        """What is shown on a terminal of so many columns; 0 if it doesn't say."""
+        ours, its = pty.openpty()
+        ioctl(its, TIOCSWINSZ, pack("HHHH", 0, columns, 0, 0))
+        with open(its, "w") as errors, patch("sys.stderr", errors):
+            StatusLine().show(status)
+            said = os.read(ours, 65536).decode()
+        os.close(ours)
+        self.assertTrue(said.startswith("\r\x1b[K"))
+        return said.removeprefix("\r\x1b[K")
+
+    def test_where_a_line_is_short(self) -> None:
+        """It is if the other one is as wide as the terminal, and a short one is cut then."""
+        by_length = {len(status.text()): status for status in (Status(10**size, 0, 10**other, 1, 0, 0.0, None) for size in range(9) for other in range(9))}
+        # A terminal that doesn't say how wide it is has 80 columns.
+        for columns in (0, 80):
+            self.assertEqual(self.shown(by_length[79], columns), by_length[79].text())
+            self.assertEqual(self.shown(by_length[80], columns), by_length[80].short_text())
+        self.assertEqual(self.shown(self.STATUS, 20), self.STATUS.short_text()[:19])
+
+    def test_a_line_per_second(self) -> None:
+        """On a terminal."""
+        ours, its = pty.openpty()
+        with open(its, "w") as errors, patch("sys.stderr", errors), patch("time.monotonic", return_value=100.0) as now:
+            line = StatusLine()
+            for at, is_due, left in ((100.0, False, 1.0), (100.75, False, 0.25), (101.0, True, 0.0), (102.0, True, 0.0)):
+                now.return_value = at
+                self.assertEqual((line.is_due(), line.seconds_left()), (is_due, left))
+            line.show(self.STATUS)
+            self.assertEqual((line.is_due(), line.seconds_left()), (False, 1.0))
+        os.close(ours)
 
     def test_on_a_terminal(self) -> None:
         """One line that is written again, no wider than the terminal, and wiped at the end."""
