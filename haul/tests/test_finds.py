@@ -10,7 +10,7 @@ import subprocess
 import sys
 import time
 import unittest
-from contextlib import redirect_stderr, suppress
+from contextlib import redirect_stderr, redirect_stdout, suppress
 from fcntl import ioctl
 from struct import pack
 from termios import TIOCSWINSZ
@@ -215,7 +215,7 @@ class Calls(Searches):
 
     def test_it_fails(self) -> None:
         """A line says so, and that is all."""
-        for name, line in ((self.stub("exit 3"), "ended with status 3"), (self.stub("kill -9 $$", "dies"), "was ended by signal 9"),
+        for name, line in ((self.stub("exit 1"), "ended with status 1"), (self.stub("kill -9 $$", "dies"), "was ended by signal 9"),
                            ("./nowhere", "No such file or directory"), (str(self.folder), "Permission denied")):
             self.file.unlink(missing_ok=True)
             status, output, errors = self.search(*self.ONE, "--finds", name)
@@ -241,7 +241,8 @@ class Calls(Searches):
         self.assertTrue((self.folder / "done").exists())
 
     def test_what_it_leaves_running(self) -> None:
-        self.search(*self.ONE, "--finds", self.stub("sleep 1000 & exit 0"))
+        """It is killed, even if it takes no notice of signals."""
+        self.search(*self.ONE, "--finds", self.stub("trap '' HUP INT USR1 TERM; sleep 1000 & exit 0"))
         self.assert_nothing_runs()
 
     def test_it_takes_long(self) -> None:
@@ -444,6 +445,51 @@ class Pace(Searches):
                 search.unkept = [[]]
                 search.keep()
             self.assertFalse(stopping.is_writing)
+        os.close(keeper.lock)
+
+    def test_how_long_it_waits(self) -> None:
+        """For streams up to half a second, or until the status is due. Where there are objects to look at, it looks at them for a
+        fiftieth of a second, and doesn't wait. After a signal it looks at them for a second."""
+        keeper, stopping = Keeper(str(self.file)), Stopping()
+        with patch("time.monotonic", return_value=1000.0) as now:
+            search = Search(Plan(0, None, 10, 1, None), haul_of(LIFE), keeper, Census(CENSUS), stopping)
+            with patch.object(search, "find_for") as find_for, patch.object(search.waiter, "wait") as wait:
+                for at, seconds in ((1000.0, 0.5), (1059.75, 0.25)):
+                    now.return_value = at
+                    search.wait_until(Mock(side_effect=[False, True]))
+                    self.assertEqual((wait.call_args.args, find_for.call_count), ((seconds,), 0))
+                search.finder.add([(TRIPOLE, 1)])
+                search.wait_until(Mock(side_effect=[False, True]))
+                self.assertEqual((wait.call_args.args, find_for.call_args.args), ((0,), (0.02,)))
+                stopping.came(signal.SIGTERM)
+                with redirect_stderr(io.StringIO()) as said:
+                    search.tell_rest()
+                self.assertEqual((find_for.call_args.args, said.getvalue()), ((1.0,), "haul: not all finds are told: 1 object to look at\n"))
+            with redirect_stdout(io.StringIO()) as told:
+                search.find_for(0.0)
+                self.assertEqual(told.getvalue(), "")
+                search.find_for(0.001)
+            self.assertIn(TRIPOLE, told.getvalue())
+        os.close(keeper.lock)
+
+    def test_when_it_says_what_is_left(self) -> None:
+        """After five seconds, once."""
+        keeper = Keeper(str(self.file))
+        with patch("time.monotonic", return_value=1000.0) as now, redirect_stderr(io.StringIO()) as said:
+            search = Search(Plan(0, None, 10, 1, None), haul_of(LIFE), keeper, Census(CENSUS), Stopping())
+            search.finder.add([(TRIPOLE, 1), (CLOCK, 2)])
+            looked: list[tuple[float, int]] = []
+
+            def find_for(_seconds: float) -> None:
+                looked.append((now.return_value, said.getvalue().count("\n")))
+                now.return_value += 2.5
+                if len(looked) == 4:
+                    search.finder.queue.clear()
+
+            with patch.object(search, "find_for", find_for):
+                search.tell_rest()
+        self.assertEqual(looked[:4], [(1000.0, 0), (1002.5, 0), (1005.0, 1), (1007.5, 1)])
+        self.assertEqual(said.getvalue(), "haul: finds are still told: 2 objects to look at; Ctrl-C twice stops that\n")
         os.close(keeper.lock)
 
     def test_a_signal_while_batches_wait(self) -> None:
