@@ -57,7 +57,7 @@ def run_census(parent: int, words: list[str]) -> None:
 
 def end_session() -> None:
     """Kills all processes of this session, this one too."""
-    os.killpg(0, SIGKILL)
+    os.killpg(os.getpgrp(), SIGKILL)
 
 
 def run_find(parent: int, words: list[str]) -> None:
