@@ -18,7 +18,7 @@ from haul.program import checked
 
 # What the starter does with the program.
 CENSUS, FIND = "census", "find"
-BYTES_AT_A_TIME = 2**16
+BYTES_AT_A_TIME = 65_536
 # A program whose streams are closed is waited for so long at a time.
 SECONDS_TO_END = 0.05
 # The line of progress of `census take`.

@@ -40,7 +40,7 @@ def end_with(parent: int, number: int) -> None:
     """Asks for a signal when the parent ends. Ends at once if it has ended already."""
     import ctypes
 
-    ctypes.CDLL(None, use_errno=True).prctl(PR_SET_PDEATHSIG, number, 0, 0, 0)
+    ctypes.CDLL(None).prctl(PR_SET_PDEATHSIG, number)
     if os.getppid() != parent:
         os._exit(FAILED)
 
@@ -55,15 +55,15 @@ def run_census(parent: int, words: list[str]) -> None:
         os._exit(USAGE if is_missing else FAILED)
 
 
-def end_session(_number: int = 0, _frame: object = None) -> None:
+def end_session() -> None:
     """Kills all processes of this session, this one too."""
-    os.killpg(0, SIGKILL)
+    os.killpg(os.getpgrp(), SIGKILL)
 
 
 def run_find(parent: int, words: list[str]) -> None:
     import signal
 
-    signal.signal(signal.SIGTERM, end_session)
+    signal.signal(signal.SIGTERM, lambda _number, _frame: end_session())
     end_with(parent, signal.SIGTERM)
     itself = os.getpid()
     # It is closed when the program begins. If it can't, the reason is written to it first.
@@ -82,14 +82,17 @@ def run_find(parent: int, words: list[str]) -> None:
             os.write(tell, (error.strerror or "can't be started").encode())
         os._exit(FAILED)
     os.close(tell)
-    why = os.read(reason, 1000).decode()
+    with open(reason, encoding="utf-8") as told:
+        why = told.read()
     _, ended = os.waitpid(program, 0)
     print(why or how_ended(os.waitstatus_to_exitcode(ended)), flush=True)
     end_session()
 
 
 def how_ended(status: int) -> str:
-    return DONE if status == 0 else f"ended with status {status}" if status > 0 else f"was ended by signal {-status}"
+    if status < 0:
+        return f"was ended by signal {-status}"
+    return f"ended with status {status}" if status else DONE
 
 
 if __name__ == "__main__":

@@ -19,7 +19,7 @@ class Stopping:
         self.finishes = False
         # The signal that ends the program, and when it came; none if there isn't one.
         self.number: int | None = None
-        self.since = 0.0
+        self.since: float
         # Whether the work is at something that has to be done before the program ends.
         self.is_writing = False
         # A byte comes out of this pipe for each signal, so that work that waits hears of it.

@@ -13,7 +13,7 @@ import unittest
 from contextlib import suppress
 from pathlib import Path
 
-from haul.tests.called import CENSUS, HAUL, census
+from haul.tests.called import CENSUS, HAUL, as_haul, census
 from haul.program import job_words, set_words
 from haul.text import Haul, read_one_haul
 
@@ -40,22 +40,28 @@ class Searches(unittest.TestCase):
     # Whether SIGHUP is ignored in the searches.
     has_nohup = False
 
-    def start(self, *words: str, program: str = CENSUS, file: str = "mine.haul", most_bytes: int | None = None) -> subprocess.Popen[bytes]:
-        """Starts a search in a process group of its own, in which no file may be longer than `most_bytes`."""
+    def start(self, *words: str, program: str = CENSUS, file: str = "mine.haul", most_bytes: int | None = None,
+              is_forked: bool = False) -> subprocess.Popen[bytes]:
+        """Starts a search in a process group of its own, in which no file may be longer than `most_bytes`. It may be forked."""
+        words = ("search", *words, "--census", program, file)
+        become = as_haul(*words)
+
         def prepare() -> None:
             # Tests that run in the background, or under `nohup`, ignore signals, and so would the program.
             signal.signal(signal.SIGINT, signal.SIG_DFL)
             signal.signal(signal.SIGHUP, signal.SIG_IGN if self.has_nohup else signal.SIG_DFL)
             if most_bytes is not None:
                 resource.setrlimit(resource.RLIMIT_FSIZE, (most_bytes, most_bytes))
+            if is_forked:
+                become()
 
-        return subprocess.Popen([sys.executable, HAUL, "search", *words, "--census", program, file], cwd=self.folder, stdin=subprocess.DEVNULL,
+        return subprocess.Popen([sys.executable, HAUL, *words], cwd=self.folder, stdin=subprocess.DEVNULL,
                                 stdout=subprocess.PIPE, stderr=subprocess.PIPE, start_new_session=True,
                                 preexec_fn=prepare)
 
     def search(self, *words: str, program: str = CENSUS, file: str = "mine.haul", most_bytes: int | None = None) -> tuple[int, str, str]:
         """The status of a search, and what it prints on both streams."""
-        with self.start(*words, program=program, file=file, most_bytes=most_bytes) as running:
+        with self.start(*words, program=program, file=file, most_bytes=most_bytes, is_forked=most_bytes is None) as running:
             output, errors = running.communicate(timeout=120)
         return running.returncode, output.decode(), errors.decode()
 

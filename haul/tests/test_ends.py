@@ -18,7 +18,7 @@ from unittest.mock import patch
 
 from haul import main
 from haul.children import NoThread
-from haul.tests.called import CENSUS, HAUL, TOP, census, run
+from haul.tests.called import CENSUS, HAUL, TOP, as_haul, census, run, taken
 from haul.tests.drawn import text_of
 from haul.tests.test_text import SMALL
 from haul.text import Haul, Job, read_one_haul
@@ -31,14 +31,19 @@ CODES = [f"xs4_{number}" for number in range(1000, 1600)]
 MANY = text_of(Haul(Job("", "b3s23", (1, 1, 1, 0)), [(0, 600)], 600, 0, 0, {code: 1 for code in CODES}, {code: [k] for k, code in enumerate(CODES)}))
 
 
+def fill(folder: str, script: str) -> None:
+    """Writes `small`, a haul of two soups, `three`, one of three, and `other`, a program with this script."""
+    Path(folder, "small").write_bytes(taken(2))
+    Path(folder, "three").write_bytes(taken(3))
+    Path(folder, "other").write_text(f"#!/bin/sh\n{script}\n")
+    Path(folder, "other").chmod(0o755)
+
+
 def in_shell(command: str, script: str = "", few: str = "") -> tuple[int, str, str]:
-    """The status and both outputs of a shell's command, in which `haul` is the companion, `small` a haul of two soups, `three` one
-    of three, `other` a program with this script, and `$few` a text of Python."""
+    """The status and both outputs of a shell's command in a folder that `fill` has filled, in which `haul` is the companion, and
+    `$few` a text of Python."""
     with tempfile.TemporaryDirectory() as folder:
-        Path(folder, "small").write_bytes(census("take", "--count", "2"))
-        Path(folder, "three").write_bytes(census("take", "--count", "3"))
-        Path(folder, "other").write_text(f"#!/bin/sh\n{script}\n")
-        Path(folder, "other").chmod(0o755)
+        fill(folder, script)
         shell = f'haul() {{ "{sys.executable}" "{HAUL}" "$@"; }}; {command}'
         ended = subprocess.run(["bash", "-c", shell], cwd=folder, stdin=subprocess.DEVNULL, capture_output=True, check=False,
                                env=os.environ | {"few": few})
@@ -47,7 +52,7 @@ def in_shell(command: str, script: str = "", few: str = "") -> tuple[int, str, s
 
 class Streams(unittest.TestCase):
     def test_closed_pipe(self) -> None:
-        text = census("take", "--count", "40")
+        text = taken(40)
         with subprocess.Popen([sys.executable, HAUL, "join"], stdin=subprocess.PIPE, stdout=subprocess.PIPE, stderr=subprocess.PIPE) as program:
             assert program.stdin and program.stdout and program.stderr
             program.stdout.close()
@@ -113,7 +118,7 @@ class Progress(unittest.TestCase):
         with tempfile.TemporaryFile() as given:
             given.write(text)
             given.seek(0)
-            with subprocess.Popen([sys.executable, HAUL, *words], stdin=given, stdout=subprocess.DEVNULL, stderr=its):
+            with subprocess.Popen([HAUL, *words], stdin=given, stdout=subprocess.DEVNULL, stderr=its, preexec_fn=as_haul(*words)):
                 os.close(its)
                 said = b""
                 with suppress(OSError):
@@ -144,7 +149,7 @@ class Progress(unittest.TestCase):
 
     def test_a_census(self) -> None:
         """That of the program is passed on, as docs/COMMANDS.md has it, and wiped."""
-        said = self.written("check", text=census("take", "--count", "40"))
+        said = self.written("check", text=taken(40))
         self.assertTrue(said.startswith(b"\r0 of 40 soups") and said.endswith(b" \r"))
 
     def test_files(self) -> None:
@@ -254,18 +259,20 @@ class OtherPrograms(unittest.TestCase):
                "echo OxO", "echo", r"printf '0 unsettled\n1 unsettled\n2 unsettled\n'"]
     COMMANDS = ["check", "check --samples", "page"]
 
-    def answer(self, script: str, command: str) -> tuple[int, str, str]:
-        """What `haul` says of a haul of three soups, if this shell script is the program that it asks."""
-        return in_shell(f"haul {command} --census ./other three", script)
+    def answer(self, script: str, command: str, program: str = "./other") -> tuple[int, str, str]:
+        """What `haul` says of a haul of three soups, if this shell script, or another program, is the one that it asks."""
+        with tempfile.TemporaryDirectory() as folder:
+            fill(folder, script)
+            return run(*command.split(), "--census", program, "three", cwd=folder)
 
     def test_none(self) -> None:
         for command in self.COMMANDS:
-            self.assertEqual(in_shell(f"haul {command} --census /nowhere/census small"), (2, "", "haul: no census at /nowhere/census\n"))
+            self.assertEqual(self.answer("", command, "/nowhere/census"), (2, "", "haul: no census at /nowhere/census\n"))
 
     def test_an_empty_path(self) -> None:
         """It names no program, so no other is asked in its place."""
         for command in self.COMMANDS:
-            status, output, errors = in_shell(f"haul {command} --census '' small")
+            status, output, errors = self.answer("", command, "")
             self.assertEqual((status, output), (2, ""))
             self.assertIn("argument --census: an empty path\n", errors)
 
@@ -308,20 +315,22 @@ class Calls(unittest.TestCase):
 
     def ended(self, command: str, script: str) -> tuple[int, str, str, list[str]]:
         """What a command ends with and prints over a haul of forty soups, if this script is the program, and the calls that it made."""
-        with tempfile.NamedTemporaryFile() as calls:
-            status, output, errors = in_shell(
-                f'exec 3> {calls.name}; "{CENSUS}" take --count 40 > forty; {command} forty; status=$?; cat calls >&3 2> /dev/null; exit $status', self.NOTES + script)
-            return status, output, errors, calls.read().decode().splitlines()
+        with tempfile.TemporaryDirectory() as folder:
+            fill(folder, self.NOTES + script)
+            Path(folder, "forty").write_bytes(taken(40))
+            calls = Path(folder, "calls")
+            calls.touch()
+            return *run(*command.split(), "forty", cwd=folder), calls.read_text().splitlines()
 
     def test_a_page_asks_when_soups_settle(self) -> None:
-        haul = read_one_haul(io.BytesIO(census("take", "--count", "40")))
+        haul = read_one_haul(io.BytesIO(taken(40)))
         first, *others = sorted({number for numbers in haul.samples.values() for number in numbers})
-        status, page, errors, calls = self.ended("haul page --census ./other", 'real "$@"')
-        self.assertEqual((status, errors, page), (0, "", run("page", text=census("take", "--count", "40"))[1]))
+        status, page, errors, calls = self.ended("page --census ./other", 'real "$@"')
+        self.assertEqual((status, errors, page), (0, "", run("page", text=taken(40))[1]))
         self.assertEqual(calls, [
             f"work --worker=1 --seed= --rule=b3s23 --period=64 --horizon=512 --stride=101 --limit=30300 --first={first} --count=1 --also="
             + ",".join(f"{number}+1" for number in others)])
-        self.assertEqual(self.ended("haul page --play 0 --census ./other", 'real "$@"')[3], [])
+        self.assertEqual(self.ended("page --play 0 --census ./other", 'real "$@"')[3], [])
 
     def test_a_call_that_fails(self) -> None:
         """What it said is told, and nothing of the page is printed."""
@@ -329,7 +338,7 @@ class Calls(unittest.TestCase):
                                       ("kill -15 $$", 5, "census was ended by signal 15"), ("echo O.x", 2, "no census at ./other"),
                                       ("echo 0", 2, "no census at ./other")):
             with self.subTest(failing=failing):
-                self.assertEqual(self.ended("haul page --census ./other", failing)[:3], (status, "", f"haul: {line}\n"))
+                self.assertEqual(self.ended("page --census ./other", failing)[:3], (status, "", f"haul: {line}\n"))
 
     def test_the_others_ask_nothing(self) -> None:
         """Not even if there is no program."""
@@ -337,7 +346,7 @@ class Calls(unittest.TestCase):
             shutil.copytree(TOP / "haul", Path(folder, "haul"))
             Path(folder, "bin").mkdir()
             shutil.copy(HAUL, Path(folder, "bin", "haul"))
-            Path(folder, "a").write_bytes(census("take", "--count", "40"))
+            Path(folder, "a").write_bytes(taken(40))
             for words in (["table"], ["table", "--parts", "--json"], ["compare", "--parts", "a"], ["join"], ["soup", "C1/a0"]):
                 ended = subprocess.run([sys.executable, "bin/haul", *words, *(["a"] if words[0] != "soup" else [])], cwd=folder, capture_output=True, check=False,
                                        env={**os.environ, "PATH": "/nowhere"})

@@ -115,7 +115,7 @@ def cut(haul: Haul, at: Fields) -> Iterator[tuple[str, Place]]:
 class Faults(unittest.TestCase):
     def test_each_is_told_at_its_place(self) -> None:
         draw = random.Random("faults")
-        for _ in range(60):
+        for _ in range(24):
             haul = any_haul(draw)
             at = Fields(haul)
             for kind in (wrong_fields, wrong_writing, wrong_lines, cut):

@@ -10,7 +10,10 @@ import subprocess
 import sys
 import time
 import unittest
-from contextlib import redirect_stderr, suppress
+from contextlib import redirect_stderr, redirect_stdout, suppress
+from fcntl import ioctl
+from struct import pack
+from termios import TIOCSWINSZ
 from unittest.mock import Mock, patch
 
 from haul.common import COMMON, LEAST
@@ -212,12 +215,23 @@ class Calls(Searches):
 
     def test_it_fails(self) -> None:
         """A line says so, and that is all."""
-        for name, line in ((self.stub("exit 3"), "ended with status 3"), (self.stub("kill -9 $$", "dies"), "was ended by signal 9"),
+        for name, line in ((self.stub("exit 1"), "ended with status 1"), (self.stub("kill -9 $$", "dies"), "was ended by signal 9"),
                            ("./nowhere", "No such file or directory"), (str(self.folder), "Permission denied")):
             self.file.unlink(missing_ok=True)
             status, output, errors = self.search(*self.ONE, "--finds", name)
             self.assertEqual((status, len(output.splitlines()), errors), (0, 1, f"haul: {name}: {line}\n"))
             self.assert_right()
+
+    def test_it_cant_be_started(self) -> None:
+        """The reason of the system is told, if there is one, and the next one is called."""
+        said: list[str] = []
+        calls = FindCalls(Waiter(), "program", said.append)
+        calls.add(["a"])
+        calls.add(["b"])
+        with patch("haul.find_calls.Running", side_effect=[OSError(24, "Too many open files"), OSError()]):
+            calls.step()
+            calls.step()
+        self.assertEqual((said, calls.is_done()), (["program: Too many open files", "program: can't be started"], True))
 
     def test_what_is_left_is_told(self) -> None:
         """If that takes over five seconds."""
@@ -227,7 +241,8 @@ class Calls(Searches):
         self.assertTrue((self.folder / "done").exists())
 
     def test_what_it_leaves_running(self) -> None:
-        self.search(*self.ONE, "--finds", self.stub("sleep 1000 & exit 0"))
+        """It is killed, even if it takes no notice of signals."""
+        self.search(*self.ONE, "--finds", self.stub("trap '' HUP INT USR1 TERM; sleep 1000 & exit 0"))
         self.assert_nothing_runs()
 
     def test_it_takes_long(self) -> None:
@@ -301,6 +316,7 @@ class Telling(Searches):
     def test_text(self) -> None:
         self.assertEqual(self.STATUS.text(), "1,234,567 soups, 2,000 per second, 30 objects, 4 codes, 1 find, running for 0:00:10, 0:00:20 left")
         self.assertEqual(Status(1, 0, 1, 1, 0, 0.0, 5).text(), "1 soup, 0 per second, 1 object, 1 code, 0 finds, running for 0:00:00, ? left")
+        self.assertEqual(Status(10, 10, 1, 1, 0, 10.0, 5).text(), "10 soups, 1 per second, 1 object, 1 code, 0 finds, running for 0:00:10, 0:00:05 left")
         self.assertTrue(Status(1, 0, 1, 1, 0, 0.0, None).text().endswith("running for 0:00:00"))
 
     def test_a_search_that_goes_on(self) -> None:
@@ -334,11 +350,44 @@ class Telling(Searches):
             self.assertFalse(line.is_due())
         self.assertEqual(said.getvalue(), f"haul: {self.STATUS.text()}\n")
 
+    def shown(self, status: Status, columns: int) -> str:
+        """What is shown on a terminal of so many columns; 0 if it doesn't say."""
+        ours, its = pty.openpty()
+        ioctl(its, TIOCSWINSZ, pack("HHHH", 0, columns, 0, 0))
+        with open(its, "w") as errors, patch("sys.stderr", errors):
+            StatusLine().show(status)
+            said = os.read(ours, 65536).decode()
+        os.close(ours)
+        self.assertTrue(said.startswith("\r\x1b[K"))
+        return said.removeprefix("\r\x1b[K")
+
+    def test_where_a_line_is_short(self) -> None:
+        """It is if the other one is as wide as the terminal, and a short one is cut then."""
+        by_length = {len(status.text()): status for status in (Status(10**size, 0, 10**other, 1, 0, 0.0, None) for size in range(9) for other in range(9))}
+        # A terminal that doesn't say how wide it is has 80 columns.
+        for columns in (0, 80):
+            self.assertEqual(self.shown(by_length[79], columns), by_length[79].text())
+            self.assertEqual(self.shown(by_length[80], columns), by_length[80].short_text())
+        self.assertEqual(self.shown(self.STATUS, 20), self.STATUS.short_text()[:19])
+
+    def test_a_line_per_second(self) -> None:
+        """On a terminal."""
+        ours, its = pty.openpty()
+        with open(its, "w") as errors, patch("sys.stderr", errors), patch("time.monotonic", return_value=100.0) as now:
+            line = StatusLine()
+            for at, is_due, left in ((100.0, False, 1.0), (100.75, False, 0.25), (101.0, True, 0.0), (102.0, True, 0.0)):
+                now.return_value = at
+                self.assertEqual((line.is_due(), line.seconds_left()), (is_due, left))
+            line.show(self.STATUS)
+            self.assertEqual((line.is_due(), line.seconds_left()), (False, 1.0))
+        os.close(ours)
+
     def test_on_a_terminal(self) -> None:
         """One line that is written again, no wider than the terminal, and wiped at the end."""
         ours, its = pty.openpty()
-        with subprocess.Popen([sys.executable, HAUL, "search", "--seed=a", "--until", "9000", "--part", "600", "--census", CENSUS, "mine.haul"], cwd=self.folder,
-                              stdin=subprocess.DEVNULL, stdout=subprocess.DEVNULL, stderr=its):
+        program = self.stub('sleep 0.1; real "$@"')
+        with subprocess.Popen([sys.executable, HAUL, "search", "--seed=a", "--limit=500", "--until=150", "--part=10", "--workers=4", "--census", program,
+                               "mine.haul"], cwd=self.folder, stdin=subprocess.DEVNULL, stdout=subprocess.DEVNULL, stderr=its):
             os.close(its)
             said = b""
             with suppress(OSError):
@@ -396,6 +445,51 @@ class Pace(Searches):
                 search.unkept = [[]]
                 search.keep()
             self.assertFalse(stopping.is_writing)
+        os.close(keeper.lock)
+
+    def test_how_long_it_waits(self) -> None:
+        """For streams up to half a second, or until the status is due. Where there are objects to look at, it looks at them for a
+        fiftieth of a second, and doesn't wait. After a signal it looks at them for a second."""
+        keeper, stopping = Keeper(str(self.file)), Stopping()
+        with patch("time.monotonic", return_value=1000.0) as now:
+            search = Search(Plan(0, None, 10, 1, None), haul_of(LIFE), keeper, Census(CENSUS), stopping)
+            with patch.object(search, "find_for") as find_for, patch.object(search.waiter, "wait") as wait:
+                for at, seconds in ((1000.0, 0.5), (1059.75, 0.25)):
+                    now.return_value = at
+                    search.wait_until(Mock(side_effect=[False, True]))
+                    self.assertEqual((wait.call_args.args, find_for.call_count), ((seconds,), 0))
+                search.finder.add([(TRIPOLE, 1)])
+                search.wait_until(Mock(side_effect=[False, True]))
+                self.assertEqual((wait.call_args.args, find_for.call_args.args), ((0,), (0.02,)))
+                stopping.came(signal.SIGTERM)
+                with redirect_stderr(io.StringIO()) as said:
+                    search.tell_rest()
+                self.assertEqual((find_for.call_args.args, said.getvalue()), ((1.0,), "haul: not all finds are told: 1 object to look at\n"))
+            with redirect_stdout(io.StringIO()) as told:
+                search.find_for(0.0)
+                self.assertEqual(told.getvalue(), "")
+                search.find_for(0.001)
+            self.assertIn(TRIPOLE, told.getvalue())
+        os.close(keeper.lock)
+
+    def test_when_it_says_what_is_left(self) -> None:
+        """After five seconds, once."""
+        keeper = Keeper(str(self.file))
+        with patch("time.monotonic", return_value=1000.0) as now, redirect_stderr(io.StringIO()) as said:
+            search = Search(Plan(0, None, 10, 1, None), haul_of(LIFE), keeper, Census(CENSUS), Stopping())
+            search.finder.add([(TRIPOLE, 1), (CLOCK, 2)])
+            looked: list[tuple[float, int]] = []
+
+            def find_for(_seconds: float) -> None:
+                looked.append((now.return_value, said.getvalue().count("\n")))
+                now.return_value += 2.5
+                if len(looked) == 4:
+                    search.finder.queue.clear()
+
+            with patch.object(search, "find_for", find_for):
+                search.tell_rest()
+        self.assertEqual(looked[:4], [(1000.0, 0), (1002.5, 0), (1005.0, 1), (1007.5, 1)])
+        self.assertEqual(said.getvalue(), "haul: finds are still told: 2 objects to look at; Ctrl-C twice stops that\n")
         os.close(keeper.lock)
 
     def test_a_signal_while_batches_wait(self) -> None:

@@ -22,9 +22,9 @@ RULES = ["b3s23", "b36s23", "b3678s34678", "b37s0123", STILL]
 
 
 def asked(calls: list[tuple[list[str], str]]) -> list[str]:
-    """What `census` prints for these calls, each of which reads a text. A shell makes them, one after another."""
-    script = "".join(f"\"$0\" {' '.join(words)} << 'END'\n{read}\nEND\necho =$?\n" for words, read in calls)
-    printed = subprocess.run(["bash", "-c", "eval \"$(cat)\"", CENSUS], input=script.encode(), stdout=subprocess.PIPE, check=True).stdout.decode()
+    """What `census` prints for these calls, some of which read a text. A shell makes them, one after another."""
+    script = "".join(f"\"$0\" {' '.join(words)}" + (f" << 'END'\n{read}\nEND" if read else "") + "\necho =$?\n" for words, read in calls)
+    printed = subprocess.run(["sh", "-c", "eval \"$(cat)\"", CENSUS], input=script.encode(), stdout=subprocess.PIPE, check=True).stdout.decode()
     answers = printed.split("=0\n")
     assert len(answers) == len(calls) + 1 and answers[-1] == "", printed[-200:]
     return answers[:-1]

@@ -153,7 +153,7 @@ class Shown(unittest.TestCase):
     def test_least(self) -> None:
         """Codes with as many are there."""
         draw = random.Random("least")
-        for _ in range(100):
+        for _ in range(40):
             haul = any_haul(draw)
             for least in {0, 1, *list(haul.totals.values())[:3]}:
                 text = compared(haul, least=least)

@@ -231,9 +231,9 @@ class Golly(unittest.TestCase):
             self.assertEqual(life(["run", "0"], output), life(["run", "12", "--rule", rule], "\n".join(rows)))
 
     def test_patterns_of_golly(self) -> None:
-        """Those that fit: each is, moved to the corner, what Golly writes of it."""
+        """One of three that fit: each is, moved to the corner, what Golly writes of it."""
         tried = 0
-        for file in sorted(Path("/usr/share/golly/Patterns").rglob("*.rle")):
+        for file in sorted(Path("/usr/share/golly/Patterns").rglob("*.rle"))[::3]:
             text = file.read_bytes()
             if len(text) > 50000:
                 continue

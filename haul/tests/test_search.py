@@ -17,6 +17,8 @@ from unittest.mock import patch
 
 from haul.keeper import CantKeep, Keeper
 from haul.options import parsed
+from haul.running import CENSUS as CENSUS_OF_STARTER
+from haul.running import Running, RunningTake, Waiter
 from haul.stopping import Stopping
 from haul.tests.called import CENSUS, TOP, census, run
 from haul.tests.searching import QUICK, Searches
@@ -181,6 +183,16 @@ class Refusals(Searches):
             self.assertEqual(self.search("--seed=a", program=program), (2, "", f"haul: {line}\n"))
         self.assertFalse(self.file.exists())
 
+    def test_a_program_that_cant_be_started(self) -> None:
+        """A text that says no interpreter is no program. With another reason there may be one."""
+        text, loop = self.folder / "text", self.folder / "loop"
+        text.write_text("x\n")
+        text.chmod(0o755)
+        loop.symlink_to("loop")
+        self.assertEqual(self.search("--seed=a", program=str(text)), (2, "", f"haul: no census at {text}\n"))
+        self.assertEqual(self.search("--seed=a", program=str(loop)), (5, "", f"haul: {loop}: Too many levels of symbolic links\n"))
+        self.assertFalse(self.file.exists())
+
 
 class Faults(Searches):
     """The file is always a right haul, whatever fails."""
@@ -318,6 +330,30 @@ class Signals(Searches):
         self.has_nohup = True
         self.assertEqual(self.search("--seed=a", "--until", "20", program=program)[0], 0)
         self.assert_right()
+
+
+class Programs(Searches):
+    """A program that runs in a session of its own."""
+
+    def test_streams_that_are_closed_early(self) -> None:
+        """It is waited for then, a moment at a time."""
+        running = Running(Waiter(), CENSUS_OF_STARTER, [self.stub("exec 1>&-; exec sleep 1000")], None)
+        while running.open:
+            running.waiter.wait(1)
+        began = time.monotonic()
+        self.assertFalse(running.is_ended())
+        self.assertLess(time.monotonic() - began, 1)
+        running.end()
+        self.assert_nothing_runs()
+
+    def test_lines_of_progress(self) -> None:
+        """The last whole one counts."""
+        take = RunningTake(Waiter(), [self.stub("exec sleep 1000")])
+        for piece, soups in ((b"", 0), (b"\r3 of 90 so", 0), (b"ups, 5 a second", 3), (b"", 3), (b"\r14 of 90 soups\r25 of 90 soups  \r26 of", 25), (b" 90 soups", 26)):
+            take.complained += piece
+            self.assertEqual(take.soups(), soups)
+        take.end()
+        self.assert_nothing_runs()
 
 
 class Stops(unittest.TestCase):

@@ -268,9 +268,11 @@ class UnsettledSoups(unittest.TestCase):
             self.assertEqual(Path(f"{path}.read").read_text().splitlines(), soup_of("a0"))
 
     def test_a_large_pattern(self) -> None:
-        """Of what `census run` prints nothing is kept, here 600 MB."""
+        """Of what `census run` prints nothing is kept, here 300 MB."""
         line = "report 2 rule=b3s23 profile=1,1,1,0 seed=a worker=1 soup=0 unsettled"
-        with program("head -c 300000000 /dev/zero | tr '\\0' O") as path:
+        with tempfile.NamedTemporaryFile() as cells, program(f"cat{f' {cells.name}' * 30}") as path:
+            cells.write(b"O" * 10**7)
+            cells.flush()
             ended = subprocess.run([sys.executable, HAUL, "soups", "--unsettled", "--census", path], input=text_of([line]), capture_output=True, check=False,
                                    preexec_fn=lambda: resource.setrlimit(resource.RLIMIT_AS, (2**28, 2**28)))
         self.assertEqual(ended.stdout.decode().splitlines()[-1], "   0           0   300000000       0", ended.stderr)

@@ -17,12 +17,13 @@ from math import exp, fsum, lgamma, log, ulp
 from pathlib import Path
 from types import FrameType
 from typing import Any
+from unittest.mock import patch
 
 from haul.columns import figure
 from haul.compare import lettered, meet
 from haul.poisson import interval
 from haul.rates import rate
-from haul.tests.called import HAUL, run
+from haul.tests.called import HAUL, as_haul, run
 from haul.text import Haul, Job
 
 # Garwood (1936): the ends of the interval of 95 %.
@@ -373,7 +374,7 @@ class Terminals(Tables):
     def on_terminal(self, columns: int, *words: str) -> list[str]:
         """The lines that are printed on a terminal of so many columns."""
         ours, its = pty.openpty()
-        with subprocess.Popen([sys.executable, HAUL, *words], stdout=its, cwd=self.folder.name, env=os.environ | {"COLUMNS": str(columns)}):
+        with patch.dict(os.environ, COLUMNS=str(columns)), subprocess.Popen([HAUL, *words], stdout=its, cwd=self.folder.name, preexec_fn=as_haul(*words)):
             os.close(its)
             said = b""
             while True:

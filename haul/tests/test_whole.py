@@ -6,8 +6,6 @@ import io
 import os
 import random
 import re
-import subprocess
-import sys
 import tempfile
 import unittest
 from pathlib import Path
@@ -15,7 +13,7 @@ from pathlib import Path
 from haul.by_parts import Objects
 from haul.compare import Comparison, ranked
 from haul.program import pieces
-from haul.tests.called import HAUL, census, run
+from haul.tests.called import census, run
 from haul.tests.drawn import any_haul, text_of
 from haul.tests.pages import page, table_of
 from haul.text import Haul, Job, Range, read_one_haul
@@ -102,9 +100,8 @@ class Checks(unittest.TestCase):
         with tempfile.TemporaryDirectory() as folder:
             Path(folder, "other").write_text(NOTES)
             Path(folder, "other").chmod(0o755)
-            ended = subprocess.run([sys.executable, HAUL, "check", "--census", "./other", *words], cwd=folder, input=text_of(haul).encode(),
-                                   capture_output=True, check=False)
-            self.assertEqual((ended.returncode, ended.stdout), (4, b""))
+            ended = run("check", "--census", "./other", *words, text=text_of(haul).encode(), cwd=folder)
+            self.assertEqual(ended[:2], (4, ""))
             return Path(folder, "asked").read_text().splitlines()
 
     def test_no_soup(self) -> None:
