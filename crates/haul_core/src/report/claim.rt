@@ -98,8 +98,8 @@ impl Model for SettledClaim {
 }
 
 impl SettledClaim {
-    /// Returns each code with the number of objects that are said to have it. As `IsClaim` says of each claim, the codes
-    /// are in ASCII order, each once, and the numbers are at least 1.
+    /// Returns each code with the number of objects that are said to have it. By `IsClaim`, the codes of a claim are in
+    /// ASCII order, each once, and the numbers are at least 1.
     pub fn counts(&self) -> &[(ClaimedCode, u64)]
         ensures { result.now ≡ self.now.counts }
     {
