@@ -129,7 +129,9 @@ fn survey_left<G: Gate, R: Wait>(
             Err(ReportError::Memory(error)) => return End::Memory(error),
             Err(ReportError::BadWorker) => unreachable!(),
         };
-        shared.belt.present(rt, sender, Note::Report(report));
+        shared
+            .belt
+            .present_one_of_many(rt, sender, Note::Report(report));
     }
     unreachable!()
 }

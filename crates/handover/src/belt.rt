@@ -99,7 +99,7 @@ type Queue<N> = RuledArrayQueue<(u8, N), Share<N>, InOrder>;
 pub struct Belt<N: Drop> {
     queue: Queue<N>,
     workers: u8,
-    /// Notified after each note that is presented.
+    /// Notified after each note that is presented; some of these notifications wake nobody.
     arrived: EventCount,
     /// Notified after each note that is received.
     left: EventCount,
@@ -221,24 +221,26 @@ impl<N: Drop> Belt<N> {
         Ok((belt, senders, ReceiverPass { pass }))
     }
 
-    /// Presents a note. Sleeps while the queue is full.
+    /// Presents a note, and wakes the receiver if it sleeps. Sleeps while the queue is full.
     pub fn present<R: Wait>(&self, rt: &R, pass: &mut SenderPass<N>, note: N)
         requires { pass.old.belt ≡ self.now.name }
         ensures { pass.new ≡ with_note note pass.old }
     {
-        let mut note = note;
-        for _ in rt.forever() {
-            let seen = self.left.count();
-            match self.try_present(pass, note) {
-                Ok(()) => {
-                    self.arrived.notify();
-                    return;
-                }
-                Err(back) => note = back,
-            }
-            self.left.sleep_while(rt, seen);
-        }
-        unreachable!()
+        self.put(rt, pass, note);
+        self.arrived.notify();
+    }
+
+    /// Presents a note as `present` does, but wakes the receiver only with every eighth note of the belt. The receiver
+    /// finds the others within a tenth of a second.
+    ///
+    /// This is for notes that follow one another quickly. To wake the receiver for each takes longer than to put it on
+    /// the belt.
+    pub fn present_one_of_many<R: Wait>(&self, rt: &R, pass: &mut SenderPass<N>, note: N)
+        requires { pass.old.belt ≡ self.now.name }
+        ensures { pass.new ≡ with_note note pass.old }
+    {
+        self.put(rt, pass, note);
+        self.arrived.notify_sometimes();
     }
 
     /// Receives a note. Sleeps while the queue is empty.
@@ -252,7 +254,7 @@ impl<N: Drop> Belt<N> {
                 self.left.notify();
                 return note;
             }
-            self.arrived.sleep_while(rt, seen);
+            self.arrived.sleep_briefly_while(rt, seen);
         }
         unreachable!()
     }
@@ -271,6 +273,23 @@ impl<N: Drop> Belt<N> {
         // For the prover: the queue holds what was presented and not received.
         queue.learn_as::<Get>(&mut pass);
         Remainder { queue, pass }
+    }
+
+    /// Puts a note at the end of the queue. Sleeps while the queue is full.
+    fn put<R: Wait>(&self, rt: &R, pass: &mut SenderPass<N>, note: N)
+        requires { pass.old.belt ≡ self.now.name }
+        ensures { pass.new ≡ with_note note pass.old }
+    {
+        let mut note = note;
+        for _ in rt.forever() {
+            let seen = self.left.count();
+            match self.try_present(pass, note) {
+                Ok(()) => return,
+                Err(back) => note = back,
+            }
+            self.left.sleep_while(rt, seen);
+        }
+        unreachable!()
     }
 
     /// Presents a note if there is room.

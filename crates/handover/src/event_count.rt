@@ -7,11 +7,15 @@
 //! receiver   sleeps while the count is 7: goes on at once
 //! ```
 //!
-//! All five atomic operations are sequentially consistent, as the proofs assume. The proofs say nothing about waking.
+//! All atomic operations are sequentially consistent, as the proofs assume. The proofs say nothing about waking.
 //! The comment at each operation says what the event count itself needs, and which wake-up a weaker ordering would
 //! lose.
 use std::sync::Wait;
 use std::sync::atomic::{AtomicU64, Ordering};
+use std::time::Duration;
+
+/// `notify_sometimes` wakes a thread with the first event, and with every eighth after it.
+const EVENTS_PER_WAKE: u64 = 8;
 
 /// A count of events, and the threads that sleep until the next one.
 ///
@@ -52,6 +56,27 @@ impl EventCount {
         if self.sleepers.load(Ordering::SeqCst) > 0 {
             self.events.wake_one();
         }
+    }
+
+    /// Counts an event, and with every eighth one wakes one of the threads that sleep here. The others are found by
+    /// threads that sleep with `sleep_briefly_while`.
+    ///
+    /// Where events come one after another, this saves most of the system calls and changes of threads.
+    pub(crate) fn notify_sometimes(&self) {
+        // The orderings are those of `notify`.
+        let before = self.events.fetch_add(1, Ordering::SeqCst);
+        if before % EVENTS_PER_WAKE == 0 && self.sleepers.load(Ordering::SeqCst) > 0 {
+            self.events.wake_one();
+        }
+    }
+
+    /// Sleeps while the count is `seen`, but at most for a tenth of a second. It may also wake up without a reason.
+    pub(crate) fn sleep_briefly_while<R: Wait>(&self, rt: &R, seen: u32) {
+        // The orderings are those of `sleep_while`.
+        self.sleepers.fetch_add(1, Ordering::SeqCst);
+        self.events
+            .park_timeout(rt, seen, Duration::from_millis(100));
+        self.sleepers.fetch_sub(1, Ordering::SeqCst);
     }
 
     /// Sleeps while the count is `seen`. It may also wake up without a reason.

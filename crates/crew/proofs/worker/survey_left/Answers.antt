@@ -14,14 +14,14 @@ loop-preserved g c =
     let so_far = c.loop.invariant in
     let below : place < length missing = omega (arith, c.in-Some-draw.ensures.below, shared.listed) in (
       c.draw.ensures.series ∙ so_far.0,
-      ap (λ (s : Presented Note). s.number) c.present.ensures ∙ so_far.1,
-      reported_next shared c.loop.pass.numbers c.draw.new.pass.numbers c.loop.sender c.present.new.pass place
+      ap (λ (s : Presented Note). s.number) c.present_one_of_many.ensures ∙ so_far.1,
+      reported_next shared c.loop.pass.numbers c.draw.new.pass.numbers c.loop.sender c.present_one_of_many.new.pass place
           c.in-Ok-make_by.report so_far.2 c.in-Some-draw.ensures.greater below
           (own_report (g.G.Gate.lets c.args.gate.now) c.in-Ok-make_by.report (sym (c.number-worker.ensures ∙ sym so_far.1))
           c.in-Ok-make_by.ensures.report.worker_is c.in-Ok-make_by.ensures.report.job_is
           c.in-Ok-make_by.ensures.report.number_is c.in-Ok.ensures.lets)
           (c.in-Ok-make_by.ensures.report.number_is ∙ get_or_read missing _ _ below c.index-number.ensures 0)
-          (ap (λ (d : Drawn). d.numbers) c.in-Some-draw.ensures.drawn) c.present.ensures,
-      not_done_more c.loop.sender.notes c.present.new.pass.notes c.in-Ok-make_by.report so_far.3
-          (ap (λ (s : Presented Note). s.notes) c.present.ensures),
+          (ap (λ (d : Drawn). d.numbers) c.in-Some-draw.ensures.drawn) c.present_one_of_many.ensures,
+      not_done_more c.loop.sender.notes c.present_one_of_many.new.pass.notes c.in-Ok-make_by.report so_far.3
+          (ap (λ (s : Presented Note). s.notes) c.present_one_of_many.ensures),
     )
