@@ -389,6 +389,9 @@ class Telling(Searches):
         for columns in (0, 80):
             self.assertEqual(self.shown(by_length[79], columns), by_length[79].text())
             self.assertEqual(self.shown(by_length[80], columns), by_length[80].short_text())
+        with patch("os.get_terminal_size", side_effect=OSError):
+            self.assertEqual(self.shown(by_length[79], 100), by_length[79].text())
+            self.assertEqual(self.shown(by_length[80], 100), by_length[80].short_text())
         self.assertEqual(self.shown(self.STATUS, 20), self.STATUS.short_text()[:19])
 
     def test_a_line_per_second(self) -> None:
