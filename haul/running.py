@@ -105,7 +105,6 @@ class Running:
             if stream is not None and not stream.closed:
                 self.waiter.remove(stream)
                 stream.close()
-        self.open = 0
 
 
 class RunningTake(Running):

@@ -328,6 +328,27 @@ class Telling(Searches):
             search.batch = Batch(130, 30, Mock(**{"soups.return_value": 10}))
             now.return_value = 1010.0
             self.assertEqual(search.status(), Status(140, 40, 10, 3, 0, 10.0, 60))
+            search.batch = None
+            self.assertEqual(search.status(), Status(130, 30, 10, 3, 0, 10.0, 70))
+        os.close(keeper.lock)
+
+    def test_a_search_with_more_than_is_asked_for(self) -> None:
+        keeper = Keeper(str(self.file))
+        search = Search(Plan(100, 50, 30, 1, None), haul_of(LIFE, BLOCK), keeper, Census(CENSUS), Stopping())
+        self.assertEqual(search.status().left, 0)
+        os.close(keeper.lock)
+
+    def test_when_the_batch_ends(self) -> None:
+        """By the rate so far, if there is one."""
+        with patch("time.monotonic", return_value=1000.0) as now:
+            keeper = Keeper(str(self.file))
+            search = Search(Plan(0, None, 30, 1, None), haul_of(LIFE), keeper, Census(CENSUS), Stopping())
+            now.return_value = 1010.0
+            for soups, when in ((0, ""), (1, ", in about 0:04:50"), (10, ", in about 0:00:20")):
+                search.batch = Batch(0, 30, Mock(**{"soups.return_value": soups}))
+                with redirect_stderr(io.StringIO()) as said:
+                    search.say_that_it_finishes()
+                self.assertEqual(said.getvalue(), f"haul: stops after this batch{when}; Ctrl-C again drops the batch\n")
         os.close(keeper.lock)
 
     def test_durations(self) -> None:
@@ -368,6 +389,9 @@ class Telling(Searches):
         for columns in (0, 80):
             self.assertEqual(self.shown(by_length[79], columns), by_length[79].text())
             self.assertEqual(self.shown(by_length[80], columns), by_length[80].short_text())
+        with patch("os.get_terminal_size", side_effect=OSError):
+            self.assertEqual(self.shown(by_length[79], 100), by_length[79].text())
+            self.assertEqual(self.shown(by_length[80], 100), by_length[80].short_text())
         self.assertEqual(self.shown(self.STATUS, 20), self.STATUS.short_text()[:19])
 
     def test_a_line_per_second(self) -> None:
@@ -470,6 +494,7 @@ class Pace(Searches):
                 self.assertEqual(told.getvalue(), "")
                 search.find_for(0.001)
             self.assertIn(TRIPOLE, told.getvalue())
+            self.assertEqual(search.status().finds, 1)
         os.close(keeper.lock)
 
     def test_when_it_says_what_is_left(self) -> None:

@@ -19,6 +19,7 @@ from haul.keeper import CantKeep, Keeper
 from haul.options import parsed
 from haul.running import CENSUS as CENSUS_OF_STARTER
 from haul.running import Running, RunningTake, Waiter
+from haul.search import processors
 from haul.stopping import Stopping
 from haul.tests.called import CENSUS, TOP, census, run
 from haul.tests.searching import QUICK, Searches
@@ -91,9 +92,9 @@ class Soups(Searches):
         """By default with as many workers as there are processors."""
         program = self.stub('echo "$@" >> calls; real "$@"')
         self.search("--seed=a", "--until", "7", "--part", "4", *QUICK, program=program)
-        with patch("os.sched_getaffinity", return_value=range(100)):
-            from haul.search import processors
+        with patch("os.sched_getaffinity", return_value=range(100)) as asked:
             self.assertEqual(processors(), 16)
+        asked.assert_called_once_with(0)
         usual = min(16, len(os.sched_getaffinity(0)))
         job = "--seed=a --rule=b3s23 --period=1 --horizon=1 --stride=1 --limit=0"
         self.assertEqual((self.folder / "calls").read_text().splitlines(),
@@ -345,6 +346,16 @@ class Programs(Searches):
         self.assertLess(time.monotonic() - began, 1)
         running.end()
         self.assert_nothing_runs()
+
+    def test_what_holds_one_stream(self) -> None:
+        """When the program has ended, what it has left running is killed, although one stream is closed by then."""
+        for closed in ("1", "2"):
+            running = RunningTake(Waiter(), [self.stub(f"exec {closed}>&-; sleep 1000 & exit 0")])
+            until = time.monotonic() + 20
+            while not running.is_ended() and time.monotonic() < until:
+                running.waiter.wait(0.1)
+            self.assertTrue(running.is_ended())
+            self.assert_nothing_runs()
 
     def test_lines_of_progress(self) -> None:
         """The last whole one counts."""
