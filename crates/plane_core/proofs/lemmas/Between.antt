@@ -8,19 +8,17 @@ use Rattle.plane_core.specs.clusters.UnionFind.{IsForest, IsPassed, cell_of}
 use Rattle.plane_core.specs.engine.Frames.{FillsFrame, IsFrame, Shows, board_cell, word_of}
 use Rattle.plane_core.specs.plane.Generations.{after, lives_by}
 use Rattle.plane_core.specs.windows.LaneSums.{bit_of, sum_of, total_of}
-use Rattle.plane_core.specs.engine.Leaps.{ShowsInner}
 use Rattle.plane_core.specs.engine.Listing.{AreAmong}
 use Rattle.plane_core.specs.windows.LonePatterns.{FillsRows, IsFirstRow}
 use Rattle.plane_core.specs.engine.OnBoard.{cells_on}
 use Rattle.plane_core.specs.engine.WindowIo.{bit_on}
-use Rattle.plane_core.specs.engine.LeapWindows.{MarksDifferences, IsCovered, IsInnerCell, compared_with}
+use Rattle.plane_core.specs.engine.LeapWindows.{IsCovered, IsInnerCell}
 use Rattle.plane_core.specs.plane.Rules.{Numbers}
 use Rattle.plane_core.specs.engine.RowSpans.{AreSpans, IsInSpan, LieInSpans}
 use Rattle.plane_core.specs.windows.Windows.{IsShownInside, row_at}
 use Rattle.plane_core.specs.windows.Words.{one_if}
 use Rattle.plane_core.specs.declared.plane.bounds.Bounds.{Bounds}
 use Rattle.plane_core.specs.declared.plane.cell.Cell.{Cell}
-use Rattle.plane_core.specs.declared.engine.difference_box.DifferenceMask.{DifferenceMask}
 use Rattle.plane_core.specs.declared.clusters.union_find.Cursors.{Cursors}
 use Rattle.plane_core.specs.declared.engine.frame.Frame.{Frame}
 use Rattle.plane_core.specs.declared.windows.lane_sums.Sum.{Sum}

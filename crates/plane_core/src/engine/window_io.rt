@@ -17,6 +17,7 @@ ghost use Rattle.plane_core.specs.engine.LeapWindows.{IsOnBoard};
 use crate::engine::frame::Frame;
 use crate::engine::leap_window::LeapWindow;
 use crate::windows::lane_sums::choice;
+use crate::windows::row_packing::{four_words, set_words};
 use crate::windows::window::INNER_COLUMNS;
 use std::simd::u64x4;
 
@@ -43,8 +44,8 @@ pub(crate) fn row_of(at: Frame, window: LeapWindow) -> usize
 }
 
 /// Reads the rows of a window that begins in column `x` and row `y` of the board. Each consists of the end of a word of
-/// the first word column and the beginning of one of the second. The rows are read in order, so that four of them are
-/// read at once.
+/// the first word column and the beginning of one of the second. Four rows are read at a time, and what is left of them
+/// one by one.
 #[inline(always)]
 pub(crate) fn read_rows<const R: usize>(words: &[u64], at: Frame, x: usize, y: usize) -> [u64; R]
     requires long { FillsFrame at words.now }
@@ -56,10 +57,36 @@ pub(crate) fn read_rows<const R: usize>(words: &[u64], at: Frame, x: usize, y: u
     let second = first + at.rows;
     let shift = x % 64;
     let mut rows = [0; R];
-    for r in 0..R {
+    let mut r = 0;
+    while R - r >= 4 {
+        let four = joined(
+            four_words(words, first + r),
+            four_words(words, second + r),
+            shift,
+        );
+        set_words(&mut rows, r, four);
+        r += 4;
+    }
+    while r < R {
         rows[r] = (words[first + r] >> shift) | (words[second + r] << 1 << (63 - shift));
+        r += 1;
     }
     rows
+}
+
+/// Returns four rows: each consists of the end of a word of `first`, from column `shift` on, and the beginning of one of
+/// `second`.
+#[inline(always)]
+fn joined(first: [u64; 4], second: [u64; 4], shift: usize) -> [u64; 4]
+    requires { shift < 64 }
+    ensures first { (j i : ℕ) → j < 4 → i + shift < 64
+        → bit_at (slice_index result j) i ≡ bit_at (slice_index first j) (i + shift) }
+    ensures second { (j i : ℕ) → j < 4 → i < 64 → 64 ≤ i + shift
+        → bit_at (slice_index result j) i ≡ bit_at (slice_index second j) (i + shift - 64) }
+{
+    let ends = u64x4::from_array(first) >> u64x4::splat(shift as u64);
+    let beginnings = u64x4::from_array(second) << 1 << u64x4::splat(63 - shift as u64);
+    (ends | beginnings).to_array()
 }
 
 /// Returns the part of `word` that is in the first word column, if the word begins in column `shift` of it.
@@ -92,31 +119,6 @@ fn put_word(words: &mut [u64], i: usize, mask: u64, value: u64)
 {
     let old = words[i];
     words[i] = old ^ ((old ^ value) & mask);
-}
-
-/// Returns the four words from word `i` on.
-#[inline(always)]
-fn four_words(words: &[u64], i: usize) -> [u64; 4]
-    requires { i + 4 ≤ length words.now }
-    ensures { (j : ℕ) → j < 4 → slice_index result j ≡ slice_index words.now (i + j) }
-{
-    let mut four = [0; 4];
-    for j in 0..4 {
-        four[j] = words[i + j];
-    }
-    four
-}
-
-/// Replaces the four words from word `i` on.
-#[inline(always)]
-fn set_words(words: &mut [u64], i: usize, four: [u64; 4])
-    requires { i + 4 ≤ length words.old }
-    ensures at { (j : ℕ) → j < 4 → slice_index words.new (i + j) ≡ slice_index four j }
-    ensures others { (m : ℕ) → (m < i) ⊎ (i + 4 ≤ m) → slice_index words.new m ≡ slice_index words.old m }
-{
-    for j in 0..4 {
-        words[i + j] = four[j];
-    }
 }
 
 /// Replaces the bits of four words, from word `i` on, with those of the values wherever the mask has a 1. All four are

@@ -1,7 +1,8 @@
 //! Patterns: finite sets of live cells. A pattern is kept as the list of its cells in order, each once.
 ghost use Rattle.std.specs.Prelude.{◌≡◌, ◌+◌, ◌≤◌, ◌++◌, List, [], ◌∷◌, length, take, IfOk, IfErr, IsTrue, OnOk, position, None};
 ghost use Rattle.memory.specs.Witness.{out_of_memory};
-ghost use Rattle.plane_core.specs.plane.Cells.{IsPattern, SetsHaveOneList, cell_at, has, set_of, off_plane};
+ghost use Rattle.std.specs.declared.cmp.Ordering.TheVariants.{Less};
+ghost use Rattle.plane_core.specs.plane.Cells.{InOrder, IsPattern, SetsHaveOneList, cell_at, cell_cmp, has, set_of, off_plane};
 ghost use Rattle.plane_core.specs.plane.Refusals.{RefusesCells};
 ghost use Rattle.plane_core.specs.declared.plane.cell.Cell.{Cell};
 ghost use Rattle.plane_core.specs.declared.plane.pattern.FromCellsError.TheVariants.{Memory};
@@ -221,15 +222,28 @@ pub(crate) fn in_order(cells: Vec<Cell>) -> Vec<Cell>
     ensures { result.items ≡ set_of cells.items }
 {
     let mut set = cells;
-    let mut place = 1;
-    while place < set.len() {
-        let before = set[place - 1] < set[place];
-        if !before {
-            set.sort_unstable();
-            set.dedup();
-            return set;
-        }
-        place += 1;
+    if !are_in_order(set.as_slice()) {
+        set.sort_unstable();
+        set.dedup();
     }
     set
+}
+
+/// Checks whether each cell comes before the next one. No branch depends on a cell.
+fn are_in_order(cells: &[Cell]) -> bool
+    ensures { IsTrue result → InOrder cells.now }
+{
+    let mut ordered = true;
+    for place in 1..cells.len() {
+        ordered &= comes_before(cells[place - 1], cells[place]);
+    }
+    ordered
+}
+
+/// Checks whether a cell comes before another, without a branch.
+#[inline(always)]
+fn comes_before(one: Cell, other: Cell) -> bool
+    ensures { IsTrue result → cell_cmp one other ≡ Less }
+{
+    (one.y < other.y) | ((one.y == other.y) & (one.x < other.x))
 }

@@ -1,6 +1,6 @@
 -- Windows read from a board and put back.
 use Rattle.std.proofs.Common.{◌≡◌, ◌≢◌, ◌==◌, ◌+◌, ◌-◌, ◌*◌, ◌/◌, ◌%◌, ◌<◌, ◌≤◌, ℕ, List, cond, length, set, slice_index}
-use Rattle.std.proofs.Common.{Fits, w64, arith, refl, ap, ◌∙◌, sym, inl, inr, ◌⊎◌}
+use Rattle.std.proofs.Common.{Fits, w64, arith, refl, ap, subst, ◌∙◌, sym, inl, inr, ◌⊎◌}
 use Rattle.std.specs.Int.{bit_at}
 use Rattle.std.proofs.lemmas.Bool.{cases_eq, cases_lt}
 use Rattle.std.proofs.lemmas.List.{get_or-set_same, get_or-set_other}
@@ -47,6 +47,18 @@ rows_more at words x y r word rows within read new q i low inside = split (cases
         ∙ new i inside
         ∙ ap (λ (p : ℕ). bit_on at words (x + i) (y + p)) (sym e)
     split (inr apart) = ap (λ (w : ℕ). bit_at w i) (get_or-set_other rows r q word 0 apart) ∙ read q i (omega arith) inside
+
+-- four rows more were read
+pub four_rows_read : (at : Frame) (words : List ℕ) (x y r : ℕ) (rows new : List ℕ) → AreRowsRead at words x y r rows
+    → ((m : ℕ) → (m < r) ⊎ (r + 4 ≤ m) → slice_index new m ≡ slice_index rows m)
+    → ((j i : ℕ) → j < 4 → i < 64 → bit_at (slice_index new (r + j)) i ≡ bit_on at words (x + i) (y + (r + j))) → AreRowsRead at words x y (r + 4) new
+four_rows_read at words x y r rows new read others made q i low inside = split (cases_lt q r)
+  where
+    split : (q < r) ⊎ (r ≤ q) → bit_at (slice_index new q) i ≡ bit_on at words (x + i) (y + q)
+    split (inl less) = ap (λ (w : ℕ). bit_at w i) (others q (inl less)) ∙ read q i less inside
+    split (inr least) =
+        let is : r + (q - r) ≡ q = omega arith in
+        subst (λ (m : ℕ). bit_at (slice_index new m) i ≡ bit_on at words (x + i) (y + m)) is (made (q - r) i (omega arith) inside)
 
 -- the window of rows that were read
 pub read_packed : (at : Frame) (words : List ℕ) (x y n : ℕ) (rows : List ℕ) (window : List (List ℕ)) → AreRowsRead at words x y (4 * n) rows

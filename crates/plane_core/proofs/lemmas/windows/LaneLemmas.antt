@@ -1,5 +1,5 @@
 -- What operations on vectors do in each lane.
-use Rattle.std.proofs.Common.{◌≡◌, ◌==◌, ◌+◌, ◌*◌, ◌/◌, ◌%◌, ◌^◌, ◌<◌, ℕ, List, length, slice_index, cond}
+use Rattle.std.proofs.Common.{◌≡◌, ◌==◌, ◌+◌, ◌-◌, ◌*◌, ◌/◌, ◌%◌, ◌^◌, ◌<◌, ℕ, List, length, slice_index, cond}
 use Rattle.std.proofs.Common.{Fits, w64, replicate, arith, refl, ap, ◌∙◌, sym, bit_and, bit_or, bit_xor}
 use Rattle.std.specs.Int.{bit_at}
 use Rattle.std.proofs.lemmas.Nat.Bits.{bit_at_or, bit_at-zero, bit_at-lt}
@@ -91,6 +91,39 @@ lane_choice test one other j i lt lo ln low =
         ∙ ap (λ (n : ℕ). bit_xor (slice_index other j) n)
         (lane_of bit_and (zip2 bit_xor other one) test j apart lt low
         ∙ ap (λ (n : ℕ). bit_and n (slice_index test j)) (lane_of bit_xor other one j ln lo low))
+
+-- ---- two words joined
+
+-- lane j of two vectors of words, of which the first is shifted down by s, and the second up by 64 - s
+pub joined_lane : (first second : List ℕ) (j s : ℕ) → length first ≡ 4 → length second ≡ 4 → j < 4
+    → slice_index
+    (zip2 bit_or (zip2 (λ (a b : ℕ). a / 2 ^ b) first (replicate 4 s))
+    (zip2 (λ (a b : ℕ). a * 2 ^ b % 2 ^ 64) (zip2 (λ (a b : ℕ). a * 2 ^ b % 2 ^ 64) second (replicate 4 1)) (replicate 4 (63 - s)))) j
+    ≡ bit_or (slice_index first j / 2 ^ s) (slice_index second j * 2 % 2 ^ 64 * 2 ^ (63 - s) % 2 ^ 64)
+joined_lane first second j s lf ls low =
+    lane_of bit_or (zip2 down first (replicate 4 s)) (zip2 up doubled (replicate 4 (63 - s))) j (four_lanes down first (replicate 4 s) lf refl)
+    (four_lanes up doubled (replicate 4 (63 - s)) (four_lanes up second (replicate 4 1) ls refl) refl) low
+    ∙ (λ t. bit_or (end t) (beginning t))
+  where
+    down : ℕ → ℕ → ℕ
+    down a b = a / 2 ^ b
+
+    up : ℕ → ℕ → ℕ
+    up a b = a * 2 ^ b % 2 ^ 64
+
+    doubled : List ℕ
+    doubled = zip2 up second (replicate 4 1)
+
+    end : slice_index (zip2 down first (replicate 4 s)) j ≡ slice_index first j / 2 ^ s
+    end = lane_of down first (replicate 4 s) j lf refl low ∙ ap (down (slice_index first j)) (get_or-replicate 4 j s 0 low)
+
+    double : slice_index doubled j ≡ slice_index second j * 2 % 2 ^ 64
+    double = lane_of up second (replicate 4 1) j ls refl low ∙ ap (up (slice_index second j)) (get_or-replicate 4 j 1 0 low)
+
+    beginning : slice_index (zip2 up doubled (replicate 4 (63 - s))) j ≡ slice_index second j * 2 % 2 ^ 64 * 2 ^ (63 - s) % 2 ^ 64
+    beginning =
+        lane_of up doubled (replicate 4 (63 - s)) j (four_lanes up second (replicate 4 1) ls refl) refl low
+        ∙ (λ t. up (double t) (get_or-replicate 4 j (63 - s) 0 low t))
 
 -- ---- a row that is one word
 

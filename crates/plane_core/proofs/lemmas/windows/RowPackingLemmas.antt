@@ -1,6 +1,7 @@
 -- The rows of a window, one after another and in vectors.
-use Rattle.std.proofs.Common.{Fits, w64, zero, suc, length, length-set, ◌∷◌, ◌≡◌, ◌≢◌, ◌+◌, ◌*◌, ◌/◌, ◌%◌, ◌<◌, ◌≤◌, ◌⊎◌, ℕ, List, [], arith, ap, ◌∙◌, sym, inl, inr, get_or, set, slice_index}
-use Rattle.std.proofs.lemmas.List.{get_or-set_other, get_or-set_same}
+use Rattle.std.proofs.Common.{Fits, w64, zero, suc, length, length-set, ◌∷◌, ◌++◌, ◌≡◌, ◌≢◌, ◌+◌, ◌-◌, ◌*◌, ◌/◌, ◌%◌, ◌<◌, ◌≤◌, ◌⊎◌, ℕ, List, [], arith, refl, ap, subst, ◌∙◌, sym, inl, inr, get_or, set, slice_index}
+use Rattle.std.proofs.lemmas.Bool.{cases_lt}
+use Rattle.std.proofs.lemmas.List.{get_or-append_right, get_or-set_other, get_or-set_same, get_or_append_left}
 use Rattle.std.proofs.lemmas.Nat.{div-add-mod', div_below, mod-mul-add, mod_below}
 use Rattle.plane_core.specs.windows.Windows.{lane_at, row_at}
 use Rattle.plane_core.proofs.lemmas.plane.CaseLemmas.{same_or_not}
@@ -33,6 +34,53 @@ by_lanes : (n : ℕ) (x : List (List ℕ)) (rows : List ℕ) → 0 < n
 by_lanes n x rows some each r low =
     each (r % n) (r / n) (mod_below r n some) (div_below r n 4 some low) ∙ ap (slice_index rows) (div-add-mod' r n)
 
+-- ---- four vectors at a time
+
+-- lane i of each of four vectors, two of which follow each other in a list
+abbrev pub lanes_of : List ℕ → List ℕ → List ℕ → List ℕ → ℕ → List ℕ
+lanes_of a b c d i = get_or (a ++ b) i 0 ∷ get_or (a ++ b) (4 + i) 0 ∷ get_or (c ++ d) i 0 ∷ get_or (c ++ d) (4 + i) 0 ∷ []
+
+lane_of_four : (a b c d : List ℕ) → length a ≡ 4 → length b ≡ 4 → length c ≡ 4 → length d ≡ 4 → (i j : ℕ) → i < 4 → j < 4
+    → slice_index (lanes_of a b c d i) j ≡ lane_at (a ∷ b ∷ c ∷ d ∷ []) j i
+lane_of_four a b c d la lb lc ld i zero low lane = get_or_append_left a b 0 i (omega (arith, la, low))
+lane_of_four a b c d la lb lc ld i (suc zero) low lane =
+    get_or-append_right a b 4 (4 + i) 0 la (omega arith) ∙ ap (λ (m : ℕ). get_or b m 0) (omega arith)
+lane_of_four a b c d la lb lc ld i (suc (suc zero)) low lane = get_or_append_left c d 0 i (omega (arith, lc, low))
+lane_of_four a b c d la lb lc ld i (suc (suc (suc zero))) low lane =
+    get_or-append_right c d 4 (4 + i) 0 lc (omega arith) ∙ ap (λ (m : ℕ). get_or d m 0) (omega arith)
+lane_of_four a b c d la lb lc ld i (suc (suc (suc (suc j)))) low lane = absurd (omega (arith, lane))
+
+-- four vectors, turned
+pub turned_lanes : (a b c d : List ℕ) → length a ≡ 4 → length b ≡ 4 → length c ≡ 4 → length d ≡ 4 → (i j : ℕ) → i < 4 → j < 4
+    → lane_at (lanes_of a b c d 0 ∷ lanes_of a b c d 1 ∷ lanes_of a b c d 2 ∷ lanes_of a b c d 3 ∷ []) i j ≡ lane_at (a ∷ b ∷ c ∷ d ∷ []) j i
+turned_lanes a b c d la lb lc ld zero j low lane = lane_of_four a b c d la lb lc ld 0 j low lane
+turned_lanes a b c d la lb lc ld (suc zero) j low lane = lane_of_four a b c d la lb lc ld 1 j low lane
+turned_lanes a b c d la lb lc ld (suc (suc zero)) j low lane = lane_of_four a b c d la lb lc ld 2 j low lane
+turned_lanes a b c d la lb lc ld (suc (suc (suc zero))) j low lane = lane_of_four a b c d la lb lc ld 3 j low lane
+turned_lanes a b c d la lb lc ld (suc (suc (suc (suc i)))) j low lane = absurd (omega (arith, low))
+
+-- four words of each quarter of the rows, turned
+pub turned_rows : (n k : ℕ) (rows a b c d : List ℕ) (four : List (List ℕ))
+    → ((i j : ℕ) → i < 4 → j < 4 → lane_at four i j ≡ lane_at (a ∷ b ∷ c ∷ d ∷ []) j i)
+    → ((i : ℕ) → i < 4 → slice_index a i ≡ slice_index rows (k + i)) → ((i : ℕ) → i < 4 → slice_index b i ≡ slice_index rows (n + k + i))
+    → ((i : ℕ) → i < 4 → slice_index c i ≡ slice_index rows (2 * n + k + i)) → ((i : ℕ) → i < 4 → slice_index d i ≡ slice_index rows (3 * n + k + i))
+    → (i j : ℕ) → i < 4 → j < 4 → lane_at four i j ≡ slice_index rows (j * n + (k + i))
+turned_rows n k rows a b c d four turned is_a is_b is_c is_d i zero low lane = turned i 0 low lane ∙ is_a i low ∙ ap (slice_index rows) (omega arith)
+turned_rows n k rows a b c d four turned is_a is_b is_c is_d i (suc zero) low lane = turned i 1 low lane ∙ is_b i low ∙ ap (slice_index rows) (omega arith)
+turned_rows n k rows a b c d four turned is_a is_b is_c is_d i (suc (suc zero)) low lane = turned i 2 low lane ∙ is_c i low ∙ ap (slice_index rows) (omega arith)
+turned_rows n k rows a b c d four turned is_a is_b is_c is_d i (suc (suc (suc zero))) low lane =
+    turned i 3 low lane ∙ is_d i low ∙ ap (slice_index rows) (omega arith)
+turned_rows n k rows a b c d four turned is_a is_b is_c is_d i (suc (suc (suc (suc j)))) low lane = absurd (omega (arith, lane))
+
+-- four vectors of a window, as a list of their own
+pub four_of : (x : List (List ℕ)) (k i j : ℕ) → i < 4
+    → lane_at (get_or x k [] ∷ get_or x (k + 1) [] ∷ get_or x (k + 2) [] ∷ get_or x (k + 3) [] ∷ []) i j ≡ lane_at x (k + i) j
+four_of x k zero j low = ap (λ (m : ℕ). lane_at x m j) (omega arith)
+four_of x k (suc zero) j low = refl
+four_of x k (suc (suc zero)) j low = refl
+four_of x k (suc (suc (suc zero))) j low = refl
+four_of x k (suc (suc (suc (suc i)))) j low = absurd (omega (arith, low))
+
 -- ---- packing
 
 -- the vectors before vector k have their rows
@@ -64,6 +112,18 @@ packed_more n k rows x low before m j less lane = split (same_or_not m k)
         ∙ ap (λ (q : ℕ). slice_index rows (j * n + q)) (sym same)
     split (inr apart) = ap (λ (w : List ℕ). slice_index w j) (get_or-set_other x k m v [] apart) ∙ before m j (omega (arith, less, apart)) lane
 
+-- four vectors more
+pub packed_four : (n k : ℕ) (rows : List ℕ) (x y : List (List ℕ)) → ArePacked n rows x k
+    → ((i j : ℕ) → i < 4 → j < 4 → lane_at y (k + i) j ≡ slice_index rows (j * n + (k + i)))
+    → ((m j : ℕ) → m < k → lane_at y m j ≡ lane_at x m j) → ArePacked n rows y (k + 4)
+packed_four n k rows x y before made others m j less lane = split (cases_lt m k)
+  where
+    split : (m < k) ⊎ (k ≤ m) → lane_at y m j ≡ slice_index rows (j * n + m)
+    split (inl low) = others m j low ∙ before m j low lane
+    split (inr least) =
+        let is : k + (m - k) ≡ m = omega arith in
+        subst (λ (q : ℕ). lane_at y q j ≡ slice_index rows (j * n + q)) is (made (m - k) j (omega arith) lane)
+
 -- ---- unpacking
 
 -- the rows of the first vectors stand in their places
@@ -79,6 +139,52 @@ unpacked_more n window rows more vector k small is same at others j m low less =
     split (inl e) =
         ap (λ (q : ℕ). slice_index more (j * n + q)) e ∙ at j low ∙ ap (λ (v : List ℕ). slice_index v j) same ∙ ap (λ (q : ℕ). lane_at window q j) (sym e)
     split (inr apart) = others j m low (omega arith) apart ∙ is j m low (omega arith)
+
+-- four vectors more
+pub unpacked_four : (n k : ℕ) (window : List (List ℕ)) (rows more : List ℕ) → AreUnpacked n window rows k
+    → ((i j : ℕ) → i < 4 → j < 4 → slice_index more (j * n + (k + i)) ≡ lane_at window (k + i) j)
+    → ((m j : ℕ) → m < k → j < 4 → slice_index more (j * n + m) ≡ slice_index rows (j * n + m)) → AreUnpacked n window more (k + 4)
+unpacked_four n k window rows more before made others j m lane less = split (cases_lt m k)
+  where
+    split : (m < k) ⊎ (k ≤ m) → slice_index more (j * n + m) ≡ lane_at window m j
+    split (inl low) = others m j low lane ∙ before j m lane low
+    split (inr least) =
+        let is : k + (m - k) ≡ m = omega arith in
+        subst (λ (q : ℕ). slice_index more (j * n + q) ≡ lane_at window q j) is (made (m - k) j (omega arith) lane)
+
+-- four words put in each quarter of the rows
+module _ (n k : ℕ) (r0 r1 r2 r3 r4 : List ℕ) (four : List (List ℕ)) (fit : k + 4 ≤ n)
+    (at1 : (i : ℕ) → i < 4 → slice_index r1 (k + i) ≡ lane_at four 0 i) (others1 : (m : ℕ) → (m < k) ⊎ (k + 4 ≤ m) → slice_index r1 m ≡ slice_index r0 m)
+    (at2 : (i : ℕ) → i < 4 → slice_index r2 (n + k + i) ≡ lane_at four 1 i)
+    (others2 : (m : ℕ) → (m < n + k) ⊎ (n + k + 4 ≤ m) → slice_index r2 m ≡ slice_index r1 m)
+    (at3 : (i : ℕ) → i < 4 → slice_index r3 (2 * n + k + i) ≡ lane_at four 2 i)
+    (others3 : (m : ℕ) → (m < 2 * n + k) ⊎ (2 * n + k + 4 ≤ m) → slice_index r3 m ≡ slice_index r2 m)
+    (at4 : (i : ℕ) → i < 4 → slice_index r4 (3 * n + k + i) ≡ lane_at four 3 i)
+    (others4 : (m : ℕ) → (m < 3 * n + k) ⊎ (3 * n + k + 4 ≤ m) → slice_index r4 m ≡ slice_index r3 m) where
+  pub words_put : (i j : ℕ) → i < 4 → j < 4 → slice_index r4 (j * n + (k + i)) ≡ lane_at four j i
+  words_put i zero low lane =
+      ap (slice_index r4) (omega arith) ∙ others4 (k + i) (inl (omega arith)) ∙ others3 (k + i) (inl (omega arith)) ∙ others2 (k + i) (inl (omega arith))
+      ∙ at1 i low
+  words_put i (suc zero) low lane =
+      ap (slice_index r4) (omega arith) ∙ others4 (n + k + i) (inl (omega arith)) ∙ others3 (n + k + i) (inl (omega arith)) ∙ at2 i low
+  words_put i (suc (suc zero)) low lane = ap (slice_index r4) (omega arith) ∙ others4 (2 * n + k + i) (inl (omega arith)) ∙ at3 i low
+  words_put i (suc (suc (suc zero))) low lane = ap (slice_index r4) (omega arith) ∙ at4 i low
+  words_put i (suc (suc (suc (suc j)))) low lane = absurd (omega (arith, lane))
+
+  pub words_kept : (m j : ℕ) → m < k → j < 4 → slice_index r4 (j * n + m) ≡ slice_index r0 (j * n + m)
+  words_kept m zero low lane =
+      others4 (0 * n + m) (inl (omega arith)) ∙ others3 (0 * n + m) (inl (omega arith)) ∙ others2 (0 * n + m) (inl (omega arith))
+      ∙ others1 (0 * n + m) (inl (omega arith))
+  words_kept m (suc zero) low lane =
+      others4 (1 * n + m) (inl (omega arith)) ∙ others3 (1 * n + m) (inl (omega arith)) ∙ others2 (1 * n + m) (inl (omega arith))
+      ∙ others1 (1 * n + m) (inr (omega arith))
+  words_kept m (suc (suc zero)) low lane =
+      others4 (2 * n + m) (inl (omega arith)) ∙ others3 (2 * n + m) (inl (omega arith)) ∙ others2 (2 * n + m) (inr (omega arith))
+      ∙ others1 (2 * n + m) (inr (omega arith))
+  words_kept m (suc (suc (suc zero))) low lane =
+      others4 (3 * n + m) (inl (omega arith)) ∙ others3 (3 * n + m) (inr (omega arith)) ∙ others2 (3 * n + m) (inr (omega arith))
+      ∙ others1 (3 * n + m) (inr (omega arith))
+  words_kept m (suc (suc (suc (suc j)))) low lane = absurd (omega (arith, lane))
 
 pub all_unpacked : (n : ℕ) (window : List (List ℕ)) (rows : List ℕ) (k : ℕ) → 0 < n → AreUnpacked n window rows k → k ≡ n → (r : ℕ) → r < 4 * n
     → slice_index rows r ≡ row_at n window r

@@ -1,6 +1,6 @@
-use Rattle.std.proofs.Common.{◌≡◌, ◌+◌, ◌-◌, ◌<◌, ℕ, List, [], rules, set, slice_index_or, arith, refl, subst}
+use Rattle.std.proofs.Common.{◌≡◌, ◌+◌, ◌-◌, ◌<◌, ℕ, [], rules, set, slice_index_or, arith, refl, subst}
 use Rattle.plane_core.specs.windows.LaneSums.{AreBeside}
-use Rattle.plane_core.proofs.lemmas.windows.WindowLemmas.{AreAbove, AreHere, AreMade, AreMadeTo, above_start, here_at, below_stop}
+use Rattle.plane_core.proofs.lemmas.windows.WindowLemmas.{AreAbove, AreHere, AreMade, above_start, here_at, below_stop}
 use Rattle.plane_core.proofs.lemmas.windows.WindowLemmas.{made_next, made_more, made_to_next, all_made}
 use Rattle.std.proofs.Common.{sym}
 use Rattle.plane_core.proofs.lemmas.plane.OrderLemmas.{below_same, last_low, last_next}

@@ -1,5 +1,5 @@
 use Rattle.std.proofs.Common.{◌≡◌, ◌+◌, ◌<◌, ◌≤◌, ◌⊎◌, ℕ, slice_index}
-use Rattle.plane_core.proofs.engine.window_io.set_words.Given as goal
+use Rattle.plane_core.proofs.windows.row_packing.set_words.Given as goal
 
 abbrev pub invariant-loop-j : goal.invariant-loop-j
 invariant-loop-j l = record {

@@ -1,6 +1,0 @@
-use Rattle.std.proofs.Common.{◌≡◌, length}
-use Rattle.plane_core.proofs.lemmas.windows.RowPackingLemmas.{AreUnpacked}
-use Rattle.plane_core.proofs.windows.row_packing.unpacked.Given as goal
-
-abbrev pub invariant-loop-k : goal.invariant-loop-k
-invariant-loop-k g l = record { long : length l.rows ≡ g.row.R; unpacked : AreUnpacked g.row.N l.window l.rows l.k }
