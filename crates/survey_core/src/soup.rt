@@ -23,10 +23,6 @@ use plane_core::plane::pattern::Pattern;
 use sha2::{Digest, Sha256};
 use std::alloc::Global;
 
-/// The number of cells for which memory is reserved at the start. A soup has 128 live cells on average, and hardly ever
-/// more than 160.
-const ROOM: usize = 160;
-
 /// Returns soup `number`: the 256 bits of the SHA-256 digest of the job's seed and then the number in decimal, as a
 /// square of 16 by 16 cells. The job's profile and rule don't matter.
 ///
@@ -54,13 +50,14 @@ pub fn soup_of_digest(alloc: Global, digest: &[u8; 32]) -> Result<Pattern, OutOf
     ensures soup { IfOk result (λ pattern. pattern ≡ soup_of digest.now) }
     ensures small { IfOk result (All (IsWithin square)) }
 {
-    let mut cells = Vec::with_capacity(alloc, ROOM)?;
+    let mut cells = [square_cell(0); 256];
+    let mut count = 0;
     for place in 0..256 {
-        if is_alive_at(digest, place) {
-            cells.push(square_cell(place))?;
-        }
+        // A dead cell is replaced by the next one, so that no branch depends on a random bit.
+        cells[count] = square_cell(place);
+        count += usize::from(is_alive_at(digest, place));
     }
-    pattern_of(alloc, cells.as_slice())
+    pattern_of(alloc, &cells[..count])
 }
 
 /// The law of all soups, cell by cell: the one in column x of row y, both 0 to 15, is alive if and only if its bit is

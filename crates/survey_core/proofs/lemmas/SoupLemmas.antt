@@ -1,11 +1,11 @@
 -- The live cells of the square, one place after another, and that they lie near the origin.
 use Rattle.std.proofs.Common.{◌≡◌, ◌∙◌, ap, sym, refl, ℕ, zero, suc, ◌+◌, ◌<◌, ◌≤◌, ◌/◌, ◌%◌, Bool, true, false, List, [], ◌∷◌, ◌++◌}
-use Rattle.std.proofs.Common.{filter, map, arith, cond, add-zero, add-one, zero-add, nat_le, All, decimal, eq-or-lt_of_le, inl, inr, pos, subst, unsigned_abs, ◌*◌}
+use Rattle.std.proofs.Common.{filter, map, set, take, length, arith, cond, add-zero, add-one, zero-add, nat_le, All, decimal, eq-or-lt_of_le, inl, inr, pos, subst, unsigned_abs, ◌*◌}
 use Rattle.std.proofs.lemmas.Int.{ints}
 use Rattle.std.proofs.lemmas.List.Elements.{All-from_recursion}
 use Rattle.std.specs.List.{list_all, range_with_len}
 use Rattle.std.proofs.lemmas.Bool.{and_from, false≢true, le-leb}
-use Rattle.std.proofs.lemmas.List.{append-nil, map-append}
+use Rattle.std.proofs.lemmas.List.{append-nil, map-append, take-set, take_more_set}
 use Rattle.std.proofs.lemmas.List.Elements.{filter-append}
 use Rattle.plane_core.specs.declared.plane.cell.Cell.{Cell}
 use Rattle.plane_core.specs.plane.Bounds.{IsWithin}
@@ -43,6 +43,24 @@ live_cells_alive digest n alive =
 pub live_cells_dead : (digest : List ℕ) (n : ℕ) → is_alive_at digest n ≡ false → live_in_square digest (n + 1) ≡ live_in_square digest n
 live_cells_dead digest n dead =
     one_more digest n ∙ ap (λ (b : Bool). live_in_square digest n ++ map square_cell (cond b (n ∷ []) [])) dead ∙ append-nil (live_in_square digest n)
+
+-- a place more, whose cell is put after the live cells before it, and counts if it is alive
+pub one_more_place : (digest : List ℕ) (n count added : ℕ) (cells : List Cell) (cell : Cell) (alive : Bool) → count < length cells
+    → alive ≡ is_alive_at digest n → (alive ≡ true → added ≡ 1) → (alive ≡ false → added ≡ 0) → cell ≡ square_cell n
+    → take count cells ≡ live_in_square digest n → (added ≤ 1) × (take (count + added) (set cells count cell) ≡ live_in_square digest (n + 1))
+one_more_place digest n count added cells cell true low is one none same before =
+    let one_more : added ≡ 1 = one refl in (
+      omega (arith, one_more),
+      ap (λ (k : ℕ). take (count + k) (set cells count cell)) one_more ∙ take_more_set cells count cell low
+          ∙ (λ t. before t ++ same t ∷ [])
+          ∙ sym (live_cells_alive digest n (sym is)),
+    )
+one_more_place digest n count added cells cell false low is one none same before =
+    let no_more : added ≡ 0 = none refl in
+    let still : count + added ≡ count = omega (arith, no_more) in (
+      omega (arith, no_more),
+      ap (λ (k : ℕ). take k (set cells count cell)) still ∙ take-set cells count cell ∙ before ∙ sym (live_cells_dead digest n (sym is)),
+    )
 
 near_origin : (place : ℕ) → place < 256 → is_within 15 (square_cell place) ≡ true
 near_origin place low = and_from (nat_le (place % 16) 15) (nat_le (place / 16) 15) (le-leb _ _ (omega arith)) (le-leb _ _ (omega arith))
