@@ -18,7 +18,8 @@ ghost use Rattle.plane_core.specs.plane.Bounds.{IsWithin};
 ghost use Rattle.plane_core.specs.engine.ActiveBoxes.{AreCovered, IsInOne, IsNearOne, box_bound, rectangle_bound};
 ghost use Rattle.plane_core.specs.engine.Covers.{AreSideBySide, IsInRow};
 ghost use Rattle.plane_core.specs.plane.Bounds.{AreSidesWithin};
-ghost use Rattle.plane_core.specs.engine.LeapWindows.{IsCovered};
+ghost use Rattle.plane_core.specs.plane.Cells.{distance};
+ghost use Rattle.plane_core.specs.engine.LeapWindows.{IsCovered, IsInnerCell};
 ghost use Rattle.plane_core.specs.declared.plane.cell.Cell.{Cell};
 
 use crate::engine::leap_window::LeapWindow;
@@ -93,13 +94,15 @@ fn absorbed(rectangles: &mut Vec<Bounds>, rectangle: Bounds, slack: u64) -> Boun
     let mut i = rectangles.len();
     let earliest = i.saturating_sub(UNITED_AT_ONCE);
     let mut all = rectangle;
+    let mut cost = cost_of(all);
     while i > earliest {
         i -= 1;
-        if !pays(rectangles[i], all, slack) {
+        if !pays(rectangles[i], all, cost.saturating_add(slack)) {
             continue;
         }
         let other = rectangles.swap_remove(i);
         all = other.joined(all);
+        cost = cost_of(all);
     }
     all
 }
@@ -111,20 +114,17 @@ fn slack(boxes: usize) -> u64 {
     (boxes as u64 / 8).saturating_mul(4).min(MOST_SLACK)
 }
 
-/// Checks whether the smallest rectangle that contains both costs at most as much as the two together, plus `slack`.
-/// Usually the two are far apart: if a column or a row of windows fits between them, nothing is saved. The sides are
-/// near the plane, so no difference wraps around.
+/// Checks whether the smallest rectangle that contains both costs at most as much as the first, plus `cost`: what the
+/// other costs, and the slack. Usually the two are far apart: if a column or a row of windows fits between them, nothing
+/// is saved. The sides are near the plane, so no difference wraps around.
 #[inline(always)]
-fn pays(one: Bounds, other: Bounds, slack: u64) -> bool {
+fn pays(one: Bounds, other: Bounds, cost: u64) -> bool {
     let rows = INNER_ROWS as i32;
     other.left.wrapping_sub(one.right) <= 56
         && one.left.wrapping_sub(other.right) <= 56
         && other.top.wrapping_sub(one.bottom) <= rows
         && one.top.wrapping_sub(other.bottom) <= rows
-        && cost_of(one.joined(other))
-            <= cost_of(one)
-                .saturating_add(cost_of(other))
-                .saturating_add(slack)
+        && cost_of(one.joined(other)) <= cost_of(one).saturating_add(cost)
 }
 
 /// Returns about the cost, in rows, of running the windows that cover the rectangle. A window has about 12 rows more
@@ -141,6 +141,7 @@ fn cost_of(rectangle: Bounds) -> u64 {
 /// possible, each with as few rows as possible.
 #[inline(always)]
 fn window_rows(length: u32) -> u32
+    ensures enough { length < 48 → length + 9 ≤ result }
     ensures some { 8 < result }
     ensures few { result ≤ 64 }
 {
@@ -153,8 +154,42 @@ fn window_rows(length: u32) -> u32
     (inner.saturating_add(11) / 4 * 4).max(20).min(56)
 }
 
-/// Lays windows over a rectangle, row by row.
+/// Lays windows over a rectangle. Usually one is enough.
 fn lay(rectangle: Bounds, windows: &mut Vec<LeapWindow>) -> Result<(), OutOfMemory>
+    requires { AreSidesWithin rectangle_bound rectangle }
+    ensures kept { OnOk result ((c : Cell) → IsCovered windows.old.items c → IsCovered windows.new.items c) }
+    ensures laid { OnOk result ((c : Cell) → IsWithin rectangle c → IsCovered windows.new.items c) }
+{
+    let across = rectangle.left.abs_diff(rectangle.right);
+    let down = rectangle.top.abs_diff(rectangle.bottom);
+    if across >= 56 || down >= INNER_ROWS {
+        return lay_rows(rectangle, windows);
+    }
+    windows.push(one_window(rectangle, across, down))?;
+    Ok(())
+}
+
+/// Returns a window over a rectangle of `across + 1` columns and `down + 1` rows. It reaches as far past the rectangle
+/// on one side as on the other, or one further on the right and below.
+#[inline(always)]
+fn one_window(rectangle: Bounds, across: u32, down: u32) -> LeapWindow
+    requires sides { AreSidesWithin rectangle_bound rectangle }
+    requires columns { across ≡ distance rectangle.left rectangle.right }
+    requires rows { down ≡ distance rectangle.top rectangle.bottom }
+    requires few_columns { across < 56 }
+    requires few_rows { down < 48 }
+    ensures { (c : Cell) → IsWithin rectangle c → IsInnerCell result c }
+{
+    let rows = window_rows(down);
+    LeapWindow {
+        left: rectangle.left - 4 - ((55 - across) / 2) as i32,
+        top: rectangle.top - 4 - ((rows - 9 - down) / 2) as i32,
+        rows: rows as usize,
+    }
+}
+
+/// Lays windows over a rectangle, row by row.
+fn lay_rows(rectangle: Bounds, windows: &mut Vec<LeapWindow>) -> Result<(), OutOfMemory>
     requires { AreSidesWithin rectangle_bound rectangle }
     ensures kept { OnOk result ((c : Cell) → IsCovered windows.old.items c → IsCovered windows.new.items c) }
     ensures laid { OnOk result ((c : Cell) → IsWithin rectangle c → IsCovered windows.new.items c) }

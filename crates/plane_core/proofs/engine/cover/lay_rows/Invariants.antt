@@ -2,7 +2,7 @@ use Rattle.std.proofs.Common.{◌+◌, ◌-◌, ◌≤◌, ◌+ℤ◌, ◌<ℤ�
 use Rattle.plane_core.specs.declared.plane.cell.Cell.{Cell}
 use Rattle.plane_core.specs.plane.Bounds.{IsWithin}
 use Rattle.plane_core.specs.engine.LeapWindows.{IsCovered}
-use Rattle.plane_core.proofs.engine.cover.lay.Given as goal
+use Rattle.plane_core.proofs.engine.cover.lay_rows.Given as goal
 
 abbrev pub invariant-loop-laid : goal.invariant-loop-laid
 invariant-loop-laid l = record {
