@@ -94,15 +94,13 @@ fn absorbed(rectangles: &mut Vec<Bounds>, rectangle: Bounds, slack: u64) -> Boun
     let mut i = rectangles.len();
     let earliest = i.saturating_sub(UNITED_AT_ONCE);
     let mut all = rectangle;
-    let mut cost = cost_of(all);
     while i > earliest {
         i -= 1;
-        if !pays(rectangles[i], all, cost.saturating_add(slack)) {
+        if !pays(rectangles[i], all, slack) {
             continue;
         }
         let other = rectangles.swap_remove(i);
         all = other.joined(all);
-        cost = cost_of(all);
     }
     all
 }
@@ -114,17 +112,20 @@ fn slack(boxes: usize) -> u64 {
     (boxes as u64 / 8).saturating_mul(4).min(MOST_SLACK)
 }
 
-/// Checks whether the smallest rectangle that contains both costs at most as much as the first, plus `cost`: what the
-/// other costs, and the slack. Usually the two are far apart: if a column or a row of windows fits between them, nothing
-/// is saved. The sides are near the plane, so no difference wraps around.
+/// Checks whether the smallest rectangle that contains both costs at most as much as the two together, plus `slack`.
+/// Usually the two are far apart: if a column or a row of windows fits between them, nothing is saved. The sides are
+/// near the plane, so no difference wraps around.
 #[inline(always)]
-fn pays(one: Bounds, other: Bounds, cost: u64) -> bool {
+fn pays(one: Bounds, other: Bounds, slack: u64) -> bool {
     let rows = INNER_ROWS as i32;
     other.left.wrapping_sub(one.right) <= 56
         && one.left.wrapping_sub(other.right) <= 56
         && other.top.wrapping_sub(one.bottom) <= rows
         && one.top.wrapping_sub(other.bottom) <= rows
-        && cost_of(one.joined(other)) <= cost_of(one).saturating_add(cost)
+        && cost_of(one.joined(other))
+            <= cost_of(one)
+                .saturating_add(cost_of(other))
+                .saturating_add(slack)
 }
 
 /// Returns about the cost, in rows, of running the windows that cover the rectangle. A window has about 12 rows more
@@ -155,6 +156,7 @@ fn window_rows(length: u32) -> u32
 }
 
 /// Lays windows over a rectangle. Usually one is enough.
+#[inline(always)]
 fn lay(rectangle: Bounds, windows: &mut Vec<LeapWindow>) -> Result<(), OutOfMemory>
     requires { AreSidesWithin rectangle_bound rectangle }
     ensures kept { OnOk result ((c : Cell) → IsCovered windows.old.items c → IsCovered windows.new.items c) }
@@ -189,6 +191,7 @@ fn one_window(rectangle: Bounds, across: u32, down: u32) -> LeapWindow
 }
 
 /// Lays windows over a rectangle, row by row.
+#[inline(always)]
 fn lay_rows(rectangle: Bounds, windows: &mut Vec<LeapWindow>) -> Result<(), OutOfMemory>
     requires { AreSidesWithin rectangle_bound rectangle }
     ensures kept { OnOk result ((c : Cell) → IsCovered windows.old.items c → IsCovered windows.new.items c) }
