@@ -1,13 +1,14 @@
 //! Lists the cells of a board in order: row by row, and each row from the left.
 //!
 //! The rows are read in bands of eight, from the first that a span reaches to the last. Most word columns have no live
-//! cell in a band. Either their span doesn't reach the band, or its eight words are tested at once.
+//! cell in a band. Either their span doesn't reach the band, or its eight words are tested at once. What is read of a
+//! band, in brackets, reaches from the first word column with a live cell to the last:
 //!
 //! ```text
 //! word column   0     1     2     3     4
 //! band 0        .     .     .     .     .
-//! band 1        .    [#]   [.]    .     .      A word is read only where a span reaches, in brackets.
-//! band 2        .    [#]   [#]   [#]    .
+//! band 1        .    [#]    .     .     .
+//! band 2        .    [#]   [.]   [#]    .
 //! band 3        .     .     .     .     .
 //! ```
 ghost use Rattle.std.specs.Prelude.{◌≡◌, ◌+◌, ◌*◌, ◌/◌, ◌<◌, ◌≤◌, ◌^◌, ◌+ℤ◌, ℕ, length, pos};
@@ -87,20 +88,15 @@ pub(crate) fn along(cell: Cell, columns: usize) -> Cell
     }
 }
 
-/// Returns the word of a row of a word column whose span is `span`. Outside the span nothing is alive, and no word is
-/// read.
-fn word_at(at: Frame, words: &[u64], span: RowSpan, word_column: usize, row: usize) -> u64
+/// Returns the word of a row of a word column.
+#[inline(always)]
+fn word_at(at: Frame, words: &[u64], word_column: usize, row: usize) -> u64
     requires frame { IsFrame at }
     requires word_column { word_column < at.word_columns }
     requires row { row < at.rows }
     requires long { FillsFrame at words.now }
-    requires live { (i : ℕ) → i < 64 → bit_at (slice_index words.now (word_of at word_column row)) i ≡ 1
-        → HasRow span row }
     ensures { (i : ℕ) → i < 64 → bit_at result i ≡ bit_at (slice_index words.now (word_of at word_column row)) i }
 {
-    if row < span.from || span.end <= row {
-        return 0;
-    }
     words[at.index(word_column, row)]
 }
 
@@ -131,7 +127,7 @@ fn read_band(
     }
     for row in 8 * band..8 * band + 8 {
         for word_column in alive.from..alive.end {
-            let word = word_at(at, words, spans[word_column], word_column, row);
+            let word = word_at(at, words, word_column, row);
             read_word(word, at.corner(word_column, row), cells)?;
         }
     }

@@ -1,8 +1,7 @@
-use Rattle.std.proofs.Common.{◌<◌, ℕ, arith, subst}
+use Rattle.std.proofs.Common.{ℕ, arith, subst}
 use Rattle.plane_core.specs.engine.Listing.{HasReadRows, IsBandEmpty}
 use Rattle.plane_core.proofs.lemmas.engine.ListingLemmas.{band_joined, row-empty, row-more, row-none, row-on, rows-more, rows-on}
 use Rattle.plane_core.proofs.lemmas.plane.OrderLemmas.{below_too}
-use Rattle.plane_core.proofs.lemmas.engine.RowSpanLemmas.{live_bit}
 use Rattle.plane_core.proofs.engine.listing.read_band.Goals as goal
 use Rattle.plane_core.proofs.lemmas.Between.{HasReadRow}
 
@@ -30,18 +29,12 @@ loop-word_column-init c =
     row-on at words row 0 alive.from old old left (row-none at words row old)
 
 pub word_at-word-requires : goal.word_at-word-requires
-word_at-word-requires c =
-    let word_column = below_too _ _ _ c.loop-word_column-test.true c.word_columns_of_band-alive.ensures.most in
-    let low : c.loop-row.row < c.args.at.rows = omega arith in
-    record {
-      frame = c.requires.frame;
-      word_column = word_column;
-      row = low;
-      long = c.requires.long;
-      live = λ i small bit.
-          c.requires.live c.loop-word_column.word_column c.loop-row.row i word_column low small
-          (live_bit c.args.at c.args.words.now c.loop-word_column.word_column c.loop-row.row i word_column low small bit);
-    }
+word_at-word-requires c = record {
+  frame = c.requires.frame;
+  word_column = below_too _ _ _ c.loop-word_column-test.true c.word_columns_of_band-alive.ensures.most;
+  row = omega arith;
+  long = c.requires.long;
+}
 
 pub loop-word_column-preserved : goal.loop-word_column-preserved
 loop-word_column-preserved c =
