@@ -100,6 +100,12 @@ class Soups(Searches):
         self.assertEqual((self.folder / "calls").read_text().splitlines(),
                          [f"take {job} --first={first} --count={count} --workers={usual} --progress" for first, count in ((0, 4), (4, 3))])
 
+    def test_the_usual_batch(self) -> None:
+        """Without --part, a batch has 100,000 soups. The stub fails at once, so no soup is run."""
+        program = self.stub('echo "$@" > calls; exit 5')
+        self.assertEqual(self.search("--seed=a", program=program)[0], 5)
+        self.assertIn(" --first=0 --count=100000 ", (self.folder / "calls").read_text())
+
     def test_rights_and_links(self) -> None:
         """The file keeps its rights, and a link to it stays a link."""
         self.file.write_bytes(census("take", "--count", "5", *QUICK))
