@@ -1,10 +1,10 @@
 -- Definitions that only proofs use: what holds between two steps of a call, or in one iteration of a loop.
 use Rattle.plane_core.specs.plane.Bounds.{AreSidesWithin}
 use Rattle.plane_core.specs.engine.ActiveBoxes.{HoldAll, IsQuiet, box_bound}
-use Rattle.plane_core.specs.plane.Cells.{InOrder, cell_at, distance, has, king_distance, moved_by, plane_bound}
+use Rattle.plane_core.specs.plane.Cells.{InOrder, cell_at, distance, has, king_distance, plane_bound}
 use Rattle.plane_core.specs.clusters.Clusters.{IsCluster, Linked}
 use Rattle.plane_core.specs.engine.Directions.{IsReached}
-use Rattle.plane_core.specs.clusters.UnionFind.{IsForest, IsPassed, cell_of}
+use Rattle.plane_core.specs.clusters.UnionFind.{IsForest, cell_of}
 use Rattle.plane_core.specs.engine.Frames.{FillsFrame, IsFrame, Shows, board_cell, word_of}
 use Rattle.plane_core.specs.plane.Generations.{after, lives_by}
 use Rattle.plane_core.specs.windows.LaneSums.{bit_of, sum_of, total_of}
@@ -19,7 +19,6 @@ use Rattle.plane_core.specs.windows.Windows.{IsShownInside, row_at}
 use Rattle.plane_core.specs.windows.Words.{one_if}
 use Rattle.plane_core.specs.declared.plane.bounds.Bounds.{Bounds}
 use Rattle.plane_core.specs.declared.plane.cell.Cell.{Cell}
-use Rattle.plane_core.specs.declared.clusters.union_find.Cursors.{Cursors}
 use Rattle.plane_core.specs.declared.engine.frame.Frame.{Frame}
 use Rattle.plane_core.specs.declared.windows.lane_sums.Sum.{Sum}
 use Rattle.plane_core.specs.declared.windows.lane_sums.Total.{Total}
@@ -27,7 +26,7 @@ use Rattle.plane_core.specs.declared.engine.leap_window.LeapWindow.{LeapWindow}
 use Rattle.plane_core.specs.declared.engine.window_origin.WindowOrigin.{WindowOrigin}
 use Rattle.plane_core.specs.declared.engine.row_spans.RowSpan.{RowSpan}
 use Rattle.std.specs.Int.{bit_at}
-use Rattle.std.specs.Prelude.{All, Bool, List, Option, Some, false, length, negsuc, pos, slice_index, true, ℕ, ℤ, ◌%◌, ◌*◌, ◌+ℤ◌, ◌+◌, ◌-ℤ◌, ◌-◌, ◌<◌, ◌==◌, ◌≡◌, ◌≤ℤ◌, ◌≤◌, ◌⊎◌}
+use Rattle.std.specs.Prelude.{All, Bool, List, Option, Some, false, pos, slice_index, true, ℕ, ℤ, ◌%◌, ◌*◌, ◌+ℤ◌, ◌+◌, ◌-ℤ◌, ◌-◌, ◌<◌, ◌==◌, ◌≡◌, ◌≤ℤ◌, ◌≤◌, ◌⊎◌}
 
 -- what the boxes have to say before a leap of n generations
 pub record AreRightFor (rule : Numbers) (cells : List Cell) (boxes : List Bounds) (n : ℕ) : Type 0 where
@@ -67,14 +66,6 @@ pub record IsGreater (found : Option ℤ) (depth greater : ℤ) : Type 0 where
 -- the trees may only be joined where cells are linked
 abbrev pub JoinsLinked : List ℕ → List ℕ → ℕ → ℕ → Type 0
 JoinsLinked old new j k = (cells : List Cell) → IsForest cells old → Linked cells (cell_of cells j) (cell_of cells k) → IsForest cells new
-
--- the cells before a cursor come before all that is near the cells from this place on, so many rows further down
-abbrev pub IsBehind : List Cell → ℕ → ℤ → ℕ → Type 0
-IsBehind cells cursor dy place = (p : ℕ) → place ≤ p → p < length cells → IsPassed cells cursor (moved_by (negsuc 1) dy (cell_of cells p))
-
-pub record AreBehind (cells : List Cell) (cursors : Cursors) (place : ℕ) : Type 0 where
-  pub above : IsBehind cells cursors.above (negsuc 0) place
-  pub top : IsBehind cells cursors.top (negsuc 1) place
 
 -- the box isn't larger than the board, and lies so far from the border of the plane that a board round it lies on the plane
 pub record HasRoom (at : Frame) (b : Bounds) : Type 0 where

@@ -1,10 +1,12 @@
 -- How clusters are found: the places of a pattern's list of cells become a forest, in which each place leads to an
 -- earlier place or is a root.
-use Rattle.std.specs.Prelude.{◌≡◌, ◌+◌, ◌-◌, ◌<◌, ◌≤◌, ◌==◌, ℕ, pos, List, [], ◌∷◌, cond, drop, get_or, length, take}
+use Rattle.std.specs.Prelude.{◌≡◌, ◌+◌, ◌-◌, ◌<◌, ◌≤◌, ◌==◌, ◌+ℤ◌, ◌<ℤ◌, ℕ, pos, negsuc, List, [], ◌∷◌, cond, drop, get_or, length, take}
 use Rattle.std.specs.List.{AllPairs}
 use Rattle.std.specs.declared.cmp.Ordering.TheVariants.{Less}
 use Rattle.plane_core.specs.declared.plane.cell.Cell.{Cell}
-use Rattle.plane_core.specs.plane.Cells.{cell_at, cell_cmp, king_distance}
+use Rattle.plane_core.specs.declared.clusters.union_find.RowPlaces.{RowPlaces}
+use Rattle.plane_core.specs.declared.clusters.union_find.RowsAbove.{RowsAbove}
+use Rattle.plane_core.specs.plane.Cells.{cell_at, cell_cmp, king_distance, moved_by}
 use Rattle.plane_core.specs.clusters.Clusters.{FirstBefore, Linked}
 
 -- the cell at a place
@@ -53,9 +55,21 @@ pub record NeedsJoin (cells : List Cell) (k place : ℕ) : Type 0 where
   pub near : king_distance (cell_of cells k) (cell_of cells place) ≤ 2
   pub alone : ¬ IsBridged cells k place
 
--- all cells at places before the cursor come before the cell `from`
-abbrev pub IsPassed : List Cell → ℕ → Cell → Type 0
-IsPassed cells cursor from = (k : ℕ) → k < cursor → cell_cmp (cell_of cells k) from ≡ Less
+-- The places of a row's cells that come before a place and don't come before the cell `from`, which is in the row. The
+-- row is above the cell of the place.
+pub record IsRow (cells : List Cell) (row : RowPlaces) (place : ℕ) (from : Cell) : Type 0 where
+  pub order : row.from ≤ row.end
+  pub few : row.end ≤ place
+  pub passed : (k : ℕ) → k < row.from → cell_cmp (cell_of cells k) from ≡ Less
+  pub level : (k : ℕ) → row.from ≤ k → k < row.end → (cell_of cells k).y ≡ from.y
+  pub later : (k : ℕ) → row.end ≤ k → k < place → from.y <ℤ (cell_of cells k).y
+
+-- the two rows above a place, from the first column that is near on
+pub record AreRowsAbove (cells : List Cell) (rows : RowsAbove) (place : ℕ) : Type 0 where
+  pub few : rows.begin ≤ place
+  pub begun : (k : ℕ) → k < rows.begin → (cell_of cells k).y <ℤ ((cell_of cells place).y +ℤ negsuc 1)
+  pub above : IsRow cells rows.above place (moved_by (negsuc 1) (negsuc 0) (cell_of cells place))
+  pub top : IsRow cells rows.top place (moved_by (negsuc 1) (negsuc 1) (cell_of cells place))
 
 -- the cells whose places have the number n
 abbrev pub numbered : ℕ → List ℕ → List Cell → List Cell

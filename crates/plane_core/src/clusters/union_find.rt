@@ -10,14 +10,14 @@
 //! each place, in order, is joined with the earlier places whose cells are near, which means at most two columns and
 //! two rows away: the later one of the two roots then leads to the earlier one. At the end, each tree is a cluster.
 //!
-//! Near cells that come earlier are in the cell's own row or in the two rows above. A cursor for each of the two rows
-//! skips what is too far to the left. It never goes back, because the next cell is further right or further down. In
-//! its own row, a cell is joined with the cell just before it. If that cell is near, it has been joined with everything
-//! that is near both, so in the rows above at most one cell is usually left.
-ghost use Rattle.std.specs.Prelude.{◌≡◌, ◌≢◌, ◌+◌, ◌<◌, ◌<ℤ◌, ◌≤◌, ℕ, true, IfOk, List, length, nat_le};
+//! Near cells that come earlier are in the cell's own row or in the two rows above. Which places these rows have is
+//! found once for each row, so that only columns are compared. What is too far to the left of a cell is skipped for the
+//! rest of its row. In its own row, a cell is joined with the cell just before it. If that cell is near, it has been
+//! joined with everything that is near both, so in the rows above at most one cell is usually left.
+ghost use Rattle.std.specs.Prelude.{◌≡◌, ◌≢◌, ◌+◌, ◌<◌, ◌<ℤ◌, ◌≤◌, ◌≤ℤ◌, ◌-◌, ℕ, true, IfOk, List, length, nat_le};
 ghost use Rattle.std.specs.declared.cmp.Ordering.TheVariants.{Less};
 ghost use Rattle.plane_core.specs.plane.Cells.{IsPattern, cell_cmp, king_distance, on_plane};
-ghost use Rattle.plane_core.specs.clusters.UnionFind.{IsBridged, IsForest, IsPassed, Joined, JoinsAll};
+ghost use Rattle.plane_core.specs.clusters.UnionFind.{AreRowsAbove, IsBridged, IsForest, IsRow, Joined, JoinsAll};
 ghost use Rattle.plane_core.specs.clusters.UnionFind.{Keeps, LeadsBack, NeedsJoin};
 ghost use Rattle.plane_core.specs.clusters.Clusters.{Linked};
 ghost use Rattle.plane_core.specs.clusters.UnionFind.{cell_of, parent_of};
@@ -28,11 +28,21 @@ use crate::plane::coordinate::{along, apart};
 use memory::OutOfMemory;
 use std::alloc::Global;
 
-/// For the row above a cell and the row above that one (`top`), the first place whose cell may be near.
+/// Places from `from` to before `end`, whose cells are in one row. What comes before them in the row is too far to the
+/// left.
 #[derive(Clone, Copy)]
-struct Cursors {
-    above: usize,
-    top: usize,
+struct RowPlaces {
+    from: usize,
+    end: usize,
+}
+
+/// The places of the row above a cell and of the row above that one (`top`). All cells at places before `begin` are
+/// further up.
+#[derive(Clone, Copy)]
+struct RowsAbove {
+    begin: usize,
+    above: RowPlaces,
+    top: RowPlaces,
 }
 
 /// Returns `count` places, each a root.
@@ -54,71 +64,123 @@ pub(crate) fn join_all(cells: &[Cell], parents: &mut [usize])
     ensures forest { IsForest cells.now parents.new }
     ensures joined { JoinsAll cells.now parents.new (length cells.now) }
 {
-    let mut cursors = Cursors { above: 0, top: 0 };
+    let none = RowPlaces { from: 0, end: 0 };
+    let mut rows = RowsAbove {
+        begin: 0,
+        above: none,
+        top: none,
+    };
     // The first place has no earlier one.
     for place in 1..cells.len() {
+        rows = rows_above(cells, place, rows);
         join_if_near(cells, parents, place - 1, place);
         let cell = cells[place];
-        let above = join_row(
+        rows.above.from = join_row(
             cells,
             parents,
             place,
-            cursors.above,
+            rows.above,
             cell.moved(-2, -1),
             cell.moved(2, -1),
         );
-        let top = join_row(
+        rows.top.from = join_row(
             cells,
             parents,
             place,
-            cursors.top,
+            rows.top,
             cell.moved(-2, -2),
             cell.moved(2, -2),
         );
-        cursors = Cursors { above, top };
     }
 }
 
+/// Returns the rows above a place, from those above the place before.
+#[inline(always)]
+fn rows_above(cells: &[Cell], place: usize, rows: RowsAbove) -> RowsAbove
+    requires pattern { IsPattern cells.now }
+    requires place { (0 < place) × (place < length cells.now) }
+    requires rows { AreRowsAbove cells.now rows (place - 1) }
+    ensures { AreRowsAbove cells.now result place }
+{
+    let cell = cells[place];
+    if cells[place - 1].y == cell.y {
+        return rows;
+    }
+    let begin = first_in_row(cells, rows.begin, place, cell.moved(-2, -2).y);
+    let end = first_in_row(cells, begin, place, cell.moved(-2, -1).y);
+    RowsAbove {
+        begin,
+        above: RowPlaces {
+            from: end,
+            end: place,
+        },
+        top: RowPlaces { from: begin, end },
+    }
+}
+
+/// Returns the first place from `from` on whose cell isn't above row `y`, or `end` if there is none before it.
+fn first_in_row(cells: &[Cell], from: usize, end: usize, y: i32) -> usize
+    requires order { from ≤ end }
+    requires end { end ≤ length cells.now }
+    ensures low { from ≤ result }
+    ensures high { result ≤ end }
+    ensures before { (k : ℕ) → from ≤ k → k < result → (cell_of cells.now k).y <ℤ y }
+    ensures at { result < end → y ≤ℤ (cell_of cells.now result).y }
+{
+    let mut at = from;
+    while at < end && cells[at].y < y {
+        at += 1;
+    }
+    at
+}
+
 /// Joins `place` with the earlier places whose cells are near its cell and in the range from `from` to `to`, both
-/// included. All cells at places before `cursor` come before `from`. Returns the first place whose cell doesn't.
+/// included, which is a part of a row with these places. Returns the first place of the row that isn't to the left of
+/// `from`.
 #[inline(always)]
 fn join_row(
     cells: &[Cell],
     parents: &mut [usize],
     place: usize,
-    cursor: usize,
+    row: RowPlaces,
     from: Cell,
     to: Cell,
 ) -> usize
     requires pattern { IsPattern cells.now }
     requires place { (0 < place) × (place < length cells.now) }
     requires forest { IsForest cells.now parents.old }
-    requires cursor { IsPassed cells.now cursor from }
+    requires row { IsRow cells.now row place from }
+    requires end { to.y ≡ from.y }
     requires above { from.y <ℤ (cell_of cells.now place).y }
     ensures forest { IsForest cells.now parents.new }
     ensures keeps { Keeps parents.old parents.new }
     ensures joined { (k : ℕ) → k < place → cell_cmp (cell_of cells.now k) from ≢ Less
         → cell_cmp to (cell_of cells.now k) ≢ Less
         → NeedsJoin cells.now k place → Joined parents.new k place }
-    ensures cursor { IsPassed cells.now result from }
+    ensures row { IsRow cells.now (record row { from = result }) place from }
 {
-    let first = skipped(cells, cursor, from);
+    let first = skipped(cells, row.from, row.end, from.x);
     let fresh = fresh_from(cells, place, from);
-    let start = skipped(cells, first, fresh);
+    let start = skipped(cells, first, row.end, fresh.x);
     let mut at = start;
-    while at < place && cells[at] <= to {
+    while at < row.end && cells[at].x <= to.x {
         join_if_near(cells, parents, at, place);
         at += 1;
     }
     first
 }
 
-/// Returns the first place from the cursor on whose cell doesn't come before `from`.
-fn skipped(cells: &[Cell], cursor: usize, from: Cell) -> usize
-    ensures { (k : ℕ) → cursor ≤ k → k < result → cell_cmp (cell_of cells.now k) from ≡ Less }
+/// Returns the first place from `from` on whose cell isn't to the left of column `x`, or `end` if there is none before
+/// it.
+fn skipped(cells: &[Cell], from: usize, end: usize, x: i32) -> usize
+    requires order { from ≤ end }
+    requires end { end ≤ length cells.now }
+    ensures low { from ≤ result }
+    ensures high { result ≤ end }
+    ensures before { (k : ℕ) → from ≤ k → k < result → (cell_of cells.now k).x <ℤ x }
 {
-    let mut at = cursor;
-    while at < cells.len() && cells[at] < from {
+    let mut at = from;
+    while at < end && cells[at].x < x {
         at += 1;
     }
     at
@@ -131,7 +193,8 @@ fn fresh_from(cells: &[Cell], place: usize, from: Cell) -> Cell
     requires pattern { IsPattern cells.now }
     requires place { (0 < place) × (place < length cells.now) }
     requires above { from.y <ℤ (cell_of cells.now place).y }
-    ensures { (k : ℕ) → k < place → cell_cmp (cell_of cells.now k) from ≢ Less
+    ensures row { result.y ≡ from.y }
+    ensures fresh { (k : ℕ) → k < place → cell_cmp (cell_of cells.now k) from ≢ Less
         → cell_cmp (cell_of cells.now k) result ≡ Less
         → king_distance (cell_of cells.now k) (cell_of cells.now place) ≤ 2 → IsBridged cells.now k place }
 {

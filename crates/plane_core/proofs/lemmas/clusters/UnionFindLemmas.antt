@@ -1,5 +1,5 @@
--- Forests over the places of a pattern's cells: roots, joined trees, and cursors.
-use Rattle.std.proofs.Common.{◌≡◌, ◌≢◌, ℕ, ℤ, ◌+◌, ◌-◌, ◌+ℤ◌, ◌<◌, ◌≤◌, ◌<ℤ◌, max, min, pos, negsuc, true, false, List, arith, refl, ap, ◌∙◌, sym, subst, inl, inr, ◌⊎◌, length, set}
+-- Forests over the places of a pattern's cells: roots, joined trees, and rows.
+use Rattle.std.proofs.Common.{◌≡◌, ◌≢◌, ℕ, ℤ, ◌+◌, ◌-◌, ◌+ℤ◌, ◌<◌, ◌≤◌, ◌<ℤ◌, ◌≤ℤ◌, max, min, pos, negsuc, true, false, List, arith, refl, ap, ◌∙◌, sym, subst, inl, inr, ◌⊎◌, length, set}
 use Rattle.std.specs.Cmp.{int_ranks}
 use Rattle.std.specs.Ordering.{int_cmp, is_le, is_lt, ordering_then, MatchOrdering}
 use Rattle.std.specs.declared.cmp.Ordering.{Ordering}
@@ -13,12 +13,13 @@ use borrow.Author.Count.{below_more}
 use Rattle.plane_core.specs.declared.plane.cell.Cell.{Cell}
 use Rattle.plane_core.specs.plane.Cells.{cell_at, cell_cmp, distance, king_distance, moved_by, has, InOrder}
 use Rattle.plane_core.specs.clusters.Clusters.{Linked}
-use Rattle.plane_core.specs.clusters.UnionFind.{cell_of, parent_of, LeadsBack, IsForest, Labels, Joined, Keeps, JoinsAll, IsBridged, NeedsJoin, IsPassed}
-use Rattle.plane_core.specs.declared.clusters.union_find.Cursors.{Cursors}
+use Rattle.plane_core.specs.clusters.UnionFind.{cell_of, parent_of, LeadsBack, IsForest, Labels, Joined, Keeps, JoinsAll, IsBridged, IsRow, AreRowsAbove, NeedsJoin}
+use Rattle.plane_core.specs.declared.clusters.union_find.RowPlaces.{RowPlaces}
+use Rattle.plane_core.specs.declared.clusters.union_find.RowsAbove.{RowsAbove}
 use Rattle.plane_core.proofs.lemmas.plane.CellLemmas.{cell_cmp_total, cell_cmp-moved}
 use Rattle.plane_core.proofs.lemmas.plane.SetLemmas.{Contains-has, greater_turned}
 use Rattle.plane_core.proofs.lemmas.clusters.ClusterLemmas.{linked-itself, linked-near, linked-trans, linked-sym}
-use Rattle.plane_core.proofs.lemmas.Between.{AreBehind, IsBehind, JoinsLinked}
+use Rattle.plane_core.proofs.lemmas.Between.{JoinsLinked}
 
 pub has-cell_of : (cells : List Cell) (k : ℕ) → k < length cells → has cells (cell_of cells k) ≡ true
 has-cell_of cells k low = Contains-has cells (cell_of cells k) (Contains-get_or cells k _ low)
@@ -129,21 +130,6 @@ near_linked cells j k few less near = linked-near cells (cell_of cells j) (cell_
 pub in_places : (cells : List Cell) (j k : ℕ) → InOrder cells → j < k → k < length cells → cell_cmp (cell_of cells j) (cell_of cells k) ≡ Less
 in_places cells j k o less low = Less-from_sorted cell_cmp cells j k _ o less low
 
--- what comes before a cell comes before any that stands at a later place
-pub passed_later : (cells : List Cell) (cursor place p : ℕ) (dx dy : ℤ) → InOrder cells → place ≤ p → p < length cells
-    → IsPassed cells cursor (moved_by dx dy (cell_of cells place)) → IsPassed cells cursor (moved_by dx dy (cell_of cells p))
-passed_later cells cursor place p dx dy o less low passed = elim (cases_eq place p) [
-  | inl same ↦ subst (λ (q : ℕ). IsPassed cells cursor (moved_by dx dy (cell_of cells q))) same passed
-  | inr different ↦ λ k few.
-      let before : place < p = omega (arith, less, different) in
-      cell_cmp_total.trans (cell_of cells k) (moved_by dx dy (cell_of cells place)) (moved_by dx dy (cell_of cells p)) (passed k few)
-      (cell_cmp-moved dx dy (cell_of cells place) (cell_of cells p) ∙ in_places cells place p o before low)
-]
-
-pub all_behind : (cells : List Cell) (cursor place : ℕ) (dy : ℤ) → InOrder cells
-    → IsPassed cells cursor (moved_by (negsuc 1) dy (cell_of cells place)) → IsBehind cells cursor dy place
-all_behind cells cursor place dy o passed p less low = passed_later cells cursor place p (negsuc 1) dy o less low passed
-
 -- a cell that comes before another stands in a row above it, or in its row and further left
 pub before_cases : (a b : Cell) → cell_cmp a b ≡ Less → (a.y <ℤ b.y) ⊎ ((a.y ≡ b.y) × (a.x <ℤ b.x))
 before_cases a b e = rows (int_cmp a.y b.y) (int_ranks a.y b.y) e
@@ -204,6 +190,180 @@ before_up a b up = go (int_cmp a.y b.y) (int_ranks a.y b.y)
     go Less is = refl
     go Equal is = absurd (omega (arith, ints, is, up))
     go Greater is = absurd (omega (arith, ints, is, up))
+
+-- a cell further left in the same row comes before
+pub before_left : (a b : Cell) → a.y ≡ b.y → a.x <ℤ b.x → cell_cmp a b ≡ Less
+before_left a b row left = go (int_cmp a.y b.y) (int_ranks a.y b.y)
+  where
+    columns : (r : Ordering) → MatchOrdering r (a.x <ℤ b.x) (a.x ≡ b.x) (b.x <ℤ a.x) → r ≡ Less
+    columns Less is = refl
+    columns Equal is = absurd (omega (arith, ints, is, left))
+    columns Greater is = absurd (omega (arith, ints, is, left))
+
+    go : (r : Ordering) → MatchOrdering r (a.y <ℤ b.y) (a.y ≡ b.y) (b.y <ℤ a.y) → ordering_then r (int_cmp a.x b.x) ≡ Less
+    go Less is = refl
+    go Equal is = columns (int_cmp a.x b.x) (int_ranks a.x b.x)
+    go Greater is = absurd (omega (arith, ints, is, row))
+
+-- no cell at an earlier place is in a lower row
+pub not_lower : (cells : List Cell) (j k : ℕ) → InOrder cells → j < k → k < length cells → (cell_of cells j).y ≤ℤ (cell_of cells k).y
+not_lower cells j k o less low = elim (before_cases (cell_of cells j) (cell_of cells k) (in_places cells j k o less low)) [
+  | inl above ↦ omega (arith, ints, above)
+  | inr same ↦ omega (arith, ints, same.0)
+]
+
+-- ---- the rows above a place
+
+-- the next place of the same row has the same rows above it
+pub same_rows : (cells : List Cell) (rows : RowsAbove) (place : ℕ) → InOrder cells → 0 < place → place < length cells
+    → (cell_of cells (place - 1)).y ≡ (cell_of cells place).y → AreRowsAbove cells rows (place - 1) → AreRowsAbove cells rows place
+same_rows cells rows place o some low level r = record {
+  few = omega (arith, r.few);
+  begun = λ k less. let up = r.begun k less in omega (arith, ints, up, level);
+  above = one rows.above 0 r.above;
+  top = one rows.top 1 r.top;
+}
+  where
+    old : Cell
+    old = cell_of cells (place - 1)
+
+    new : Cell
+    new = cell_of cells place
+
+    one : (row : RowPlaces) (n : ℕ) → IsRow cells row (place - 1) (moved_by (negsuc 1) (negsuc n) old) → IsRow cells row place (moved_by (negsuc 1) (negsuc n) new)
+    one row n is = record {
+      order = is.order;
+      few = omega (arith, is.few);
+      passed = λ k less.
+          cell_cmp_total.trans (cell_of cells k) (moved_by (negsuc 1) (negsuc n) old) (moved_by (negsuc 1) (negsuc n) new) (is.passed k less)
+          (cell_cmp-moved (negsuc 1) (negsuc n) old new ∙ in_places cells (place - 1) place o (omega (arith, some)) low);
+      level = λ k least less. let at = is.level k least less in omega (arith, ints, at, level);
+      later = λ k least less. elim (cases_lt k (place - 1)) [
+        | inl few ↦ let under = is.later k least few in omega (arith, ints, under, level)
+        | inr last ↦
+            let same : k ≡ place - 1 = omega (arith, last, less) in
+            let row_is : (cell_of cells k).y ≡ old.y = ap (λ (m : ℕ). (cell_of cells m).y) same in
+            omega (arith, ints, row_is, level)
+      ];
+    }
+
+-- the rows above the first place of a row
+pub new_rows : (cells : List Cell) (rows : RowsAbove) (place begin end : ℕ) → InOrder cells → 0 < place → place < length cells
+    → (cell_of cells (place - 1)).y ≢ (cell_of cells place).y → AreRowsAbove cells rows (place - 1) → rows.begin ≤ begin → begin ≤ place
+    → ((k : ℕ) → rows.begin ≤ k → k < begin → (cell_of cells k).y <ℤ ((cell_of cells place).y +ℤ negsuc 1))
+    → (begin < place → ((cell_of cells place).y +ℤ negsuc 1) ≤ℤ (cell_of cells begin).y) → begin ≤ end → end ≤ place
+    → ((k : ℕ) → begin ≤ k → k < end → (cell_of cells k).y <ℤ ((cell_of cells place).y +ℤ negsuc 0))
+    → (end < place → ((cell_of cells place).y +ℤ negsuc 0) ≤ℤ (cell_of cells end).y)
+    → AreRowsAbove cells (record { begin = begin; above = record { from = end; end = place }; top = record { from = begin; end = end } }) place
+new_rows cells rows place begin end o some low apart r begin_least begin_most before_begin at_begin end_least end_most before_end at_end = record {
+  few = begin_most;
+  begun = further;
+  above = record {
+    order = end_most;
+    few = omega arith;
+    passed = λ k less. before_up (cell_of cells k) (moved_by (negsuc 1) (negsuc 0) new) (above_end k less);
+    level = λ k least less.
+        let up = higher k less in
+        let down = from_end k least less in
+        omega (arith, ints, up, down);
+    later = λ k least less. absurd (omega (arith, least, less));
+  };
+  top = record {
+    order = end_least;
+    few = end_most;
+    passed = λ k less. before_up (cell_of cells k) (moved_by (negsuc 1) (negsuc 1) new) (further k less);
+    level = λ k least less.
+        let up = before_end k least less in
+        let down = from_begin k least (omega (arith, less, end_most)) in
+        omega (arith, ints, up, down);
+    later = λ k least less. let down = from_end k least less in omega (arith, ints, down);
+  };
+}
+  where
+    new : Cell
+    new = cell_of cells place
+
+    -- the row before is higher
+    higher : (k : ℕ) → k < place → (cell_of cells k).y <ℤ new.y
+    higher k less =
+        let last : (cell_of cells (place - 1)).y ≤ℤ new.y = not_lower cells (place - 1) place o (omega (arith, some)) low in
+        elim (cases_lt k (place - 1)) [
+          | inl few ↦
+              let up = not_lower cells k (place - 1) o few (omega (arith, some, low)) in
+              strict (cell_of cells k).y (cell_of cells (place - 1)).y new.y up last apart
+          | inr late ↦
+              let same : k ≡ place - 1 = omega (arith, late, less) in
+              let row_is : (cell_of cells k).y ≤ℤ (cell_of cells (place - 1)).y = subst (λ (m : ℕ). (cell_of cells m).y ≤ℤ (cell_of cells (place - 1)).y) (sym same) (omega (arith, ints)) in
+              strict (cell_of cells k).y (cell_of cells (place - 1)).y new.y row_is last apart
+        ]
+      where
+        strict : (a b c : ℤ) → a ≤ℤ b → b ≤ℤ c → b ≢ c → a <ℤ c
+        strict a b c h i d = grind (arith, ints, h, i, d)
+
+    further : (k : ℕ) → k < begin → (cell_of cells k).y <ℤ (new.y +ℤ negsuc 1)
+    further k less = elim (cases_lt k rows.begin) [
+      | inl first ↦
+          let up = r.begun k first in
+          let last = not_lower cells (place - 1) place o (omega (arith, some)) low in
+          omega (arith, ints, up, last)
+      | inr least ↦ before_begin k least less
+    ]
+
+    above_end : (k : ℕ) → k < end → (cell_of cells k).y <ℤ (new.y +ℤ negsuc 0)
+    above_end k less = elim (cases_lt k begin) [
+      | inl first ↦ let up = further k first in omega (arith, ints, up)
+      | inr least ↦ before_end k least less
+    ]
+
+    on : (m k : ℕ) (y : ℤ) → m ≤ k → k < length cells → y ≤ℤ (cell_of cells m).y → y ≤ℤ (cell_of cells k).y
+    on m k y least less at = elim (cases_lt m k) [
+      | inl before ↦ let up = not_lower cells m k o before less in omega (arith, ints, up, at)
+      | inr late ↦ subst (λ (n : ℕ). y ≤ℤ (cell_of cells n).y) (omega (arith, late, least)) at
+    ]
+
+    from_begin : (k : ℕ) → begin ≤ k → k < place → (new.y +ℤ negsuc 1) ≤ℤ (cell_of cells k).y
+    from_begin k least less = on begin k (new.y +ℤ negsuc 1) least (omega (arith, less, low)) (at_begin (omega (arith, least, less)))
+
+    from_end : (k : ℕ) → end ≤ k → k < place → (new.y +ℤ negsuc 0) ≤ℤ (cell_of cells k).y
+    from_end k least less = on end k (new.y +ℤ negsuc 0) least (omega (arith, less, low)) (at_end (omega (arith, least, less)))
+
+-- a row without the places that are too far to the left
+pub row_skipped : (cells : List Cell) (row : RowPlaces) (place first : ℕ) (from : Cell) → IsRow cells row place from → row.from ≤ first → first ≤ row.end
+    → ((k : ℕ) → row.from ≤ k → k < first → (cell_of cells k).x <ℤ from.x) → IsRow cells (record row { from = first }) place from
+row_skipped cells row place first from is least most left = record {
+  order = most;
+  few = is.few;
+  passed = λ k less. elim (cases_lt k row.from) [
+    | inl before ↦ is.passed k before
+    | inr after ↦ before_left (cell_of cells k) from (is.level k after (omega (arith, less, most))) (left k after less)
+  ];
+  level = λ k low less. is.level k (omega (arith, low, least)) less;
+  later = is.later;
+}
+
+-- the rows above a place, without what was skipped for it
+pub later_rows : (cells : List Cell) (rows : RowsAbove) (place first second : ℕ) (above top : Cell) → AreRowsAbove cells rows place
+    → above ≡ moved_by (negsuc 1) (negsuc 0) (cell_of cells place) → top ≡ moved_by (negsuc 1) (negsuc 1) (cell_of cells place)
+    → IsRow cells (record { from = first; end = rows.above.end }) place above → IsRow cells (record { from = second; end = rows.top.end }) place top
+    → AreRowsAbove cells (record {
+      begin = rows.begin;
+      above = record { from = first; end = rows.above.end };
+      top = record { from = second; end = rows.top.end };
+    }) place
+later_rows cells rows place first second above top r above_is top_is row_above row_top = record {
+  few = r.few;
+  begun = r.begun;
+  above = subst (IsRow cells (record { from = first; end = rows.above.end }) place) above_is row_above;
+  top = subst (IsRow cells (record { from = second; end = rows.top.end }) place) top_is row_top;
+}
+
+-- the end of the scan of a row: the cell there is further right, or in a lower row
+pub past_scan : (cells : List Cell) (row : RowPlaces) (place at : ℕ) (from to : Cell) → IsRow cells row place from → to.y ≡ from.y → row.from ≤ at
+    → (at < row.end → to.x <ℤ (cell_of cells at).x) → at < place → cell_cmp to (cell_of cells at) ≡ Less
+past_scan cells row place at from to is end least right less = elim (cases_lt at row.end) [
+  | inl inside ↦ let level = is.level at least inside in before_left to (cell_of cells at) (end ∙ sym level) (right inside)
+  | inr outside ↦ let under = is.later at outside less in before_up to (cell_of cells at) (omega (arith, ints, under, end))
+]
 
 -- near cells of a row above that don't lie past the third column from the cell before are near that one too
 pub bridged : (cells : List Cell) (k place : ℕ) (from : Cell) → 1 ≤ place → from.y <ℤ (cell_of cells place).y → InOrder cells → place < length cells
@@ -389,6 +549,27 @@ scanned cells old new place first at to o low end s k from less short near = eli
               cell_cmp_total.trans to (cell_of cells at) (cell_of cells k) (end early) (in_places cells at k o before few)
         ]
 
+-- a row that was scanned is joined
+pub row_joined : (cells : List Cell) (old new : List ℕ) (place : ℕ) (row : RowPlaces) (from to fresh : Cell) (first start at : ℕ) → InOrder cells
+    → place < length cells → IsRow cells row place from → to.y ≡ from.y → fresh.y ≡ from.y → row.from ≤ first → first ≤ row.end
+    → ((k : ℕ) → row.from ≤ k → k < first → (cell_of cells k).x <ℤ from.x) → first ≤ start → start ≤ row.end
+    → ((k : ℕ) → first ≤ k → k < start → (cell_of cells k).x <ℤ fresh.x)
+    → ((k : ℕ) → k < place → cell_cmp (cell_of cells k) from ≢ Less → cell_cmp (cell_of cells k) fresh ≡ Less
+    → king_distance (cell_of cells k) (cell_of cells place) ≤ 2 → IsBridged cells k place)
+    → start ≤ at → (at < row.end → to.x <ℤ (cell_of cells at).x) → IsScanning cells old new place start at → JoinsRow cells new place from to
+row_joined cells old new place row from to fresh first start at o low is to_row fresh_row first_least first_most left start_least start_most early bridged at_least end s k less not_before not_after need =
+    elim (cases_lt k start) [
+      | inr more ↦
+          scanned cells old new place start at to o low
+          (λ inside. past_scan cells row place at from to is to_row (omega (arith, first_least, start_least, at_least)) end inside) s k more less not_after need
+      | inl few ↦ elim (cases_lt k first) [
+        | inl passed ↦ absurd (not_before ((row_skipped cells row place first from is first_least first_most left).passed k passed))
+        | inr ahead ↦
+            let level : (cell_of cells k).y ≡ fresh.y = is.level k (omega (arith, first_least, ahead)) (omega (arith, few, start_most)) ∙ sym fresh_row in
+            absurd (need.alone (bridged k less not_before (before_left (cell_of cells k) fresh level (early k ahead few)) need.near))
+      ]
+    ]
+
 -- a place more is joined with all before it
 pub joins_more : (cells : List Cell) (old new : List ℕ) (place : ℕ) → Keeps old new → JoinsAll cells old place
     → ((k : ℕ) → k < place → king_distance (cell_of cells k) (cell_of cells place) ≤ 2 → Joined new k place) → JoinsAll cells new (place + 1)
@@ -399,13 +580,6 @@ joins_more cells old new place keeps before here j k less low near = elim (cases
       (here j few (subst (λ (n : ℕ). king_distance (cell_of cells j) (cell_of cells n) ≤ 2) same near))
   | inr different ↦ let few : k < place = omega (arith, low, different) in joined-kept old new j k keeps (before j k less few near)
 ]
-
--- the cursors serve the next place too
-pub behind_next : (cells : List Cell) (cursors : Cursors) (place : ℕ) → AreBehind cells cursors place → AreBehind cells cursors (place + 1)
-behind_next cells cursors place b = record {
-  above = λ p less low. b.above p (omega (arith, less)) low;
-  top = λ p less low. b.top p (omega (arith, less)) low;
-}
 
 -- a cell that isn't at most another comes after it
 pub not_most : (a b : Cell) → is_le (cell_cmp a b) ≡ false → cell_cmp b a ≡ Less

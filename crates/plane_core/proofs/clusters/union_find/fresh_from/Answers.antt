@@ -8,8 +8,8 @@ use Rattle.plane_core.proofs.lemmas.clusters.UnionFindLemmas.{bridged}
 use Rattle.plane_core.proofs.lemmas.plane.TransformLemmas.{all_at}
 use Rattle.plane_core.proofs.clusters.union_find.fresh_from.Goals as goal
 
-pub returns : goal.returns
-returns c k less left early near =
+pub returns-clause-fresh : goal.returns-clause-fresh
+returns-clause-fresh c k less left early near =
     let cells = c.args.cells.now in
     let place = c.args.place in
     let some : 1 ≤ place = c.requires.place.0 in
@@ -23,11 +23,11 @@ returns c k less left early near =
     subst (λ (x : ℤ). cell_cmp (cell_of cells k) (cell_at x c.args.from.y) ≡ Less) end (simp to_z-of_z at early) in
     bridged cells k place c.args.from some c.requires.above c.requires.pattern.in_order c.requires.place.1 row right less left before near
 
-pub returns-then-before-cells : goal.returns-then-before-cells
-returns-then-before-cells c = λ k less left early near. absurd (left early)
+pub returns-then-before-cells-clause-fresh : goal.returns-then-before-cells-clause-fresh
+returns-then-before-cells-clause-fresh c = λ k less left early near. absurd (left early)
 
-pub returns-then-not-are_near : goal.returns-then-not-are_near
-returns-then-not-are_near c = λ k less left early near. absurd (left early)
+pub returns-then-not-are_near-clause-fresh : goal.returns-then-not-are_near-clause-fresh
+returns-then-not-are_near-clause-fresh c = λ k less left early near. absurd (left early)
 
 pub are_near-requires-clause-one : goal.are_near-requires-clause-one
 are_near-requires-clause-one c =
