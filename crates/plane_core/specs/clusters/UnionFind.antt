@@ -1,6 +1,6 @@
 -- How clusters are found: the places of a pattern's list of cells become a forest, in which each place leads to an
 -- earlier place or is a root.
-use Rattle.std.specs.Prelude.{◌≡◌, ◌+◌, ◌-◌, ◌<◌, ◌≤◌, ◌==◌, ◌+ℤ◌, ◌<ℤ◌, ℕ, pos, negsuc, List, [], ◌∷◌, cond, drop, get_or, length, take}
+use Rattle.std.specs.Prelude.{◌≡◌, ◌+◌, ◌-◌, ◌<◌, ◌≤◌, ◌==◌, ◌+ℤ◌, ◌<ℤ◌, ℕ, ℤ, pos, negsuc, List, [], ◌∷◌, cond, drop, get_or, length, take}
 use Rattle.std.specs.List.{AllPairs}
 use Rattle.std.specs.declared.cmp.Ordering.TheVariants.{Less}
 use Rattle.plane_core.specs.declared.plane.cell.Cell.{Cell}
@@ -54,6 +54,11 @@ pub record IsBridged (cells : List Cell) (k place : ℕ) : Type 0 where
 pub record NeedsJoin (cells : List Cell) (k place : ℕ) : Type 0 where
   pub near : king_distance (cell_of cells k) (cell_of cells place) ≤ 2
   pub alone : ¬ IsBridged cells k place
+
+-- in the rows above a place, each cell that is near and to the left of the column is bridged
+abbrev pub IsFresh : List Cell → ℤ → ℕ → Type 0
+IsFresh cells column place = (k : ℕ) → k < place → (cell_of cells k).y <ℤ (cell_of cells place).y → (cell_of cells k).x <ℤ column
+    → king_distance (cell_of cells k) (cell_of cells place) ≤ 2 → IsBridged cells k place
 
 -- The places of a row's cells that come before a place and don't come before the cell `from`, which is in the row. The
 -- row is above the cell of the place.

@@ -17,7 +17,7 @@
 ghost use Rattle.std.specs.Prelude.{◌≡◌, ◌≢◌, ◌+◌, ◌<◌, ◌<ℤ◌, ◌≤◌, ◌≤ℤ◌, ◌-◌, ℕ, true, IfOk, List, length, nat_le};
 ghost use Rattle.std.specs.declared.cmp.Ordering.TheVariants.{Less};
 ghost use Rattle.plane_core.specs.plane.Cells.{IsPattern, cell_cmp, king_distance, on_plane};
-ghost use Rattle.plane_core.specs.clusters.UnionFind.{AreRowsAbove, IsBridged, IsForest, IsRow, Joined, JoinsAll};
+ghost use Rattle.plane_core.specs.clusters.UnionFind.{AreRowsAbove, IsForest, IsFresh, IsRow, Joined, JoinsAll};
 ghost use Rattle.plane_core.specs.clusters.UnionFind.{Keeps, LeadsBack, NeedsJoin};
 ghost use Rattle.plane_core.specs.clusters.Clusters.{Linked};
 ghost use Rattle.plane_core.specs.clusters.UnionFind.{cell_of, parent_of};
@@ -73,7 +73,7 @@ pub(crate) fn join_all(cells: &[Cell], parents: &mut [usize])
     // The first place has no earlier one.
     for place in 1..cells.len() {
         rows = rows_above(cells, place, rows);
-        join_if_near(cells, parents, place - 1, place);
+        let fresh = join_before(cells, parents, place);
         let cell = cells[place];
         rows.above.from = join_row(
             cells,
@@ -82,6 +82,7 @@ pub(crate) fn join_all(cells: &[Cell], parents: &mut [usize])
             rows.above,
             cell.moved(-2, -1),
             cell.moved(2, -1),
+            fresh,
         );
         rows.top.from = join_row(
             cells,
@@ -90,6 +91,7 @@ pub(crate) fn join_all(cells: &[Cell], parents: &mut [usize])
             rows.top,
             cell.moved(-2, -2),
             cell.moved(2, -2),
+            fresh,
         );
     }
 }
@@ -134,9 +136,31 @@ fn first_in_row(cells: &[Cell], from: usize, end: usize, y: i32) -> usize
     at
 }
 
-/// Joins `place` with the earlier places whose cells are near its cell and in the range from `from` to `to`, both
-/// included, which is a part of a row with these places. Returns the first place of the row that isn't to the left of
-/// `from`.
+/// Joins `place` with the place before it, if the cell there is in the same row and near. Returns the first column whose
+/// cells in the rows above still have to be joined with `place`. Cells that are near both are joined already.
+#[inline(always)]
+fn join_before(cells: &[Cell], parents: &mut [usize], place: usize) -> i32
+    requires pattern { IsPattern cells.now }
+    requires place { (0 < place) × (place < length cells.now) }
+    requires forest { IsForest cells.now parents.old }
+    ensures forest { IsForest cells.now parents.new }
+    ensures keeps { Keeps parents.old parents.new }
+    ensures joined { (cell_of cells.now (place - 1)).y ≡ (cell_of cells.now place).y
+        → NeedsJoin cells.now (place - 1) place → Joined parents.new (place - 1) place }
+    ensures fresh { IsFresh cells.now result place }
+{
+    let before = cells[place - 1];
+    let cell = cells[place];
+    if before.y != cell.y || !are_near(before, cell) {
+        return cell.moved(-2, 0).x;
+    }
+    join(parents, place - 1, place);
+    along(before.x, 3)
+}
+
+/// Joins `place` with the earlier places whose cells are in the range from `from` to `to`, both included, and not to the
+/// left of column `fresh`. The range is a part of a row with these places, and all its cells are near. Returns the first
+/// place of the row that isn't to the left of `from`.
 #[inline(always)]
 fn join_row(
     cells: &[Cell],
@@ -145,13 +169,17 @@ fn join_row(
     row: RowPlaces,
     from: Cell,
     to: Cell,
+    fresh: i32,
 ) -> usize
     requires pattern { IsPattern cells.now }
-    requires place { (0 < place) × (place < length cells.now) }
+    requires place { place < length cells.now }
     requires forest { IsForest cells.now parents.old }
     requires row { IsRow cells.now row place from }
     requires end { to.y ≡ from.y }
     requires above { from.y <ℤ (cell_of cells.now place).y }
+    requires near { (c : Cell) → c.y ≡ from.y → from.x ≤ℤ c.x → c.x ≤ℤ to.x
+        → king_distance c (cell_of cells.now place) ≤ 2 }
+    requires fresh { IsFresh cells.now fresh place }
     ensures forest { IsForest cells.now parents.new }
     ensures keeps { Keeps parents.old parents.new }
     ensures joined { (k : ℕ) → k < place → cell_cmp (cell_of cells.now k) from ≢ Less
@@ -160,11 +188,10 @@ fn join_row(
     ensures row { IsRow cells.now (record row { from = result }) place from }
 {
     let first = skipped(cells, row.from, row.end, from.x);
-    let fresh = fresh_from(cells, place, from);
-    let start = skipped(cells, first, row.end, fresh.x);
+    let start = skipped(cells, first, row.end, fresh);
     let mut at = start;
     while at < row.end && cells[at].x <= to.x {
-        join_if_near(cells, parents, at, place);
+        join(parents, at, place);
         at += 1;
     }
     first
@@ -178,6 +205,7 @@ fn skipped(cells: &[Cell], from: usize, end: usize, x: i32) -> usize
     ensures low { from ≤ result }
     ensures high { result ≤ end }
     ensures before { (k : ℕ) → from ≤ k → k < result → (cell_of cells.now k).x <ℤ x }
+    ensures at { result < end → x ≤ℤ (cell_of cells.now result).x }
 {
     let mut at = from;
     while at < end && cells[at].x < x {
@@ -186,44 +214,17 @@ fn skipped(cells: &[Cell], from: usize, end: usize, x: i32) -> usize
     at
 }
 
-/// Returns the first cell of a row above that still has to be joined with `place`. `from` is the first cell of that row
-/// that may be near. If the cell just before `place` is in the same row and near, the cells that are near both are
-/// joined already, and the result is the cell after them.
-fn fresh_from(cells: &[Cell], place: usize, from: Cell) -> Cell
-    requires pattern { IsPattern cells.now }
-    requires place { (0 < place) × (place < length cells.now) }
-    requires above { from.y <ℤ (cell_of cells.now place).y }
-    ensures row { result.y ≡ from.y }
-    ensures fresh { (k : ℕ) → k < place → cell_cmp (cell_of cells.now k) from ≢ Less
-        → cell_cmp (cell_of cells.now k) result ≡ Less
-        → king_distance (cell_of cells.now k) (cell_of cells.now place) ≤ 2 → IsBridged cells.now k place }
-{
-    let before = cells[place - 1];
-    if before.y != cells[place].y {
-        return from;
-    }
-    if !are_near(before, cells[place]) {
-        return from;
-    }
-    Cell {
-        y: from.y,
-        x: along(before.x, 3),
-    }
-}
-
-/// Joins the trees of two places if their cells are near: the later root then leads to the earlier one.
-fn join_if_near(cells: &[Cell], parents: &mut [usize], one: usize, other: usize)
-    requires pattern { IsPattern cells.now }
-    requires one { one < length cells.now }
-    requires other { other < length cells.now }
-    requires forest { IsForest cells.now parents.old }
-    ensures forest { IsForest cells.now parents.new }
+/// Joins the trees of two places: the later root then leads to the earlier one.
+#[inline(always)]
+fn join(parents: &mut [usize], one: usize, other: usize)
+    requires one { one < length parents.old }
+    requires other { other < length parents.old }
+    requires back { LeadsBack parents.old }
+    ensures forest { (cells : List Cell) → IsForest cells parents.old
+        → Linked cells (cell_of cells one) (cell_of cells other) → IsForest cells parents.new }
     ensures keeps { Keeps parents.old parents.new }
-    ensures joined { NeedsJoin cells.now one other → Joined parents.new one other }
+    ensures joined { Joined parents.new one other }
 {
-    if !are_near(cells[one], cells[other]) {
-        return;
-    }
     let left = root(parents, one);
     let right = root(parents, other);
     let later = left.max(right);

@@ -11,9 +11,9 @@ use Rattle.std.proofs.lemmas.List.Elements.{Contains-get_or}
 use Rattle.std.proofs.lemmas.Map.Keys.{Less-from_sorted}
 use borrow.Author.Count.{below_more}
 use Rattle.plane_core.specs.declared.plane.cell.Cell.{Cell}
-use Rattle.plane_core.specs.plane.Cells.{cell_at, cell_cmp, distance, king_distance, moved_by, has, InOrder}
+use Rattle.plane_core.specs.plane.Cells.{cell_cmp, distance, king_distance, moved_by, has, InOrder}
 use Rattle.plane_core.specs.clusters.Clusters.{Linked}
-use Rattle.plane_core.specs.clusters.UnionFind.{cell_of, parent_of, LeadsBack, IsForest, Labels, Joined, Keeps, JoinsAll, IsBridged, IsRow, AreRowsAbove, NeedsJoin}
+use Rattle.plane_core.specs.clusters.UnionFind.{cell_of, parent_of, LeadsBack, IsForest, Labels, Joined, Keeps, JoinsAll, IsBridged, IsFresh, IsRow, AreRowsAbove, NeedsJoin}
 use Rattle.plane_core.specs.declared.clusters.union_find.RowPlaces.{RowPlaces}
 use Rattle.plane_core.specs.declared.clusters.union_find.RowsAbove.{RowsAbove}
 use Rattle.plane_core.proofs.lemmas.plane.CellLemmas.{cell_cmp_total, cell_cmp-moved}
@@ -366,17 +366,16 @@ past_scan cells row place at from to is end least right less = elim (cases_lt at
 ]
 
 -- near cells of a row above that don't lie past the third column from the cell before are near that one too
-pub bridged : (cells : List Cell) (k place : ℕ) (from : Cell) → 1 ≤ place → from.y <ℤ (cell_of cells place).y → InOrder cells → place < length cells
-    → (cell_of cells (place - 1)).y ≡ (cell_of cells place).y → king_distance (cell_of cells (place - 1)) (cell_of cells place) ≤ 2 → k < place
-    → cell_cmp (cell_of cells k) from ≢ Less → cell_cmp (cell_of cells k) (cell_at ((cell_of cells (place - 1)).x +ℤ pos 3) from.y) ≡ Less
-    → king_distance (cell_of cells k) (cell_of cells place) ≤ 2 → IsBridged cells k place
-bridged cells k place from some above o low row right less left early near = record {
+pub bridged : (cells : List Cell) (place : ℕ) → 1 ≤ place → InOrder cells → place < length cells
+    → (cell_of cells (place - 1)).y ≡ (cell_of cells place).y → king_distance (cell_of cells (place - 1)) (cell_of cells place) ≤ 2
+    → IsFresh cells ((cell_of cells (place - 1)).x +ℤ pos 3) place
+bridged cells place some o low row right k less above left near = record {
   earlier = elim (cases_lt (k + 1) place) [
     | inl fine ↦ fine
     | inr late ↦
         let same : k ≡ place - 1 = omega (arith, less, late) in
         let level : c.y ≡ b.y = ap (λ (n : ℕ). (cell_of cells n).y) same in
-        absurd (omega (arith, ints, level, row, above, up))
+        absurd (omega (arith, ints, level, row, above))
   ];
   left = omega (arith, across, down);
   right = right;
@@ -391,15 +390,6 @@ bridged cells k place from some above o low row right less left early near = rec
     d : Cell
     d = cell_of cells place
 
-    stands : (c.y ≡ from.y) × (c.x <ℤ (b.x +ℤ pos 3))
-    stands = elim (before_cases c (cell_at (b.x +ℤ pos 3) from.y) early) [
-      | inl higher ↦ absurd (left (before_up c from higher))
-      | inr same ↦ same
-    ]
-
-    up : c.y ≡ from.y
-    up = stands.0
-
     wide : distance c.x d.x ≤ 2
     wide = omega (arith, near)
 
@@ -413,7 +403,7 @@ bridged cells k place from some above o low row right less left early near = rec
     ]
 
     across : distance c.x b.x ≤ 2
-    across = omega (arith, ints, wide, ahead, stands.1)
+    across = omega (arith, ints, wide, ahead, left)
 
     down : distance c.y b.y ≤ 2
     down = omega (arith, ints, high, row)
@@ -443,15 +433,17 @@ between c b d first second row near = go (before_cases c b first) (before_cases 
         let even : distance b.y d.y ≤ 2 = omega (arith, ints, right.0) in
         (omega (arith, west, level), omega (arith, east, even))
 
--- the place just before a place, joined with it if their cells are near
-pub joins_before : (cells : List Cell) (parents : List ℕ) (place : ℕ) → (NeedsJoin cells (place - 1) place → Joined parents (place - 1) place)
-    → (k : ℕ) → k + 1 ≡ place → NeedsJoin cells k place → Joined parents k place
+-- the place just before a place, joined with it if their cells are near and in one row
+pub joins_before : (cells : List Cell) (parents : List ℕ) (place : ℕ)
+    → ((cell_of cells (place - 1)).y ≡ (cell_of cells place).y → NeedsJoin cells (place - 1) place → Joined parents (place - 1) place)
+    → (k : ℕ) → k + 1 ≡ place → (cell_of cells k).y ≡ (cell_of cells place).y → NeedsJoin cells k place → Joined parents k place
 joins_before cells parents place joined k next =
-    let before : place - 1 ≡ k = omega (arith, next) in subst (λ j. NeedsJoin cells j place → Joined parents j place) before joined
+    let before : place - 1 ≡ k = omega (arith, next) in
+    subst (λ j. (cell_of cells j).y ≡ (cell_of cells place).y → NeedsJoin cells j place → Joined parents j place) before joined
 
 -- the place before and two rows are all that is near and stands earlier
 pub joins_rows : (cells : List Cell) (a b c : List ℕ) (place : ℕ) → InOrder cells → place < length cells → Keeps a b → Keeps b c
-    → ((k : ℕ) → k + 1 ≡ place → NeedsJoin cells k place → Joined a k place)
+    → ((k : ℕ) → k + 1 ≡ place → (cell_of cells k).y ≡ (cell_of cells place).y → NeedsJoin cells k place → Joined a k place)
     → JoinsRow cells b place (moved_by (negsuc 1) (negsuc 0) (cell_of cells place)) (moved_by (pos 2) (negsuc 0) (cell_of cells place))
     → JoinsRow cells c place (moved_by (negsuc 1) (negsuc 1) (cell_of cells place)) (moved_by (pos 2) (negsuc 1) (cell_of cells place))
     → (k : ℕ) → k < place → NeedsJoin cells k place → Joined c k place
@@ -473,7 +465,7 @@ joins_rows cells a b c place o low first second here above top k less need =
     last : (cell_of cells k).y ≡ ((cell_of cells place).y +ℤ pos 0) → Joined a k place
     last row = elim (cases_lt (k + 1) place) [
       | inl early ↦ absurd (need.alone (bridged early row))
-      | inr late ↦ here k (omega (arith, less, late)) need
+      | inr late ↦ here k (omega (arith, less, late)) (omega (arith, ints, row)) need
     ]
 
     go : ((cell_of cells k).y ≡ ((cell_of cells place).y +ℤ pos 0)) ⊎ (((cell_of cells k).y ≡ ((cell_of cells place).y +ℤ negsuc 0))
@@ -550,14 +542,12 @@ scanned cells old new place first at to o low end s k from less short near = eli
         ]
 
 -- a row that was scanned is joined
-pub row_joined : (cells : List Cell) (old new : List ℕ) (place : ℕ) (row : RowPlaces) (from to fresh : Cell) (first start at : ℕ) → InOrder cells
-    → place < length cells → IsRow cells row place from → to.y ≡ from.y → fresh.y ≡ from.y → row.from ≤ first → first ≤ row.end
+pub row_joined : (cells : List Cell) (old new : List ℕ) (place : ℕ) (row : RowPlaces) (from to : Cell) (fresh : ℤ) (first start at : ℕ) → InOrder cells
+    → place < length cells → IsRow cells row place from → to.y ≡ from.y → from.y <ℤ (cell_of cells place).y → row.from ≤ first → first ≤ row.end
     → ((k : ℕ) → row.from ≤ k → k < first → (cell_of cells k).x <ℤ from.x) → first ≤ start → start ≤ row.end
-    → ((k : ℕ) → first ≤ k → k < start → (cell_of cells k).x <ℤ fresh.x)
-    → ((k : ℕ) → k < place → cell_cmp (cell_of cells k) from ≢ Less → cell_cmp (cell_of cells k) fresh ≡ Less
-    → king_distance (cell_of cells k) (cell_of cells place) ≤ 2 → IsBridged cells k place)
-    → start ≤ at → (at < row.end → to.x <ℤ (cell_of cells at).x) → IsScanning cells old new place start at → JoinsRow cells new place from to
-row_joined cells old new place row from to fresh first start at o low is to_row fresh_row first_least first_most left start_least start_most early bridged at_least end s k less not_before not_after need =
+    → ((k : ℕ) → first ≤ k → k < start → (cell_of cells k).x <ℤ fresh) → IsFresh cells fresh place → start ≤ at
+    → (at < row.end → to.x <ℤ (cell_of cells at).x) → IsScanning cells old new place start at → JoinsRow cells new place from to
+row_joined cells old new place row from to fresh first start at o low is to_row above first_least first_most left start_least start_most early is_fresh at_least end s k less not_before not_after need =
     elim (cases_lt k start) [
       | inr more ↦
           scanned cells old new place start at to o low
@@ -565,10 +555,28 @@ row_joined cells old new place row from to fresh first start at o low is to_row 
       | inl few ↦ elim (cases_lt k first) [
         | inl passed ↦ absurd (not_before ((row_skipped cells row place first from is first_least first_most left).passed k passed))
         | inr ahead ↦
-            let level : (cell_of cells k).y ≡ fresh.y = is.level k (omega (arith, first_least, ahead)) (omega (arith, few, start_most)) ∙ sym fresh_row in
-            absurd (need.alone (bridged k less not_before (before_left (cell_of cells k) fresh level (early k ahead few)) need.near))
+            let level : (cell_of cells k).y ≡ from.y = is.level k (omega (arith, first_least, ahead)) (omega (arith, few, start_most)) in
+            absurd (need.alone (is_fresh k less (omega (arith, ints, level, above)) (early k ahead few) need.near))
       ]
     ]
+
+-- a cell of the row from a place on that isn't too far to the left isn't either
+pub not_left_of : (cells : List Cell) (row : RowPlaces) (place first at : ℕ) (from : Cell) → InOrder cells → place < length cells → IsRow cells row place from
+    → row.from ≤ first → first ≤ at → at < row.end → (first < row.end → from.x ≤ℤ (cell_of cells first).x) → from.x ≤ℤ (cell_of cells at).x
+not_left_of cells row place first at from o low is least more inside right = elim (cases_lt first at) [
+  | inl before ↦
+      let few : first < row.end = omega (arith, before, inside) in
+      let begin = right few in
+      let one : (cell_of cells first).y ≡ from.y = is.level first least few in
+      let other : (cell_of cells at).y ≡ from.y = is.level at (omega (arith, least, more)) inside in
+      elim (before_cases (cell_of cells first) (cell_of cells at) (in_places cells first at o before (omega (arith, inside, is.few, low)))) [
+        | inl higher ↦ absurd (omega (arith, ints, higher, one, other))
+        | inr same ↦ let further = same.1 in omega (arith, ints, further, begin)
+      ]
+  | inr late ↦
+      let same : first ≡ at = omega (arith, late, more) in
+      subst (λ (n : ℕ). from.x ≤ℤ (cell_of cells n).x) same (right (omega (arith, same, inside)))
+]
 
 -- a place more is joined with all before it
 pub joins_more : (cells : List Cell) (old new : List ℕ) (place : ℕ) → Keeps old new → JoinsAll cells old place

@@ -1,4 +1,4 @@
-use Rattle.std.proofs.Common.{◌≡◌, ◌<◌, arith, pos, negsuc, subst}
+use Rattle.std.proofs.Common.{to_z-of_z, FitsSigned, rules, w32, ◌≡◌, ◌<◌, arith, pos, negsuc, subst}
 use Rattle.plane_core.specs.declared.plane.cell.Cell.{Cell}
 use Rattle.plane_core.specs.plane.Cells.{moved_by, on_plane}
 use Rattle.plane_core.specs.clusters.UnionFind.{AreRowsAbove, cell_of}
@@ -14,16 +14,16 @@ loop-place-preserved c =
     let o = c.requires.pattern.in_order in
     let low = c.loop-place-test.true in
     let old = c.loop-place.parents in
-    let a = c.join_if_near.new.parents in
+    let a = c.join_before-fresh.new.parents in
     let b = c.join_row-rows.new.parents in
     let d = c.join_row-rows-in-loop-place.new.parents in
     let from_above : c.moved.result ≡ moved_by (negsuc 1) (negsuc 0) (cell_of cells place) = c.moved.ensures in
     let to_above : c.moved-in-loop-place.result ≡ moved_by (pos 2) (negsuc 0) (cell_of cells place) = c.moved-in-loop-place.ensures in
     let from_top : c.moved-in-loop-place-2.result ≡ moved_by (negsuc 1) (negsuc 1) (cell_of cells place) = c.moved-in-loop-place-2.ensures in
     let to_top : c.moved-in-loop-place-3.result ≡ moved_by (pos 2) (negsuc 1) (cell_of cells place) = c.moved-in-loop-place-3.ensures in
-    let keeps = keeps-then old a d c.join_if_near.ensures.keeps (keeps-then a b d c.join_row-rows.ensures.keeps c.join_row-rows-in-loop-place.ensures.keeps) in
+    let keeps = keeps-then old a d c.join_before-fresh.ensures.keeps (keeps-then a b d c.join_row-rows.ensures.keeps c.join_row-rows-in-loop-place.ensures.keeps) in
     let joined = joins_rows cells a b d place o low c.join_row-rows.ensures.keeps c.join_row-rows-in-loop-place.ensures.keeps
-    (joins_before cells a place c.join_if_near.ensures.joined)
+    (joins_before cells a place c.join_before-fresh.ensures.joined)
     (subst (λ (x : Cell). JoinsRow cells b place x (moved_by (pos 2) (negsuc 0) (cell_of cells place))) from_above
     (subst (λ (x : Cell). JoinsRow cells b place c.moved.result x) to_above c.join_row-rows.ensures.joined))
     (subst (λ (x : Cell). JoinsRow cells d place x (moved_by (pos 2) (negsuc 1) (cell_of cells place))) from_top
@@ -51,3 +51,11 @@ moved-requires-in-loop-place-2-clause-near c = on_then_near _ (all_at on_plane c
 
 pub moved-requires-in-loop-place-3-clause-near : goal.moved-requires-in-loop-place-3-clause-near
 moved-requires-in-loop-place-3-clause-near c = on_then_near _ (all_at on_plane c.args.cells.now c.loop-place.place _ c.loop-place-test.true c.requires.pattern.on_plane)
+
+pub join_row-rows-requires-clause-fresh : goal.join_row-rows-requires-clause-fresh
+join_row-rows-requires-clause-fresh c =
+    let fits : FitsSigned w32 c.join_before-fresh.result = search rules in simp to_z-of_z c.join_before-fresh.ensures.fresh
+
+pub join_row-rows-requires-in-loop-place-clause-fresh : goal.join_row-rows-requires-in-loop-place-clause-fresh
+join_row-rows-requires-in-loop-place-clause-fresh c =
+    let fits : FitsSigned w32 c.join_before-fresh.result = search rules in simp to_z-of_z c.join_before-fresh.ensures.fresh

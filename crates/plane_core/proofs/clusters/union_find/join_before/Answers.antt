@@ -1,0 +1,36 @@
+use Rattle.std.proofs.Common.{◌≡◌, ◌<◌, ◌≤◌, ◌-◌, ◌+ℤ◌, ℤ, FitsSigned, arith, length, pos, rules, subst, sym, w32}
+use Rattle.std.proofs.lemmas.Int.{to_z-of_z}
+use Rattle.plane_core.specs.plane.Cells.{king_distance, on_plane}
+use Rattle.plane_core.specs.clusters.UnionFind.{IsFresh, cell_of}
+use Rattle.plane_core.proofs.lemmas.plane.CellLemmas.{on_then_near, x_passed}
+use Rattle.plane_core.proofs.lemmas.plane.TransformLemmas.{all_at}
+use Rattle.plane_core.proofs.lemmas.clusters.UnionFindLemmas.{bridged, near_linked}
+use Rattle.plane_core.proofs.clusters.union_find.join_before.Goals as goal
+
+pub moved-requires-clause-near : goal.moved-requires-clause-near
+moved-requires-clause-near c = on_then_near _ (all_at on_plane c.args.cells.now c.args.place _ c.requires.place.1 c.requires.pattern.on_plane)
+
+pub along-requires-clause-from : goal.along-requires-clause-from
+along-requires-clause-from c =
+    let low : c.args.place - 1 < length c.args.cells.now = omega (arith, c.requires.place.1) in
+    x_passed (cell_of c.args.cells.now (c.args.place - 1)) (search rules) (all_at on_plane c.args.cells.now (c.args.place - 1) _ low c.requires.pattern.on_plane)
+
+pub returns-clause-forest : goal.returns-clause-forest
+returns-clause-forest c =
+    let near : king_distance (cell_of c.args.cells.now (c.args.place - 1)) (cell_of c.args.cells.now c.args.place) ≤ 2 = search rules in
+    c.join.ensures.forest c.args.cells.now c.requires.forest
+    (near_linked c.args.cells.now (c.args.place - 1) c.args.place (omega (arith, c.requires.place.1)) c.requires.place.1 near)
+
+pub returns-clause-fresh : goal.returns-clause-fresh
+returns-clause-fresh c =
+    let cells = c.args.cells.now in
+    let place = c.args.place in
+    let some : 1 ≤ place = c.requires.place.0 in
+    let row : (cell_of cells (place - 1)).y ≡ (cell_of cells place).y = search rules in
+    let near : king_distance (cell_of cells (place - 1)) (cell_of cells place) ≤ 2 = search rules in
+    let fits : FitsSigned w32 c.along.result = search rules in
+    let before : FitsSigned w32 (cell_of cells (place - 1)).x = search rules in
+    let end : c.along.result ≡ (cell_of cells (place - 1)).x +ℤ pos 3 = simp to_z-of_z at c.along.ensures in
+    let fresh : IsFresh cells c.along.result place =
+    subst (λ (x : ℤ). IsFresh cells x place) (sym end) (bridged cells place some c.requires.pattern.in_order c.requires.place.1 row near) in
+    simp to_z-of_z fresh
