@@ -120,7 +120,8 @@ fn rows_above(cells: &[Cell], place: usize, rows: RowsAbove) -> RowsAbove
     }
 }
 
-/// Returns the first place from `from` on whose cell isn't above row `y`, or `end` if there is none before it.
+/// Returns the first place, from `from` to before `end`, whose cell is in row `y` or below it. Returns `end` if there is
+/// none.
 fn first_in_row(cells: &[Cell], from: usize, end: usize, y: i32) -> usize
     requires order { from ≤ end }
     requires end { end ≤ length cells.now }
@@ -197,8 +198,8 @@ fn join_row(
     first
 }
 
-/// Returns the first place from `from` on whose cell isn't to the left of column `x`, or `end` if there is none before
-/// it.
+/// Returns the first place, from `from` to before `end`, whose cell is in column `x` or to the right of it. Returns
+/// `end` if there is none.
 fn skipped(cells: &[Cell], from: usize, end: usize, x: i32) -> usize
     requires order { from ≤ end }
     requires end { end ≤ length cells.now }

@@ -1,7 +1,7 @@
 -- Forests over the places of a pattern's cells: roots, joined trees, and rows.
-use Rattle.std.proofs.Common.{◌≡◌, ◌≢◌, ℕ, ℤ, ◌+◌, ◌-◌, ◌+ℤ◌, ◌<◌, ◌≤◌, ◌<ℤ◌, ◌≤ℤ◌, max, min, pos, negsuc, true, false, List, arith, refl, ap, ◌∙◌, sym, subst, inl, inr, ◌⊎◌, length, set}
+use Rattle.std.proofs.Common.{◌≡◌, ◌≢◌, ℕ, ℤ, ◌+◌, ◌-◌, ◌+ℤ◌, ◌<◌, ◌≤◌, ◌<ℤ◌, ◌≤ℤ◌, max, min, pos, negsuc, true, List, arith, refl, ap, ◌∙◌, sym, subst, inl, inr, ◌⊎◌, length, set}
 use Rattle.std.specs.Cmp.{int_ranks}
-use Rattle.std.specs.Ordering.{int_cmp, is_le, is_lt, ordering_then, MatchOrdering}
+use Rattle.std.specs.Ordering.{int_cmp, is_lt, ordering_then, MatchOrdering}
 use Rattle.std.specs.declared.cmp.Ordering.{Ordering}
 use Rattle.std.specs.declared.cmp.Ordering.TheVariants.{Less, Equal, Greater}
 use Rattle.std.proofs.lemmas.Bool.{cases_eq, cases_lt, false≢true}
@@ -17,7 +17,7 @@ use Rattle.plane_core.specs.clusters.UnionFind.{cell_of, parent_of, LeadsBack, I
 use Rattle.plane_core.specs.declared.clusters.union_find.RowPlaces.{RowPlaces}
 use Rattle.plane_core.specs.declared.clusters.union_find.RowsAbove.{RowsAbove}
 use Rattle.plane_core.proofs.lemmas.plane.CellLemmas.{cell_cmp_total, cell_cmp-moved}
-use Rattle.plane_core.proofs.lemmas.plane.SetLemmas.{Contains-has, greater_turned}
+use Rattle.plane_core.proofs.lemmas.plane.SetLemmas.{Contains-has}
 use Rattle.plane_core.proofs.lemmas.clusters.ClusterLemmas.{linked-itself, linked-near, linked-trans, linked-sym}
 use Rattle.plane_core.proofs.lemmas.Between.{JoinsLinked}
 
@@ -588,15 +588,6 @@ joins_more cells old new place keeps before here j k less low near = elim (cases
       (here j few (subst (λ (n : ℕ). king_distance (cell_of cells j) (cell_of cells n) ≤ 2) same near))
   | inr different ↦ let few : k < place = omega (arith, low, different) in joined-kept old new j k keeps (before j k less few near)
 ]
-
--- a cell that isn't at most another comes after it
-pub not_most : (a b : Cell) → is_le (cell_cmp a b) ≡ false → cell_cmp b a ≡ Less
-not_most a b e = greater_turned a b (go (cell_cmp a b) e)
-  where
-    go : (r : Ordering) → is_le r ≡ false → r ≡ Greater
-    go Less f = cc
-    go Equal f = cc
-    go Greater f = refl
 
 -- what is tested as less comes before
 pub less : (r : Ordering) → is_lt r ≡ true → r ≡ Less

@@ -359,13 +359,6 @@ words_in at words x y long word_column row =
     let second : (x / 64 + 1) * at.rows + y < at.word_columns * at.rows = word-inside at (x / 64 + 1) y word_column row in
     (omega (arith, long, first), omega (arith, long, second))
 
--- the two words of a row further on
-pub read_in : (at : Frame) (words : List ℕ) (x y r most : ℕ) → FillsFrame at words → x / 64 + 1 < at.word_columns → y + most ≤ at.rows → r < most
-    → (x / 64 * at.rows + y + r < length words) × (x / 64 * at.rows + y + at.rows + r < length words)
-read_in at words x y r most long word_column row low =
-    let both = words_in at words x (y + r) long word_column (omega (arith, row, low)) in
-    (omega (arith, both.0), omega (arith, both.1))
-
 -- the places of these words fit their type, since a list has fewer items than that has numbers
 pub fits_begin : (at : Frame) (words : List ℕ) (x y most : ℕ) → length words * 8 < 9223372036854775808 → FillsFrame at words → x / 64 + 1 < at.word_columns
     → y + most ≤ at.rows → Fits w64 (x / 64 * at.rows) × Fits w64 (x / 64 * at.rows + y) × Fits w64 (x / 64 * at.rows + y + at.rows)
@@ -381,9 +374,6 @@ fits_begin at words x y most small long word_column row =
 pub fits_row : (at : Frame) (words : List ℕ) (x y : ℕ) → length words * 8 < 9223372036854775808 → FillsFrame at words → x / 64 + 1 < at.word_columns
     → y < at.rows → Fits w64 (x / 64 * at.rows) × Fits w64 (x / 64 * at.rows + y) × Fits w64 (x / 64 * at.rows + y + at.rows)
 fits_row at words x y small long word_column row = fits_begin at words x y 1 small long word_column (omega (arith, row))
-
-pub fits_place : (n : ℕ) (words : List ℕ) → length words * 8 < 9223372036854775808 → n < length words → Fits w64 n
-fits_place n words small low = record { fits = omega (arith, small, low) }
 
 -- the word of a row of a word column
 pub index_in : (at : Frame) (words : List ℕ) (s r n : ℕ) → FillsFrame at words → s < at.word_columns → r < at.rows → n ≡ word_of at s r → n < length words

@@ -1,38 +1,10 @@
 -- The rows of a window, one after another and in vectors.
-use Rattle.std.proofs.Common.{Fits, w64, zero, suc, length, length-set, ◌∷◌, ◌++◌, ◌≡◌, ◌≢◌, ◌+◌, ◌-◌, ◌*◌, ◌/◌, ◌%◌, ◌<◌, ◌≤◌, ◌⊎◌, ℕ, List, [], arith, refl, ap, subst, ◌∙◌, sym, inl, inr, get_or, set, slice_index}
+use Rattle.std.proofs.Common.{zero, suc, length, length-set, ◌∷◌, ◌++◌, ◌≡◌, ◌≢◌, ◌+◌, ◌-◌, ◌*◌, ◌%◌, ◌<◌, ◌≤◌, ◌⊎◌, ℕ, List, [], arith, refl, ap, subst, ◌∙◌, sym, inl, inr, get_or, set, slice_index}
 use Rattle.std.proofs.lemmas.Bool.{cases_lt}
 use Rattle.std.proofs.lemmas.List.{get_or-append_right, get_or-set_other, get_or-set_same, get_or_append_left}
-use Rattle.std.proofs.lemmas.Nat.{div-add-mod', div_below, mod-mul-add, mod_below}
-use Rattle.plane_core.specs.windows.Windows.{lane_at, row_at}
+use Rattle.std.proofs.lemmas.Nat.{mod-mul-add}
+use Rattle.plane_core.specs.windows.Windows.{lane_at}
 use Rattle.plane_core.proofs.lemmas.plane.CaseLemmas.{same_or_not}
-
--- the rows of vector k, and that their numbers fit their type
-pub first_row : (k n rows : ℕ) → k < n → rows ≡ 4 * n → k < rows
-first_row k n rows low four = omega (arith, low, four)
-
-pub second_row : (k n rows : ℕ) → k < n → rows ≡ 4 * n → n + k < rows
-second_row k n rows low four = omega (arith, low, four)
-
-pub third_row : (k n rows : ℕ) → k < n → rows ≡ 4 * n → 2 * n + k < rows
-third_row k n rows low four = omega (arith, low, four)
-
-pub fourth_row : (k n rows : ℕ) → k < n → rows ≡ 4 * n → 3 * n + k < rows
-fourth_row k n rows low four = omega (arith, low, four)
-
-pub fits_below : (n rows : ℕ) → n < rows → Fits w64 rows → Fits w64 n
-fits_below n rows low fits = let h = fits.fits in record { fits = omega (arith, low, h) }
-
-pub fits_twice : (n rows : ℕ) → rows ≡ 4 * n → Fits w64 rows → Fits w64 (2 * n)
-fits_twice n rows four fits = let h = fits.fits in record { fits = omega (arith, four, h) }
-
-pub fits_thrice : (n rows : ℕ) → rows ≡ 4 * n → Fits w64 rows → Fits w64 (3 * n)
-fits_thrice n rows four fits = let h = fits.fits in record { fits = omega (arith, four, h) }
-
--- row r is lane r / n of vector r % n
-by_lanes : (n : ℕ) (x : List (List ℕ)) (rows : List ℕ) → 0 < n
-    → ((m j : ℕ) → m < n → j < 4 → lane_at x m j ≡ slice_index rows (j * n + m)) → (r : ℕ) → r < 4 * n → row_at n x r ≡ slice_index rows r
-by_lanes n x rows some each r low =
-    each (r % n) (r / n) (mod_below r n some) (div_below r n 4 some low) ∙ ap (slice_index rows) (div-add-mod' r n)
 
 -- ---- four vectors at a time
 
@@ -59,19 +31,6 @@ turned_lanes a b c d la lb lc ld (suc (suc zero)) j low lane = lane_of_four a b 
 turned_lanes a b c d la lb lc ld (suc (suc (suc zero))) j low lane = lane_of_four a b c d la lb lc ld 3 j low lane
 turned_lanes a b c d la lb lc ld (suc (suc (suc (suc i)))) j low lane = absurd (omega (arith, low))
 
--- four words of each quarter of the rows, turned
-pub turned_rows : (n k : ℕ) (rows a b c d : List ℕ) (four : List (List ℕ))
-    → ((i j : ℕ) → i < 4 → j < 4 → lane_at four i j ≡ lane_at (a ∷ b ∷ c ∷ d ∷ []) j i)
-    → ((i : ℕ) → i < 4 → slice_index a i ≡ slice_index rows (k + i)) → ((i : ℕ) → i < 4 → slice_index b i ≡ slice_index rows (n + k + i))
-    → ((i : ℕ) → i < 4 → slice_index c i ≡ slice_index rows (2 * n + k + i)) → ((i : ℕ) → i < 4 → slice_index d i ≡ slice_index rows (3 * n + k + i))
-    → (i j : ℕ) → i < 4 → j < 4 → lane_at four i j ≡ slice_index rows (j * n + (k + i))
-turned_rows n k rows a b c d four turned is_a is_b is_c is_d i zero low lane = turned i 0 low lane ∙ is_a i low ∙ ap (slice_index rows) (omega arith)
-turned_rows n k rows a b c d four turned is_a is_b is_c is_d i (suc zero) low lane = turned i 1 low lane ∙ is_b i low ∙ ap (slice_index rows) (omega arith)
-turned_rows n k rows a b c d four turned is_a is_b is_c is_d i (suc (suc zero)) low lane = turned i 2 low lane ∙ is_c i low ∙ ap (slice_index rows) (omega arith)
-turned_rows n k rows a b c d four turned is_a is_b is_c is_d i (suc (suc (suc zero))) low lane =
-    turned i 3 low lane ∙ is_d i low ∙ ap (slice_index rows) (omega arith)
-turned_rows n k rows a b c d four turned is_a is_b is_c is_d i (suc (suc (suc (suc j)))) low lane = absurd (omega (arith, lane))
-
 -- four vectors of a window, as a list of their own
 pub four_of : (x : List (List ℕ)) (k i j : ℕ) → i < 4
     → lane_at (get_or x k [] ∷ get_or x (k + 1) [] ∷ get_or x (k + 2) [] ∷ get_or x (k + 3) [] ∷ []) i j ≡ lane_at x (k + i) j
@@ -86,31 +45,6 @@ four_of x k (suc (suc (suc (suc i)))) j low = absurd (omega (arith, low))
 -- the vectors before vector k have their rows
 abbrev pub ArePacked : ℕ → List ℕ → List (List ℕ) → ℕ → Type 0
 ArePacked n rows x k = (m j : ℕ) → m < k → j < 4 → lane_at x m j ≡ slice_index rows (j * n + m)
-
-pub all_packed : (n : ℕ) (rows : List ℕ) (x : List (List ℕ)) (k : ℕ) → 0 < n → ArePacked n rows x k → k ≡ n → (r : ℕ) → r < 4 * n
-    → row_at n x r ≡ slice_index rows r
-all_packed n rows x k some packed is r low = by_lanes n x rows some (λ m j less lane. packed m j (omega arith) lane) r low
-
--- a vector more
-pub packed_more : (n k : ℕ) (rows : List ℕ) (x : List (List ℕ)) → k < length x → ArePacked n rows x k
-    → ArePacked n rows (set x k (get_or rows k 0 ∷ get_or rows (n + k) 0 ∷ get_or rows (2 * n + k) 0 ∷ get_or rows (3 * n + k) 0 ∷ [])) (k + 1)
-packed_more n k rows x low before m j less lane = split (same_or_not m k)
-  where
-    v : List ℕ
-    v = get_or rows k 0 ∷ get_or rows (n + k) 0 ∷ get_or rows (2 * n + k) 0 ∷ get_or rows (3 * n + k) 0 ∷ []
-
-    each : (i : ℕ) → i < 4 → slice_index v i ≡ slice_index rows (i * n + k)
-    each zero small = ap (slice_index rows) (omega arith)
-    each (suc zero) small = ap (slice_index rows) (omega arith)
-    each (suc (suc zero)) small = ap (slice_index rows) (omega arith)
-    each (suc (suc (suc zero))) small = ap (slice_index rows) (omega arith)
-    each (suc (suc (suc (suc i)))) small = absurd (omega (arith, small))
-
-    split : (m ≡ k) ⊎ (m ≢ k) → lane_at (set x k v) m j ≡ slice_index rows (j * n + m)
-    split (inl same) =
-        ap (λ (q : ℕ). lane_at (set x k v) q j) same ∙ ap (λ (w : List ℕ). slice_index w j) (get_or-set_same x k v [] low) ∙ each j lane
-        ∙ ap (λ (q : ℕ). slice_index rows (j * n + q)) (sym same)
-    split (inr apart) = ap (λ (w : List ℕ). slice_index w j) (get_or-set_other x k m v [] apart) ∙ before m j (omega (arith, less, apart)) lane
 
 -- four vectors more
 pub packed_four : (n k : ℕ) (rows : List ℕ) (x y : List (List ℕ)) → ArePacked n rows x k
@@ -185,10 +119,6 @@ module _ (n k : ℕ) (r0 r1 r2 r3 r4 : List ℕ) (four : List (List ℕ)) (fit :
       others4 (3 * n + m) (inl (omega arith)) ∙ others3 (3 * n + m) (inr (omega arith)) ∙ others2 (3 * n + m) (inr (omega arith))
       ∙ others1 (3 * n + m) (inr (omega arith))
   words_kept m (suc (suc (suc (suc j)))) low lane = absurd (omega (arith, lane))
-
-pub all_unpacked : (n : ℕ) (window : List (List ℕ)) (rows : List ℕ) (k : ℕ) → 0 < n → AreUnpacked n window rows k → k ≡ n → (r : ℕ) → r < 4 * n
-    → slice_index rows r ≡ row_at n window r
-all_unpacked n window rows k some is all r low = sym (by_lanes n window rows some (λ m j less lane. sym (is j m lane (omega arith))) r low)
 
 -- the rows of other vectors are what they were
 pub other_rows : (n k j m : ℕ) (rows : List ℕ) (a b c d : ℕ) → k < n → m < n → m ≢ k

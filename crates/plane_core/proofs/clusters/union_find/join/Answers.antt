@@ -1,23 +1,10 @@
 use Rattle.plane_core.proofs.lemmas.clusters.UnionFindLemmas.{joined_roots}
 use Rattle.plane_core.proofs.clusters.union_find.join.Goals as goal
 
-pub returns-clause-forest : goal.returns-clause-forest
-returns-clause-forest c = rw (c.max-later.ensures, c.min.ensures)
-    (joined_roots c.args.parents.now c.args.one c.args.other c.root-left.result c.root-right.result
+pub returns : goal.returns
+returns c =
+    let roots = joined_roots c.args.parents.now c.args.one c.args.other c.root-left.result c.root-right.result
     (record { low = c.root-left.ensures.place; joined = c.root-left.ensures.joined; linked = c.root-left.ensures.linked })
     (record { low = c.root-right.ensures.place; joined = c.root-right.ensures.joined; linked = c.root-right.ensures.linked })
-    c.root-left.ensures.root c.root-right.ensures.root).forest
-
-pub returns-clause-keeps : goal.returns-clause-keeps
-returns-clause-keeps c = rw (c.max-later.ensures, c.min.ensures)
-    (joined_roots c.args.parents.now c.args.one c.args.other c.root-left.result c.root-right.result
-    (record { low = c.root-left.ensures.place; joined = c.root-left.ensures.joined; linked = c.root-left.ensures.linked })
-    (record { low = c.root-right.ensures.place; joined = c.root-right.ensures.joined; linked = c.root-right.ensures.linked })
-    c.root-left.ensures.root c.root-right.ensures.root).keeps
-
-pub returns-clause-joined : goal.returns-clause-joined
-returns-clause-joined c = rw (c.max-later.ensures, c.min.ensures)
-    (joined_roots c.args.parents.now c.args.one c.args.other c.root-left.result c.root-right.result
-    (record { low = c.root-left.ensures.place; joined = c.root-left.ensures.joined; linked = c.root-left.ensures.linked })
-    (record { low = c.root-right.ensures.place; joined = c.root-right.ensures.joined; linked = c.root-right.ensures.linked })
-    c.root-left.ensures.root c.root-right.ensures.root).joined
+    c.root-left.ensures.root c.root-right.ensures.root in
+    rw (c.max-later.ensures, c.min.ensures) (record { forest = roots.forest; keeps = roots.keeps; joined = roots.joined })
