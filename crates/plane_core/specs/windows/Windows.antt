@@ -2,12 +2,12 @@
 use Rattle.std.specs.Prelude.{◌≡◌, ◌==◌, ◌+◌, ◌*◌, ◌/◌, ◌%◌, ◌<◌, ◌≤◌, ℕ, ℤ, zero, suc, ◌+ℤ◌, pos, List, [], set, slice_index, slice_index_or, if◌then◌else◌}
 use Rattle.std.specs.Int.{bit_at}
 use Rattle.plane_core.specs.declared.plane.cell.Cell.{Cell}
-use Rattle.plane_core.specs.plane.Cells.{cell_at, has}
+use Rattle.plane_core.specs.plane.Cells.{InOrder, cell_at, has}
 use Rattle.plane_core.specs.declared.windows.lane_sums.RowSums.{RowSums}
 use Rattle.plane_core.specs.declared.windows.lane_sums.Sum.{Sum}
 use Rattle.plane_core.specs.windows.LaneSums.{AnswersRows, AreBeside, row_sum, sum_of}
 use Rattle.plane_core.specs.plane.Rules.{Numbers}
-use Rattle.plane_core.specs.plane.Generations.{lives_by}
+use Rattle.plane_core.specs.plane.Generations.{after, lives_by}
 use Rattle.plane_core.specs.windows.Words.{one_if}
 
 -- lane j of vector k
@@ -49,3 +49,8 @@ pub record IsVectorMade (rule : Numbers) (k : ℕ) (up : Sum) (here below : RowS
 abbrev pub IsShownInside : ℕ → ℤ → ℤ → ℕ → List (List ℕ) → List Cell → Type 0
 IsShownInside n left top depth x cells = (r i : ℕ) → depth ≤ r → r + depth < 4 * n → depth ≤ i → i + depth < 64
     → has cells (cell_at (left +ℤ pos i) (top +ℤ pos r)) ≡ (bit_at (row_at n x r) i == 1)
+
+-- The second window is the first one some generations later, if the first shows a pattern: it is right that many cells further inside.
+abbrev pub IsLaterWindow : Numbers → ℕ → List (List ℕ) → List (List ℕ) → ℕ → Type 0
+IsLaterWindow rule n x y count = (cells : List Cell) (left top : ℤ) (depth : ℕ) → InOrder cells → IsShownInside n left top depth x cells
+    → IsShownInside n left top (depth + count) y (after rule cells count)

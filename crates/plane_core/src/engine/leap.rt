@@ -25,36 +25,41 @@ use crate::engine::window_io::{column_of, read_rows, row_of, write};
 use crate::plane::bounds::Bounds;
 use crate::windows::row_packing::{packed, unpack};
 use crate::windows::rule_logic::RuleLogic;
-use crate::windows::window::generations;
+use crate::windows::rule_tables::{CellLogic, Life};
+use crate::windows::window::generations_by;
 use memory::OutOfMemory;
 use std::simd::u64x4;
 
 /// Runs a window for `count` generations, 1 to 4. Returns where the last generation differs from the one two before it
 /// if `count` is even, and where there are live cells if `count` is odd.
 #[inline(always)]
-fn run<const N: usize>(window: &mut [u64x4; N], rule: &RuleLogic, count: usize) -> DifferenceMask
+fn run<const N: usize, A: CellLogic>(
+    window: &mut [u64x4; N],
+    rule: &A,
+    count: usize,
+) -> DifferenceMask
     requires height { 0 < N }
     requires low { N ≤ 16 }
     requires some { 1 ≤ count }
     requires few { count ≤ 4 }
-    ensures { IsRun N (rule_of rule.now) count window.old window.new result }
+    ensures { IsRun N (A.rule rule.now) count window.old window.new result }
 {
     if count % 2 == 1 {
-        generations(window, rule, count);
+        generations_by(window, rule, count);
         return difference_of(window, &[u64x4::splat(0); N]);
     }
-    generations(window, rule, count - 2);
+    generations_by(window, rule, count - 2);
     let earlier = *window;
-    generations(window, rule, 2);
+    generations_by(window, rule, 2);
     difference_of(window, &earlier)
 }
 
 /// Runs a window of N vectors, and stores its rows in `held`.
-fn run_vectors<const R: usize, const N: usize>(
+fn run_vectors<const R: usize, const N: usize, A: CellLogic>(
     words: &[u64],
     at: Frame,
     window: LeapWindow,
-    rule: &RuleLogic,
+    rule: &A,
     count: usize,
     held: &mut [u64; 64],
 ) -> Option<DifferenceMask>
@@ -66,7 +71,7 @@ fn run_vectors<const R: usize, const N: usize>(
     requires height { window.rows ≡ R }
     requires some { 1 ≤ count }
     requires few { count ≤ 4 }
-    ensures { IfSome result (IsRunAt at words.now (rule_of rule.now) count window held.new) }
+    ensures { IfSome result (IsRunAt at words.now (A.rule rule.now) count window held.new) }
 {
     let rows = read_rows::<R>(words, at, column_of(at, window), row_of(at, window));
     let mut vectors = packed::<R, N>(&rows);
@@ -76,11 +81,11 @@ fn run_vectors<const R: usize, const N: usize>(
 }
 
 /// Runs a window, and stores its rows in `held`. Returns `None` if there is no function for its number of rows.
-fn run_window(
+fn run_window<A: CellLogic>(
     words: &[u64],
     at: Frame,
     window: LeapWindow,
-    rule: &RuleLogic,
+    rule: &A,
     count: usize,
     held: &mut [u64; 64],
 ) -> Option<DifferenceMask>
@@ -89,19 +94,19 @@ fn run_window(
     requires on_board { IsOnBoard at window }
     requires some { 1 ≤ count }
     requires few { count ≤ 4 }
-    ensures { IfSome result (IsRunAt at words.now (rule_of rule.now) count window held.new) }
+    ensures { IfSome result (IsRunAt at words.now (A.rule rule.now) count window held.new) }
 {
     match window.rows {
-        20 => run_vectors::<20, 5>(words, at, window, rule, count, held),
-        24 => run_vectors::<24, 6>(words, at, window, rule, count, held),
-        28 => run_vectors::<28, 7>(words, at, window, rule, count, held),
-        32 => run_vectors::<32, 8>(words, at, window, rule, count, held),
-        36 => run_vectors::<36, 9>(words, at, window, rule, count, held),
-        40 => run_vectors::<40, 10>(words, at, window, rule, count, held),
-        44 => run_vectors::<44, 11>(words, at, window, rule, count, held),
-        48 => run_vectors::<48, 12>(words, at, window, rule, count, held),
-        52 => run_vectors::<52, 13>(words, at, window, rule, count, held),
-        56 => run_vectors::<56, 14>(words, at, window, rule, count, held),
+        20 => run_vectors::<20, 5, A>(words, at, window, rule, count, held),
+        24 => run_vectors::<24, 6, A>(words, at, window, rule, count, held),
+        28 => run_vectors::<28, 7, A>(words, at, window, rule, count, held),
+        32 => run_vectors::<32, 8, A>(words, at, window, rule, count, held),
+        36 => run_vectors::<36, 9, A>(words, at, window, rule, count, held),
+        40 => run_vectors::<40, 10, A>(words, at, window, rule, count, held),
+        44 => run_vectors::<44, 11, A>(words, at, window, rule, count, held),
+        48 => run_vectors::<48, 12, A>(words, at, window, rule, count, held),
+        52 => run_vectors::<52, 13, A>(words, at, window, rule, count, held),
+        56 => run_vectors::<56, 14, A>(words, at, window, rule, count, held),
         _ => None,
     }
 }
@@ -116,7 +121,8 @@ fn make_room(held: &mut Vec<[u64; 64]>, count: usize) -> Result<(), OutOfMemory>
     Ok(())
 }
 
-/// Runs all windows, and returns whether all are on the board.
+/// Runs all windows, and returns whether all are on the board. Life has functions of its own, which hold no code for
+/// other rules.
 ///
 /// The rows of each window are stored, and `boxes` is replaced by a box for each window in which something has changed
 /// or, after an odd number of generations, is alive. So all memory is allocated before the first word is written.
@@ -139,15 +145,19 @@ pub(crate) fn run_all(
 {
     boxes.clear();
     make_room(held, windows.len())?;
-    run_each(words, at, windows, rule, count, held.as_mut_slice(), boxes)
+    let held = held.as_mut_slice();
+    match rule {
+        RuleLogic::Life => run_each(words, at, windows, &Life, count, held, boxes),
+        RuleLogic::Any(rule) => run_each(words, at, windows, rule, count, held, boxes),
+    }
 }
 
 /// Runs one window after another. There is room in `held` for the rows of each.
-fn run_each(
+fn run_each<A: CellLogic>(
     words: &[u64],
     at: Frame,
     windows: &[LeapWindow],
-    rule: &RuleLogic,
+    rule: &A,
     count: usize,
     held: &mut [[u64; 64]],
     boxes: &mut Vec<Bounds>,
@@ -160,7 +170,7 @@ fn run_each(
     requires empty { boxes.old.items ≡ [] }
     ensures on_board { IfOk result (λ inside. inside ≡ true → All (IsOnBoard at) windows.now) }
     ensures run { IfOk result (λ inside. inside ≡ true
-        → AreRun at words.now (rule_of rule.now) count windows.now held.new boxes.new.items) }
+        → AreRun at words.now (A.rule rule.now) count windows.now held.new boxes.new.items) }
 {
     for k in 0..windows.len() {
         let window = windows[k];

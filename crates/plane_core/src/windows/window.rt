@@ -13,13 +13,10 @@
 //! ```
 //!
 //! Everything around the window is taken for dead. So with each generation, a window is wrong one cell further inside.
-ghost use Rattle.std.specs.Prelude.{◌≡◌, ◌+◌, ◌<◌, ℕ, ℤ, List, [], slice_index_or};
+ghost use Rattle.std.specs.Prelude.{◌≡◌, ◌+◌, ◌<◌, [], slice_index_or};
 ghost use Rattle.plane_core.specs.windows.LaneSums.{AreBeside};
 ghost use Rattle.plane_core.specs.windows.RuleLogic.{rule_of};
-ghost use Rattle.plane_core.specs.plane.Cells.{InOrder};
-ghost use Rattle.plane_core.specs.plane.Generations.{after};
-ghost use Rattle.plane_core.specs.windows.Windows.{IsNextWindow, IsShownInside, IsVectorMade};
-ghost use Rattle.plane_core.specs.declared.plane.cell.Cell.{Cell};
+ghost use Rattle.plane_core.specs.windows.Windows.{IsLaterWindow, IsNextWindow, IsVectorMade};
 
 use crate::windows::lane_sums::{RowSums, Sum, across, earlier_sum, later_sum};
 use crate::windows::rule_logic::RuleLogic;
@@ -89,15 +86,29 @@ fn next_vector<const N: usize, A: CellLogic>(
     below
 }
 
-/// Advances the window by `count` generations.
+/// Advances the window by `count` generations. Life has loops of its own.
 #[inline(always)]
 pub(crate) fn generations<const N: usize>(window: &mut [u64x4; N], rule: &RuleLogic, count: usize)
     requires { 0 < N }
-    ensures { (cells : List Cell) (left top : ℤ) (depth : ℕ) → InOrder cells
-        → IsShownInside N left top depth window.old cells
-        → IsShownInside N left top (depth + count) window.new (after (rule_of rule.now) cells count) }
+    ensures { IsLaterWindow (rule_of rule.now) N window.old window.new count }
+{
+    match rule {
+        RuleLogic::Life => generations_by(window, &Life, count),
+        RuleLogic::Any(rule) => generations_by(window, rule, count),
+    }
+}
+
+/// Advances the window by `count` generations.
+#[inline(always)]
+pub(crate) fn generations_by<const N: usize, A: CellLogic>(
+    window: &mut [u64x4; N],
+    rule: &A,
+    count: usize,
+)
+    requires { 0 < N }
+    ensures { IsLaterWindow (A.rule rule.now) N window.old window.new count }
 {
     for _ in 0..count {
-        generation(window, rule);
+        generation_by(window, rule);
     }
 }

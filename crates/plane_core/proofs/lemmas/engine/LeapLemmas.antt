@@ -25,11 +25,11 @@ use Rattle.plane_core.specs.engine.Leaps.{ArePutBack, AreRun, IsRun, IsRunAt, Sh
 use Rattle.plane_core.specs.engine.WindowIo.{AreRowsRead, IsInner, IsPutBack, bit_on, cell_on}
 use Rattle.plane_core.specs.engine.LeapWindows.{MarksDifferences, IsInnerCell, compared_with}
 use Rattle.plane_core.specs.plane.Rules.{Numbers}
-use Rattle.plane_core.specs.windows.Windows.{IsShownInside, row_at}
+use Rattle.plane_core.specs.windows.Windows.{IsLaterWindow, IsShownInside, row_at}
 use Rattle.plane_core.proofs.lemmas.engine.ActiveBoxLemmas.{HoldFirst, hold_more}
 use Rattle.plane_core.proofs.lemmas.engine.WindowIoLemmas.{read_packed}
 use Rattle.plane_core.proofs.lemmas.plane.RunLemmas.{after-plus, in_order-after}
-use Rattle.plane_core.proofs.lemmas.windows.WindowLemmas.{HasMade, same_cell_at}
+use Rattle.plane_core.proofs.lemmas.windows.WindowLemmas.{same_cell_at}
 use Rattle.plane_core.proofs.lemmas.Between.{HasLeapt, IsReadAt}
 
 -- ---- what has changed in a window
@@ -58,7 +58,7 @@ empty_window n left top r i a b d e =
     ap (λ (n : ℕ). n == 1) (sym (ap (λ (w : ℕ). bit_at w i) row ∙ bit_at-zero i))
 
 -- an odd number of generations is compared with nothing
-pub run_odd : (n : ℕ) (rule : Numbers) (count : ℕ) (x y : List (List ℕ)) (change : DifferenceMask) → count ≤ 4 → count % 2 ≡ 1 → HasMade rule n x y count
+pub run_odd : (n : ℕ) (rule : Numbers) (count : ℕ) (x y : List (List ℕ)) (change : DifferenceMask) → count ≤ 4 → count % 2 ≡ 1 → IsLaterWindow rule n x y count
     → DiffersOnlyIn n change y (replicate n (replicate 4 0)) → IsRun n rule count x y change
 run_odd n rule count x y change few odd made differs p cells height o shown = (
   later,
@@ -74,7 +74,7 @@ run_odd n rule count x y change few odd made differs p cells height o shown = (
 
 -- an even number is compared with the generation two before it
 pub run_even : (n : ℕ) (rule : Numbers) (count : ℕ) (x y z : List (List ℕ)) (change : DifferenceMask) → 2 ≤ count → count ≤ 4 → count % 2 ≡ 0
-    → HasMade rule n x y (count - 2) → HasMade rule n y z 2 → DiffersOnlyIn n change z y → IsRun n rule count x z change
+    → IsLaterWindow rule n x y (count - 2) → IsLaterWindow rule n y z 2 → DiffersOnlyIn n change z y → IsRun n rule count x z change
 run_even n rule count x y z change some few even first second differs p cells height o shown = (
   later,
   subst (λ (S : List Cell). MarksDifferences p (after rule cells count) S change) (sym before)

@@ -8,14 +8,14 @@ use Rattle.std.proofs.lemmas.Nat.Bits.{bit_at-lt, bit_at-trailing_zeros, bit_at_
 use Rattle.plane_core.specs.plane.Cells.{cell_at}
 use Rattle.plane_core.specs.one_sided.RestlessClusters.{HasDivergingCell, DivergesFromWhole}
 use Rattle.plane_core.specs.plane.Rules.{Numbers}
-use Rattle.plane_core.specs.windows.Windows.{IsNextWindow}
+use Rattle.plane_core.specs.windows.Windows.{IsLaterWindow, IsNextWindow}
 use Rattle.plane_core.proofs.lemmas.windows.ShiftLemmas.{bit_left_high, bit_left_low}
-use Rattle.plane_core.proofs.lemmas.windows.WindowLemmas.{HasMade, none_made, one_made}
+use Rattle.plane_core.proofs.lemmas.windows.WindowLemmas.{none_made, one_made}
 
 -- both windows, so many generations on
 pub record AreMade (rule : Numbers) (n : ℕ) (whole alone later later_alone : List (List ℕ)) (made : ℕ) : Type 0 where
-  pub one : HasMade rule n whole later made
-  pub other : HasMade rule n alone later_alone made
+  pub one : IsLaterWindow rule n whole later made
+  pub other : IsLaterWindow rule n alone later_alone made
 
 -- a cell that is seen then is a diverge
 pub diverging_seen : (rule : Numbers) (n : ℕ) (whole alone later later_alone : List (List ℕ)) (depth made most : ℕ)

@@ -14,7 +14,7 @@ use Rattle.plane_core.specs.plane.Cells.{InOrder, cell_at, has, moved_by}
 use Rattle.plane_core.specs.plane.Generations.{around, lives_by, next, after}
 use Rattle.plane_core.specs.windows.LaneSums.{sum_of, row_sum, AnswersRows, AreBeside}
 use Rattle.plane_core.specs.plane.Rules.{Numbers}
-use Rattle.plane_core.specs.windows.Windows.{lane_at, row_at, row_above, row_below, IsNextRow, IsNextWindow, IsShownInside, IsVectorMade}
+use Rattle.plane_core.specs.windows.Windows.{lane_at, row_at, row_above, row_below, IsLaterWindow, IsNextRow, IsNextWindow, IsShownInside, IsVectorMade}
 use Rattle.plane_core.specs.windows.Words.{one_if}
 use Rattle.plane_core.proofs.lemmas.plane.NeighbourhoodLemmas.{row_total, neighbourhood_total-around}
 use Rattle.plane_core.proofs.lemmas.plane.CaseLemmas.{less_or_not}
@@ -283,18 +283,13 @@ shown_next rule S n left top depth x y o shown step r i h1 h2 h3 h4 =
 
 -- ---- many generations
 
--- so many generations in a window, which is right so much further inside
-abbrev pub HasMade : Numbers → ℕ → List (List ℕ) → List (List ℕ) → ℕ → Type 0
-HasMade rule n x y count = (cells : List Cell) (left top : ℤ) (depth : ℕ) → InOrder cells → IsShownInside n left top depth x cells
-    → IsShownInside n left top (depth + count) y (after rule cells count)
-
-pub none_made : (rule : Numbers) (n : ℕ) (x : List (List ℕ)) → HasMade rule n x x 0
+pub none_made : (rule : Numbers) (n : ℕ) (x : List (List ℕ)) → IsLaterWindow rule n x x 0
 none_made rule n x cells left top depth o shown =
     subst (λ (S : List Cell). IsShownInside n left top (depth + 0) x S) (sym (after-none rule cells))
     (λ r i a b d e. shown r i (omega arith) (omega arith) (omega arith) (omega arith))
 
-pub one_made : (rule : Numbers) (n : ℕ) (x y z : List (List ℕ)) (count : ℕ) → HasMade rule n x y count → IsNextWindow rule n y z
-    → HasMade rule n x z (count + 1)
+pub one_made : (rule : Numbers) (n : ℕ) (x y z : List (List ℕ)) (count : ℕ) → IsLaterWindow rule n x y count → IsNextWindow rule n y z
+    → IsLaterWindow rule n x z (count + 1)
 one_made rule n x y z count made step cells left top depth o shown =
     let more =
     shown_next rule (after rule cells count) n left top (depth + count) y z (in_order-after rule cells count o) (made cells left top depth o shown) step in

@@ -1,14 +1,13 @@
 use Rattle.std.proofs.Common.{arith}
-use Rattle.plane_core.specs.windows.RuleLogic.{rule_of}
 use Rattle.plane_core.proofs.lemmas.engine.LeapLemmas.{run_odd, run_even}
 use Rattle.plane_core.proofs.engine.leap.run.Goals as goal
 
 pub returns-then-count-eq1 : goal.returns-then-count-eq1
 returns-then-count-eq1 g c =
-    run_odd g.row.N (rule_of c.args.rule.now) c.args.count c.args.window.now c.generations.new.window c.difference_of.result c.requires.few
-    (omega arith) c.generations.ensures c.difference_of.ensures
+    run_odd g.row.N (g.A.CellLogic.rule c.args.rule.now) c.args.count c.args.window.now c.generations_by.new.window c.difference_of.result c.requires.few
+    (omega arith) c.generations_by.ensures c.difference_of.ensures
 
 pub returns : goal.returns
 returns g c =
-    run_even g.row.N (rule_of c.args.rule.now) c.args.count c.args.window.now c.generations-2.new.window c.generations-3.new.window
-    c.difference_of-2.result (omega arith) c.requires.few (omega arith) c.generations-2.ensures c.generations-3.ensures c.difference_of-2.ensures
+    run_even g.row.N (g.A.CellLogic.rule c.args.rule.now) c.args.count c.args.window.now c.generations_by-2.new.window c.generations_by-3.new.window
+    c.difference_of-2.result (omega arith) c.requires.few (omega arith) c.generations_by-2.ensures c.generations_by-3.ensures c.difference_of-2.ensures

@@ -4,7 +4,6 @@ use Rattle.std.specs.List.{All}
 use Rattle.std.proofs.lemmas.List.Elements.{All-more, All-nil, All-push, All-same}
 use Rattle.std.proofs.lemmas.Bool.{false≢true}
 use Rattle.std.proofs.lemmas.Result.{IfOk-from_err}
-use Rattle.plane_core.specs.windows.RuleLogic.{rule_of}
 use Rattle.plane_core.specs.declared.engine.leap_window.LeapWindow.{LeapWindow}
 use Rattle.plane_core.specs.declared.plane.bounds.Bounds.{Bounds}
 use Rattle.plane_core.specs.plane.Bounds.{AreSidesWithin, IsWithin}
@@ -18,37 +17,37 @@ abbrev nowhere : LeapWindow
 nowhere = record { left = pos 0; top = pos 0; rows = 0 }
 
 pub run_window-requires-clause-frame : goal.run_window-requires-clause-frame
-run_window-requires-clause-frame c = c.requires.frame
+run_window-requires-clause-frame g c = c.requires.frame
 
 pub run_window-requires-clause-long : goal.run_window-requires-clause-long
-run_window-requires-clause-long c = c.requires.long
+run_window-requires-clause-long g c = c.requires.long
 
 pub run_window-requires-clause-on_board : goal.run_window-requires-clause-on_board
-run_window-requires-clause-on_board c = c.is_on_board.ensures c.if-not-is_on_board.false
+run_window-requires-clause-on_board g c = c.is_on_board.ensures c.if-not-is_on_board.false
 
 pub run_window-requires-clause-some : goal.run_window-requires-clause-some
-run_window-requires-clause-some c = c.requires.some
+run_window-requires-clause-some g c = c.requires.some
 
 pub run_window-requires-clause-few : goal.run_window-requires-clause-few
-run_window-requires-clause-few c = c.requires.few
+run_window-requires-clause-few g c = c.requires.few
 
 pub bounds-requires : goal.bounds-requires
-bounds-requires c = in_reach c.args.at c.requires.frame _ (c.is_on_board.ensures c.if-not-is_on_board.false)
+bounds-requires g c = in_reach c.args.at c.requires.frame _ (c.is_on_board.ensures c.if-not-is_on_board.false)
 
 pub returns-in_err-push-clause-on_board : goal.returns-in_err-push-clause-on_board
-returns-in_err-push-clause-on_board c = IfOk-from_err _ _ c.from_residual.ensures.0
+returns-in_err-push-clause-on_board g c = IfOk-from_err _ _ c.from_residual.ensures.0
 
 pub returns-in_err-push-clause-run : goal.returns-in_err-push-clause-run
-returns-in_err-push-clause-run c = IfOk-from_err _ _ c.from_residual.ensures.0
+returns-in_err-push-clause-run g c = IfOk-from_err _ _ c.from_residual.ensures.0
 
 pub returns-then-not-is_on_board-clause-on_board : goal.returns-then-not-is_on_board-clause-on_board
-returns-then-not-is_on_board-clause-on_board c = λ e. absurd (false≢true e)
+returns-then-not-is_on_board-clause-on_board g c = λ e. absurd (false≢true e)
 
 pub returns-then-not-is_on_board-clause-run : goal.returns-then-not-is_on_board-clause-run
-returns-then-not-is_on_board-clause-run c = λ e. absurd (false≢true e)
+returns-then-not-is_on_board-clause-run g c = λ e. absurd (false≢true e)
 
 pub loop-k-preserved : goal.loop-k-preserved
-loop-k-preserved c =
+loop-k-preserved g c =
     let before = c.loop-k.boxes.items in
     let later = c.push.new.self.items in
     let at = c.args.at in
@@ -58,7 +57,7 @@ loop-k-preserved c =
     record {
       on_board = All-more (IsOnBoard at) windows k nowhere low c.loop-k.invariant.on_board (c.is_on_board.ensures c.if-not-is_on_board.false);
       run =
-          run_more at c.args.words.now (rule_of c.args.rule.now) c.args.count windows c.loop-k.held
+          run_more at c.args.words.now (g.A.CellLogic.rule c.args.rule.now) c.args.count windows c.loop-k.held
           before later k nowhere c.run_window.new.held c.in-Some.change c.bounds.result
           c.loop-k.invariant.run low c.in-Some.ensures c.bounds.ensures.difference
           (λ d some. any_pushed (λ (b : Bounds). IsWithin b d) before later c.in-Some-bounds.bounds c.in_ok-push.ensures.items (inl some))
@@ -68,7 +67,7 @@ loop-k-preserved c =
     }
 
 pub loop-k-preserved-in_default-bounds : goal.loop-k-preserved-in_default-bounds
-loop-k-preserved-in_default-bounds c =
+loop-k-preserved-in_default-bounds g c =
     let before = c.loop-k.boxes.items in
     let at = c.args.at in
     let windows = c.args.windows.now in
@@ -77,19 +76,19 @@ loop-k-preserved-in_default-bounds c =
     record {
       on_board = All-more (IsOnBoard at) windows k nowhere low c.loop-k.invariant.on_board (c.is_on_board.ensures c.if-not-is_on_board.false);
       run =
-          run_more at c.args.words.now (rule_of c.args.rule.now) c.args.count windows c.loop-k.held
+          run_more at c.args.words.now (g.A.CellLogic.rule c.args.rule.now) c.args.count windows c.loop-k.held
           before before k nowhere c.run_window.new.held c.in-Some.change c.bounds.result
           c.loop-k.invariant.run low c.in-Some.ensures c.bounds.ensures.difference
           (λ d some. some) (λ d here. absurd (rw c.in_default-bounds.is at here)) c.loop-k.invariant.run.sides;
     }
 
 pub returns-clause-on_board : goal.returns-clause-on_board
-returns-clause-on_board c = λ _.
+returns-clause-on_board g c = λ _.
     All-same (IsOnBoard c.args.at) c.args.windows.now _
     (sym (take_whole c.args.windows.now c.loop-k.k c.loop-k.auto.k-end c.loop-k-test.false)) c.loop-k.invariant.on_board
 
 pub returns-clause-run : goal.returns-clause-run
-returns-clause-run c = λ _.
+returns-clause-run g c = λ _.
     let windows = c.args.windows.now in
     let inv = c.loop-k.invariant.run in
     let all : c.loop-k.k ≡ length windows = omega arith in
@@ -104,7 +103,7 @@ none_done : (k : ℕ) → k < 0 → ⊥
 none_done k low = omega (arith, low)
 
 pub loop-k-init : goal.loop-k-init
-loop-k-init c = record {
+loop-k-init g c = record {
   on_board = All-nil (IsOnBoard c.args.at);
   run = record {
     long = c.requires.room;
@@ -115,7 +114,7 @@ loop-k-init c = record {
 }
 
 pub loop-k-smaller : goal.loop-k-smaller
-loop-k-smaller c = falls _ _ c.loop-k-test.true
+loop-k-smaller g c = falls _ _ c.loop-k-test.true
 
 pub loop-k-smaller-in_default-bounds : goal.loop-k-smaller-in_default-bounds
-loop-k-smaller-in_default-bounds c = falls _ _ c.loop-k-test.true
+loop-k-smaller-in_default-bounds g c = falls _ _ c.loop-k-test.true

@@ -1,12 +1,11 @@
 use Rattle.std.proofs.Common.{take}
 use Rattle.std.specs.List.{All}
-use Rattle.plane_core.specs.windows.RuleLogic.{rule_of}
 use Rattle.plane_core.specs.engine.LeapWindows.{IsOnBoard}
 use Rattle.plane_core.proofs.lemmas.engine.LeapLemmas.{AreRunFirst}
 use Rattle.plane_core.proofs.engine.leap.run_each.Given as goal
 
 abbrev pub invariant-loop-k : goal.invariant-loop-k
-invariant-loop-k l = record {
+invariant-loop-k g l = record {
   on_board : All (IsOnBoard l.at) (take l.k l.windows);
-  run : AreRunFirst l.at l.words (rule_of l.rule) l.count l.windows l.held l.boxes.items l.k;
+  run : AreRunFirst l.at l.words (g.A.CellLogic.rule l.rule) l.count l.windows l.held l.boxes.items l.k;
 }
