@@ -25,54 +25,46 @@ numeral-Decides : (ds : List ℕ) → Decides (is_numeral ds) (IsNumeral 10 ds)
 numeral-Decides ds = Decides-and _ _ (Decides-ltb 0 (length ds)) (digits-Decides ds)
 
 -- a numeral has no sign
-pub no_sign : (n : Text) → IsNumeral 10 n → (starts_with_minus n ≡ false) × (without_leading_plus n ≡ n) × (without_minus n ≡ n)
+pub no_sign : (n : Text) → IsNumeral 10 n → (starts_with_minus n ≡ false) × (without_leading_plus n ≡ n)
 no_sign [] h = absurd (omega arith)
 no_sign (d ∷ ds) h =
     let minus : (d == 45) ≡ false = ne_eqb _ _ (λ e. omega (arith, digit_from_value d h.1.0)) in
     let plus : (d == 43) ≡ false = ne_eqb _ _ (λ e. omega (arith, digit_from_value d h.1.0)) in
-    (minus, ap (λ b. drop (cond {A = ℕ} b 1 0) (d ∷ ds)) plus, ap (λ b. unwrap_or (cond {A = Option Text} b (Some ds) None) (d ∷ ds)) minus)
+    (minus, ap (λ b. drop (cond {A = ℕ} b 1 0) (d ∷ ds)) plus)
 
 -- ---- what `clap` accepts as a number
 
 abbrev pub parser_for : ValueKind → ValueParser
 parser_for kind.Text = parser.String
 parser_for kind.Flag = parser.Bool
-parser_for (kind.Number least most) = parser.Signed (pos least) (pos most)
-parser_for (kind.LargeNumber most) = parser.Unsigned 0 most
+parser_for (kind.Number least most) = parser.Unsigned least most
 
 -- the limit of a kind is small enough for the code
 abbrev pub is_small : ValueKind → Bool
-is_small (kind.Number least most) = nat_lt most (2 ^ 63)
-is_small (kind.LargeNumber most) = nat_lt most (2 ^ 64)
+is_small (kind.Number least most) = nat_lt most (2 ^ 64)
 is_small _ = true
 
 pub kind_accepted : (k : ValueKind) (v : Text) → is_small k ≡ true → IsOfKind k v → Accepts false (parser_for k) v
 kind_accepted kind.Text v small h = tt
 kind_accepted kind.Flag v small h = rw h refl
 kind_accepted (kind.Number least most) v small h =
-    let fits = ltb-true most (2 ^ 63) small in
-    let none = no_sign v h.numeral in
-    rw (none.0, none.1) (h.numeral, record { sfits = omega arith }, omega (arith, ints), omega (arith, ints))
-kind_accepted (kind.LargeNumber most) v small h =
     let fits = ltb-true most (2 ^ 64) small in
     rw (no_sign v h.numeral).1 (h.numeral, omega arith, h.low, h.high)
 
 pub kind_refused : (k : ValueKind) (v : Text) → IsNotOfKind k v → Accepts false (parser_for k) v → ⊥
 kind_refused (kind.Number least most) v h a =
-    let is = rw (h.0, h.1) at a in
-    h.2 (record { numeral = is.0; low = omega (arith, ints); high = omega (arith, ints) })
-kind_refused (kind.LargeNumber most) v h a = let is = rw h.1 at a in h.2 (record { numeral = is.0; low = is.2; high = is.3 })
+    let is = rw h.1 at a in h.2 (record { numeral = is.0; low = is.2; high = is.3 })
 kind_refused _ v h a = h
 
 -- ---- what is read of a number
 
 -- a numeral within a limit
-pub large_read : (least most : ℕ) (n : Text) → IsNumberFromTo least most n → number_named most n ≡ Some (digits_value 10 n)
-large_read least most n h = rw ((no_sign n h.numeral).1, (numeral-Decides n).1 h.numeral, le-leb _ _ h.high) refl
+text_read : (least most : ℕ) (n : Text) → IsNumberFromTo least most n → number_named most n ≡ Some (digits_value 10 n)
+text_read least most n h = rw ((no_sign n h.numeral).1, (numeral-Decides n).1 h.numeral, le-leb _ _ h.high) refl
 
 pub number_read : (least most : ℕ) (n : Text) → IsNumberFromTo least most n
-    → option_and_then (at_least least) (number_named most (without_minus n)) ≡ Some (digits_value 10 n)
-number_read least most n h = rw ((no_sign n h.numeral).2, large_read least most n h, le-leb _ _ h.low) refl
+    → option_and_then (at_least least) (number_named most n) ≡ Some (digits_value 10 n)
+number_read least most n h = rw (text_read least most n h, le-leb _ _ h.low) refl
 
 -- a text that isn't read as one is none within the limit
 none_within : (most : ℕ) (ds : Text) → most < 2 ^ 64 → (IsNumeral 10 ds × (digits_value 10 ds < 2 ^ 64) → ⊥)

@@ -21,7 +21,7 @@ use Rattle.arguments.specs.LawfulUses.{AreUses, IsIn, IsOfKind, is_required, lac
 use Rattle.arguments.specs.Table.{commands}
 use Rattle.arguments.specs.Uses.{Use, entry_in, is_used, value_in}
 use Rattle.arguments.proofs.KnownLemmas.{ParameterFacts, so, known_of, default_for, default_row, flag, given, leaf, number, taken}
-use Rattle.arguments.proofs.NumberLemmas.{large_read, number_read, parser_for}
+use Rattle.arguments.proofs.NumberLemmas.{number_read, parser_for}
 use Rattle.arguments.proofs.UseLemmas.{row_in, rows_in}
 use Rattle.arguments.proofs.WalkLemmas.{at_row_none}
 
@@ -73,7 +73,6 @@ value_taken : (k : ValueKind) (name v : Text) → IsOfKind k v
 value_taken kind.Text name v h = refl
 value_taken kind.Flag name v h = ap (λ t. flag (bytes_eq t (codes "true"))) h
 value_taken (kind.Number least most) name v h = ap number (number_read least most v h)
-value_taken (kind.LargeNumber most) name v h = ap number (large_read 0 most v h)
 
 -- what holds of each thing in a list that fails a test
 each_failing : {X : Type 0} (P : X → Type 0) (p : X → Bool) (xs : List X) → list_any p xs ≡ false → ((x : X) → IsIn x xs → p x ≡ false → P x)

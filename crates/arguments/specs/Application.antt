@@ -1,9 +1,9 @@
 -- How `clap` reads arguments by the table.
-use Rattle.std.specs.Prelude.{List, [], ◌∷◌, None, Some, true, pos, map, codes, not, is_some, if◌then◌else◌}
+use Rattle.std.specs.Prelude.{List, [], ◌∷◌, None, Some, true, map, codes, not, is_some, if◌then◌else◌}
 use Rattle.std.specs.Option.{option_map_or}
 use Rattle.clap.specs.Words.{App, Rule, Shape, new_app, new_rule, with_rule, with_subcommand}
 use Rattle.clap.specs.declared.builder.action.ArgAction.TheVariants.{SetTrue}
-use Rattle.clap.specs.declared.builder.value_parser.ValueParser.TheVariants.{Signed, Unsigned}
+use Rattle.clap.specs.declared.builder.value_parser.ValueParser.TheVariants.{Unsigned}
 use Rattle.arguments.specs.declared.options.ValueKind.{ValueKind}
 use Rattle.arguments.specs.declared.options.ValueKind.TheVariants as kind
 use Rattle.arguments.specs.Entries.{Command, Entry}
@@ -23,12 +23,11 @@ placed entry = record (named entry) {
   defaults = option_map_or (λ text. text ∷ []) entry.default [];
 }
 
--- the argument of a row with the values that its kind allows; numbers of 32 bits are parsed with a sign
+-- the argument of a row with the values that its kind allows
 abbrev pub rule_by : Entry → ValueKind → Rule
 rule_by entry kind.Text = placed entry
 rule_by entry kind.Flag = record (new_rule entry.name) { long = Some entry.name; action = Some SetTrue }
-rule_by entry (kind.Number least most) = record (placed entry) { parser = Some (Signed (pos least) (pos most)) }
-rule_by entry (kind.LargeNumber most) = record (placed entry) { parser = Some (Unsigned 0 most) }
+rule_by entry (kind.Number least most) = record (placed entry) { parser = Some (Unsigned least most) }
 
 -- the argument of a row, as `clap` knows it
 abbrev pub rule_in : Entry → Rule

@@ -24,7 +24,6 @@ pub record IsNumberFromTo (least most : ℕ) (text : Text) : Type 0 where
 -- the value is of this kind
 abbrev pub IsOfKind : ValueKind → Text → Type 0
 IsOfKind (kind.Number least most) value = IsNumberFromTo least most value
-IsOfKind (kind.LargeNumber most) value = IsNumberFromTo 0 most value
 IsOfKind kind.Flag value = value ≡ codes "true"
 IsOfKind kind.Text value = ⊤
 
@@ -57,7 +56,6 @@ IsNoNumber least most text =
 -- the value of a numeric argument has no sign, and isn't a number in its range
 abbrev pub IsNotOfKind : ValueKind → Text → Type 0
 IsNotOfKind (kind.Number least most) value = IsNoNumber least most value
-IsNotOfKind (kind.LargeNumber most) value = IsNoNumber 0 most value
 IsNotOfKind _ value = ⊥
 
 -- an argument of the command, with a value that is out of its range

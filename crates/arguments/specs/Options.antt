@@ -18,7 +18,7 @@ abbrev pub code : Entry
 code = position (codes "CODE") kind.Text
 
 abbrev pub number : Entry
-number = position (codes "N") (kind.LargeNumber (most_first - 1))
+number = position (codes "N") (kind.Number 0 (most_first - 1))
 
 abbrev pub rule : Entry
 rule = option (codes "rule") kind.Text (codes "b3s23")
@@ -27,7 +27,7 @@ abbrev pub seed : Entry
 seed = option (codes "seed") kind.Text []
 
 abbrev pub first : Entry
-first = option (codes "first") (kind.LargeNumber most_first) (codes "0")
+first = option (codes "first") (kind.Number 0 most_first) (codes "0")
 
 abbrev pub count : Entry
 count = required (codes "count") (kind.Number 0 16777216)

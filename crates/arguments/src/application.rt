@@ -159,11 +159,7 @@ fn parameter<'a>(alloc: Global, row: &Parameter) -> Arg<'a>
             .action(ArgAction::SetTrue)
             .help(row.help),
         ValueKind::Number(least, most) => {
-            let parser = ValueParser::signed(i64::from(least), i64::from(most));
-            with_value(alloc, row).value_parser(parser)
-        }
-        ValueKind::LargeNumber(most) => {
-            with_value(alloc, row).value_parser(ValueParser::unsigned(0, most))
+            with_value(alloc, row).value_parser(ValueParser::unsigned(least, most))
         }
     }
 }

@@ -11,10 +11,8 @@ pub enum ValueKind {
     Text,
     /// No value: the argument is given or not.
     Flag,
-    /// A number from the first to the second number.
-    Number(u32, u32),
-    /// A number from 0 to this number, which may need more than 32 bits.
-    LargeNumber(u64),
+    /// A number from the first to the second number, in decimal digits, perhaps after a `+`.
+    Number(u64, u64),
 }
 
 /// Where an argument is expected.
@@ -44,7 +42,7 @@ pub struct Parameter {
 }
 
 /// The most workers, and so the highest number of a worker: as many as a haul may have.
-const MOST_WORKERS: u32 = 16;
+const MOST_WORKERS: u64 = 16;
 
 /// The highest first number of a range. Soup numbers are below it, so a range that begins there is empty.
 const MOST_FIRST: u64 = 1 << 40;
@@ -77,7 +75,7 @@ pub const CODE: Parameter = Parameter {
 pub const NUMBER: Parameter = Parameter {
     name: "N",
     place: Place::Position,
-    kind: ValueKind::LargeNumber(MOST_FIRST - 1),
+    kind: ValueKind::Number(0, MOST_FIRST - 1),
     default: None,
     heading: None,
     help: "The number of the soup, from 0 to 1099511627775",
@@ -109,7 +107,7 @@ pub const SEED: Parameter = Parameter {
 pub const FIRST: Parameter = Parameter {
     name: "first",
     place: Place::Named("NUMBER"),
-    kind: ValueKind::LargeNumber(MOST_FIRST),
+    kind: ValueKind::Number(0, MOST_FIRST),
     default: Some("0"),
     heading: None,
     help: "The number of the first soup, from 0 to 1099511627776",

@@ -18,13 +18,12 @@ pub fn number_found(found: &ArgMatches<'_>, row: &Parameter) -> Option<u64>
     match row.kind {
         ValueKind::Text | ValueKind::Flag => None,
         ValueKind::Number(least, most) => {
-            let number = number_up_to(found, row.name, u64::from(most))?;
-            if number < u64::from(least) {
+            let number = number_up_to(found, row.name, most)?;
+            if number < least {
                 return None;
             }
             Some(number)
         }
-        ValueKind::LargeNumber(most) => number_up_to(found, row.name, most),
     }
 }
 

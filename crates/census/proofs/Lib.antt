@@ -1,2 +1,3 @@
+pub mod HeadlineLemmas
 pub mod ProgramLemmas
 pub mod RequestLemmas

@@ -1,3 +1,4 @@
+pub mod Headline
 pub mod Program
 pub mod ProgramEnds
 pub mod Requests

@@ -15,6 +15,7 @@ ghost use Rattle.pattern_commands.specs.Status.{exit_code};
 ghost use Rattle.pattern_commands.specs.Ends.{Ends};
 ghost use Rattle.pattern_commands.specs.Streams.{HasLine, Stream, stream};
 ghost use Rattle.pattern_commands.specs.Version.{version_behaviour};
+ghost use Rattle.census.specs.Headline.{PrintsWhatIsAsked};
 ghost use Rattle.census.specs.Program.{IsDone, not_text_line};
 ghost use Rattle.census.specs.ProgramEnds.{ProgramEnds};
 ghost use Rattle.census.specs.Requests.{TellsUsage};
@@ -67,6 +68,11 @@ pub fn run_program<
     ensures done { result.code ≡ 0 → IsOkAnd arguments (λ list. IsSomeAnd result.output (λ writer.
         IsDone (map string_bytes list.items) (R.remaining input.old) (W.contents output) (W.contents writer)
         (stream E.contents machine.old.errors machine.new.errors) 0)) }
+
+    // For a call of a command with permitted options, what was printed is what the options ask for.
+    ensures headline { result.code ≡ 0 → IsOkAnd arguments (λ list. IsSomeAnd result.output (λ writer.
+        PrintsWhatIsAsked (map string_bytes list.items) (R.remaining input.old) (W.contents output)
+        (W.contents writer))) }
 
     // What each code means, if the arguments are texts.
     ensures ends { IfOk arguments (λ list. ProgramEnds W.contents (map string_bytes list.items) (R.remaining input.old)

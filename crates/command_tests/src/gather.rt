@@ -3,7 +3,7 @@
 ghost use Rattle.pattern_commands.specs.Profiles.{AreInRange};
 
 use crate::streams::{
-    FaultyReader, FaultyWriter, Left, interrupted_writer, reader, reader_by, slow_writer,
+    FaultyReader, FaultyWriter, Left, quick_writer, reader, reader_by, slow_writer,
 };
 use commands::gather::do_gather;
 use pattern_commands::status::Status;
@@ -160,25 +160,31 @@ fn ends_if_a_line_is_not_told(rt: HostRuntime) {
     }
 }
 
-// A write that a signal interrupts is made again.
 #[test]
 fn tells_each_line_in_one_write(rt: HostRuntime) {
-    for bad in 1..4 {
-        let left = left_by_writes(rt.alloc(), interrupted_writer(rt.alloc(), bad));
+    let left = left_by_writes(rt.alloc(), quick_writer(rt.alloc(), 0));
+    assert!(rt; left.is(Status::Incomplete, TWO_OF_FOUR, TOLD));
+    assert!(rt; left.errors.writes == 3);
+}
+
+// The writes are of lines 3 and 4, and of the line on missing soups, which may fail.
+#[test]
+fn ends_if_a_write_is_interrupted(rt: HostRuntime) {
+    for (bad, told) in [(1, 0), (2, 25)] {
+        let left = left_by_writes(rt.alloc(), quick_writer(rt.alloc(), bad));
         assert!(rt;
-            left.is(Status::Incomplete, TWO_OF_FOUR, TOLD),
+            left.is(Status::Failed, b"", &TOLD[..told]),
             "write {bad}"
         );
-        assert!(rt; left.errors.writes == 4, "write {bad}");
     }
 }
 
 #[test]
-fn goes_on_after_a_signal(rt: HostRuntime) {
-    for bad in [1, 69, LINES.len() + 1] {
+fn tells_an_interrupted_read(rt: HostRuntime) {
+    for bad in [1, 2, 69, 204] {
         let left = left_by_reads(rt.alloc(), bad, ErrorKind::Interrupted);
         assert!(rt;
-            left.is(Status::Incomplete, TWO_OF_FOUR, TOLD),
+            left.is(Status::Failed, b"", b"census: read failed\n"),
             "read {bad}"
         );
     }

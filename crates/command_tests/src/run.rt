@@ -1,6 +1,6 @@
 //! Tests of `run`.
 
-use crate::streams::{FaultyReader, FaultyWriter, Left, interrupted_writer, reader, slow_writer};
+use crate::streams::{FaultyReader, FaultyWriter, Left, quick_writer, reader, slow_writer};
 use pattern_commands::output::send_buffered;
 use pattern_commands::run::do_run;
 use pattern_commands::show::do_show;
@@ -76,12 +76,21 @@ fn tells_each_failed_write(rt: HostRuntime) {
 }
 
 #[test]
-fn goes_on_after_a_signal(rt: HostRuntime) {
+fn tells_an_interrupted_read(rt: HostRuntime) {
     for bad in 1..6 {
         let left = left_by_reads(rt.alloc(), bad, ErrorKind::Interrupted);
-        assert!(rt; left.is(Status::Done, UPRIGHT, b""), "read {bad}");
-        let left = left_by_writes(rt.alloc(), interrupted_writer(rt.alloc(), bad));
-        assert!(rt; left.is(Status::Done, UPRIGHT, b""), "write {bad}");
+        assert!(rt;
+            left.is(Status::Failed, b"", b"census: read failed\n"),
+            "read {bad}"
+        );
+    }
+}
+
+#[test]
+fn tells_an_interrupted_write(rt: HostRuntime) {
+    for bad in 1..4 {
+        let left = left_by_writes(rt.alloc(), quick_writer(rt.alloc(), bad));
+        assert!(rt; left.status == Status::Failed, "write {bad}");
     }
 }
 
@@ -93,7 +102,7 @@ fn tells_a_refusal_in_one_write(rt: HostRuntime) {
     let left = left_by(
         input,
         slow_writer(alloc, 0),
-        interrupted_writer(alloc, 0),
+        quick_writer(alloc, 0),
         alloc,
     );
     assert!(rt;
@@ -105,7 +114,7 @@ fn tells_a_refusal_in_one_write(rt: HostRuntime) {
     );
     assert!(rt; left.errors.writes == 1);
     let mut output = Out::new(slow_writer(alloc, 0));
-    let mut errors = Out::new(interrupted_writer(alloc, 0));
+    let mut errors = Out::new(quick_writer(alloc, 0));
     let status = do_show(alloc, "33y", &mut output, &mut errors);
     let left = Left::new(status, output, errors);
     assert!(rt; left.is(Status::Refused, b"", b"census: short run in code at 2\n"));

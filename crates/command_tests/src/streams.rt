@@ -66,7 +66,7 @@ pub(crate) fn slow_writer(alloc: Global, bad: usize) -> FaultyWriter {
 }
 
 /// A writer that takes all that it is given, and is interrupted at one of its writes.
-pub(crate) fn interrupted_writer(alloc: Global, bad: usize) -> FaultyWriter {
+pub(crate) fn quick_writer(alloc: Global, bad: usize) -> FaultyWriter {
     FaultyWriter {
         taken: Vec::new(alloc),
         writes: 0,

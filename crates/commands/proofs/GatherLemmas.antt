@@ -29,14 +29,14 @@ use Rattle.commands.specs.declared.lines.LineEnd.{LineEnd}
 use Rattle.commands.specs.declared.lines.LineEnd.TheVariants.{Feed, Input}
 use Rattle.commands.specs.declared.lines.LineRead.{LineRead}
 use Rattle.pattern_commands.specs.Answers.{IsInput}
-use Rattle.pattern_commands.specs.Inputs.{input_complaint}
+use Rattle.pattern_commands.specs.Inputs.{HasReadAtMost, input_complaint}
 use Rattle.pattern_commands.specs.Streams.{Stream, Has, stream}
 use Rattle.pattern_commands.specs.declared.input.InputError.{InputError}
 use Rattle.pattern_commands.specs.declared.input.InputError.TheVariants as input_error
-use Rattle.commands.specs.GatherSteps.{EndsLine, EndsLines, EndsNext, HasGatheredTo, HasGatheredLines, HasGatheredAll, Passage}
+use Rattle.commands.specs.GatherSteps.{EndsLine, EndsLines, EndsNext, HasGatheredTo, HasGatheredLines, HasGatheredAll, IsTooLong, Passage}
 use Rattle.commands.specs.LinesSoFar.{AreAllEnded, HasBegunUpTo, HasCome, HasComeBy, most_ahead}
-use Rattle.commands.specs.Lines.{HasReadLine, HasReadPart, IsOneLine, MayEnd, input_lines, piece_end, with_end}
-use Rattle.commands.proofs.LineLemmas.{all_lines, all_read, bare_part, ended_more, first_lines, lines_and, lines_bare, lines_ended, long_read, part_lines}
+use Rattle.commands.specs.Lines.{HasReadLine, HasReadPart, IsLongerThan, IsOneLine, MayEnd, input_lines, piece_end, with_end}
+use Rattle.commands.proofs.LineLemmas.{after_read, all_lines, all_read, bare_part, ended_more, first_lines, lines_and, lines_bare, lines_ended, long_read, part_lines, with_ahead}
 use Rattle.commands.specs.GatheredLines.{Faulty, Front, Gathered, IsChecked, IsPrefixFault, IsLookedAt, IsWrong, ComesOf, Next, Offered, Start, Whole, offer_fault, told_fault}
 
 -- nothing arrives by a line with a fault
@@ -120,11 +120,11 @@ none_gathered reader ahead errors held none silent stands = record {
 }
 
 -- no line is left
-pub no_more : (reader left new : Option (List ℕ)) (errors : Stream) (count size : ℕ) (held : Held) (kept : List ℕ)
+pub no_more : (room : ℕ) (reader left new : Option (List ℕ)) (errors : Stream) (count size : ℕ) (held : Held) (kept : List ℕ)
     (line : LineRead)
-    → HasGatheredLines (passage reader left errors count size) held → (read : HasReadLine left new kept line) → line.size ≡ 0
+    → HasGatheredLines (passage reader left errors count size) held → (read : HasReadLine room left new kept line) → line.size ≡ 0
     → HasGatheredTo (passage reader new errors (count + 1) (size + line.size)) held line.end
-no_more reader left new errors count size held kept line gathered read none = go line.end refl
+no_more room reader left new errors count size held kept line gathered read none = go line.end refl
   where
     short : length (with_end line.end read.line) ≡ 0
     short = sym read.size_is ∙ none
@@ -148,13 +148,13 @@ no_more reader left new errors count size held kept line gathered read none = go
         }
 
 -- a line more, after which others may follow or none
-pub goes_on : {V : Type 0} (contents : V → Option (List ℕ)) (reader left new : Option (List ℕ))
+pub goes_on : {V : Type 0} (contents : V → Option (List ℕ)) (room : ℕ) (reader left new : Option (List ℕ))
     (first old later : Output V) (count size : ℕ) (held next : Held) (kept : List ℕ) (line : LineRead)
     → (gathered : HasGatheredLines (passage reader left (stream contents first old) count size) held)
-    → (read : HasReadLine left new kept line) → 0 < line.size
+    → (read : HasReadLine room left new kept line) → 0 < line.size
     → HasComeBy (gathered.lines ++ read.line ∷ []) next gathered.diagnostics (stream contents old later)
     → HasGatheredTo (passage reader new (stream contents first later) (count + 1) (size + line.size)) next line.end
-goes_on contents reader left new first old later count size held next kept line gathered read some by = go line.end refl
+goes_on contents room reader left new first old later count size held next kept line gathered read some by = go line.end refl
   where
     whole : List ℕ
     whole = with_end line.end read.line
@@ -265,12 +265,6 @@ all_begun reader left errors size held terms all same = record {
   written = all.written;
 }
 
--- the same where there may be more lines, or none
-pub goes_begun : (way : Passage) (held : Held) (terms : Terms) (end : LineEnd) → HasGatheredTo way held end → held.terms ≡ terms
-    → HasBegunUpTo terms way.reader way.left way.errors.before way.errors.after
-goes_begun way held terms Feed gathered same = begun way held terms gathered same
-goes_begun way held terms Input all same = all_begun way.reader way.left way.errors way.size held terms all same
-
 -- a line after which others may follow
 pub goes_further : (way : Passage) (held : Held) (end : LineEnd) → (end ≡ Input → ⊥) → HasGatheredTo way held end → HasGatheredLines way held
 goes_further way held Feed more gathered = gathered
@@ -283,22 +277,11 @@ goes_no_further way held Feed is gathered = let bad : Feed ≡ Input = is in cc
 goes_no_further way held Input is all = all
 
 -- what is left of an input is no longer than it is
-longer : (reader left : Option (List ℕ)) (read : List ℕ) → Consumes reader left read → IfSome left (λ bytes. 2 ^ 32 < length bytes)
-    → IfSome reader (λ bytes. 2 ^ 32 < length bytes)
-longer None left read consumed long = tt
-longer (Some xs) None read consumed long = absurd consumed
-longer (Some xs) (Some ys) read consumed long = let all = ap length consumed ∙ length-append read ys in omega (arith, all, long)
-
--- what was read of an input that is too long, where there may be more lines, or none
-pub goes_long : (way : Passage) (held : Held) (end : LineEnd) → HasGatheredTo way held end → 2 ^ 32 < way.size
-    → IfSome way.reader (λ bytes. 2 ^ 32 < length bytes)
-goes_long way held Feed gathered many =
-    long_read way.reader way.left gathered.read gathered.consumed (let long = gathered.size_is in omega (arith, long, many))
-goes_long way held Input all many = go way.reader all.input
-  where
-    go : (reader : Option (List ℕ)) → IsInput reader all.bytes → IfSome reader (λ bytes. 2 ^ 32 < length bytes)
-    go None is = tt
-    go (Some left) is = let long = all.size_is in let same = ap length is in omega (arith, long, same, many)
+longer : (room : ℕ) (reader left : Option (List ℕ)) (read : List ℕ) → Consumes reader left read → 2 ^ 32 ≤ length read + room
+    → IsLongerThan room left → IsTooLong reader
+longer room None left read consumed whole long = tt
+longer room (Some xs) None read consumed whole long = absurd consumed
+longer room (Some xs) (Some ys) read consumed whole long = let all = ap length consumed ∙ length-append read ys in omega (arith, all, whole, long)
 
 -- as many lines as there are bytes at most, and a line feed after each, are too many
 bytes_of_lines : (lines : List (List ℕ)) → length lines ≤ length (flat_map (with_end Feed) lines)
@@ -309,29 +292,42 @@ bytes_of_lines (line ∷ lines) =
     let all = length-append (line ++ 10 ∷ []) (flat_map (with_end Feed) lines) in
     omega (arith, more, one, all)
 
-pub many_lines : (way : Passage) (held : Held) → HasGatheredLines way held → 2 ^ 32 < way.count
-    → IfSome way.reader (λ bytes. 2 ^ 32 < length bytes)
+pub many_lines : (way : Passage) (held : Held) → HasGatheredLines way held → 2 ^ 32 < way.count → IsTooLong way.reader
 many_lines way held gathered many =
     let spelled = ap length gathered.ended.spelled in
     let count = gathered.count_is in
-    long_read way.reader way.left gathered.read gathered.consumed
+    long_read (2 ^ 32) way.reader way.left gathered.read gathered.consumed
     (omega (arith, spelled, count, many, bytes_of_lines gathered.lines))
 
+-- what was read so far, and what is ahead
+pub read_so_far : (most : ℕ) (reader left : Option (List ℕ)) (ahead : List ℕ) (errors : Stream) (count size : ℕ) (held : Held)
+    → HasGatheredLines (passage reader (prepend_known ahead left) errors count size) held → size + length ahead ≤ most
+    → HasReadAtMost most reader left
+read_so_far most reader left ahead errors count size held gathered few =
+    let size_is = gathered.size_is in with_ahead most reader left gathered.read ahead gathered.consumed (omega (arith, size_is, few))
+
+-- and what the next line brings
+pub read_further : (room most : ℕ) (reader left new : Option (List ℕ)) (errors : Stream) (count size : ℕ) (held : Held)
+    → HasGatheredLines (passage reader left errors count size) held → size + room ≤ most → HasReadAtMost room left new
+    → HasReadAtMost most reader new
+read_further room most reader left new errors count size held gathered few more =
+    let size_is = gathered.size_is in after_read room most reader left new gathered.read gathered.consumed (omega (arith, size_is, few)) more
+
 -- a line that could not be read, with nothing told
-pub next_unread : {V : Type 0} (left : Option (List ℕ)) (old : Output V) (fault : InputError)
-    → (fault ≡ input_error.TooLong → IfSome left (λ bytes. 2 ^ 32 < length bytes)) → EndsNext left old old (input_complaint fault)
-next_unread left old (input_error.Unreadable failed) long = refl
-next_unread left old input_error.TooLong long = (refl, long refl)
-next_unread left old (input_error.Memory refused) long = refl
+pub next_unread : {V : Type 0} (room : ℕ) (left : Option (List ℕ)) (old : Output V) (fault : InputError)
+    → (fault ≡ input_error.TooLong → IsLongerThan room left) → EndsNext room left old old (input_complaint fault)
+next_unread room left old (input_error.Unreadable failed) long = refl
+next_unread room left old input_error.TooLong long = (refl, long refl)
+next_unread room left old (input_error.Memory refused) long = refl
 
 -- a complaint over a line that was read
-pub next_read : {V : Type 0} (left : Option (List ℕ)) (old new : Output V) (complaint : Complaint) → EndsLine old new complaint
-    → EndsNext left old new complaint
-next_read left old new (Refused refusal) ends = ends
-next_read left old new (Memory error) ends = ends
-next_read left old new (ReadFailed error) ends = absurd ends
-next_read left old new TooLong ends = absurd ends
-next_read left old new (WriteFailed error) ends = ends
+pub next_read : {V : Type 0} (room : ℕ) (left : Option (List ℕ)) (old new : Output V) (complaint : Complaint) → EndsLine old new complaint
+    → EndsNext room left old new complaint
+next_read room left old new (Refused refusal) ends = ends
+next_read room left old new (Memory error) ends = ends
+next_read room left old new (ReadFailed error) ends = absurd ends
+next_read room left old new TooLong ends = absurd ends
+next_read room left old new (WriteFailed error) ends = ends
 
 -- it is no failed read
 pub line_most : {V : Type 0} (old new : Output V) (complaint : Complaint) (ahead : List ℕ) → EndsLine old new complaint
@@ -352,24 +348,24 @@ line_may_end old new TooLong end ends = tt
 line_may_end old new (WriteFailed error) end ends = tt
 
 -- a complaint over a line, after all lines before it
-pub lines_ended_by : {V : Type 0} (contents : V → Option (List ℕ)) (reader left now : Option (List ℕ)) (first : Output V)
+pub lines_ended_by : {V : Type 0} (contents : V → Option (List ℕ)) (room : ℕ) (reader left now : Option (List ℕ)) (first : Output V)
     (count size : ℕ) (held : Held) (terms : Terms) (old new : Output V) (complaint : Complaint)
     → HasGatheredLines (passage reader left (stream contents first old) count size) held
-    → held.terms ≡ terms → old.failed ≡ false → EndsNext left old new complaint → HasReadPart left now complaint
+    → held.terms ≡ terms → old.failed ≡ false → 2 ^ 32 ≤ size + room → EndsNext room left old new complaint → HasReadPart left now complaint
     → EndsLines terms reader now (stream contents first new) complaint
-lines_ended_by contents reader left now first count size held terms old new (Memory error) gathered same fine kept part =
+lines_ended_by contents room reader left now first count size held terms old new (Memory error) gathered same fine whole kept part =
     rw kept (begun_part (passage reader left (stream contents first old) count size) held terms now (Memory error) gathered same part, fine)
-lines_ended_by contents reader left now first count size held terms old new (ReadFailed error) gathered same fine kept part =
+lines_ended_by contents room reader left now first count size held terms old new (ReadFailed error) gathered same fine whole kept part =
     let is = begun_cut (passage reader left (stream contents first old) count size) held terms now error gathered same part in
     rw kept (is.0, fine, is.1)
-lines_ended_by contents reader left now first count size held terms old new TooLong gathered same fine (kept, long) part =
+lines_ended_by contents room reader left now first count size held terms old new TooLong gathered same fine whole (kept, long) part =
     rw kept (
       begun_part (passage reader left (stream contents first old) count size) held terms now TooLong gathered same part,
       fine,
-      longer reader left gathered.read gathered.consumed long,
+      longer room reader left gathered.read gathered.consumed (let size_is = gathered.size_is in omega (arith, size_is, whole)) long,
     )
-lines_ended_by contents reader left now first count size held terms old new (WriteFailed error) gathered same fine failed part = failed
-lines_ended_by contents reader left now first count size held terms old new (Refused refusal) gathered same fine none part =
+lines_ended_by contents room reader left now first count size held terms old new (WriteFailed error) gathered same fine whole failed part = failed
+lines_ended_by contents room reader left now first count size held terms old new (Refused refusal) gathered same fine whole none part =
     absurd none
 
 -- ---- what is looked at of a line

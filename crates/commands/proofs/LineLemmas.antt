@@ -10,13 +10,13 @@ use Rattle.pattern_commands.specs.declared.complaint.Complaint.{Complaint}
 use Rattle.pattern_commands.specs.declared.complaint.Complaint.TheVariants.{Refused, Memory, ReadFailed, TooLong, WriteFailed}
 use Rattle.std.specs.Prelude.{IfErr, OnErr}
 use Rattle.pattern_commands.specs.declared.input.InputError.{InputError}
-use Rattle.pattern_commands.specs.Inputs.{input_complaint}
+use Rattle.pattern_commands.specs.Inputs.{HasReadAtMost, input_complaint}
 use Rattle.commands.specs.declared.lines.LineEnd.{LineEnd}
 use Rattle.commands.specs.declared.lines.LineEnd.TheVariants.{Feed, Input}
 use Rattle.commands.specs.declared.lines.LineRead.{LineRead}
 use Rattle.commands.specs.declared.lines.Piece.{Piece}
 use Rattle.commands.specs.LinesSoFar.{AreEnded, most_ahead}
-use Rattle.commands.specs.Lines.{HasPiece, HasReadLine, HasReadPart, IsOneLine, IsPieceOf, MayEnd, IsSpent, begun_with, input_lines, piece_end, with_end}
+use Rattle.commands.specs.Lines.{HasPiece, HasReadLine, HasReadPart, IsLongerThan, IsOneLine, IsPieceOf, MayEnd, IsSpent, begun_with, input_lines, piece_end, with_end}
 
 abbrev IsNotFeed : ℕ → Type 0
 IsNotFeed byte = byte ≢ 10
@@ -51,33 +51,17 @@ read_more start old new kept after prefix more size piece kept_is one consumed s
     )
 
 -- of an input from which many bytes were read, there are many
-pub long_read : (reader left : Option (List ℕ)) (read : List ℕ) → Consumes reader left read → 2 ^ 32 < length read
-    → IfSome reader (λ bytes. 2 ^ 32 < length bytes)
-long_read None left read consumed long = tt
-long_read (Some xs) None read consumed long = absurd consumed
-long_read (Some xs) (Some ys) read consumed long = let all = ap length consumed ∙ length-append read ys in omega (arith, all, long)
+pub long_read : (most : ℕ) (reader left : Option (List ℕ)) (read : List ℕ) → Consumes reader left read → most < length read
+    → IsLongerThan most reader
+long_read most None left read consumed long = tt
+long_read most (Some xs) None read consumed long = absurd consumed
+long_read most (Some xs) (Some ys) read consumed long = let all = ap length consumed ∙ length-append read ys in omega (arith, all, long)
 
 -- an input that ends after a prefix of it was read
 pub spent_from : (start old new : Option (List ℕ)) (prefix : List ℕ) → Consumes start old prefix → IsSpent old new → IsSpent start new
 spent_from None old new prefix consumed spent = tt
 spent_from (Some all) None new prefix consumed spent = absurd consumed
 spent_from (Some all) (Some left) new prefix consumed spent = spent
-
--- a read that was interrupted read nothing
-pub nothing_read : {E : Type 0} (old new : Option (List ℕ)) (kept : List ℕ) (result : Result Piece E) → length kept ≤ 2 ^ 24 + 1 → Keeps old new
-    → IfOk result (λ piece. piece ≡ record { length = 0; size = 0; end = None })
-    → IfOk result (λ read. (piece : List ℕ) × (kept ≡ take (2 ^ 24 + 1) (kept ++ piece)) × HasPiece old new piece read)
-nothing_read old new kept (Err e) short same is = tt
-nothing_read old new kept (Ok piece) short same is = (
-  [],
-  sym (ap (take (2 ^ 24 + 1)) (append-nil kept) ∙ take_all (2 ^ 24 + 1) kept short),
-  record {
-    one = All-nil IsNotFeed;
-    consumed = rw is (Consumes-kept old old new [] (Consumes-nil old) same);
-    size_is = rw is refl;
-    last = λ end. let bad : None ≡ Some Input = ap (λ (p : Piece). p.end) (sym is) ∙ end in cc;
-  },
-)
 
 -- all was read
 pub all_read : (start old new : Option (List ℕ)) (read line : List ℕ) → Consumes start old read → Consumes old new line → IfSome old (λ _. IsAtEnd new)
@@ -202,9 +186,9 @@ part_kept start old new complaint prefix one consumed same = record {
 }
 
 -- a line was read, and no read failed
-pub part_of_line : (old new : Option (List ℕ)) (kept : List ℕ) (read : LineRead) (complaint : Complaint) → HasReadLine old new kept read
+pub part_of_line : (room : ℕ) (old new : Option (List ℕ)) (kept : List ℕ) (read : LineRead) (complaint : Complaint) → HasReadLine room old new kept read
     → MayEnd complaint (Some read.end) → HasReadPart old new complaint
-part_of_line old new kept read complaint is cut =
+part_of_line room old new kept read complaint is cut =
     record { line = is.line; end = Some read.end; one = is.one; consumed = is.consumed; cut = cut }
 
 -- what holds anyway holds after an error
@@ -235,20 +219,22 @@ piece_taken old left ahead shown next read same piece kept is end =
       last = λ is. spent old (prepend_known next left) (moved.1 (sym same ∙ piece.last is));
     }
 
--- a piece that no line feed ends uses all that is at hand
-pub used_whole : (ahead shown next : List ℕ) (read : Piece) → shown ≡ ahead → IsPieceOf shown read → next ≡ drop read.size ahead
-    → read.end ≡ None → next ≡ []
-used_whole ahead shown next read same piece is end =
-    let all : read.size ≡ length ahead = piece.whole end ∙ ap length same in
-    is ∙ drop_of_length-le ahead {i = read.size} (omega (arith, all))
+-- ---- how much was read
 
--- where nothing is ahead, no more is than may be
-pub none_ahead : {A : Type 0} (r : Result A InputError) (ahead : List ℕ) → ahead ≡ []
-    → IfErr r (λ error. length ahead ≤ most_ahead (input_complaint error))
-none_ahead (Ok x) ahead none = tt
-none_ahead (Err error) ahead none = let empty = ap length none in omega (arith, empty)
+-- a reader has lost what was used, and what is ahead
+pub with_ahead : (most : ℕ) (old left : Option (List ℕ)) (read ahead : List ℕ) → Consumes old (prepend_known ahead left) read
+    → length read + length ahead ≤ most → HasReadAtMost most old left
+with_ahead most old left read ahead consumed few =
+    let long = length-append read ahead in (read ++ ahead, go old left consumed, omega (arith, few, long))
+  where
+    go : (old left : Option (List ℕ)) → Consumes old (prepend_known ahead left) read → Consumes old left (read ++ ahead)
+    go None left consumed = tt
+    go (Some xs) None consumed = absurd consumed
+    go (Some xs) (Some ys) consumed = consumed ∙ sym (append_assoc read ahead ys)
 
--- what holds anyway holds of a piece
-pub on_piece : {E P : Type 0} (r : Result Piece E) → P → IfOk r (λ read. read.end ≡ None → P)
-on_piece (Ok read) holds = λ end. holds
-on_piece (Err e) holds = tt
+-- what is read after something else
+pub after_read : (room most : ℕ) (reader old new : Option (List ℕ)) (read : List ℕ) → Consumes reader old read → length read + room ≤ most
+    → HasReadAtMost room old new → HasReadAtMost most reader new
+after_read room most reader old new read consumed few (more, next, short) =
+    let long = length-append read more in
+    (read ++ more, Consumes-trans reader old new read more consumed next, omega (arith, few, short, long))

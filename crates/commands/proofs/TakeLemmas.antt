@@ -441,7 +441,7 @@ never_stopped may_stop plan reader bytes status output errors never ends = recor
 -- ---- the same without a behaviour of commands
 
 -- what is right for a plan is the census of its job over its set
-prints_right : (plan : Plan) (text : List ℕ) (before after : Option (List ℕ)) → take_right plan (Ok text)
+pub prints_right : (plan : Plan) (text : List ℕ) (before after : Option (List ℕ)) → take_right plan (Ok text)
     → Appends before after text → PrintsCensus plan before after
 prints_right plan text before after right grown = go (job_named plan) refl right
   where

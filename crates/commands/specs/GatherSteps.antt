@@ -1,5 +1,5 @@
 -- How report lines are gathered, one line at a time.
-use Rattle.std.specs.Prelude.{◌≡◌, ◌<◌, ◌≤◌, ◌^◌, ℕ, true, false, IfSome, List, Option, length}
+use Rattle.std.specs.Prelude.{◌≡◌, ◌≤◌, ◌^◌, ℕ, true, false, List, Option, length}
 use Rattle.std.specs.Io.KnownBytes.{Consumes, prepend_known}
 use Rattle.plane_core.specs.Outputs.{Output}
 use Rattle.haul_core.specs.Books.{Held, Terms}
@@ -9,7 +9,7 @@ use Rattle.pattern_commands.specs.Answers.{IsInput}
 use Rattle.pattern_commands.specs.Streams.{Stream, Has}
 use Rattle.commands.specs.declared.lines.LineEnd.{LineEnd}
 use Rattle.commands.specs.declared.lines.LineEnd.TheVariants.{Feed, Input}
-use Rattle.commands.specs.Lines.{input_lines}
+use Rattle.commands.specs.Lines.{IsLongerThan, input_lines}
 use Rattle.commands.specs.LinesSoFar.{AreAllEnded, AreEnded, HasBegunUpTo, HasCome, most_ahead}
 
 -- The state of gathering: the input at the start and what is left of it, standard error since the start, and how many
@@ -59,7 +59,7 @@ pub record HasGatheredShort (reader left : Option (List ℕ)) (errors : Stream) 
 
 -- the input has more than 2^32 bytes, if they are known
 abbrev pub IsTooLong : Option (List ℕ) → Type 0
-IsTooLong reader = IfSome reader (λ bytes. 2 ^ 32 < length bytes)
+IsTooLong reader = IsLongerThan (2 ^ 32) reader
 
 -- What holds if a complaint ends the lines, and this is left of the input: standard error has the diagnostics about all
 -- lines before, or a write to it failed.
@@ -87,9 +87,9 @@ EndsLine old new TooLong = ⊥
 EndsLine old new (WriteFailed error) = new.failed ≡ true
 EndsLine old new (Refused refusal) = ⊥
 
--- what holds after a complaint about the next line: the same, or a read failed, or what is left of the input is too
--- long
-abbrev pub EndsNext : {V : Type 0} → Option (List ℕ) → Output V → Output V → Complaint → Type 0
-EndsNext left old new (ReadFailed error) = new ≡ old
-EndsNext left old new TooLong = (new ≡ old) × IsTooLong left
-EndsNext left old new complaint = EndsLine old new complaint
+-- what holds after a complaint about the next line: the same, or a read failed, or the input has more bytes left than
+-- there is room for
+abbrev pub EndsNext : {V : Type 0} → ℕ → Option (List ℕ) → Output V → Output V → Complaint → Type 0
+EndsNext room left old new (ReadFailed error) = new ≡ old
+EndsNext room left old new TooLong = (new ≡ old) × IsLongerThan room left
+EndsNext room left old new complaint = EndsLine old new complaint

@@ -1,5 +1,5 @@
 -- The lines of an input, and how one is read.
-use Rattle.std.specs.Prelude.{◌≡◌, ◌≢◌, ◌≤◌, ◌==◌, ◌+◌, ◌^◌, ◌++◌, ℕ, List, [], ◌∷◌, All, IfSome, Option, None, Some, length, take, if◌then◌else◌}
+use Rattle.std.specs.Prelude.{◌≡◌, ◌≢◌, ◌<◌, ◌≤◌, ◌==◌, ◌+◌, ◌^◌, ◌++◌, ℕ, List, [], ◌∷◌, All, IfSome, Option, None, Some, length, take, if◌then◌else◌}
 use Rattle.std.specs.Io.KnownBytes.{Consumes, IsAtEnd}
 use Rattle.pattern_commands.specs.declared.complaint.Complaint.{Complaint}
 use Rattle.pattern_commands.specs.declared.complaint.Complaint.TheVariants.{ReadFailed}
@@ -35,15 +35,19 @@ with_end end line = line ++ end_bytes end
 abbrev pub IsSpent : Option (List ℕ) → Option (List ℕ) → Type 0
 IsSpent old new = IfSome old (λ _. IsAtEnd new)
 
--- A line of at most 2^32 bytes was read, and its first 2^24 + 1 bytes are kept. If no line feed ends it, the input is
+-- the reader has more than this many bytes left, if they are known
+abbrev pub IsLongerThan : ℕ → Option (List ℕ) → Type 0
+IsLongerThan most reader = IfSome reader (λ bytes. most < length bytes)
+
+-- A line of at most `room` bytes was read, and its first 2^24 + 1 bytes are kept. If no line feed ends it, the input is
 -- at its end.
-pub record HasReadLine (old new : Option (List ℕ)) (kept : List ℕ) (read : LineRead) : Type 0 where
+pub record HasReadLine (room : ℕ) (old new : Option (List ℕ)) (kept : List ℕ) (read : LineRead) : Type 0 where
   pub line : List ℕ
   pub kept_is : kept ≡ take (2 ^ 24 + 1) line
   pub one : IsOneLine line
   pub consumed : Consumes old new (with_end read.end line)
   pub size_is : read.size ≡ length (with_end read.end line)
-  pub short : read.size ≤ 2 ^ 32
+  pub short : read.size ≤ room
   pub last : read.end ≡ Input → IsSpent old new
 
 -- the bytes that end a piece, if a line ends with it

@@ -9,16 +9,15 @@
 //! This replaces std's `BufReader`, because contracts don't say what becomes of a reader that was lent to one. Here the
 //! reader is lent only for a read.
 
-ghost use Rattle.std.specs.Prelude.{◌≡◌, ◌<◌, ◌≤◌, ◌^◌, [], IfOk, OnErr, OnOk, drop, length, take, vec_len};
-ghost use Rattle.std.specs.Io.KnownBytes.{Consumes, IsAtEnd, Keeps, prepend_known};
+ghost use Rattle.std.specs.Prelude.{◌≡◌, ◌≢◌, ◌≤◌, ◌^◌, [], Err, IfOk, OnErr, OnOk, drop, length};
+ghost use Rattle.std.specs.Io.KnownBytes.{IsAtEnd, Keeps, prepend_known};
+ghost use Rattle.pattern_commands.specs.declared.input.InputError.TheVariants.{TooLong};
 
 use memory::OutOfMemory;
+use pattern_commands::input::{InputError, READ_LENGTH, read_once};
 use std::alloc::Global;
-use std::io::{self, Read};
+use std::io::Read;
 use std::marker::Model;
-
-/// The number of bytes that a read asks for.
-const READ_LENGTH: usize = 65_536;
 
 /// Input that was read and isn't used yet.
 #[derive(Drop)]
@@ -59,10 +58,15 @@ impl Ahead {
     }
 
     /// Reads once if there are no unused bytes. After that, no bytes mean that the input is at its end.
-    pub(crate) fn fill<R: Read>(&mut self, input: &mut R) -> io::Result<()>
+    ///
+    /// # Errors
+    ///
+    /// `Unreadable` if the read fails, for whatever reason, and `Memory` if it fails because memory ran out.
+    pub(crate) fn fill<R: Read>(&mut self, input: &mut R) -> Result<(), InputError>
         ensures bytes { Keeps (prepend_known self.old (R.remaining input.old))
             (prepend_known self.new (R.remaining input.new)) }
         ensures end { OnOk result (self.new ≡ [] → IsAtEnd (R.remaining input.new)) }
+        ensures short { result ≢ Err TooLong }
         ensures none { OnErr result (self.new ≡ []) }
         ensures few { length self.new ≤ 2 ^ 16 }
     {
@@ -71,7 +75,7 @@ impl Ahead {
         }
         self.start = 0;
         self.end = 0;
-        self.end = read_over(input, &mut self.buffer)?;
+        self.end = read_once(input, &mut self.buffer)?;
         Ok(())
     }
 
@@ -82,16 +86,4 @@ impl Ahead {
     {
         self.start += amount;
     }
-}
-
-/// Reads once, into the beginning of a buffer.
-fn read_over<R: Read>(input: &mut R, buffer: &mut Vec<u8>) -> io::Result<usize>
-    ensures len { vec_len buffer.new ≡ vec_len buffer.old }
-    ensures bound { IfOk result (λ n. n ≤ vec_len buffer.new) }
-    ensures read { IfOk result (λ n. Consumes (R.remaining input.old) (R.remaining input.new)
-        (take n buffer.new.items)) }
-    ensures end { IfOk result (λ n. n ≡ 0 → 0 < vec_len buffer.old → IsAtEnd (R.remaining input.new)) }
-    ensures kept { OnErr result (Keeps (R.remaining input.old) (R.remaining input.new)) }
-{
-    input.read(buffer.as_mut_slice())
 }

@@ -18,6 +18,7 @@ ghost use Rattle.pattern_commands.specs.Ends.{Ends};
 ghost use Rattle.pattern_commands.specs.Reached.{Reaches};
 ghost use Rattle.commands.specs.Gather.{HasReadUpTo, IsSame, gather_reads, gather_behaviour, haul_behaviour};
 ghost use Rattle.commands.specs.Gathering.{gather_opens};
+ghost use Rattle.pattern_commands.specs.Inputs.{HasReadAtMost};
 ghost use Rattle.pattern_commands.specs.Profiles.{AreInRange};
 ghost use Rattle.pattern_commands.specs.Streams.{stream};
 ghost use Rattle.haul_core.specs.Books.{StandsFor};
@@ -29,10 +30,9 @@ ghost use Rattle.commands.specs.LinesSoFar.{HasCome, HasComeBy, most_ahead};
 ghost use Rattle.commands.specs.GatheredLines.{IsChecked, IsPrefixFault, IsLookedAt, ComesOf, offer_fault};
 ghost use Rattle.haul_core.specs.declared.book.refused.OfferError.TheVariants as offer_error;
 
-use crate::ahead::Ahead;
 use crate::finish::finish;
 use crate::line_fault::LineFault;
-use crate::lines::{GATHER_LIMIT, LINE_LIMIT, LineEnd, LineRead, read_line};
+use crate::lines::{GATHER_LIMIT, LINE_LIMIT, LineEnd, LineRead, Lines};
 use crate::opening::open_haul;
 use haul_core::book::haul::Haul;
 use haul_core::book::refused::OfferError;
@@ -60,8 +60,7 @@ use survey_core::surveyor::Surveyor;
 /// line is bad at the first fault in these bytes, or at 2^24. Each number of the profile has to be in its range,
 /// `workers` is from 1 to 16, and no earlier write to either writer may have failed. Refusals are tested in the order
 /// of [`do_take`](crate::take::do_take), before anything is read. Only the haul, one line, a buffer and a surveyor are
-/// kept in memory. A read that a signal interrupts is tried again. `census gather` is this call with the standard
-/// streams.
+/// kept in memory. `census gather` is this call with the standard streams.
 ///
 /// # Errors
 ///
@@ -89,6 +88,7 @@ pub fn do_gather<R: Read, W: Write, E: Write>(
         × (end : Ends (gather_behaviour plan.now workers) (R.remaining input.old) bytes result
         (stream W.contents output.old output.new) (stream E.contents errors.old errors.new))
         × HasReadUpTo (gather_opens plan.now workers) R.remaining input.old input.new end.so_far end.outcome }
+    ensures little { HasReadAtMost (2 ^ 32 + 2 ^ 16) (R.remaining input.old) (R.remaining input.new) }
     ensures unread { gather_reads plan.now ≡ false → input.new ≡ input.old }
     ensures untouched { result ≡ Status.Refused → (input.new ≡ input.old) × (output.new ≡ output.old) }
     ensures no_memory { result ≡ Status.Memory → output.new ≡ output.old }
@@ -115,6 +115,7 @@ fn gather<R: Read, W: Write, E: Write>(
         (stream W.contents output.old output.new) (stream E.contents errors.old errors.new) }
     ensures place { HasReadUpTo (gather_opens plan.now workers) R.remaining input.old input.new
         (stream E.contents errors.old errors.new) result }
+    ensures little { HasReadAtMost (2 ^ 32 + 2 ^ 16) (R.remaining input.old) (R.remaining input.new) }
     ensures fine { OnOk result (errors.new.failed ≡ false) }
     ensures unread { gather_reads plan.now ≡ false → input.new ≡ input.old }
     ensures untouched { IfErr result (λ complaint. status_of complaint ≡ Status.Refused
@@ -122,171 +123,168 @@ fn gather<R: Read, W: Write, E: Write>(
     ensures no_memory { IfErr result (λ complaint. complaint ≡ Complaint.Memory out_of_memory
         → output.new ≡ output.old) }
 {
-    let mut haul = open_haul(alloc, plan, workers)?;
-    gather_into(alloc, &mut haul, input, output, errors)
-}
-
-/// Gathers the lines in an empty haul, writes the haul text, and returns how many soups are missing.
-fn gather_into<R: Read, W: Write, E: Write>(
-    alloc: Global,
-    haul: &mut Haul,
-    input: &mut R,
-    output: &mut Out<W>,
-    errors: &mut Out<E>,
-) -> Result<u64, Complaint>
-    requires haul { StandsFor [] haul.old }
-    requires output { output.old.failed ≡ false }
-    requires errors { errors.old.failed ≡ false }
-    ensures gathers { (bytes : List ℕ) × IsInput (R.remaining input.old) bytes
-        × Reaches (haul_behaviour haul.old.terms) (R.remaining input.old) bytes result
-        (stream W.contents output.old output.new) (stream E.contents errors.old errors.new) }
-    ensures place { HasReadUpTo (IsSame haul.old.terms) R.remaining input.old input.new
-        (stream E.contents errors.old errors.new) result }
-    ensures fine { OnOk result (errors.new.failed ≡ false) }
-    ensures accepted { IfErr result (λ complaint. status_of complaint ≢ Status.Refused) }
-    ensures no_memory { IfErr result (λ complaint. complaint ≡ Complaint.Memory out_of_memory
-        → output.new ≡ output.old) }
-{
-    gather_lines(alloc, input, haul, errors)?;
-    finish(haul, output)
-}
-
-/// Reads the input line by line, checks each line, and offers its report to an empty haul. The fault of a line is
-/// written to `errors`.
-fn gather_lines<R: Read, E: Write>(
-    alloc: Global,
-    input: &mut R,
-    haul: &mut Haul,
-    errors: &mut Out<E>,
-) -> Result<(), Complaint>
-    requires haul { StandsFor [] haul.old }
-    requires errors { errors.old.failed ≡ false }
-    ensures terms { haul.new.terms ≡ haul.old.terms }
-    ensures gathered { OnOk result (HasGatheredShort (R.remaining input.old) (R.remaining input.new)
-        (stream E.contents errors.old errors.new) haul.new) }
-    ensures ended { IfErr result (EndsLinesAt haul.old.terms (R.remaining input.old) (R.remaining input.new)
-        (stream E.contents errors.old errors.new)) }
-    ensures fine { OnOk result (errors.new.failed ≡ false) }
-{
-    let mut ahead = Ahead::new(alloc)?;
-    let mut line = Vec::new(alloc);
-    let mut surveyor = Surveyor::new(alloc);
-    let mut size = 0u64;
-    for before in 0..GATHER_LIMIT + 1 {
-        let read = next_line(
-            alloc,
-            input,
-            &mut ahead,
-            &mut line,
-            before,
-            &mut surveyor,
-            haul,
-            errors,
-        )?;
-        size += read.size;
-        if size > GATHER_LIMIT {
-            return Err(Complaint::TooLong);
-        }
-        if let LineEnd::Input = read.end {
-            return Ok(());
-        }
-    }
-    Err(Complaint::TooLong)
-}
-
-/// Reads the next line, number `before` + 1, checks it, offers its report, and writes its fault to `errors`. Returns
-/// what it read.
-fn next_line<R: Read, E: Write>(
-    alloc: Global,
-    input: &mut R,
-    ahead: &mut Ahead,
-    line: &mut Vec<u8>,
-    before: u64,
-    surveyor: &mut Surveyor,
-    haul: &mut Haul,
-    errors: &mut Out<E>,
-) -> Result<LineRead, Complaint>
-    requires before { before ≤ 2 ^ 32 }
-    requires errors { errors.old.failed ≡ false }
-    ensures terms { haul.new.terms ≡ haul.old.terms }
-    ensures short { IfOk result (λ read. read.size ≤ 2 ^ 32) }
-    ensures going { (reader : Option (List ℕ)) (first : Output E) (size : ℕ)
-        → HasGatheredLines (record {
-          reader = reader;
-          left = prepend_known ahead.old (R.remaining input.old);
-          errors = stream E.contents first errors.old;
-          count = before;
-          size = size;
-        }) haul.old
-        → IfOk result (λ read. HasGatheredTo (record {
-          reader = reader;
-          left = prepend_known ahead.new (R.remaining input.new);
-          errors = stream E.contents first errors.new;
-          count = before + 1;
-          size = size + read.size;
-        }) haul.new read.end) }
-    ensures fine { OnOk result (errors.new.failed ≡ false) }
-    ensures ended { IfErr result (EndsNext (prepend_known ahead.old (R.remaining input.old)) errors.old errors.new) }
-    ensures part { IfErr result (HasReadPart (prepend_known ahead.old (R.remaining input.old))
-        (prepend_known ahead.new (R.remaining input.new))) }
-    ensures few { length ahead.new ≤ 2 ^ 16 }
-    ensures most { IfErr result (λ complaint. length ahead.new ≤ most_ahead complaint) }
-{
-    let read = read_line(input, ahead, line)?;
-    if read.size > 0 {
-        take_line(alloc, line.as_slice(), before, surveyor, haul, errors)?;
-    }
-    Ok(read)
-}
-
-/// Offers the report of the next line, number `before` + 1, and writes the line's fault to `errors`. `kept` has the
-/// first 2^24 + 1 bytes of the line.
-fn take_line<E: Write>(
-    alloc: Global,
-    kept: &[u8],
-    before: u64,
-    surveyor: &mut Surveyor,
-    haul: &mut Haul,
-    errors: &mut Out<E>,
-) -> Result<(), Complaint>
-    requires before { before ≤ 2 ^ 32 }
-    requires errors { errors.old.failed ≡ false }
-    ensures terms { haul.new.terms ≡ haul.old.terms }
-    ensures come { (line : List ℕ) (lines : List (List ℕ)) (diagnostics : List ℕ) → kept.now ≡ take (2 ^ 24 + 1) line
-        → before ≡ length lines → HasCome lines haul.old diagnostics
-        → OnOk result (HasComeBy (lines ++ line ∷ []) haul.new diagnostics (stream E.contents errors.old errors.new)) }
-    ensures fine { OnOk result (errors.new.failed ≡ false) }
-    ensures ended { IfErr result (EndsLine errors.old errors.new) }
-{
-    if let Some(fault) = offer_line(alloc, kept, surveyor, haul)? {
-        fault.write_line(before + 1, errors)?;
-    }
-    Ok(())
-}
-
-/// Offers the report of a line, of which `kept` has the first 2^24 + 1 bytes. Returns the line's fault, or `None` if
-/// there is none to report.
-fn offer_line(
-    alloc: Global,
-    kept: &[u8],
-    surveyor: &mut Surveyor,
-    haul: &mut Haul,
-) -> Result<Option<LineFault>, OutOfMemory>
-    ensures terms { haul.new.terms ≡ haul.old.terms }
-    ensures come { (line : List ℕ) (arrivals : List Arrival) → kept.now ≡ take (2 ^ 24 + 1) line
-        → StandsFor arrivals haul.old
-        → IfOk result (λ fault. (arrived : List Arrival)
-        × ComesOf haul.old.terms arrivals line arrived fault × StandsFor (arrivals ++ arrived) haul.new) }
-{
-    let report = match report_of(alloc, kept, &haul.job(), surveyor)? {
-        Ok(report) => report,
-        Err(fault) => return Ok(Some(fault)),
+    let haul = open_haul(alloc, plan, workers)?;
+    let mut gatherer = Gatherer {
+        alloc,
+        haul,
+        surveyor: Surveyor::new(alloc),
     };
-    let worker = report.worker();
-    let number = report.number();
-    match haul.offer(report) {
-        Ok(()) => Ok(None),
-        Err(refused) => fault_of(refused.reason, worker, number),
+    gatherer.gather(input, output, errors)
+}
+
+/// Gathers lines in a haul.
+#[derive(Drop)]
+struct Gatherer {
+    alloc: Global,
+    haul: Haul,
+    surveyor: Surveyor,
+}
+
+impl Gatherer {
+    /// Gathers the lines in an empty haul, writes the haul text, and returns how many soups are missing.
+    fn gather<R: Read, W: Write, E: Write>(
+        &mut self,
+        input: &mut R,
+        output: &mut Out<W>,
+        errors: &mut Out<E>,
+    ) -> Result<u64, Complaint>
+        requires haul { StandsFor [] self.old.haul }
+        requires output { output.old.failed ≡ false }
+        requires errors { errors.old.failed ≡ false }
+        ensures gathers { (bytes : List ℕ) × IsInput (R.remaining input.old) bytes
+            × Reaches (haul_behaviour self.old.haul.terms) (R.remaining input.old) bytes result
+            (stream W.contents output.old output.new) (stream E.contents errors.old errors.new) }
+        ensures place { HasReadUpTo (IsSame self.old.haul.terms) R.remaining input.old input.new
+            (stream E.contents errors.old errors.new) result }
+        ensures little { HasReadAtMost (2 ^ 32 + 2 ^ 16) (R.remaining input.old) (R.remaining input.new) }
+        ensures fine { OnOk result (errors.new.failed ≡ false) }
+        ensures accepted { IfErr result (λ complaint. status_of complaint ≢ Status.Refused) }
+        ensures no_memory { IfErr result (λ complaint. complaint ≡ Complaint.Memory out_of_memory
+            → output.new ≡ output.old) }
+    {
+        self.gather_lines(input, errors)?;
+        finish(&mut self.haul, output)
+    }
+
+    /// Reads the input line by line, checks each line, and offers its report to an empty haul. The fault of a line is
+    /// written to `errors`.
+    fn gather_lines<R: Read, E: Write>(
+        &mut self,
+        input: &mut R,
+        errors: &mut Out<E>,
+    ) -> Result<(), Complaint>
+        requires haul { StandsFor [] self.old.haul }
+        requires errors { errors.old.failed ≡ false }
+        ensures terms { self.new.haul.terms ≡ self.old.haul.terms }
+        ensures gathered { OnOk result (HasGatheredShort (R.remaining input.old) (R.remaining input.new)
+            (stream E.contents errors.old errors.new) self.new.haul) }
+        ensures ended { IfErr result (EndsLinesAt self.old.haul.terms (R.remaining input.old) (R.remaining input.new)
+            (stream E.contents errors.old errors.new)) }
+        ensures little { HasReadAtMost (2 ^ 32 + 2 ^ 16) (R.remaining input.old) (R.remaining input.new) }
+        ensures fine { OnOk result (errors.new.failed ≡ false) }
+    {
+        let mut lines = Lines::new(self.alloc)?;
+        let mut size = 0u64;
+        for before in 0..GATHER_LIMIT + 1 {
+            let read = self.next_line(input, &mut lines, GATHER_LIMIT - size, before, errors)?;
+            size += read.size;
+            if let LineEnd::Input = read.end {
+                return Ok(());
+            }
+        }
+        Err(Complaint::TooLong)
+    }
+
+    /// Reads the next line, number `before` + 1, of at most `room` bytes, and gathers it. Returns what it read.
+    fn next_line<R: Read, E: Write>(
+        &mut self,
+        input: &mut R,
+        lines: &mut Lines,
+        room: u64,
+        before: u64,
+        errors: &mut Out<E>,
+    ) -> Result<LineRead, Complaint>
+        requires before { before ≤ 2 ^ 32 }
+        requires room { room ≤ 2 ^ 32 }
+        requires errors { errors.old.failed ≡ false }
+        ensures terms { self.new.haul.terms ≡ self.old.haul.terms }
+        ensures short { IfOk result (λ read. read.size ≤ room) }
+        ensures going { (reader : Option (List ℕ)) (first : Output E) (size : ℕ)
+            → HasGatheredLines (record {
+              reader = reader;
+              left = prepend_known lines.old.ahead (R.remaining input.old);
+              errors = stream E.contents first errors.old;
+              count = before;
+              size = size;
+            }) self.old.haul
+            → IfOk result (λ read. HasGatheredTo (record {
+              reader = reader;
+              left = prepend_known lines.new.ahead (R.remaining input.new);
+              errors = stream E.contents first errors.new;
+              count = before + 1;
+              size = size + read.size;
+            }) self.new.haul read.end) }
+        ensures fine { OnOk result (errors.new.failed ≡ false) }
+        ensures ended { IfErr result (EndsNext room (prepend_known lines.old.ahead (R.remaining input.old)) errors.old
+            errors.new) }
+        ensures part { IfErr result (HasReadPart (prepend_known lines.old.ahead (R.remaining input.old))
+            (prepend_known lines.new.ahead (R.remaining input.new))) }
+        ensures little { HasReadAtMost (room + 2 ^ 16) (prepend_known lines.old.ahead (R.remaining input.old))
+            (R.remaining input.new) }
+        ensures few { length lines.new.ahead ≤ 2 ^ 16 }
+        ensures most { IfErr result (λ complaint. length lines.new.ahead ≤ most_ahead complaint) }
+    {
+        let read = lines.next(input, room)?;
+        if read.size > 0 {
+            self.gather_line(lines.line(), before, errors)?;
+        }
+        Ok(read)
+    }
+
+    /// Offers the report of the next line, number `before` + 1, and writes the line's fault to `errors`. `kept` has the
+    /// first 2^24 + 1 bytes of the line.
+    fn gather_line<E: Write>(
+        &mut self,
+        kept: &[u8],
+        before: u64,
+        errors: &mut Out<E>,
+    ) -> Result<(), Complaint>
+        requires before { before ≤ 2 ^ 32 }
+        requires errors { errors.old.failed ≡ false }
+        ensures terms { self.new.haul.terms ≡ self.old.haul.terms }
+        ensures come { (line : List ℕ) (lines : List (List ℕ)) (diagnostics : List ℕ)
+            → kept.now ≡ take (2 ^ 24 + 1) line
+            → before ≡ length lines → HasCome lines self.old.haul diagnostics
+            → OnOk result (HasComeBy (lines ++ line ∷ []) self.new.haul diagnostics
+            (stream E.contents errors.old errors.new)) }
+        ensures fine { OnOk result (errors.new.failed ≡ false) }
+        ensures ended { IfErr result (EndsLine errors.old errors.new) }
+    {
+        if let Some(fault) = self.offer_line(kept)? {
+            fault.write_line(before + 1, errors)?;
+        }
+        Ok(())
+    }
+
+    /// Offers the report of a line, of which `kept` has the first 2^24 + 1 bytes. Returns the line's fault, or `None`
+    /// if there is none to report.
+    fn offer_line(&mut self, kept: &[u8]) -> Result<Option<LineFault>, OutOfMemory>
+        ensures terms { self.new.haul.terms ≡ self.old.haul.terms }
+        ensures come { (line : List ℕ) (arrivals : List Arrival) → kept.now ≡ take (2 ^ 24 + 1) line
+            → StandsFor arrivals self.old.haul
+            → IfOk result (λ fault. (arrived : List Arrival)
+            × ComesOf self.old.haul.terms arrivals line arrived fault × StandsFor (arrivals ++ arrived) self.new.haul) }
+    {
+        let report = match report_of(self.alloc, kept, &self.haul.job(), &mut self.surveyor)? {
+            Ok(report) => report,
+            Err(fault) => return Ok(Some(fault)),
+        };
+        let worker = report.worker();
+        let number = report.number();
+        match self.haul.offer(report) {
+            Ok(()) => Ok(None),
+            Err(refused) => fault_of(refused.reason, worker, number),
+        }
     }
 }
 

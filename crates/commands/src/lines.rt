@@ -9,21 +9,20 @@
 //! Only the first 2^24 bytes of a line and the byte after them are kept, so an input without a line feed needs no more
 //! memory than that.
 
-ghost use Rattle.std.specs.Prelude.{◌≡◌, ◌≢◌, ◌≤◌, ◌+◌, ◌^◌, ◌++◌, ℕ, [], Err, List, None};
+ghost use Rattle.std.specs.Prelude.{◌≡◌, ◌≢◌, ◌≤◌, ◌+◌, ◌^◌, ◌++◌, ℕ, [], Err, List};
 ghost use Rattle.std.specs.Prelude.{IfErr, IfOk, OnErr, length, take};
 ghost use Rattle.std.specs.Io.KnownBytes.{Keeps, prepend_known};
-ghost use Rattle.pattern_commands.specs.Inputs.{input_complaint};
+ghost use Rattle.pattern_commands.specs.Inputs.{HasReadAtMost, input_complaint};
 ghost use Rattle.pattern_commands.specs.declared.input.InputError.TheVariants.{TooLong};
-ghost use Rattle.commands.specs.GatherSteps.{IsTooLong};
 ghost use Rattle.commands.specs.LinesSoFar.{most_ahead};
-ghost use Rattle.commands.specs.Lines.{HasPiece, HasReadLine, HasReadPart, IsPieceOf};
+ghost use Rattle.commands.specs.Lines.{HasPiece, HasReadLine, HasReadPart, IsLongerThan, IsPieceOf};
 
 use crate::ahead::Ahead;
 use memchr::memchr;
 use memory::OutOfMemory;
 use pattern_commands::input::InputError;
-use pattern_commands::read_error::ReadError;
-use std::io::{Error, ErrorKind, Read};
+use std::alloc::Global;
+use std::io::Read;
 
 /// The most bytes of a line that are examined: 2^24, far more than a report line of a census has.
 pub(crate) const LINE_LIMIT: usize = 16_777_216;
@@ -60,41 +59,65 @@ struct Piece {
     end: Option<LineEnd>,
 }
 
-/// Reads the next line of the input, and puts its first 2^24 + 1 bytes, without the line feed that ends it, into
-/// `line`. A read that a signal interrupts is tried again. At the end of the input, nothing is read and the line is
-/// empty.
-///
-/// # Errors
-///
-/// `Unreadable` if a read fails, `TooLong` if the line has more than 2^32 bytes, and `Memory` if memory runs out.
-pub(crate) fn read_line<R: Read>(
-    input: &mut R,
-    ahead: &mut Ahead,
-    line: &mut Vec<u8>,
-) -> Result<LineRead, InputError>
-    ensures read { IfOk result (HasReadLine (prepend_known ahead.old (R.remaining input.old))
-        (prepend_known ahead.new (R.remaining input.new)) line.new.items) }
-    ensures long { result ≡ Err TooLong → IsTooLong (prepend_known ahead.old (R.remaining input.old)) }
-    ensures part { IfErr result (λ error. HasReadPart (prepend_known ahead.old (R.remaining input.old))
-        (prepend_known ahead.new (R.remaining input.new)) (input_complaint error)) }
-    ensures few { length ahead.new ≤ 2 ^ 16 }
-    ensures most { IfErr result (λ error. length ahead.new ≤ most_ahead (input_complaint error)) }
-{
-    line.clear();
-    let mut size = 0u64;
-    let mut reads = 0u64;
-    for before in 0..u64::MAX {
-        let piece = read_piece(input, ahead, line)?;
-        size = size.saturating_add(piece.size as u64);
-        if size > GATHER_LIMIT {
-            return Err(InputError::TooLong);
-        }
-        if let Some(end) = piece.end {
-            return Ok(LineRead { size, end });
-        }
-        reads = before + 1;
+/// The lines of an input, which is lent for each line.
+#[derive(Drop)]
+pub(crate) struct Lines {
+    /// What was read beyond the last line.
+    ahead: Ahead,
+    /// The first 2^24 + 1 bytes of the last line, without the line feed that ends it.
+    line: Vec<u8>,
+}
+
+impl Lines {
+    /// Begins the lines of an input.
+    pub(crate) fn new(alloc: Global) -> Result<Lines, OutOfMemory>
+        ensures { IfOk result (λ lines. lines.ahead ≡ []) }
+    {
+        Ok(Lines {
+            ahead: Ahead::new(alloc)?,
+            line: Vec::new(alloc),
+        })
     }
-    Err(InputError::Unreadable(ReadError::after(reads)))
+
+    /// Returns the first 2^24 + 1 bytes of the last line, without the line feed that ends it.
+    pub(crate) fn line(&self) -> &[u8]
+        ensures { result.now ≡ self.now.line.items }
+    {
+        self.line.as_slice()
+    }
+
+    /// Reads the next line, of at most `room` bytes with its line feed. At the end of the input, nothing is read and
+    /// the line is empty.
+    ///
+    /// # Errors
+    ///
+    /// `Unreadable` if a read fails, for whatever reason; `TooLong` if more than `room` bytes come before the line's
+    /// end; and `Memory` if memory runs out.
+    pub(crate) fn next<R: Read>(&mut self, input: &mut R, room: u64) -> Result<LineRead, InputError>
+        requires { room ≤ 2 ^ 32 }
+        ensures read { IfOk result (HasReadLine room (prepend_known self.old.ahead (R.remaining input.old))
+            (prepend_known self.new.ahead (R.remaining input.new)) self.new.line.items) }
+        ensures long { result ≡ Err TooLong → IsLongerThan room (prepend_known self.old.ahead (R.remaining input.old)) }
+        ensures part { IfErr result (λ error. HasReadPart (prepend_known self.old.ahead (R.remaining input.old))
+            (prepend_known self.new.ahead (R.remaining input.new)) (input_complaint error)) }
+        ensures little { HasReadAtMost (room + 2 ^ 16) (prepend_known self.old.ahead (R.remaining input.old))
+            (R.remaining input.new) }
+        ensures few { length self.new.ahead ≤ 2 ^ 16 }
+        ensures most { IfErr result (λ error. length self.new.ahead ≤ most_ahead (input_complaint error)) }
+    {
+        self.line.clear();
+        let mut size = 0u64;
+        loop {
+            let piece = read_piece(input, &mut self.ahead, &mut self.line)?;
+            size += piece.size as u64;
+            if size > room {
+                return Err(InputError::TooLong);
+            }
+            if let Some(end) = piece.end {
+                return Ok(LineRead { size, end });
+            }
+        }
+    }
 }
 
 /// Appends the available part of a line to `line`, which keeps at most 2^24 + 1 bytes. If nothing is available, it
@@ -112,36 +135,17 @@ fn read_piece<R: Read>(
         × (line.new.items ≡ take (2 ^ 24 + 1) (line.old.items ++ piece))
         × HasPiece (prepend_known ahead.old (R.remaining input.old)) (prepend_known ahead.new (R.remaining input.new))
         piece read) }
-    ensures used { IfOk result (λ read. read.end ≡ None → ahead.new ≡ []) }
-    ensures few { length ahead.new ≤ 2 ^ 16 }
+    ensures few { IfOk result (λ read. read.size + length ahead.new ≤ 2 ^ 16) }
+    ensures left { length ahead.new ≤ 2 ^ 16 }
     ensures most { IfErr result (λ error. length ahead.new ≤ most_ahead (input_complaint error)) }
 {
-    match ahead.fill(input) {
-        Ok(()) => {}
-        Err(error) => return after_error(&error),
-    }
+    ahead.fill(input)?;
     let unread = ahead.unread();
     let piece = first_piece(unread);
     line.extend_from_slice(&unread[..piece.length])?;
     line.truncate(LINE_LIMIT + 1);
     ahead.consume(piece.size);
     Ok(piece)
-}
-
-/// Returns an empty part after a read that a signal interrupted, which is tried again, and otherwise the error.
-fn after_error(error: &Error) -> Result<Piece, InputError>
-    ensures short { result ≢ Err TooLong }
-    ensures again { IfOk result (λ piece. piece ≡ record { length = 0; size = 0; end = None }) }
-{
-    match error.kind() {
-        ErrorKind::Interrupted => Ok(Piece {
-            length: 0,
-            size: 0,
-            end: None,
-        }),
-        ErrorKind::OutOfMemory => Err(InputError::Memory(OutOfMemory::of_stream(error))),
-        _ => Err(InputError::Unreadable(ReadError::of_stream(error))),
-    }
 }
 
 /// Returns the part of a line that these bytes have: all up to the first line feed. If there are no bytes, the input

@@ -1,8 +1,9 @@
 -- Lemmas on what commands read and answer.
 use Rattle.std.proofs.Common.{◌≡◌, ◌<◌, ◌≤◌, ◌^◌, ◌↔◌, ℕ, List, [], length, Bool, true, false, Option, None, Some, Result, Ok, Err, nat_le, refl}
-use Rattle.std.proofs.Common.{IfSome, ◌+◌, ◌++◌, arith, length-take, subst, sym, ap, take, take_all, ◌∙◌, rules}
+use Rattle.std.proofs.Common.{IfSome, ◌+◌, ◌++◌, append-nil, arith, length-append, length-take, subst, sym, ap, take, ◌∙◌, rules}
 use Rattle.std.specs.List.{range_with_len}
-use Rattle.std.specs.Option.{option_map}
+use Rattle.std.specs.Io.KnownBytes.{Consumes, IsAtEnd}
+use Rattle.std.proofs.KnownBytes.{Consumes-nil, Consumes-trans}
 use Rattle.std.proofs.lemmas.List.FromFn.{length-range_with_len}
 use Rattle.std.specs.Result.{IsErrAnd, IsErrOf, result_map_both}
 use Rattle.memory.specs.Witness.{out_of_memory}
@@ -20,7 +21,7 @@ use Rattle.pattern_commands.specs.declared.complaint.Complaint.TheVariants.{Refu
 use Rattle.pattern_commands.specs.declared.input.InputError.{InputError}
 use Rattle.pattern_commands.specs.declared.input.InputError.TheVariants as input_error
 use Rattle.pattern_commands.specs.Answers.{IsInput, Right}
-use Rattle.pattern_commands.specs.Inputs.{Reads, rule_named, input_complaint, plaintext_complaint, pattern_complaint, pattern_of, rule_complaint}
+use Rattle.pattern_commands.specs.Inputs.{HasReadAtMost, Reads, rule_named, input_complaint, plaintext_complaint, pattern_complaint, pattern_of, rule_complaint}
 use Rattle.pattern_commands.specs.Streams.{Stream, Has}
 use Rattle.pattern_commands.specs.TextSteps.{ReachesText}
 
@@ -34,31 +35,49 @@ pub some_input : (reader : Option (List ℕ)) → (bytes : List ℕ) × IsInput 
 some_input None = ([], tt)
 some_input (Some left) = (left, refl)
 
--- what is read of an input up to a byte past a limit, and is no longer than the limit, is all of it
-pub whole_input : (limit count : ℕ) (reader old : Option (List ℕ)) (before bytes : List ℕ) → count ≡ limit + 1 → old ≡ reader → before ≡ []
-    → IfSome (option_map (take count) old) (λ read. bytes ≡ before ++ read) → length bytes ≤ limit → IfSome reader (λ left. bytes ≡ left)
-whole_input limit count reader old before bytes is same none read short =
-    let P : List ℕ → Type 0 = λ prefix. IfSome (option_map (take (limit + 1)) reader) (λ more. bytes ≡ prefix ++ more) in
-    go reader (subst P none (rw same at (rw is at read)))
-  where
-    go : (reader : Option (List ℕ)) → IfSome (option_map (take (limit + 1)) reader) (λ more. bytes ≡ [] ++ more) → IfSome reader (λ left. bytes ≡ left)
-    go None more = tt
-    go (Some left) more =
-        let long = ap length more ∙ length-take (limit + 1) left in
-        more ∙ take_all (limit + 1) left (omega (arith, long, short))
+-- nothing was read yet
+pub none_read : (reader : Option (List ℕ)) (bytes : List ℕ) → bytes ≡ [] → Consumes reader reader bytes
+none_read reader bytes none = subst (Consumes reader reader) (sym none) (Consumes-nil reader)
 
--- of an input that is longer than a limit, more bytes than that are read
-pub long_input : (limit count : ℕ) (reader old : Option (List ℕ)) (before bytes : List ℕ) → count ≡ limit + 1 → old ≡ reader → before ≡ []
-    → IfSome (option_map (take count) old) (λ read. bytes ≡ before ++ read) → limit < length bytes → IfSome reader (λ left. limit < length left)
-long_input limit count reader old before bytes is same none read long =
-    let P : List ℕ → Type 0 = λ prefix. IfSome (option_map (take (limit + 1)) reader) (λ more. bytes ≡ prefix ++ more) in
-    go reader (subst P none (rw same at (rw is at read)))
-  where
-    go : (reader : Option (List ℕ)) → IfSome (option_map (take (limit + 1)) reader) (λ more. bytes ≡ [] ++ more) → IfSome reader (λ left. limit < length left)
-    go None more = tt
-    go (Some left) more =
-        let all = ap length more ∙ length-take (limit + 1) left in
-        omega (arith, all, long)
+pub none_short : (most : ℕ) (bytes : List ℕ) → bytes ≡ [] → length bytes ≤ most
+none_short most bytes none = let empty = ap length none in omega (arith, empty)
+
+-- a read that brings nothing at the end of an input has left all that was read before
+pub whole_input : (old mid new : Option (List ℕ)) (bytes buffer : List ℕ) (n : ℕ) → Consumes old mid bytes → Consumes mid new (take n buffer)
+    → n ≡ 0 → IsAtEnd new → IfSome old (λ left. bytes ≡ left)
+whole_input None mid new bytes buffer n before now none end = tt
+whole_input (Some xs) None new bytes buffer n before now none end = absurd before
+whole_input (Some xs) (Some ys) None bytes buffer n before now none end = absurd now
+whole_input (Some xs) (Some ys) (Some zs) bytes buffer n before now none end =
+    let rest : ys ≡ [] = now ∙ ap (λ k. take k buffer ++ zs) none ∙ end in
+    sym (before ∙ ap (λ l. bytes ++ l) rest ∙ append-nil bytes)
+
+-- an input of which more than a limit was read is longer than the limit
+pub long_input : (limit : ℕ) (old mid : Option (List ℕ)) (bytes : List ℕ) → Consumes old mid bytes → limit < length bytes
+    → IfSome old (λ left. limit < length left)
+long_input limit None mid bytes before long = tt
+long_input limit (Some xs) None bytes before long = absurd before
+long_input limit (Some xs) (Some ys) bytes before long = let all = ap length before ∙ length-append bytes ys in omega (arith, all, long)
+
+-- what one more read brings
+pub read_more : (old mid new : Option (List ℕ)) (bytes buffer later : List ℕ) (n : ℕ) → Consumes old mid bytes → Consumes mid new (take n buffer)
+    → later ≡ bytes ++ take n buffer → Consumes old new later
+read_more old mid new bytes buffer later n before now is = subst (Consumes old new) (sym is) (Consumes-trans old mid new bytes (take n buffer) before now)
+
+pub short_more : (limit once : ℕ) (bytes buffer later : List ℕ) (n : ℕ) → length bytes ≤ limit → length buffer ≡ once
+    → later ≡ bytes ++ take n buffer → length later ≤ limit + once
+short_more limit once bytes buffer later n short room is =
+    let long = ap length is ∙ length-append bytes (take n buffer) in
+    let more = length-take n buffer in
+    omega (arith, long, more, short, room)
+
+pub little_more : (limit once : ℕ) (old mid new : Option (List ℕ)) (bytes buffer : List ℕ) (n : ℕ) → Consumes old mid bytes
+    → Consumes mid new (take n buffer) → length bytes ≤ limit → length buffer ≡ once → HasReadAtMost (limit + once) old new
+little_more limit once old mid new bytes buffer n before now short room = (
+  bytes ++ take n buffer,
+  read_more old mid new bytes buffer (bytes ++ take n buffer) n before now refl,
+  short_more limit once bytes buffer (bytes ++ take n buffer) n short room refl,
+)
 
 -- an input over the limit is not looked at
 pub pattern_of-long : (bytes : List ℕ) → 2 ^ 24 < length bytes → pattern_of bytes ≡ Err TooLong

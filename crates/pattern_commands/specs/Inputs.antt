@@ -1,5 +1,6 @@
 -- What the rule texts and inputs of commands mean, and the complaints about them.
-use Rattle.std.specs.Prelude.{◌≡◌, ℕ, ◌^◌, true, List, length, nat_le, Result, Ok, Err, if◌then◌else◌}
+use Rattle.std.specs.Prelude.{◌≡◌, ◌≤◌, ℕ, ◌^◌, true, List, length, nat_le, Option, Result, Ok, Err, if◌then◌else◌}
+use Rattle.std.specs.Io.KnownBytes.{Consumes}
 use Rattle.std.specs.Result.{result_map_both}
 use Rattle.plane_core.specs.declared.plane.cell.Cell.{Cell}
 use Rattle.plane_core.specs.declared.plane.rule.RuleFault.{RuleFault}
@@ -69,3 +70,7 @@ Reads answer (Err TooLong) = answer ≡ Err TooLong
 Reads answer (Err (Memory error)) = Unit {0}
 Reads answer (Err (ReadFailed error)) = Unit {0}
 Reads answer (Err (WriteFailed error)) = ⊥
+
+-- at most this many bytes of a reader were read, if it is known what it had
+abbrev pub HasReadAtMost : ℕ → (old new : Option (List ℕ)) → Type 0
+HasReadAtMost most old new = (bytes : List ℕ) × Consumes old new bytes × (length bytes ≤ most)

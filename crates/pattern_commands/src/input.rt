@@ -1,9 +1,11 @@
 //! Inputs that are read completely, up to a limit.
 
-ghost use Rattle.std.specs.Prelude.{◌≡◌, ◌≢◌, ◌<◌, ◌≤◌, ◌^◌, ℕ, Err, List, IfOk, IfSome, length, vec_len};
+ghost use Rattle.std.specs.Prelude.{◌≡◌, ◌≢◌, ◌<◌, ◌≤◌, ◌+◌, ◌^◌, ℕ, Err, List, IfOk, IfSome, OnErr, length, take};
+ghost use Rattle.std.specs.Prelude.{vec_len};
+ghost use Rattle.std.specs.Io.KnownBytes.{Consumes, IsAtEnd, Keeps};
 ghost use Rattle.memory.specs.Witness.{out_of_memory};
 ghost use Rattle.pattern_commands.specs.Answers.{IsInput};
-ghost use Rattle.pattern_commands.specs.Inputs.{LiesWithin999, Reads, pattern_of};
+ghost use Rattle.pattern_commands.specs.Inputs.{HasReadAtMost, LiesWithin999, Reads, pattern_of};
 ghost use Rattle.pattern_commands.specs.declared.input.InputError.TheVariants.{TooLong};
 
 use crate::complaint::Complaint;
@@ -15,6 +17,9 @@ use std::io::{self, ErrorKind, Read};
 
 /// The most bytes that a command reads of a pattern: 2^24.
 pub const INPUT_LIMIT: usize = 16_777_216;
+
+/// The bytes that one read asks for: 2^16.
+pub const READ_LENGTH: usize = 65_536;
 
 /// Why an input was not read to its end.
 #[derive(Clone, Copy)]
@@ -49,22 +54,47 @@ impl<E: Into<OutOfMemory>> From<E> for InputError {
     }
 }
 
-/// Reads all that the reader has left. A read that a signal interrupts is tried again.
+/// Reads all that the reader has left, up to a byte past the limit and what the last read brings beyond it.
 ///
 /// # Errors
 ///
-/// `Unreadable` if a read fails, `TooLong` if there are more than [`INPUT_LIMIT`] bytes, and `Memory` if memory runs
-/// out. How much of the input was read by then isn't specified.
+/// `Unreadable` if a read fails, for whatever reason; `TooLong` if there are more than [`INPUT_LIMIT`] bytes; and
+/// `Memory` if memory runs out.
 pub fn read_input<R: Read>(alloc: Global, input: &mut R) -> Result<Vec<u8>, InputError>
     ensures whole { IfOk result (λ bytes. IfSome (R.remaining input.old) (λ reader. bytes.items ≡ reader)) }
     ensures short { IfOk result (λ bytes. vec_len bytes ≤ 2 ^ 24) }
     ensures long { result ≡ Err TooLong → IfSome (R.remaining input.old) (λ reader. 2 ^ 24 < length reader) }
+    ensures little { HasReadAtMost (2 ^ 24 + 2 ^ 16) (R.remaining input.old) (R.remaining input.new) }
 {
     let mut bytes = Vec::new(alloc);
-    let mut limited = Read::take(input, INPUT_LIMIT as u64 + 1);
-    match limited.read_to_end(&mut bytes) {
-        Ok(_) if bytes.len() <= INPUT_LIMIT => Ok(bytes),
-        Ok(_) => Err(InputError::TooLong),
+    let mut buffer = vec![in alloc; 0u8; READ_LENGTH]?;
+    while bytes.len() <= INPUT_LIMIT {
+        let taken = read_once(input, &mut buffer)?;
+        if taken == 0 {
+            return Ok(bytes);
+        }
+        bytes.extend_from_slice(&buffer.as_slice()[..taken])?;
+    }
+    Err(InputError::TooLong)
+}
+
+/// Reads once, into the beginning of a buffer, and returns the number of bytes read. In a buffer with room, 0 means
+/// that the input is at its end.
+///
+/// # Errors
+///
+/// `Unreadable` if the read fails, for whatever reason, and `Memory` if it fails because memory ran out.
+pub fn read_once<R: Read>(input: &mut R, buffer: &mut Vec<u8>) -> Result<usize, InputError>
+    ensures len { vec_len buffer.new ≡ vec_len buffer.old }
+    ensures bound { IfOk result (λ n. n ≤ vec_len buffer.new) }
+    ensures read { IfOk result (λ n. Consumes (R.remaining input.old) (R.remaining input.new)
+        (take n buffer.new.items)) }
+    ensures end { IfOk result (λ n. n ≡ 0 → 0 < vec_len buffer.old → IsAtEnd (R.remaining input.new)) }
+    ensures short { result ≢ Err TooLong }
+    ensures kept { OnErr result (Keeps (R.remaining input.old) (R.remaining input.new)) }
+{
+    match input.read(buffer.as_mut_slice()) {
+        Ok(taken) => Ok(taken),
         Err(error) => Err(InputError::of_stream(&error)),
     }
 }
@@ -77,6 +107,7 @@ pub fn read_input<R: Read>(alloc: Global, input: &mut R) -> Result<Vec<u8>, Inpu
 /// if the bytes aren't a pattern, and `Memory` if memory runs out.
 pub fn read_pattern<R: Read>(alloc: Global, input: &mut R) -> Result<Pattern, Complaint>
     ensures read { (bytes : List ℕ) × IsInput (R.remaining input.old) bytes × Reads (pattern_of bytes) result }
+    ensures little { HasReadAtMost (2 ^ 24 + 2 ^ 16) (R.remaining input.old) (R.remaining input.new) }
     ensures small { IfOk result LiesWithin999 }
 {
     let bytes = read_input(alloc, input)?;

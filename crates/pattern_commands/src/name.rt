@@ -6,14 +6,14 @@
 //!    └────────┴────────┴─ refused
 //! ```
 
-ghost use Rattle.std.specs.Prelude.{◌≡◌, ◌&&◌, ◌++◌, ℕ, List, codes, decimal, false, flat_map, is_ok, IsErr, IfErr};
+ghost use Rattle.std.specs.Prelude.{◌≡◌, ◌&&◌, ◌++◌, ◌+◌, ◌^◌, ℕ, List, codes, decimal, false, flat_map, is_ok, IsErr, IfErr};
 ghost use Rattle.std.specs.Prelude.{IfOk, true};
 ghost use Rattle.memory.specs.Witness.{out_of_memory};
 ghost use Rattle.plane_core.specs.Outputs.{Writes};
 ghost use Rattle.pattern_commands.specs.Answers.{IsInput};
 ghost use Rattle.pattern_commands.specs.Complaints.{status_of};
 ghost use Rattle.pattern_commands.specs.Ends.{Ends};
-ghost use Rattle.pattern_commands.specs.Inputs.{rule_named};
+ghost use Rattle.pattern_commands.specs.Inputs.{HasReadAtMost, rule_named};
 ghost use Rattle.pattern_commands.specs.Name.{finding_text, name_right, name_behaviour, object_line};
 ghost use Rattle.pattern_commands.specs.Profiles.{AreInRange, profile_named};
 ghost use Rattle.pattern_commands.specs.Streams.{stream};
@@ -63,6 +63,7 @@ pub fn do_name<R: Read, W: Write, E: Write>(
     ensures profile_first { IsErr (profile_named profile) → (result ≡ Status.Refused) × (input.new ≡ input.old) }
     ensures rule_first { IsErr (rule_named rule_text.now) → (result ≡ Status.Refused) × (input.new ≡ input.old) }
     ensures untouched { result ≡ Status.Refused → output.new ≡ output.old }
+    ensures little { HasReadAtMost (2 ^ 24 + 2 ^ 16) (R.remaining input.old) (R.remaining input.new) }
     ensures no_memory { result ≡ Status.Memory → output.new ≡ output.old }
 {
     let outcome = name(alloc, profile, rule_text, input, output);
@@ -88,6 +89,7 @@ fn name<R: Read, W: Write>(
     ensures rule_first { IsErr (rule_named rule_text.now)
         → IfErr result (λ complaint. status_of complaint ≡ Status.Refused) × (input.new ≡ input.old) }
     ensures untouched { IfErr result (λ complaint. status_of complaint ≡ Status.Refused → output.new ≡ output.old) }
+    ensures little { HasReadAtMost (2 ^ 24 + 2 ^ 16) (R.remaining input.old) (R.remaining input.new) }
     ensures no_memory { IfErr result (λ complaint. complaint ≡ Complaint.Memory out_of_memory
         → output.new ≡ output.old) }
 {

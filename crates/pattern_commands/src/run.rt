@@ -6,13 +6,13 @@
 //!   └───────┴─ refused         └─ out of memory
 //! ```
 
-ghost use Rattle.std.specs.Prelude.{◌≡◌, ◌≤◌, ℕ, List, false, is_ok, IsErr, IfOk, IfErr, true};
+ghost use Rattle.std.specs.Prelude.{◌≡◌, ◌≤◌, ◌+◌, ◌^◌, ℕ, List, false, is_ok, IsErr, IfOk, IfErr, true};
 ghost use Rattle.memory.specs.Witness.{out_of_memory};
 ghost use Rattle.plane_core.specs.plane.Generations.{after};
 ghost use Rattle.pattern_commands.specs.Answers.{IsInput, only};
 ghost use Rattle.pattern_commands.specs.Complaints.{status_of};
 ghost use Rattle.pattern_commands.specs.Ends.{Ends};
-ghost use Rattle.pattern_commands.specs.Inputs.{LiesWithin999, rule_named};
+ghost use Rattle.pattern_commands.specs.Inputs.{HasReadAtMost, LiesWithin999, rule_named};
 ghost use Rattle.pattern_commands.specs.Run.{run_answer, run_behaviour};
 ghost use Rattle.pattern_commands.specs.Streams.{stream};
 ghost use Rattle.pattern_commands.specs.TextSteps.{ReachesText};
@@ -56,6 +56,7 @@ pub fn do_run<R: Read, W: Write, E: Write>(
         (stream W.contents output.old output.new) (stream E.contents errors.old errors.new) }
     ensures rule_first { IsErr (rule_named rule_text.now) → (result ≡ Status.Refused) × (input.new ≡ input.old) }
     ensures untouched { result ≡ Status.Refused → output.new ≡ output.old }
+    ensures little { HasReadAtMost (2 ^ 24 + 2 ^ 16) (R.remaining input.old) (R.remaining input.new) }
     ensures no_memory { result ≡ Status.Memory → output.new ≡ output.old }
 {
     let outcome = run(alloc, generations, rule_text, input, output);
@@ -78,6 +79,7 @@ fn run<R: Read, W: Write>(
     ensures rule_first { IfErr (rule_named rule_text.now) (λ complaint.
         (result ≡ Err complaint) × (input.new ≡ input.old)) }
     ensures untouched { IfErr result (λ complaint. status_of complaint ≡ Status.Refused → output.new ≡ output.old) }
+    ensures little { HasReadAtMost (2 ^ 24 + 2 ^ 16) (R.remaining input.old) (R.remaining input.new) }
     ensures no_memory { IfErr result (λ complaint. complaint ≡ Complaint.Memory out_of_memory
         → output.new ≡ output.old) }
 {

@@ -10,7 +10,7 @@ use thiserror::Error;
 /// The witness that a write failed or took no byte. It is made only from a writer's error, or by a write that failed.
 #[derive(Clone, Copy, PartialEq, Eq, Error)]
 pub struct WriteError {
-    /// The writer's kind of error. `None` if it took no byte, or if writing one piece took 2^64 - 1 calls.
+    /// The writer's kind of error, or `None` if it took no byte.
     kind: Option<ErrorKind>,
 }
 
@@ -80,37 +80,31 @@ impl<V: Write> Out<V> {
         self.writer
     }
 
-    /// Writes the whole piece. A write that a signal interrupts is tried again. Nothing is flushed. No earlier write
-    /// may have failed.
+    /// Writes the whole piece. Nothing is flushed. No earlier write may have failed.
     ///
     /// # Errors
     ///
-    /// [`WriteError`] if a write fails for another reason, or takes no byte of what is left. A prefix of the piece may
+    /// [`WriteError`] if a write fails, for whatever reason, or takes no byte of what is left. A prefix of the piece may
     /// have been written, and the `Out` is marked as failed.
     pub fn put(&mut self, piece: &[u8]) -> Result<(), WriteError>
         requires { self.old.failed ≡ false }
         ensures { Writes V.contents self.old self.new result piece.now }
     {
         let mut remainder = piece;
-        let mut kind = None;
-        for _ in 0..u64::MAX {
-            if remainder.is_empty() {
-                return Ok(());
-            }
+        while !remainder.is_empty() {
             match self.writer.write(remainder) {
-                Ok(0) => break,
+                Ok(0) => {
+                    self.failed = true;
+                    return Err(WriteError { kind: None });
+                }
                 Ok(taken) => remainder = &remainder[taken..],
-                Err(error) => match error.kind() {
-                    ErrorKind::Interrupted => {}
-                    other => {
-                        kind = Some(other);
-                        break;
-                    }
-                },
+                Err(error) => {
+                    self.failed = true;
+                    return Err(WriteError::of_stream(&error));
+                }
             }
         }
-        self.failed = true;
-        Err(WriteError { kind })
+        Ok(())
     }
 
     /// Flushes the writer, which passes on everything that it has buffered. No earlier write may have failed.

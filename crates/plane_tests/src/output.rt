@@ -62,7 +62,11 @@ const PREFIXES: [(usize, &[u8]); 5] = [
 #[test]
 fn stops_at_the_first_fault(rt: HostRuntime) {
     for (bad, prefix) in PREFIXES {
-        for fault in [Some(ErrorKind::BrokenPipe), None] {
+        for fault in [
+            Some(ErrorKind::BrokenPipe),
+            Some(ErrorKind::Interrupted),
+            None,
+        ] {
             let out = put_two(rt.alloc(), bad, fault);
             assert!(rt; out.failed() == (bad < 5), "at {bad}");
             let writer = out.into_inner();
@@ -70,19 +74,5 @@ fn stops_at_the_first_fault(rt: HostRuntime) {
             assert!(rt; writer.writes == bad.min(4), "at {bad}");
             assert!(rt; !writer.flushed, "at {bad}");
         }
-    }
-}
-
-#[test]
-fn tries_an_interrupted_write_again(rt: HostRuntime) {
-    for bad in 1..5 {
-        let out = put_two(rt.alloc(), bad, Some(ErrorKind::Interrupted));
-        assert!(rt; !out.failed(), "at {bad}");
-        let writer = out.into_inner();
-        assert!(rt;
-            writer.taken.as_slice() == b"abcdefg".as_slice(),
-            "at {bad}"
-        );
-        assert!(rt; writer.writes == 5, "at {bad}");
     }
 }

@@ -1,9 +1,15 @@
 use Rattle.std.proofs.Common.{◌∙◌, sym}
+use Rattle.census.proofs.HeadlineLemmas.{prints_if_done}
 use Rattle.census.proofs.program.run_program.Goals as goal
 
 pub returns-in-Ok-clause-done : goal.returns-in-Ok-clause-done
 returns-in-Ok-clause-done g c code =
     rw (c.in-Ok.is, ← c.as_slice.ensures.value) (c.do_buffered-status.ensures.done (sym c.exit_code.ensures ∙ code))
+
+pub returns-in-Ok-clause-headline : goal.returns-in-Ok-clause-headline
+returns-in-Ok-clause-headline g c code =
+    rw (c.in-Ok.is, ← c.as_slice.ensures.value)
+    (prints_if_done g.W.Write.contents _ _ c.args.output _ _ (c.do_buffered-status.ensures.done (sym c.exit_code.ensures ∙ code)))
 
 pub returns-in-Ok-clause-ends : goal.returns-in-Ok-clause-ends
 returns-in-Ok-clause-ends g c = rw (c.in-Ok.is, ← c.as_slice.ensures.value, c.exit_code.ensures) c.do_buffered-status.ensures

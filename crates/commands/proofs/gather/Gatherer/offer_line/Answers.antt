@@ -1,6 +1,6 @@
 use Rattle.std.proofs.Common.{rules, sym}
 use Rattle.commands.proofs.GatherLemmas.{faulty, refused_told, taken}
-use Rattle.commands.proofs.gather.offer_line.Goals as goal
+use Rattle.commands.proofs.gather.Gatherer.offer_line.Goals as goal
 
 pub returns-in-Err-clause-come : goal.returns-in-Err-clause-come
 returns-in-Err-clause-come c line arrivals kept stands = faulty arrivals (search rules) stands

@@ -2,11 +2,11 @@ use Rattle.std.proofs.Common.{◌∙◌, [], ap, arith, length, refl}
 use Rattle.std.proofs.KnownBytes.{Appends-nil}
 use Rattle.pattern_commands.specs.Streams.{stream}
 use Rattle.pattern_commands.proofs.AnswerLemmas.{err_of}
-use Rattle.commands.proofs.GatherLemmas.{begun, goes_begun, goes_further, goes_long, goes_no_further, lines_ended_by, many_lines, none_gathered}
-use Rattle.commands.proofs.gather.gather_lines.Goals as goal
+use Rattle.commands.proofs.GatherLemmas.{begun, goes_further, goes_no_further, lines_ended_by, many_lines, none_gathered}
+use Rattle.commands.proofs.gather.Gatherer.gather_lines.Goals as goal
 
-pub returns-in_err-ahead-clause-ended : goal.returns-in_err-ahead-clause-ended
-returns-in_err-ahead-clause-ended g c =
+pub returns-in_err-lines-clause-ended : goal.returns-in_err-lines-clause-ended
+returns-in_err-lines-clause-ended g c =
     let errors = stream g.E.Write.contents c.args.errors.now c.args.errors.now in
     rw (err_of _ _ c.from_residual.ensures.1)
     (record {
@@ -20,8 +20,8 @@ loop-before-init g c = record {
   terms = refl;
   fine = c.requires.errors;
   short = omega arith;
-  few = let empty = ap length c.in_ok-ahead.ensures in omega (arith, empty);
-  gathered = none_gathered _ c.in_ok-ahead.ahead (stream g.E.Write.contents c.args.errors.now c.args.errors.now) _ c.in_ok-ahead.ensures (Appends-nil _)
+  few = let empty = ap length c.in_ok-lines.ensures in omega (arith, empty);
+  gathered = none_gathered _ c.in_ok-lines.lines.ahead (stream g.E.Write.contents c.args.errors.now c.args.errors.now) _ c.in_ok-lines.ensures (Appends-nil _)
       c.requires.haul;
 }
 
@@ -29,34 +29,18 @@ pub returns-in_err-read-clause-ended : goal.returns-in_err-read-clause-ended
 returns-in_err-read-clause-ended g c =
     rw (err_of _ _ c.from_residual-in_err-read.ensures.1)
     (record {
-      ahead = c.next_line.new.ahead;
+      ahead = c.next_line.new.lines.ahead;
       few = c.in_err-read.ensures.most;
-      ends = lines_ended_by g.E.Write.contents _ _ _ c.args.errors.now _ _ _ _ c.loop-before.errors c.next_line.new.errors
+      ends = lines_ended_by g.E.Write.contents _ _ _ _ c.args.errors.now _ _ _ _ c.loop-before.errors c.next_line.new.errors
           c.in_err-read.field-0.0
-          c.loop-before.invariant.gathered c.loop-before.invariant.terms c.loop-before.invariant.fine
+          c.loop-before.invariant.gathered c.loop-before.invariant.terms c.loop-before.invariant.fine _
           c.in_err-read.ensures.ended c.in_err-read.ensures.part;
     })
-
-pub returns-then-size-gt-GATHER_LIMIT-clause-ended : goal.returns-then-size-gt-GATHER_LIMIT-clause-ended
-returns-then-size-gt-GATHER_LIMIT-clause-ended g c = record {
-  ahead = c.next_line.new.ahead;
-  few = c.next_line.ensures.few;
-  ends = (
-    goes_begun _ _ _ c.in_ok-read.read.end
-        (c.in_ok-read.ensures.going _ c.args.errors.now _ c.loop-before.invariant.gathered)
-        (c.next_line.ensures.terms ∙ c.loop-before.invariant.terms),
-    c.in_ok-read.ensures.fine,
-    goes_long _ _ c.in_ok-read.read.end
-        (c.in_ok-read.ensures.going _ c.args.errors.now _ c.loop-before.invariant.gathered)
-        (omega (arith, c.if-size-gt-GATHER_LIMIT.true)),
-  );
-}
 
 pub returns-in-Input-clause-gathered : goal.returns-in-Input-clause-gathered
 returns-in-Input-clause-gathered g c = record {
   size = _;
-  short = c.if-size-gt-GATHER_LIMIT.false;
-  ahead = c.next_line.new.ahead;
+  ahead = c.next_line.new.lines.ahead;
   few = c.next_line.ensures.few;
   all = goes_no_further _ _ c.in_ok-read.read.end c.in-Input.is
       (c.in_ok-read.ensures.going _ c.args.errors.now _ c.loop-before.invariant.gathered);
@@ -66,7 +50,6 @@ pub loop-before-preserved : goal.loop-before-preserved
 loop-before-preserved g c = record {
   terms = c.next_line.ensures.terms ∙ c.loop-before.invariant.terms;
   fine = c.in_ok-read.ensures.fine;
-  short = c.if-size-gt-GATHER_LIMIT.false;
   few = c.next_line.ensures.few;
   gathered = goes_further _ _ c.in_ok-read.read.end (λ end. c.in_default.not-Input end)
       (c.in_ok-read.ensures.going _ c.args.errors.now _ c.loop-before.invariant.gathered);
@@ -74,7 +57,7 @@ loop-before-preserved g c = record {
 
 pub returns-clause-ended : goal.returns-clause-ended
 returns-clause-ended g c = record {
-  ahead = c.loop-before.ahead;
+  ahead = c.loop-before.lines.ahead;
   few = c.loop-before.invariant.few;
   ends = (
     begun _ _ _ c.loop-before.invariant.gathered c.loop-before.invariant.terms,

@@ -2,7 +2,7 @@ use Rattle.std.proofs.Common.{◌+◌, None, Some, []}
 use Rattle.plane_core.proofs.lemmas.OutputLemmas.{Appends-nil}
 use Rattle.commands.specs.GatheredLines.{fault_line}
 use Rattle.commands.proofs.GatherLemmas.{come_more, no_fault}
-use Rattle.commands.proofs.gather.take_line.Goals as goal
+use Rattle.commands.proofs.gather.Gatherer.gather_line.Goals as goal
 
 pub returns-in_ok-write_line-clause-come : goal.returns-in_ok-write_line-clause-come
 returns-in_ok-write_line-clause-come g c line lines diagnostics kept count come = record {

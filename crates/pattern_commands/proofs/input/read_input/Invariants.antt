@@ -1,0 +1,13 @@
+use Rattle.std.proofs.Common.{◌≡◌, ◌≤◌, ◌+◌, ◌-◌, ◌^◌, length}
+use Rattle.std.specs.Io.KnownBytes.{Consumes}
+use Rattle.pattern_commands.proofs.input.read_input.Given as goal
+
+-- what is kept is what was read, and only the last read may bring more than the limit
+abbrev pub invariant-loop-input : goal.invariant-loop-input
+invariant-loop-input g l =
+    Consumes (g.R.Read.remaining l.fn.input) (g.R.Read.remaining l.input) l.bytes.items
+    × (length l.buffer.items ≡ 2 ^ 16)
+    × (length l.bytes.items ≤ 2 ^ 24 + 2 ^ 16)
+
+abbrev pub decreases-loop-input : goal.decreases-loop-input
+decreases-loop-input g l = 2 ^ 24 + 1 - length l.bytes.items
