@@ -1,5 +1,5 @@
 -- Inputs, line by line.
-use Rattle.std.proofs.Common.{◌≡◌, ◌≢◌, ◌<◌, ◌≤◌, ◌+◌, ◌^◌, ◌∙◌, ◌++◌, ℕ, zero, suc, ne_eqb}
+use Rattle.std.proofs.Common.{◌≡◌, ◌≢◌, ◌<◌, ◌≤◌, ◌+◌, ◌-◌, ◌^◌, ◌∙◌, ◌++◌, ℕ, zero, suc, ne_eqb}
 use Rattle.std.proofs.Common.{List, [], ◌∷◌, All, Option, None, Some, Result, Ok, Err, IfOk, IfSome, ap, ap₂, append-nil, append_assoc, arith, cond, drop, drop_of_length-le, flat_map, length, length-append, length-take, length-take-le, refl, subst, sym, take, take-append-drop, take_all}
 use Rattle.std.proofs.lemmas.Grind.{flat_map-append}
 use Rattle.std.proofs.lemmas.List.Elements.{All-append, All-head, All-nil, All-push, All-tail}
@@ -217,6 +217,7 @@ piece_taken old left ahead shown next read same piece kept is end =
       consumed = subst (Consumes old (prepend_known next left)) piece.ended moved.0;
       size_is = sym (length-take-le read.size shown piece.bound) ∙ ap length piece.ended;
       last = λ is. spent old (prepend_known next left) (moved.1 (sym same ∙ piece.last is));
+      some = piece.some;
     }
 
 -- ---- how much was read
@@ -231,6 +232,22 @@ with_ahead most old left read ahead consumed few =
     go None left consumed = tt
     go (Some xs) None consumed = absurd consumed
     go (Some xs) (Some ys) consumed = consumed ∙ sym (append_assoc read ahead ys)
+
+-- a prefix of a line was read, and no more than one read's bytes are ahead
+pub little : (room once size : ℕ) (old left : Option (List ℕ)) (read ahead : List ℕ) → Consumes old (prepend_known ahead left) read
+    → size ≡ length read → size ≤ room → length ahead ≤ once → HasReadAtMost (room + once) old left
+little room once size old left read ahead consumed is short few =
+    with_ahead (room + once) old left read ahead consumed (omega (arith, is, short, few))
+
+-- a piece more was taken of what was ahead
+pub little_more : (room once size more : ℕ) (old left : Option (List ℕ)) (read ahead : List ℕ) → Consumes old (prepend_known ahead left) read
+    → size + more ≡ length read → size ≤ room → more + length ahead ≤ once → HasReadAtMost (room + once) old left
+little_more room once size more old left read ahead consumed is short few =
+    with_ahead (room + once) old left read ahead consumed (omega (arith, is, short, few))
+
+-- each piece leaves less room
+pub less_room : (room size more : ℕ) → 0 < more → size + more ≤ room → room + 1 - (size + more) < room + 1 - size
+less_room room size more some within = omega arith
 
 -- what is read after something else
 pub after_read : (room most : ℕ) (reader old new : Option (List ℕ)) (read : List ℕ) → Consumes reader old read → length read + room ≤ most

@@ -1,7 +1,7 @@
 -- The piece of a line that some bytes have.
-use Rattle.std.proofs.Common.{◌≡◌, ◌≢◌, ◌<◌, ◌≤◌, ◌+◌, ◌∙◌, ◌++◌, ◌==◌, ℕ, true}
+use Rattle.std.proofs.Common.{◌≡◌, ◌≢◌, ◌<◌, ◌≤◌, ◌+◌, ◌∙◌, ◌++◌, ◌==◌, ℕ, zero, suc, false, true}
 use Rattle.std.proofs.Common.{List, [], ◌∷◌, Some, None, ap, append-nil, arith, get_or, length, refl, sym, take}
-use Rattle.std.proofs.lemmas.Bool.{eqb-true}
+use Rattle.std.proofs.lemmas.Bool.{eqb-false, eqb-true}
 use Rattle.std.proofs.lemmas.List.{get_or-take, length-take, take_more}
 use Rattle.std.proofs.lemmas.List.Elements.{All-from_get_or, All-nil}
 use Rattle.memchr.specs.Find.{IsFirstByte, Nowhere, Passes, is_byte}
@@ -25,20 +25,27 @@ ended_piece bytes n first =
       ended = take_more bytes n 0 high ∙ ap (λ x. take n bytes ++ x ∷ []) (eqb-true (get_or bytes n 0) 10 first.1);
       last = λ is. cc;
       whole = λ is. cc;
+      some = λ is. cc;
     }
 
--- without one all bytes are a piece
-pub whole_piece : (bytes : List ℕ) → IsFirstByte (is_byte 10) bytes None → IsPieceOf bytes (record { length = length bytes; size = length bytes; end = None })
-whole_piece bytes nowhere = record {
+-- without one all bytes are a piece, if there are any
+pub whole_piece : (bytes : List ℕ) → IsFirstByte (is_byte 10) bytes None → (length bytes == 0) ≡ false
+    → IsPieceOf bytes (record { length = length bytes; size = length bytes; end = None })
+whole_piece bytes nowhere there = record {
   within = omega arith;
   bound = omega arith;
   one = none_before bytes (length bytes) (omega arith) nowhere;
   ended = sym (append-nil (take (length bytes) bytes));
   last = λ is. cc;
   whole = λ is. refl;
+  some = λ is. let none = eqb-false (length bytes) 0 there in go (length bytes) none;
 }
+  where
+    go : (n : ℕ) → n ≢ 0 → 0 < n
+    go zero not = absurd (not refl)
+    go (suc n) not = omega arith
 
 -- no bytes at all are the end of the input
 pub empty_piece : (bytes : List ℕ) → (length bytes == 0) ≡ true → IsPieceOf bytes (record { length = 0; size = 0; end = Some Input })
-empty_piece [] none = record { within = omega arith; bound = omega arith; one = All-nil (λ byte. byte ≢ 10); ended = refl; last = λ is. refl; whole = λ is. cc }
+empty_piece [] none = record { within = omega arith; bound = omega arith; one = All-nil (λ byte. byte ≢ 10); ended = refl; last = λ is. refl; whole = λ is. cc; some = λ is. cc }
 empty_piece (x ∷ xs) none = let bad : length (x ∷ xs) ≡ 0 = eqb-true (length (x ∷ xs)) 0 none in absurd (omega (arith, bad))

@@ -63,6 +63,7 @@ pub record IsPieceOf (bytes : List ℕ) (read : Piece) : Type 0 where
   pub ended : take read.size bytes ≡ take read.length bytes ++ piece_end read.end
   pub last : read.end ≡ Some Input → bytes ≡ []
   pub whole : read.end ≡ None → read.size ≡ length bytes
+  pub some : read.end ≡ None → 0 < read.size
 
 -- this part of a line was read, with the line feed if the line ends there
 pub record HasPiece (old new : Option (List ℕ)) (piece : List ℕ) (read : Piece) : Type 0 where
@@ -70,6 +71,7 @@ pub record HasPiece (old new : Option (List ℕ)) (piece : List ℕ) (read : Pie
   pub consumed : Consumes old new (piece ++ piece_end read.end)
   pub size_is : read.size ≡ length (piece ++ piece_end read.end)
   pub last : read.end ≡ Some Input → IsSpent old new
+  pub some : read.end ≡ None → 0 < read.size
 
 -- a failed read ends no line
 abbrev pub MayEnd : Complaint → Option LineEnd → Type 0

@@ -16,13 +16,13 @@ returns-in_err-haul-clause-gathers g c =
           c.in_err-haul.ensures.stops (record { nothing = Appends-nil _; silent = Appends-nil _; fine = c.requires.errors })),
     )
 
-pub gather_into-requires-clause-haul : goal.gather_into-requires-clause-haul
-gather_into-requires-clause-haul g c = c.in_ok-haul.ensures.opened.opened.stands
+pub gather-requires-clause-haul : goal.gather-requires-clause-haul
+gather-requires-clause-haul g c = c.in_ok-haul.ensures.opened.opened.stands
 
 pub returns-clause-gathers : goal.returns-clause-gathers
 returns-clause-gathers g c =
     let is = c.in_ok-haul.ensures.opened in
-    let diagnostics = c.gather_into.ensures.gathers in (
+    let diagnostics = c.gather.ensures.gathers in (
       diagnostics.0,
       diagnostics.1,
       gathers_over c.args.plan.now c.args.workers diagnostics.0 _ is.job _ _ _ _ is.named (is_over _ _ _ _ is.opened) diagnostics.2,
@@ -37,8 +37,8 @@ returns-in_err-haul-clause-place g c =
 pub returns-clause-place : goal.returns-clause-place
 returns-clause-place g c =
     let is = c.in_ok-haul.ensures.opened in
-    stops_over c.args.plan.now c.args.workers is.job _ g.R.Read.remaining c.args.input.now c.gather_into.new.input
-    (stream g.E.Write.contents c.args.errors.now c.gather_into.new.errors) c.gather_into.result is.named (is_over _ _ _ _ is.opened) c.gather_into.ensures.place
+    stops_over c.args.plan.now c.args.workers is.job _ g.R.Read.remaining c.args.input.now c.gather.new.input
+    (stream g.E.Write.contents c.args.errors.now c.gather.new.errors) c.gather.result is.named (is_over _ _ _ _ is.opened) c.gather.ensures.place
 
 pub returns-clause-unread : goal.returns-clause-unread
 returns-clause-unread g c unread =
@@ -51,12 +51,12 @@ pub returns-in_err-haul-clause-no_memory : goal.returns-in_err-haul-clause-no_me
 returns-in_err-haul-clause-no_memory g c = rw (err_of _ _ c.from_residual.ensures.1) (λ is. refl)
 
 pub returns-clause-fine : goal.returns-clause-fine
-returns-clause-fine g c = c.gather_into.ensures.fine
+returns-clause-fine g c = c.gather.ensures.fine
 
 pub returns-clause-untouched : goal.returns-clause-untouched
 returns-clause-untouched g c =
-    never_refused ((c.gather_into.new.input ≡ c.args.input.now) × (c.gather_into.new.output ≡ c.args.output.now)) c.gather_into.result
-    c.gather_into.ensures.accepted
+    never_refused ((c.gather.new.input ≡ c.args.input.now) × (c.gather.new.output ≡ c.args.output.now)) c.gather.result
+    c.gather.ensures.accepted
 
 pub returns-clause-no_memory : goal.returns-clause-no_memory
-returns-clause-no_memory g c = c.gather_into.ensures.no_memory
+returns-clause-no_memory g c = c.gather.ensures.no_memory

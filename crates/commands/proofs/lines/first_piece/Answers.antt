@@ -9,4 +9,4 @@ pub returns-in-None : goal.returns-in-None
 returns-in-None c = empty_piece c.args.bytes.now (sym c.is_empty.ensures ∙ c.if-is_empty.true)
 
 pub returns-in-None-2 : goal.returns-in-None-2
-returns-in-None-2 c = whole_piece c.args.bytes.now c.in-None-2.ensures
+returns-in-None-2 c = whole_piece c.args.bytes.now c.in-None-2.ensures (sym c.is_empty.ensures ∙ c.if-is_empty.false)

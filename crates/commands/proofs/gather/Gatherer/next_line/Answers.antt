@@ -45,4 +45,10 @@ returns-in_err-read-clause-most g c = rw (err_of _ _ c.from_residual.ensures.1) 
 pub returns-in_err-gather_line-clause-most : goal.returns-in_err-gather_line-clause-most
 returns-in_err-gather_line-clause-most g c =
     rw (err_of _ _ c.from_residual-in_err-gather_line.ensures.1)
-    (line_most _ _ c.in_err-gather_line.field-0.0 c.next.new.lines.ahead c.in_err-gather_line.ensures.ended c.next.ensures.few)
+    (line_most _ _ c.in_err-gather_line.field-0.0 c.next.new.self.ahead c.in_err-gather_line.ensures.ended c.next.ensures.few)
+
+pub returns-in_err-read-clause-little : goal.returns-in_err-read-clause-little
+returns-in_err-read-clause-little g c = c.next.ensures.little
+
+pub returns-in_err-gather_line-clause-little : goal.returns-in_err-gather_line-clause-little
+returns-in_err-gather_line-clause-little g c = c.next.ensures.little

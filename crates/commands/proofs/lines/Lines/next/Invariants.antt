@@ -4,13 +4,13 @@ use Rattle.commands.specs.Lines.{IsOneLine}
 use Rattle.commands.proofs.lines.Lines.next.Given as goal
 
 -- a prefix of the line was read, in which is no line feed
-abbrev pub invariant-loop : goal.invariant-loop
-invariant-loop g l = record {
+abbrev pub invariant-loop-piece : goal.invariant-loop-piece
+invariant-loop-piece g l = record {
   short : l.size ≤ l.fn.room;
   read : (prefix : List ℕ) × (l.self.line.items ≡ take (2 ^ 24 + 1) prefix) × IsOneLine prefix
       × Consumes (prepend_known l.fn.self.ahead (g.R.Read.remaining l.fn.input)) (prepend_known l.self.ahead (g.R.Read.remaining l.input)) prefix
       × (l.size ≡ length prefix);
 }
 
-abbrev pub decreases-loop : goal.decreases-loop
-decreases-loop g l = l.fn.room + 1 - l.size
+abbrev pub decreases-loop-piece : goal.decreases-loop-piece
+decreases-loop-piece g l = l.fn.room + 1 - l.size
