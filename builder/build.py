@@ -48,7 +48,9 @@ class Build:
             try:
                 Work(self, cpu, Log(log)).run()
             except Ended as ended:
-                raise Failed(f"the build failed with status {ended.status}, and what the prover said is in {self.places.log}") from None
+                raise Failed(
+                    f"the build failed with status {ended.status}, and what the prover said is in {self.places.log}"
+                ) from None
 
 
 class Work:
@@ -57,7 +59,9 @@ class Work:
     def __init__(self, build: Build, cpu: str, log: Log) -> None:
         self.build, self.cpu, self.log = build, cpu, log
         self.commands = Commands(build.lock)
-        self.prover = Prover(build.places, build.kit, build.crates, build.kept, cpu, self.commands, log)
+        self.prover = Prover(
+            build.places, build.kit, build.crates, build.kept, cpu, self.commands, log
+        )
         self.progress = Progress(self.prover.room, len(build.crates.order))
 
     def run(self) -> None:
@@ -123,5 +127,3 @@ def get_ready(places: Places, lock: int) -> Build:
         raise cannot_build(f"{places.log} can't be written") from None
     crates = Crates(uses)
     return Build(places, built, lock, kit, basis, crates, Kept(places.made, crates))
-
-

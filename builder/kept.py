@@ -55,7 +55,11 @@ class Kept:
         """Checks whether a crate is kept that was proved from this part of a basis."""
         result = self.result(crate, cpu)
         is_there = os.access(result, os.X_OK) if crate == PROGRAM else result.is_dir()
-        return is_there and bool(text_of(self.verdict(crate, cpu))) and text_of(self.origin(crate, cpu)) == part
+        return (
+            is_there
+            and bool(text_of(self.verdict(crate, cpu)))
+            and text_of(self.origin(crate, cpu)) == part
+        )
 
     def keep(self, crate: str, cpu: str, verdict: str, part: str) -> None:
         """Records that a crate was proved, with its verdict and the part of the basis that it was proved from."""

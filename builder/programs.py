@@ -127,13 +127,20 @@ def build_both(build: Build) -> None:
 
 # ---- The folder
 
+
 def fill_folder(build: Build, folder: Path) -> None:
     """Copies programs and verdicts into a folder. The file `from` is written last, so an interrupted copy doesn't count."""
     try:
         folder.mkdir(parents=True, exist_ok=True)
         (folder / "from").unlink(missing_ok=True)
-        results = [(crate, LEAST) for crate in build.crates.order] + [(PROGRAM, cpu) for cpu in LEVELS if cpu != LEAST]
-        (folder / "verdicts").write_text("".join(f"{build.kept.name(*it)}: {text_of(build.kept.verdict(*it))}\n" for it in results))
+        results = [(crate, LEAST) for crate in build.crates.order] + [
+            (PROGRAM, cpu) for cpu in LEVELS if cpu != LEAST
+        ]
+        (folder / "verdicts").write_text(
+            "".join(
+                f"{build.kept.name(*it)}: {text_of(build.kept.verdict(*it))}\n" for it in results
+            )
+        )
         for cpu in LEVELS:
             shutil.copy(build.kept.result(PROGRAM, cpu), folder)
         is_same = build.built.basis() == build.basis
@@ -142,13 +149,18 @@ def fill_folder(build: Build, folder: Path) -> None:
     except OSError:
         is_same = False
     if not is_same:
-        raise Failed(f"a source or the toolchain changed during the build, or {folder} can't be written")
+        raise Failed(
+            f"a source or the toolchain changed during the build, or {folder} can't be written"
+        )
 
 
 def digests_of(folder: Path) -> str:
     """Returns what `b2sum -l 256` prints for the files in a folder besides `from`."""
     there = [name for name in FILES if (folder / name).is_file()]
-    return "".join(f"{hashlib.blake2b((folder / name).read_bytes(), digest_size=DIGEST_BYTES).hexdigest()}  {name}\n" for name in there)
+    return "".join(
+        f"{hashlib.blake2b((folder / name).read_bytes(), digest_size=DIGEST_BYTES).hexdigest()}  {name}\n"
+        for name in there
+    )
 
 
 def look_at(places: Places, folder: str) -> int:
@@ -161,18 +173,26 @@ def look_at(places: Places, folder: str) -> int:
 
 def fault_of(places: Places, folder: str) -> str:
     if shutil.which("rt") is None:
-        return f"there is no command rt on the PATH, so what is in {folder} can't be compared with it"
+        return (
+            f"there is no command rt on the PATH, so what is in {folder} can't be compared with it"
+        )
     origin = text_of(Path(folder) / "from")
     if origin is None:
         return f"{folder} has no file 'from', so nothing says what its programs were built from"
     was = origin.split("\n")
     now = f"{Built(places).basis() or ''}\n{digests_of(Path(folder))}".rstrip("\n").split("\n")
     differing = first_difference(was, now)
-    return f"what is in {folder} was built from something else than is here: {differing}" if differing else ""
+    return (
+        f"what is in {folder} was built from something else than is here: {differing}"
+        if differing
+        else ""
+    )
 
 
 def first_difference(was: list[str], now: list[str]) -> str:
     """Returns the name in the first line that only one of two lists has."""
     there, here = set(was), set(now)
-    differing = [line for line in was if line not in here] + [line for line in now if line not in there]
+    differing = [line for line in was if line not in here] + [
+        line for line in now if line not in there
+    ]
     return differing[0].rpartition("  ")[2] if differing else ""

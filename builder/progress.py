@@ -34,7 +34,11 @@ class Progress:
 
     def running(self) -> list[str]:
         """Returns a text for each crate that is being proved."""
-        return [self._place(crate) + self._functions(crate) for crate in self.places if crate not in self.proved]
+        return [
+            self._place(crate) + self._functions(crate)
+            for crate in self.places
+            if crate not in self.proved
+        ]
 
     def show(self) -> None:
         running = self.running() if is_terminal() else []
@@ -52,5 +56,8 @@ class Progress:
     def _functions(self, crate: str) -> str:
         """Returns how many functions of a crate have been started. For each function the prover first writes a file with its code, and
         later one with what the logic sees of it."""
-        seen, coded = (len(list(self.room.glob(f"{crate}/*/Rattle-{crate}-proofs.*.{kind}.oantt"))) for kind in ("Lts", "Code"))
+        seen, coded = (
+            len(list(self.room.glob(f"{crate}/*/Rattle-{crate}-proofs.*.{kind}.oantt")))
+            for kind in ("Lts", "Code")
+        )
         return f": {seen} of {coded} functions" if seen else ""

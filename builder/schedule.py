@@ -31,7 +31,14 @@ MEMORY = Path("/proc/meminfo")
 def copies_for_longest() -> int:
     """Returns how many copies of the prover the crate with the longest path gets on this machine."""
     try:
-        available = next((int(line.split()[1]) for line in MEMORY.read_text().splitlines() if line.startswith("MemAvailable:")), None)
+        available = next(
+            (
+                int(line.split()[1])
+                for line in MEMORY.read_text().splitlines()
+                if line.startswith("MemAvailable:")
+            ),
+            None,
+        )
     except (OSError, ValueError, IndexError):
         available = None
     return copies_with(len(os.sched_getaffinity(0)), available)
@@ -73,7 +80,9 @@ class Work(Protocol):
 class Schedule:
     """Decides when each crate is proved."""
 
-    def __init__(self, crates: Crates, weights: Mapping[str, int], copies: Callable[[], int]) -> None:
+    def __init__(
+        self, crates: Crates, weights: Mapping[str, int], copies: Callable[[], int]
+    ) -> None:
         self.crates = crates
         self.ways = crates.ways(weights)
         self.copies = copies
@@ -124,7 +133,9 @@ class Schedule:
                 sorter.done(crate)
             work.show()
 
-    def _after_kept(self, sorter: TopologicalSorter[str], work: Work, proved: set[str]) -> list[str]:
+    def _after_kept(
+        self, sorter: TopologicalSorter[str], work: Work, proved: set[str]
+    ) -> list[str]:
         """Skips the crates that are kept, and returns those that can be proved next. A crate doesn't count as kept if a crate that it uses
         has been proved in this run."""
         ready: list[str] = []

@@ -41,5 +41,7 @@ def archive(tree: Tree, date: int) -> bytes:
 
 def places_in(tree: Tree) -> list[str]:
     """The places of all files and folders: each folder comes before what is in it."""
-    paths = {path for place in tree for path in (PurePosixPath(place), *PurePosixPath(place).parents)}
+    paths = {
+        path for place in tree for path in (PurePosixPath(place), *PurePosixPath(place).parents)
+    }
     return [str(path) for path in sorted(paths, key=lambda path: path.parts) if path.parts]

@@ -7,8 +7,10 @@ import re
 from collections.abc import Mapping
 
 # Code, in which there is no link, or a link, perhaps to a picture.
-PIECE = re.compile(r"(?P<code>^```.*?^```$|``.*?``|`[^`\n]*`)|(?P<picture>!?)\[(?P<text>(?:[^\[\]`]|`[^`\n]*`)*)\]\((?P<target>[^()\s]+)\)",
-                   re.MULTILINE | re.DOTALL)
+PIECE = re.compile(
+    r"(?P<code>^```.*?^```$|``.*?``|`[^`\n]*`)|(?P<picture>!?)\[(?P<text>(?:[^\[\]`]|`[^`\n]*`)*)\]\((?P<target>[^()\s]+)\)",
+    re.MULTILINE | re.DOTALL,
+)
 
 
 def moved_page(text: str, path: str, places: Mapping[str, str]) -> str:

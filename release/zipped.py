@@ -51,7 +51,9 @@ def packed(top: Path, paths: Iterable[str]) -> bytes:
 
 def paths_in(top: Path) -> list[str]:
     """Returns the files of a checkout that the archive has."""
-    paths = (path.relative_to(top).as_posix() for folder in FOLDERS for path in (top / folder).iterdir())
+    paths = (
+        path.relative_to(top).as_posix() for folder in FOLDERS for path in (top / folder).iterdir()
+    )
     return sorted(filter(is_packed, paths))
 
 

@@ -58,7 +58,13 @@ return faults;
 def browser(width: int, dark: bool = False, still: bool = True) -> Driver:
     """Starts a browser of this width in points. Unless `still` is false, it prefers reduced motion."""
     options = webdriver.ChromeOptions()
-    for word in ["--headless=new", "--no-sandbox", "--disable-gpu", "--hide-scrollbars", "--force-device-scale-factor=1"]:
+    for word in [
+        "--headless=new",
+        "--no-sandbox",
+        "--disable-gpu",
+        "--hide-scrollbars",
+        "--force-device-scale-factor=1",
+    ]:
         options.add_argument(word)
     options.add_argument(f"--window-size={width},{HEIGHT}")
     options.set_capability("goog:loggingPrefs", {"browser": "ALL"})
@@ -67,12 +73,24 @@ def browser(width: int, dark: bool = False, still: bool = True) -> Driver:
     return driver
 
 
-def look_like(driver: Driver, width: int, dark: bool = False, still: bool = True, medium: str = "") -> None:
+def look_like(
+    driver: Driver, width: int, dark: bool = False, still: bool = True, medium: str = ""
+) -> None:
     """Gives a browser a width and what it prefers. A window may not be as narrow as a telephone, but what it shows may."""
-    driver.execute_cdp_cmd("Emulation.setDeviceMetricsOverride", {"width": width, "height": HEIGHT, "deviceScaleFactor": 1, "mobile": False})
-    driver.execute_cdp_cmd("Emulation.setEmulatedMedia", {"media": medium, "features": [
-        {"name": "prefers-color-scheme", "value": "dark" if dark else "light"},
-        {"name": "prefers-reduced-motion", "value": "reduce" if still else "no-preference"}]})
+    driver.execute_cdp_cmd(
+        "Emulation.setDeviceMetricsOverride",
+        {"width": width, "height": HEIGHT, "deviceScaleFactor": 1, "mobile": False},
+    )
+    driver.execute_cdp_cmd(
+        "Emulation.setEmulatedMedia",
+        {
+            "media": medium,
+            "features": [
+                {"name": "prefers-color-scheme", "value": "dark" if dark else "light"},
+                {"name": "prefers-reduced-motion", "value": "reduce" if still else "no-preference"},
+            ],
+        },
+    )
 
 
 def opened(driver: Driver, path: Path, address: str = "") -> Driver:
@@ -84,7 +102,9 @@ def opened(driver: Driver, path: Path, address: str = "") -> Driver:
 
 def texts(driver: Driver, selector: str) -> list[str]:
     """Returns the texts of all elements of a kind, whether or not they are in sight."""
-    found: list[str] = driver.execute_script("return [...document.querySelectorAll(arguments[0])].map(one => one.textContent)", selector)
+    found: list[str] = driver.execute_script(
+        "return [...document.querySelectorAll(arguments[0])].map(one => one.textContent)", selector
+    )
     return found
 
 
@@ -104,7 +124,11 @@ def click(driver: Driver, selector: str) -> None:
 
 def choose(driver: Driver, name: str, value: str) -> None:
     """Chooses from a list of choices."""
-    driver.execute_script("const one = document.querySelector(arguments[0]); one.value = arguments[1]; one.dispatchEvent(new Event('change', {bubbles: true}))", name, value)
+    driver.execute_script(
+        "const one = document.querySelector(arguments[0]); one.value = arguments[1]; one.dispatchEvent(new Event('change', {bubbles: true}))",
+        name,
+        value,
+    )
 
 
 def press(driver: Driver, *keys: str) -> None:
@@ -115,7 +139,8 @@ def press(driver: Driver, *keys: str) -> None:
 def focused(driver: Driver) -> str:
     """Returns what has the focus: its text, label or identity."""
     found: str = driver.execute_script(
-        "const one = document.activeElement; return one.getAttribute('aria-label') || one.textContent.trim() || one.name || one.id || one.tagName")
+        "const one = document.activeElement; return one.getAttribute('aria-label') || one.textContent.trim() || one.name || one.id || one.tagName"
+    )
     return found
 
 
@@ -157,10 +182,14 @@ def cells_of_path(path: str) -> Cells:
 
 def paths_seen(driver: Driver, selector: str, seconds: float) -> list[str]:
     """Returns the paths that a picture has within some seconds, in order. The page notes each change, so that none is missed."""
-    seen: list[str] = driver.execute_async_script("""
+    seen: list[str] = driver.execute_async_script(
+        """
 const [selector, seconds, done] = arguments, path = document.querySelector(`${selector} .live`), seen = [path.getAttribute('d')];
 new MutationObserver(() => seen.push(path.getAttribute('d'))).observe(path, { attributeFilter: ['d'] });
-setTimeout(() => done(seen), seconds * 1000);""", selector, seconds)
+setTimeout(() => done(seen), seconds * 1000);""",
+        selector,
+        seconds,
+    )
     return seen
 
 
@@ -171,15 +200,26 @@ def is_narrow(driver: Driver) -> bool:
 
 def has_live_points(driver: Driver) -> bool:
     """Checks whether the player's picture has points of the colour that live cells have on the page, within a second."""
-    return wait_for(lambda: bool(driver.execute_script("""
+    return wait_for(
+        lambda: bool(
+            driver.execute_script(
+                """
 const canvas = document.querySelector('.player canvas'), { data } = canvas.getContext('2d').getImageData(0, 0, canvas.width, canvas.height);
 const live = getComputedStyle(canvas).getPropertyValue('--live').match(/[0-9a-f]{2}/g).map(byte => parseInt(byte, 16));
-return data.some((value, at) => at % 4 === 0 && live.every((part, color) => data[at + color] === part));""")), 1)
+return data.some((value, at) => at % 4 === 0 && live.every((part, color) => data[at + color] === part));"""
+            )
+        ),
+        1,
+    )
 
 
 def complaints(driver: Driver) -> list[str]:
     """Returns what is on the console since the last call, but for what it says about this module's reading of a canvas."""
-    return [entry["message"] for entry in driver.get_log("browser") if "willReadFrequently" not in entry["message"]]
+    return [
+        entry["message"]
+        for entry in driver.get_log("browser")
+        if "willReadFrequently" not in entry["message"]
+    ]
 
 
 def low_contrasts(driver: Driver, least: float) -> list[str]:
@@ -190,9 +230,25 @@ def low_contrasts(driver: Driver, least: float) -> list[str]:
 def nameless(driver: Driver) -> list[str]:
     """Returns the controls of a page that a screen reader has no name for."""
     nodes: list[dict[str, Any]] = driver.execute_cdp_cmd("Accessibility.getFullAXTree", {})["nodes"]
-    roles = {"button", "link", "searchbox", "textbox", "combobox", "checkbox", "radio", "dialog", "img", "image"}
-    return [node["role"]["value"] for node in nodes
-            if not node["ignored"] and node["role"]["value"] in roles and not node.get("name", {}).get("value", "").strip()]
+    roles = {
+        "button",
+        "link",
+        "searchbox",
+        "textbox",
+        "combobox",
+        "checkbox",
+        "radio",
+        "dialog",
+        "img",
+        "image",
+    }
+    return [
+        node["role"]["value"]
+        for node in nodes
+        if not node["ignored"]
+        and node["role"]["value"] in roles
+        and not node.get("name", {}).get("value", "").strip()
+    ]
 
 
 def wait_for(holds: Callable[[], bool], seconds: float = 10) -> bool:
@@ -218,11 +274,15 @@ def longest_frame(driver: Driver) -> float:
 
     def worked() -> float:
         metrics = driver.execute_cdp_cmd("Performance.getMetrics", {})["metrics"]
-        return float(next(metric["value"] for metric in metrics if metric["name"] == "TaskDuration"))
+        return float(
+            next(metric["value"] for metric in metrics if metric["name"] == "TaskDuration")
+        )
 
     longest, before = 0.0, worked()
     for _ in range(40):
-        driver.execute_async_script("scrollBy(0, 300); requestAnimationFrame(() => requestAnimationFrame(arguments[0]))")
+        driver.execute_async_script(
+            "scrollBy(0, 300); requestAnimationFrame(() => requestAnimationFrame(arguments[0]))"
+        )
         now = worked()
         longest, before = max(longest, now - before), now
     driver.execute_cdp_cmd("Performance.disable", {})

@@ -19,7 +19,15 @@ WIDTHS = (390, 900, 1400)
 PULSAR = "xp3_co9nas0san9oczgoldlo0oldlogz1047210127401"
 # A haul that is lawful, though no census gives it: three objects of each code. By parts these are 3 + 2 * 3 + 4 * 3 blinkers,
 # 3 + 2 * 3 blocks, three boats, three tumblers and three beehives.
-CODES = ["xp14_j9d0d9j", "xp2_1110s", "xp2_7", "xp2_s01110szw222", "xs10_25520oo", "xs5_253", "xs8_rr"]
+CODES = [
+    "xp14_j9d0d9j",
+    "xp2_1110s",
+    "xp2_7",
+    "xp2_s01110szw222",
+    "xs10_25520oo",
+    "xs5_253",
+    "xs8_rr",
+]
 
 
 def check(name: str, holds: bool, seen: object = "") -> None:
@@ -31,7 +39,9 @@ def is_seen(name: str, seen: object, wanted: object) -> None:
 
 
 def census(*words: str, pattern: bytes = b"") -> bytes:
-    return subprocess.run([CENSUS, *words], input=pattern, stdout=subprocess.PIPE, check=True).stdout
+    return subprocess.run(
+        [CENSUS, *words], input=pattern, stdout=subprocess.PIPE, check=True
+    ).stdout
 
 
 def page_of(path: Path, *hauls: bytes, more: tuple[str, ...] = ()) -> Path:
@@ -44,10 +54,18 @@ def page_of(path: Path, *hauls: bytes, more: tuple[str, ...] = ()) -> Path:
     return path
 
 
-def haul_of(codes: list[str], soups: int, rule: str = "b3s23", counts: dict[str, int] | None = None, seed: str = "") -> bytes:
+def haul_of(
+    codes: list[str],
+    soups: int,
+    rule: str = "b3s23",
+    counts: dict[str, int] | None = None,
+    seed: str = "",
+) -> bytes:
     counts = counts or dict.fromkeys(codes, 3)
     samples = {code: [3 * k, 3 * k + 1, 3 * k + 2][: counts[code]] for k, code in enumerate(codes)}
-    return haul_text([(0, soups)], soups, seed=seed, rule=rule, profile=STANDARD, counts=counts, samples=samples)
+    return haul_text(
+        [(0, soups)], soups, seed=seed, rule=rule, profile=STANDARD, counts=counts, samples=samples
+    )
 
 
 def rows_of(haul: bytes, table: str) -> Iterator[list[str]]:
@@ -63,7 +81,9 @@ def in_order(code: str) -> tuple[str, int, str]:
 
 def drawn(code: str, generation: int = 0) -> Cells:
     """The cells of an object after this many generations, moved to the corner."""
-    return drawing(*census("run", str(generation), pattern=census("show", code)).decode().splitlines())
+    return drawing(
+        *census("run", str(generation), pattern=census("show", code)).decode().splitlines()
+    )
 
 
 def go_to(driver: Driver, address: str) -> None:

@@ -26,13 +26,25 @@ class Call(NamedTuple):
 def fault_of(call: Call) -> str:
     """Makes the call, and returns what is wrong with its answer: nothing if it is right."""
     try:
-        ended = subprocess.run([program.CENSUS, *call.words], input=call.given, capture_output=True, check=False, timeout=MOST_SECONDS)
+        ended = subprocess.run(
+            [program.CENSUS, *call.words],
+            input=call.given,
+            capture_output=True,
+            check=False,
+            timeout=MOST_SECONDS,
+        )
     except subprocess.TimeoutExpired:
         return f"{call.name}: it takes over {MOST_SECONDS} seconds"
     faults = [
-        "" if ended.returncode == call.status else f"status {ended.returncode}, and not {call.status}",
-        "" if ended.stdout == call.output else f"output {shown(ended.stdout)}, and not {shown(call.output)}",
-        "" if ended.stderr == call.errors else f"errors {shown(ended.stderr)}, and not {shown(call.errors)}",
+        ""
+        if ended.returncode == call.status
+        else f"status {ended.returncode}, and not {call.status}",
+        ""
+        if ended.stdout == call.output
+        else f"output {shown(ended.stdout)}, and not {shown(call.output)}",
+        ""
+        if ended.stderr == call.errors
+        else f"errors {shown(ended.stderr)}, and not {shown(call.errors)}",
     ]
     wrong = ", ".join(filter(None, faults))
     return f"{call.name}: {wrong}" if wrong else ""

@@ -32,7 +32,9 @@ def profile_words(profile: Profile) -> list[str]:
 
 def profile_pairs(profile: Profile) -> list[str]:
     """Returns the options of a profile, each followed by its value as a separate argument."""
-    return [word for name, number in profile._asdict().items() for word in (f"--{name}", str(number))]
+    return [
+        word for name, number in profile._asdict().items() for word in (f"--{name}", str(number))
+    ]
 
 
 # Under it no soup settles.
@@ -43,32 +45,63 @@ DEAD = [*profile_words(TWO_CHECKPOINTS), f"--rule={DEADLY}"]
 ALL_LIVE = [*profile_words(ONE_CHECKPOINT), f"--rule={STILL}"]
 
 
-def haul_text(ranges: Sequence[Range], soups: int, *, seed: str = "", rule: str = LIFE, profile: Profile = ONE_CHECKPOINT, unsettled: int = 0, for_good: int = 0,
-              counts: Mapping[str, int] | None = None, samples: Mapping[str, Sequence[int]] | None = None) -> bytes:
+def haul_text(
+    ranges: Sequence[Range],
+    soups: int,
+    *,
+    seed: str = "",
+    rule: str = LIFE,
+    profile: Profile = ONE_CHECKPOINT,
+    unsettled: int = 0,
+    for_good: int = 0,
+    counts: Mapping[str, int] | None = None,
+    samples: Mapping[str, Sequence[int]] | None = None,
+) -> bytes:
     """Returns the text of a haul. Of the samples of a code only the first three are written."""
     counts, samples = counts or {}, samples or {}
-    return "".join(f"{line}\n" for line in [
-        "@VERSION 2",
-        f"@ROOT seed={seed}",
-        f"@RULE {rule}",
-        "@SYMMETRY C1",
-        f"@PROFILE {' '.join(map(str, profile))}",
-        *(f"@RANGE {first} {count}" for first, count in ranges),
-        f"@NUM_SOUPS {soups}",
-        f"@NUM_UNSETTLED {unsettled}",
-        f"@NUM_FOR_GOOD {for_good}",
-        f"@NUM_OBJECTS {sum(counts.values())}",
-        "",
-        "@CENSUS TABLE",
-        *(f"{code} {counts[code]}" for code in sorted(counts)),
-        "",
-        "@SAMPLE_SOUPIDS",
-        *(f"{code} {' '.join(map(str, samples[code][:MOST_SAMPLES]))}" for code in sorted(samples)),
-    ]).encode()
+    return "".join(
+        f"{line}\n"
+        for line in [
+            "@VERSION 2",
+            f"@ROOT seed={seed}",
+            f"@RULE {rule}",
+            "@SYMMETRY C1",
+            f"@PROFILE {' '.join(map(str, profile))}",
+            *(f"@RANGE {first} {count}" for first, count in ranges),
+            f"@NUM_SOUPS {soups}",
+            f"@NUM_UNSETTLED {unsettled}",
+            f"@NUM_FOR_GOOD {for_good}",
+            f"@NUM_OBJECTS {sum(counts.values())}",
+            "",
+            "@CENSUS TABLE",
+            *(f"{code} {counts[code]}" for code in sorted(counts)),
+            "",
+            "@SAMPLE_SOUPIDS",
+            *(
+                f"{code} {' '.join(map(str, samples[code][:MOST_SAMPLES]))}"
+                for code in sorted(samples)
+            ),
+        ]
+    ).encode()
 
 
-def report_line(number: int, worker: int = 1, *, seed: str = "", rule: str = LIFE, profile: Profile = ONE_CHECKPOINT, version: int = 2,
-                found: Sequence[bytes] = (b"unsettled",)) -> bytes:
+def report_line(
+    number: int,
+    worker: int = 1,
+    *,
+    seed: str = "",
+    rule: str = LIFE,
+    profile: Profile = ONE_CHECKPOINT,
+    version: int = 2,
+    found: Sequence[bytes] = (b"unsettled",),
+) -> bytes:
     """Returns the report line of a soup, with its line feed. `found` are the fields after the soup's number."""
     return b"report %d rule=%s profile=%d,%d,%d,%d seed=%s worker=%d soup=%d %s\n" % (
-        version, rule.encode(), *profile, seed.encode(), worker, number, b" ".join(found))
+        version,
+        rule.encode(),
+        *profile,
+        seed.encode(),
+        worker,
+        number,
+        b" ".join(found),
+    )

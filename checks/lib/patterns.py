@@ -12,7 +12,9 @@ SOUP_SIDE = 16
 
 
 def drawing(*rows: str) -> Cells:
-    return frozenset((x, y) for y, row in enumerate(rows) for x, cell in enumerate(row) if cell == "O")
+    return frozenset(
+        (x, y) for y, row in enumerate(rows) for x, cell in enumerate(row) if cell == "O"
+    )
 
 
 def plaintext(cells: Cells) -> str:
@@ -59,7 +61,12 @@ SPACESHIPS = [
 # These two grow without end: the one lays blocks, and the other goes at half the speed of light.
 SWITCH_ENGINE = drawing("......O.", "....O.OO", "....O.O.", "....O...", "..O.....", "O.O.....")
 PUFFER = drawing(
-    ".OOO......O.....O......OOO.", "O..O.....OOO...OOO.....O..O", "...O....OO.O...O.OO....O...", "...O...................O...",
-    "...O..O.............O..O...", "...O..OO...........OO..O...", "..O...OO...........OO...O..",
+    ".OOO......O.....O......OOO.",
+    "O..O.....OOO...OOO.....O..O",
+    "...O....OO.O...O.OO....O...",
+    "...O...................O...",
+    "...O..O.............O..O...",
+    "...O..OO...........OO..O...",
+    "..O...OO...........OO...O..",
 )
 RABBITS = drawing("O...OOO", "OOO..O.", ".O.....")

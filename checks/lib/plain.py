@@ -49,7 +49,9 @@ NEIGHBOURS = [(dx, dy) for dx in (-1, 0, 1) for dy in (-1, 0, 1) if dx or dy]
 
 def next_of(rule: Rule, cells: Cells) -> Cells:
     live_neighbours = Counter([(x + dx, y + dy) for x, y in cells for dx, dy in NEIGHBOURS])
-    born = {cell for cell, live in live_neighbours.items() if live in rule.births and cell not in cells}
+    born = {
+        cell for cell, live in live_neighbours.items() if live in rule.births and cell not in cells
+    }
     return frozenset(born | {cell for cell in cells if live_neighbours[cell] in rule.survivals})
 
 
@@ -96,6 +98,7 @@ def phases_of(rule: Rule, cells: Cells, period: int) -> tuple[list[Cells], Cells
 
 # ---- Codes
 
+
 def run_text(length: int) -> str:
     """Returns the text of a run of empty columns."""
     return ["", "0", "w", "x"][length] if length < 4 else "y" + DIGITS[length - 4]
@@ -121,7 +124,11 @@ def wechsler(cells: Cells) -> str | None:
         return None
     strips = []
     for top in range(0, height, STRIP):
-        strips.append(strip_text([sum(1 << k for k in range(STRIP) if (x, top + k) in cells) for x in range(width)]))
+        strips.append(
+            strip_text(
+                [sum(1 << k for k in range(STRIP) if (x, top + k) in cells) for x in range(width)]
+            )
+        )
     return "z".join(strips)
 
 
@@ -139,13 +146,19 @@ def code_of(phases: list[Cells], again: Cells) -> str:
         kind, number = "p", period
     else:
         kind, number = "s", len(phases[0])
-    texts = [text for phase in phases for image in orientations(phase) if (text := wechsler(image)) is not None]
+    texts = [
+        text
+        for phase in phases
+        for image in orientations(phase)
+        if (text := wechsler(image)) is not None
+    ]
     if not texts:
         return f"ov_{kind}{number}"
     return f"x{kind}{number}_{min(texts, key=lambda text: (len(text), text))}"
 
 
 # ---- Findings
+
 
 def objects_at_rest(rule: Rule, period: int, horizon: int, cells: Cells) -> Counter[str] | None:
     """Returns the number of objects of each code, or `None` if the pattern is not at rest."""
@@ -158,7 +171,9 @@ def objects_at_rest(rule: Rule, period: int, horizon: int, cells: Cells) -> Coun
         codes[code_of(*found)] += 1
     whole, parts = cells, clusters
     for generation in range(horizon + 1):
-        if frozenset(cell for part in parts for cell in part) != whole or sum(map(len, parts)) != len(whole):
+        if frozenset(cell for part in parts for cell in part) != whole or sum(
+            map(len, parts)
+        ) != len(whole):
             return None
         if generation < horizon:
             whole, parts = next_of(rule, whole), [next_of(rule, part) for part in parts]
@@ -171,6 +186,8 @@ def finding(rule: Rule, profile: Profile, cells: Cells) -> str:
         if generation % profile.stride == 0:
             objects = objects_at_rest(rule, profile.period, profile.horizon, cells)
             if objects is not None:
-                return f"settled {generation}\n" + "".join(f"{code} {objects[code]}\n" for code in sorted(objects))
+                return f"settled {generation}\n" + "".join(
+                    f"{code} {objects[code]}\n" for code in sorted(objects)
+                )
         cells = next_of(rule, cells)
     return "unsettled\n"

@@ -12,7 +12,9 @@ from checks.lib.plain import objects_at_rest, rule_named
 
 def objects_of_still_soup(number: int) -> dict[str, int]:
     """Returns the number of objects of each code in a soup, by the plain program of the definitions."""
-    objects = objects_at_rest(rule_named(STILL), ONE_CHECKPOINT.period, ONE_CHECKPOINT.horizon, soup(number))
+    objects = objects_at_rest(
+        rule_named(STILL), ONE_CHECKPOINT.period, ONE_CHECKPOINT.horizon, soup(number)
+    )
     assert objects is not None
     return dict(objects)
 
@@ -34,4 +36,11 @@ class StillSoups:
             self.samples.setdefault(code, []).append(number)
 
     def haul_text(self) -> bytes:
-        return haul_text([(0, self.soups)], self.soups, rule=STILL, for_good=self.soups, counts=self.counts, samples=self.samples)
+        return haul_text(
+            [(0, self.soups)],
+            self.soups,
+            rule=STILL,
+            for_good=self.soups,
+            counts=self.counts,
+            samples=self.samples,
+        )

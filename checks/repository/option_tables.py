@@ -13,9 +13,11 @@ from pathlib import Path
 TOP = Path(__file__).resolve().parents[2]
 sys.path.insert(0, str(TOP))
 
-from haul.options import parser  # noqa: E402
+from haul.options import parser
 
-OPTIONS, COMMANDS = (TOP / "crates" / "arguments" / "src" / name for name in ("options.rt", "commands.rt"))
+OPTIONS, COMMANDS = (
+    TOP / "crates" / "arguments" / "src" / name for name in ("options.rt", "commands.rt")
+)
 # The values of options that are files.
 FILES = {"PATH", "PROGRAM"}
 
@@ -40,7 +42,11 @@ class Option:
     def short(self) -> str:
         """The first words of the help, for a list of options."""
         said = re.sub(r"^with --\w+: ", "", self.help)
-        return shell_text(re.split(r"[.:;(]|, (?:from|such|also|and|with|up|[0-9]) ?", said, maxsplit=1)[0].strip())
+        return shell_text(
+            re.split(r"[.:;(]|, (?:from|such|also|and|with|up|[0-9]) ?", said, maxsplit=1)[
+                0
+            ].strip()
+        )
 
 
 def shell_text(text: str) -> str:
@@ -78,86 +84,175 @@ def text_of(literal: str) -> str:
 
 def census_options() -> dict[str, Option]:
     found = {}
-    for name, body in re.findall(r"pub const (\w+): Parameter = Parameter \{(.*?)\n\};", OPTIONS.read_text(), re.DOTALL):
-        parts = {key: re.search(pattern, body, re.DOTALL) for key, pattern in
-                 {"name": rf"name: {STRING}", "place": rf"Place::Named\({STRING}\)", "default": rf"default: Some\({STRING}\)", "help": rf"help: {STRING}"}.items()}
-        own, place, default, said = (match[1] if (match := parts[key]) else None for key in ("name", "place", "default", "help"))
+    for name, body in re.findall(
+        r"pub const (\w+): Parameter = Parameter \{(.*?)\n\};", OPTIONS.read_text(), re.DOTALL
+    ):
+        parts = {
+            key: re.search(pattern, body, re.DOTALL)
+            for key, pattern in {
+                "name": rf"name: {STRING}",
+                "place": rf"Place::Named\({STRING}\)",
+                "default": rf"default: Some\({STRING}\)",
+                "help": rf"help: {STRING}",
+            }.items()
+        }
+        own, place, default, said = (
+            match[1] if (match := parts[key]) else None
+            for key in ("name", "place", "default", "help")
+        )
         assert own and said
         value = own if place is None else place
-        found[name] = Option(own, value, " ".join(text_of(said).split()), default, flag=place is not None)
+        found[name] = Option(
+            own, value, " ".join(text_of(said).split()), default, flag=place is not None
+        )
     return found
 
 
 def census_commands() -> list[Command]:
     options, commands = census_options(), []
-    for body in re.findall(r"pub const \w+: CommandRow = CommandRow \{(.*?)\n\};", COMMANDS.read_text(), re.DOTALL):
-        name, about, rows = (re.search(pattern, body, re.DOTALL) for pattern in (rf"name: {STRING}", rf"about: {STRING}", r"parameters: &\[(.*?)\]"))
+    for body in re.findall(
+        r"pub const \w+: CommandRow = CommandRow \{(.*?)\n\};", COMMANDS.read_text(), re.DOTALL
+    ):
+        name, about, rows = (
+            re.search(pattern, body, re.DOTALL)
+            for pattern in (rf"name: {STRING}", rf"about: {STRING}", r"parameters: &\[(.*?)\]")
+        )
         assert name and about and rows
-        commands.append(Command(name[1], text_of(about[1]), [options[row] for row in re.findall(r"\w+", rows[1])]))
+        commands.append(
+            Command(
+                name[1], text_of(about[1]), [options[row] for row in re.findall(r"\w+", rows[1])]
+            )
+        )
     return commands
 
 
 # ---- haul: the table in Python
 
+
 def haul_commands() -> list[Command]:
-    commands = next(action for action in parser()._actions if isinstance(action, argparse._SubParsersAction))
+    commands = next(
+        action for action in parser()._actions if isinstance(action, argparse._SubParsersAction)
+    )
     abouts = {action.dest: action.help or "" for action in commands._choices_actions}
-    return [Command(name, abouts[name], list(haul_options(command))) for name, command in commands.choices.items()]
+    return [
+        Command(name, abouts[name], list(haul_options(command)))
+        for name, command in commands.choices.items()
+    ]
 
 
 def haul_options(command: argparse.ArgumentParser) -> Iterator[Option]:
     for action in command._actions:
         if isinstance(action, argparse._HelpAction):
             continue
-        groups = [group for group in command._mutually_exclusive_groups if action in group._group_actions]
-        excludes = tuple(other.option_strings[0] for group in groups for other in group._group_actions if other is not action)
+        groups = [
+            group for group in command._mutually_exclusive_groups if action in group._group_actions
+        ]
+        excludes = tuple(
+            other.option_strings[0]
+            for group in groups
+            for other in group._group_actions
+            if other is not action
+        )
         said = action.help or ""
         default = re.search(r" \(default: ([^()]*)\)", said)
-        name = action.option_strings[0].lstrip("-") if action.option_strings else str(action.metavar or action.dest)
+        name = (
+            action.option_strings[0].lstrip("-")
+            if action.option_strings
+            else str(action.metavar or action.dest)
+        )
         takes = action.nargs != 0
         value = str(action.metavar or action.dest) if takes or not action.option_strings else ""
-        yield Option(name, value, said.replace(default[0], "") if default else said, default[1] if default else None, bool(action.option_strings),
-                     tuple(map(str, action.choices or ())), value in FILES or (not action.option_strings and value != "ID"), action.nargs in ("*", "+"), excludes)
+        yield Option(
+            name,
+            value,
+            said.replace(default[0], "") if default else said,
+            default[1] if default else None,
+            bool(action.option_strings),
+            tuple(map(str, action.choices or ())),
+            value in FILES or (not action.option_strings and value != "ID"),
+            action.nargs in ("*", "+"),
+            excludes,
+        )
 
 
 # ---- Completions
 
-WARNING = "# Made by `checks/options --write` from the tables of commands and options: don't edit it."
+WARNING = (
+    "# Made by `checks/options --write` from the tables of commands and options: don't edit it."
+)
 
 
 def bash(program: str, commands: list[Command]) -> str:
     names = " ".join(command.name for command in commands)
     helps = program == "census"
-    options = {option.name: option for command in commands for option in command.options if option.flag}
-    lines = [f"# Completion of {program} for bash.", WARNING, "", f"_{program}() {{",
-             "    local word=${COMP_WORDS[COMP_CWORD]} before=${COMP_WORDS[COMP_CWORD - 1]} options=''", "    COMPREPLY=()", "    if [[ $COMP_CWORD == 1 ]]; then",
-             f"        mapfile -t COMPREPLY < <(compgen -W '{names}{' help' if helps else ''} --help --version' -- \"$word\")", "        return", "    fi",
-             "    # After an option that takes a value, only its values are proposed.", "    case $before in", "        =) return ;;"]
-    free = [f"--{name}" for name, option in options.items() if option.value and not option.choices and not option.is_file]
+    options = {
+        option.name: option for command in commands for option in command.options if option.flag
+    }
+    lines = [
+        f"# Completion of {program} for bash.",
+        WARNING,
+        "",
+        f"_{program}() {{",
+        "    local word=${COMP_WORDS[COMP_CWORD]} before=${COMP_WORDS[COMP_CWORD - 1]} options=''",
+        "    COMPREPLY=()",
+        "    if [[ $COMP_CWORD == 1 ]]; then",
+        f"        mapfile -t COMPREPLY < <(compgen -W '{names}{' help' if helps else ''} --help --version' -- \"$word\")",
+        "        return",
+        "    fi",
+        "    # After an option that takes a value, only its values are proposed.",
+        "    case $before in",
+        "        =) return ;;",
+    ]
+    free = [
+        f"--{name}"
+        for name, option in options.items()
+        if option.value and not option.choices and not option.is_file
+    ]
     lines.append(f"        {' | '.join(free)}) return ;;")
     for name, option in options.items():
         if option.choices:
-            lines += [f"        --{name})", f"            mapfile -t COMPREPLY < <(compgen -W '{' '.join(option.choices)}' -- \"$word\")", "            return", "            ;;"]
+            lines += [
+                f"        --{name})",
+                f"            mapfile -t COMPREPLY < <(compgen -W '{' '.join(option.choices)}' -- \"$word\")",
+                "            return",
+                "            ;;",
+            ]
     files = [f"--{name}" for name, option in options.items() if option.is_file]
     if files:
-        lines += [f"        {' | '.join(files)})", "            mapfile -t COMPREPLY < <(compgen -f -- \"$word\")", "            return", "            ;;"]
+        lines += [
+            f"        {' | '.join(files)})",
+            '            mapfile -t COMPREPLY < <(compgen -f -- "$word")',
+            "            return",
+            "            ;;",
+        ]
     lines += ["    esac", "    case ${COMP_WORDS[1]} in"]
     for command in commands:
         own = " ".join(f"--{option.name}" for option in command.options if option.flag)
         lines.append(f"        {command.name}) options='{own}{' ' if own else ''}--help' ;;")
     lines += [f"        help) options='{names}' ;;"] if helps else []
     lines.append("    esac")
-    proposed = "mapfile -t COMPREPLY < <(compgen -W \"$options\" -- \"$word\")"
-    if any(option.is_file and not option.flag for command in commands for option in command.options):
-        lines += ["    if [[ $word == -* ]]; then", f"        {proposed}", "    else", "        mapfile -t COMPREPLY < <(compgen -f -- \"$word\")", "    fi", "}",
-                  f"complete -o filenames -F _{program} {program}"]
+    proposed = 'mapfile -t COMPREPLY < <(compgen -W "$options" -- "$word")'
+    if any(
+        option.is_file and not option.flag for command in commands for option in command.options
+    ):
+        lines += [
+            "    if [[ $word == -* ]]; then",
+            f"        {proposed}",
+            "    else",
+            '        mapfile -t COMPREPLY < <(compgen -f -- "$word")',
+            "    fi",
+            "}",
+            f"complete -o filenames -F _{program} {program}",
+        ]
     else:
         lines += [f"    {proposed}", "}", f"complete -F _{program} {program}"]
     return "\n".join(lines) + "\n"
 
 
 def zsh_word(option: Option, place: int) -> str:
-    action = f"({' '.join(option.choices)})" if option.choices else "_files" if option.is_file else ""
+    action = (
+        f"({' '.join(option.choices)})" if option.choices else "_files" if option.is_file else ""
+    )
     if not option.flag:
         return f"'{'*' if option.several else place}:{lower(option.short)}:{action}'"
     excluded = f"({' '.join(option.excludes)})" if option.excludes else ""
@@ -167,41 +262,97 @@ def zsh_word(option: Option, place: int) -> str:
 
 
 def zsh(program: str, commands: list[Command]) -> str:
-    lines = [f"#compdef {program}", f"# Completion of {program} for zsh.", WARNING, "", f"_{program}() {{", "    local -a commands help", "    local context state line",
-             "    typeset -A opt_args", "    commands=("]
-    lines += [f"        '{command.name}:{shell_text(lower(command.about))}'" for command in commands]
+    lines = [
+        f"#compdef {program}",
+        f"# Completion of {program} for zsh.",
+        WARNING,
+        "",
+        f"_{program}() {{",
+        "    local -a commands help",
+        "    local context state line",
+        "    typeset -A opt_args",
+        "    commands=(",
+    ]
+    lines += [
+        f"        '{command.name}:{shell_text(lower(command.about))}'" for command in commands
+    ]
     lines += ["        'help:explain a command'"] if program == "census" else []
-    version = "'(- *)'{-V,--version}'[print the version]'" if program == "census" else "'(- *)--version[print the version]'"
-    lines += ["    )", "    help=('(-h --help)'{-h,--help}'[print help]')",
-              f"    _arguments -C {version} $help '1: :->command' '*:: :->words' && return", "    case $state in",
-              "        command) _describe -t commands command commands ;;", "        words)", "            case $line[1] in"]
+    version = (
+        "'(- *)'{-V,--version}'[print the version]'"
+        if program == "census"
+        else "'(- *)--version[print the version]'"
+    )
+    lines += [
+        "    )",
+        "    help=('(-h --help)'{-h,--help}'[print help]')",
+        f"    _arguments -C {version} $help '1: :->command' '*:: :->words' && return",
+        "    case $state in",
+        "        command) _describe -t commands command commands ;;",
+        "        words)",
+        "            case $line[1] in",
+    ]
     for command in commands:
         places = iter(range(1, 10))
-        words = " ".join(["$help", *(zsh_word(option, 0 if option.flag else next(places)) for option in command.options)])
+        words = " ".join(
+            [
+                "$help",
+                *(
+                    zsh_word(option, 0 if option.flag else next(places))
+                    for option in command.options
+                ),
+            ]
+        )
         lines.append(f"                {command.name}) _arguments {words} ;;")
-    lines += ["                help) _describe -t commands command commands ;;"] if program == "census" else []
-    lines += ["            esac", "            ;;", "    esac", "}", f"_{program} \"$@\""]
+    lines += (
+        ["                help) _describe -t commands command commands ;;"]
+        if program == "census"
+        else []
+    )
+    lines += ["            esac", "            ;;", "    esac", "}", f'_{program} "$@"']
     return "\n".join(lines) + "\n"
 
 
 def fish(program: str, commands: list[Command]) -> str:
     begin, seen = f"complete -c {program}", "__fish_seen_subcommand_from"
-    lines = [f"# Completion of {program} for fish.", WARNING, "", f"{begin} -f" if program == "census" else f"{begin} -n __fish_use_subcommand -f"]
-    lines += [f"{begin} -n __fish_use_subcommand -a {command.name} -d '{shell_text(upper(command.about))}'" for command in commands]
+    lines = [
+        f"# Completion of {program} for fish.",
+        WARNING,
+        "",
+        f"{begin} -f" if program == "census" else f"{begin} -n __fish_use_subcommand -f",
+    ]
+    lines += [
+        f"{begin} -n __fish_use_subcommand -a {command.name} -d '{shell_text(upper(command.about))}'"
+        for command in commands
+    ]
     if program == "census":
         lines.append(f"{begin} -n __fish_use_subcommand -a help -d 'Explain a command'")
-    lines.append(f"{begin} -n __fish_use_subcommand {'-s V ' if program == 'census' else ''}-l version -d 'Print the version'")
+    lines.append(
+        f"{begin} -n __fish_use_subcommand {'-s V ' if program == 'census' else ''}-l version -d 'Print the version'"
+    )
     lines.append(f"{begin} -s h -l help -d 'Print help'")
     for option, names in grouped(commands):
         if option.flag:
-            takes = f" -x -a '{' '.join(option.choices)}'" if option.choices else " -r" if option.is_file else " -x" if option.value else ""
-            lines.append(f"{begin} -n '{seen} {' '.join(names)}' -l {option.name}{takes} -d '{upper(option.short)}'")
+            takes = (
+                f" -x -a '{' '.join(option.choices)}'"
+                if option.choices
+                else " -r"
+                if option.is_file
+                else " -x"
+                if option.value
+                else ""
+            )
+            lines.append(
+                f"{begin} -n '{seen} {' '.join(names)}' -l {option.name}{takes} -d '{upper(option.short)}'"
+            )
     if program == "census":
-        lines.append(f"{begin} -n '{seen} help' -a '{' '.join(command.name for command in commands)}'")
+        lines.append(
+            f"{begin} -n '{seen} help' -a '{' '.join(command.name for command in commands)}'"
+        )
     return "\n".join(lines) + "\n"
 
 
 # ---- Lists of options
+
 
 def grouped(commands: list[Command]) -> list[tuple[Option, list[str]]]:
     """Each option once, with the commands that have it. Options of one name with other help are other options."""
@@ -236,9 +387,14 @@ def manual(commands: list[Command]) -> str:
         if option.flag:
             lines.append(f".It Fl Fl {option.name}{f' Ar {option.value}' if option.value else ''}")
             for sentence in sentences(option):
-                lines += textwrap.wrap(roff(sentence), 78, break_on_hyphens=False, break_long_words=False)
+                lines += textwrap.wrap(
+                    roff(sentence), 78, break_on_hyphens=False, break_long_words=False
+                )
             lines.append("For")
-            lines += [f".Cm {name}{' ,' if place < len(names) - 1 else ' .'}" for place, name in enumerate(names)]
+            lines += [
+                f".Cm {name}{' ,' if place < len(names) - 1 else ' .'}"
+                for place, name in enumerate(names)
+            ]
     return "\n".join([*lines, ".El"]) + "\n"
 
 
@@ -248,6 +404,16 @@ def table(commands: list[Command]) -> str:
     for option, names in grouped(commands):
         if option.flag:
             value = f" {option.value}" if option.value else ""
-            default = "required" if option.value and option.default is None else "" if option.default is None else f"`{option.default}`" if option.default else "empty"
-            lines.append(f"| `--{option.name}{value}` | {option.help} | {default} | {', '.join(f'`{name}`' for name in names)} |")
+            default = (
+                "required"
+                if option.value and option.default is None
+                else ""
+                if option.default is None
+                else f"`{option.default}`"
+                if option.default
+                else "empty"
+            )
+            lines.append(
+                f"| `--{option.name}{value}` | {option.help} | {default} | {', '.join(f'`{name}`' for name in names)} |"
+            )
     return "\n".join(lines) + "\n"
