@@ -11,7 +11,8 @@ from checks.haul.browser import Driver
 from checks.lib.formats import STANDARD, haul_text
 from checks.lib.patterns import drawing
 from checks.lib.plain import Cells
-from checks.lib.program import CENSUS, TOP, Count
+from checks.lib.count import Count
+from checks.lib.program import CENSUS, TOP
 
 count = Count()
 HAUL = TOP / "bin" / "haul"

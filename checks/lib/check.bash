@@ -1,6 +1,6 @@
 # shellcheck shell=bash
-# What the checks in bash share, which load this file by its full path: where the repository is, which program they try, and how
-# they count.
+# What the checks in Bash share, which load this file by its full path: where the repository is, which program they try, and the one
+# way in which they count and print.
 #
 # `launcher` is what starts the program, and `census` the program's file. The variable CENSUS may name another program: then it
 # is both.
@@ -19,10 +19,10 @@ fail() {
     failed=$((failed + 1))
 }
 
-# Says what can't be tried here, and how many checks that leaves out.
+# Counts checks that can't run here: what they are, why, and how many.
 skip() {
-    echo "skipped: $1"
-    skipped=$((skipped + $2))
+    echo "skipped: $1, since $2"
+    skipped=$((skipped + $3))
 }
 
 # Runs a command, after a name for what it looks at, which must end with status 0.
