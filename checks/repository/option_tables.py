@@ -178,7 +178,7 @@ def haul_options(command: argparse.ArgumentParser) -> Iterator[Option]:
 # ---- Completions
 
 WARNING = (
-    "# Made by `checks/options --write` from the tables of commands and options: don't edit it."
+    "# Made by `checks/repository/options --write` from the tables of commands and options: don't edit it."
 )
 
 
