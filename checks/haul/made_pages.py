@@ -8,10 +8,10 @@ from collections.abc import Iterator
 from pathlib import Path
 
 from checks.haul.browser import Driver
+from checks.lib.count import Count
 from checks.lib.formats import STANDARD, haul_text
 from checks.lib.patterns import drawing
 from checks.lib.plain import Cells
-from checks.lib.count import Count
 from checks.lib.program import CENSUS, TOP
 
 count = Count()
@@ -29,14 +29,6 @@ CODES = [
     "xs5_253",
     "xs8_rr",
 ]
-
-
-def check(name: str, holds: bool, seen: object = "") -> None:
-    count.check(name, "" if holds else f"it doesn't hold{f': {seen}' if seen else ''}")
-
-
-def is_seen(name: str, seen: object, wanted: object) -> None:
-    count.check(name, "" if seen == wanted else f"{seen!r} is seen, and not {wanted!r}")
 
 
 def census(*words: str, pattern: bytes = b"") -> bytes:

@@ -18,16 +18,7 @@ from checks.haul.browser import (
     texts,
     wait_for,
 )
-from checks.haul.made_pages import (
-    PULSAR,
-    WIDTHS,
-    check,
-    haul_of,
-    in_order,
-    is_seen,
-    page_of,
-    rows_of,
-)
+from checks.haul.made_pages import PULSAR, WIDTHS, count, haul_of, in_order, page_of, rows_of
 
 TAB, ENTER, ESCAPE, SPACE, BACKSPACE = "\ue004", "\ue007", "\ue00c", " ", "\ue003"
 STATES = {
@@ -62,14 +53,14 @@ def try_looks(driver: Driver, path: Path, both: Path, haul: bytes) -> None:
             for dark in (False, True):
                 look_like(driver, width, dark)
                 where = f"{name} at {width}, {'dark' if dark else 'light'}"
-                check(f"nothing is wider than the page: {where}", browser.is_narrow(driver))
-                is_seen(f"contrasts: {where}", browser.low_contrasts(driver, 4.5), [])
+                count.holds(f"nothing is wider than the page: {where}", browser.is_narrow(driver))
+                count.equal(f"contrasts: {where}", browser.low_contrasts(driver, 4.5), [])
                 if name == "player":
-                    check(
+                    count.holds(
                         f"the player has the colours of the page: {where}",
                         browser.has_live_points(driver),
                     )
-                is_seen(
+                count.equal(
                     f"no card is cut: {where}",
                     driver.execute_script(
                         "return [...document.querySelectorAll('.card > a')].filter(one => one.scrollHeight > one.offsetHeight).length"
@@ -84,8 +75,10 @@ def try_looks(driver: Driver, path: Path, both: Path, haul: bytes) -> None:
                 tall = driver.execute_script(
                     "return Math.max(...[...document.querySelectorAll('.card')].map(one => one.offsetHeight))"
                 )
-                check("a card on a telephone is at most 90 points high", 40 < tall <= 90, tall)
-                is_seen(
+                count.holds(
+                    "a card on a telephone is at most 90 points high", 40 < tall <= 90, tall
+                )
+                count.equal(
                     "its total is in sight, and so are all chips",
                     driver.execute_script(
                         """
@@ -94,7 +87,7 @@ return [...document.querySelectorAll('.card .total, #chips .chip')].filter(one =
                     ),
                     [],
                 )
-        is_seen(f"all controls have names: {name}", browser.nameless(driver), [])
+        count.equal(f"all controls have names: {name}", browser.nameless(driver), [])
     look_like(driver, 1400)
 
 
@@ -102,21 +95,21 @@ def try_keyboard(driver: Driver, path: Path) -> None:
     """From the start of the page to a dialog and back, with the keyboard only."""
     opened(driver, path)
     press(driver, TAB, ENTER)
-    is_seen("a first link skips to the objects", browser.focused(driver), "Objects")
+    count.equal("a first link skips to the objects", browser.focused(driver), "Objects")
     press(driver, TAB, "g", "l", "i", "d", "e", "r")
-    is_seen("the search takes letters", all_of(driver)[:1], ["xq4_153"])
+    count.equal("the search takes letters", all_of(driver)[:1], ["xq4_153"])
     press(driver, *[BACKSPACE] * 6)
     for _ in range(12):
         press(driver, TAB)
         if browser.focused(driver).startswith("Oscillators"):
             break
     press(driver, SPACE)
-    check(
+    count.holds(
         "a key presses a chip",
         all(code.startswith("xp") for code in all_of(driver))
         and "kind=p" in browser.address(driver),
     )
-    check(
+    count.holds(
         "and the chip keeps the focus",
         browser.focused(driver).startswith("Oscillators"),
         browser.focused(driver),
@@ -126,7 +119,7 @@ def try_keyboard(driver: Driver, path: Path) -> None:
         if "xp2_7" in browser.focused(driver):
             break
     press(driver, ENTER)
-    check("a key opens a card", wait_for(lambda: text(driver, "#object-name") == "blinker"))
+    count.holds("a key opens a card", wait_for(lambda: text(driver, "#object-name") == "blinker"))
     places = []
     for _ in range(25):
         press(driver, TAB)
@@ -135,9 +128,9 @@ def try_keyboard(driver: Driver, path: Path) -> None:
                 "return document.activeElement === document.body || document.querySelector('dialog').contains(document.activeElement)"
             )
         )
-    check("the focus stays in the dialog", all(places))
+    count.holds("the focus stays in the dialog", all(places))
     press(driver, ESCAPE)
-    check(
+    count.holds(
         "a key closes it, and the focus is where it was",
         wait_for(lambda: "xp2_7" in browser.focused(driver))
         and browser.address(driver) == "#&kind=p",
@@ -151,13 +144,13 @@ def try_other_readers(driver: Driver, path: Path, haul: bytes) -> None:
     for address in ("#&strict=0", "#&strict=0&view=table"):
         opened(driver, path, address)
         look_like(driver, 720, medium="print")
-        is_seen("on paper all objects are there", len(all_of(driver)), len(totals))
-        check("on paper nothing is wider than the page", browser.is_narrow(driver))
-        check(
+        count.equal("on paper all objects are there", len(all_of(driver)), len(totals))
+        count.holds("on paper nothing is wider than the page", browser.is_narrow(driver))
+        count.holds(
             "on paper there are no controls",
             not driver.find_element("id", "controls").is_displayed(),
         )
-        is_seen(
+        count.equal(
             "on paper no card or row is split",
             driver.execute_script(
                 "return [...new Set([...document.querySelectorAll('.card, #list tbody tr')].map(one => getComputedStyle(one).breakInside))]"
@@ -169,24 +162,24 @@ def try_other_readers(driver: Driver, path: Path, haul: bytes) -> None:
         look_like(driver, width)
         opened(driver, path)
         rows = driver.find_elements("css selector", ".all tbody tr")
-        check(
+        count.holds(
             f"without scripts there is a table at {width}",
             len(rows) == len(totals)
             and rows[-1].is_displayed()
             and not driver.find_element("id", "objects").is_displayed(),
         )
-        check(f"and nothing is wider than the page at {width}", browser.is_narrow(driver))
-        check(
+        count.holds(f"and nothing is wider than the page at {width}", browser.is_narrow(driver))
+        count.holds(
             f"and the foot at {width}",
             "of Gokzerd" in driver.find_element("css selector", "footer").text,
         )
-        check(
+        count.holds(
             f"and the tiles at {width}",
             [one.text for one in driver.find_elements("css selector", ".tiles dd")][:1]
             == ["2,000"],
         )
     opened(driver, path, "#xq4_153")
-    is_seen(
+    count.equal(
         "a code leads to its row",
         ["glider" in row.text for row in driver.find_elements("css selector", "tr:target")],
         [True],
@@ -197,7 +190,7 @@ def try_other_readers(driver: Driver, path: Path, haul: bytes) -> None:
         "Page.addScriptToEvaluateOnNewDocument", {"source": "delete window.IntersectionObserver"}
     )
     opened(driver, path, "#&strict=0")
-    is_seen("without an observer all cards are there", len(texts(driver, ".card")), len(totals))
+    count.equal("without an observer all cards are there", len(texts(driver, ".card")), len(totals))
     driver.execute_cdp_cmd("Page.removeScriptToEvaluateOnNewDocument", added)
 
 
@@ -247,14 +240,14 @@ def try_large_page(driver: Driver, folder: Path) -> None:
     began = seconds_of_children()
     path = page_of(folder / "large.html", haul_of(codes, 36372), more=("--play=0",))
     took = seconds_of_children() - began
-    check(
+    count.holds(
         f"a page of {len(codes)} objects takes under 30 seconds of a processor: {took:.0f} s",
         len(codes) == 12124 and took < 30,
     )
     took = browser.least_of(lambda: browser.seconds_to_open(driver, path), tries=10, enough=2)
-    check(f"it opens in under two seconds: {took:.1f} s", took < 2)
+    count.holds(f"it opens in under two seconds: {took:.1f} s", took < 2)
     opened(driver, path, "#&strict=0")
-    is_seen(
+    count.equal(
         "it has all objects",
         text(driver, "#shown"),
         "12,124 of 12,124 kinds, 36,372 of 36,372 objects.",
@@ -262,9 +255,11 @@ def try_large_page(driver: Driver, folder: Path) -> None:
     for view in ("gallery", "table"):
         opened(driver, path, f"#&strict=0&view={view}")
         took = browser.least_of(lambda: browser.longest_frame(driver), tries=10, enough=100)
-        check(f"the {view} scrolls without a frame of over 100 ms: {took:.0f} ms", took <= 100)
+        count.holds(
+            f"the {view} scrolls without a frame of over 100 ms: {took:.0f} ms", took <= 100
+        )
         driver.execute_script("scrollTo(0, 1e9)")
-        check(
+        count.holds(
             f"the {view} has its last object",
             wait_for(lambda: codes[-1] in text(driver, "#list code")),
         )

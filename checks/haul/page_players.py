@@ -7,7 +7,7 @@ import time
 from pathlib import Path
 
 from checks.haul.browser import Driver, all_of, click, opened, press, text, wait_for
-from checks.haul.made_pages import census, check, go_to, is_seen, rows_of
+from checks.haul.made_pages import census, count, go_to, rows_of
 from checks.haul.page_looks import ENTER, SPACE
 
 # Soups that are played to their ends.
@@ -42,27 +42,27 @@ def try_players(driver: Driver, path: Path, haul: bytes) -> None:
             if many == 1
             else f"{many} rings are around each {around}."
         )
-        is_seen(
+        count.equal(
             f"soup {number} at its end, with {code}",
             text(driver, ".player output"),
             f"generation {settled} of {settled}, {live} cells: settled, as census says. {rings}",
         )
     click(driver, "[data-act=fit]")
     margins = margins_of(driver)
-    check(
+    count.holds(
         "all that is alive is in sight",
         min(margins) > 0 and margins[0] + margins[1] < 0.3 or margins[2] + margins[3] < 0.3,
         margins,
     )
     click(driver, "[data-act=ring]")
-    check("a button moves in on the ring", min(margins_of(driver)) == 0)
+    count.holds("a button moves in on the ring", min(margins_of(driver)) == 0)
     click(driver, "[data-act=fit]")
-    is_seen("and another one shows all again", margins_of(driver), margins)
+    count.equal("and another one shows all again", margins_of(driver), margins)
     click(driver, "[data-act=ring]")
     click(driver, "[data-act=back]")
     live = census("soup", number).count(b"O")
     # A cell has sixteen points a side, less those of the grid.
-    check(
+    count.holds(
         "at the start, all is in sight again",
         live_points(driver) >= live * 14 * 14,
         (live_points(driver), live),
@@ -74,7 +74,7 @@ def try_players(driver: Driver, path: Path, haul: bytes) -> None:
     wrong.write_text(re.sub(rf'("{number}":\["[^"]*",\d+),\d+,\d+\]', r"\1,1,1]", path.read_text()))
     opened(driver, wrong)
     play_to_end(driver, code, number)
-    check(
+    count.holds(
         "a soup that comes out otherwise is told",
         "but census says 1: this player is wrong" in text(driver, ".player output"),
         text(driver, ".player output"),
@@ -95,16 +95,18 @@ def try_view(driver: Driver) -> None:
     """Soup 1 leaves two gliders. The view follows the ash without them."""
     play_to_end(driver, "xs4_33", "1")
     followed = live_points(driver)
-    is_seen("a view follows the ash at first", pressed(driver), [["ash", "true"], ["fit", "false"]])
+    count.equal(
+        "a view follows the ash at first", pressed(driver), [["ash", "true"], ["fit", "false"]]
+    )
     click(driver, "[data-act=fit]")
-    check(
+    count.holds(
         "gliders make the ash small if all is in sight",
         live_points(driver) * 2 < followed,
         (live_points(driver), followed),
     )
-    is_seen("a button says so", pressed(driver), [["ash", "false"], ["fit", "true"]])
+    count.equal("a button says so", pressed(driver), [["ash", "false"], ["fit", "true"]])
     click(driver, "[data-act=ash]")
-    is_seen("another one follows the ash", live_points(driver), followed)
+    count.equal("another one follows the ash", live_points(driver), followed)
 
 
 def live_points(driver: Driver) -> int:
@@ -121,16 +123,16 @@ def pressed(driver: Driver) -> list[list[str]]:
 def try_end(driver: Driver) -> None:
     """At its end, a soup plays again from the start."""
     play_to_end(driver, "xs4_33", "1")
-    is_seen(
+    count.equal(
         "at the end, nothing is left to step to",
         driver.execute_script(
             "return [...document.querySelectorAll('.player button:disabled')].map(one => one.textContent)"
         ),
         ["Step", "To the end"],
     )
-    is_seen("and a button plays again", text(driver, "[data-act=play]"), "Play again")
+    count.equal("and a button plays again", text(driver, "[data-act=play]"), "Play again")
     click(driver, "[data-act=play]")
-    check(
+    count.holds(
         "from the start",
         wait_for(lambda: 0 < int(text(driver, ".player output").split()[1]) < 808)
         and text(driver, "[data-act=play]") == "Pause",
@@ -169,25 +171,25 @@ def try_keys_of_player(driver: Driver, number: str) -> None:
         press(driver, key)
 
     press_on("back", SPACE)
-    check(
+    count.holds(
         "it goes back",
         wait_for(lambda: said().startswith("generation 0 of ") and said().endswith(live(0))),
         said(),
     )
-    check(
+    count.holds(
         "without a ring",
         driver.find_element("css selector", "[data-act=ring]").get_property("hidden") is True,
     )
     for _ in range(3):
         press_on("step", ENTER)
-    check(
+    count.holds(
         "it goes on by a step each",
         wait_for(lambda: said().startswith("generation 3 of ") and said().endswith(live(3))),
         said(),
     )
     press_on("play", SPACE)
-    check("it plays", wait_for(lambda: int(said().split()[1]) > 10), said())
+    count.holds("it plays", wait_for(lambda: int(said().split()[1]) > 10), said())
     press_on("play", SPACE)
     stopped = said()
     time.sleep(0.2)
-    is_seen("it pauses", said(), stopped)
+    count.equal("it pauses", said(), stopped)
