@@ -1,7 +1,7 @@
 """Proves the crates and builds the program. `bin/census` and `bin/programs` call this package by bin/prove.bash.
 
-Proved crates are kept in a folder beside the program, so that an interrupted build continues where it stopped. `checks/build` and
-`checks/build/launcher` test this package with stubs in place of the prover.
+Proved crates are kept in a folder beside the program, so that an interrupted build continues where it stopped. The checks in
+`checks/build/` test this package with stubs in place of the prover.
 """
 
 from __future__ import annotations
