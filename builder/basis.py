@@ -1,6 +1,7 @@
 """The basis of a build: the toolchain's version and the digests of the sources.
 
-bin/built.bash computes it, because `bin/census` uses the same functions in every call to test whether the program is fresh.
+bin/built.bash computes it, because `bin/census` uses the same functions in every call to test
+whether the program is fresh.
 """
 
 from __future__ import annotations
@@ -53,8 +54,9 @@ class Built:
 
 
 def part_of(basis: str, crates: Crates, name: str) -> str:
-    """Returns the lines of a basis that a proof of this crate depends on: the toolchain's version, the list of crates, and the files of
-    the crate and of all crates below it."""
+    """Returns the lines of a basis that a proof of this crate depends on: the toolchain's version,
+    the list of crates, and the files of the crate and of all crates below it.
+    """
     below = crates.below[name]
     return "\n".join(
         line

@@ -43,7 +43,9 @@ class Build:
         return replace(self, kept=replace(self.kept, made=made))
 
     def build_program(self, cpu: str) -> None:
-        """Proves the crates that aren't kept, builds the program for a level of processors, and keeps them."""
+        """Proves the crates that aren't kept, builds the program for a level of processors, and
+        keeps them.
+        """
         with self.places.log.open("wb") as log:
             try:
                 Work(self, cpu, Log(log)).run()

@@ -56,7 +56,9 @@ class Crates:
         return [other for other in self.order if name in self.below[other]]
 
     def ways(self, weights: Mapping[str, int]) -> dict[str, int]:
-        """Returns the length of the longest path from each crate to the root: the sum of the weights on it."""
+        """Returns the length of the longest path from each crate to the root: the sum of the
+        weights on it.
+        """
         longest: dict[str, int] = {}
         for name in reversed(self.order):
             users = [other for other in self.order if name in self.graph[other]]
@@ -65,8 +67,9 @@ class Crates:
 
 
 def weights_of(folders: Mapping[str, Path], names: Iterable[str]) -> dict[str, int]:
-    """Estimates how long it takes to prove each crate: the size of its sources in kilobytes, plus one, since even an empty crate takes
-    some time."""
+    """Estimates how long it takes to prove each crate: the size of its sources in kilobytes, plus
+    one, since even an empty crate takes some time.
+    """
     return {name: 1 + bytes_in(folders[name]) // KILOBYTE for name in names}
 
 

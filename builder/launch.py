@@ -13,7 +13,9 @@ from builder.places import PROGRAM, Places
 
 
 def tell_what_is_done() -> None:
-    """Says that the program is being built, and that this takes long. On a terminal it also names a faster way to try the program."""
+    """Says that the program is being built, and that this takes long. On a terminal it also names a
+    faster way to try the program.
+    """
     meanwhile = " (bin/unproved runs it in a minute, without proof)" if is_terminal() else ""
     say(
         "building the program, which is proved first: that takes some 10 minutes the first time with four processors"

@@ -1,4 +1,6 @@
-"""Puts the program for each level of processors into a folder, with the prover's verdict on each crate, for `bin/programs`."""
+"""Puts the program for each level of processors into a folder, with the prover's verdict on each
+crate, for `bin/programs`.
+"""
 
 from __future__ import annotations
 
@@ -41,7 +43,8 @@ def make_programs(places: Places, asked: Asked) -> None:
     if asked.ci_log is not None:
         with own_folder(build) as own:
             take_from_ci(own, asked.ci_log, asked.again)
-            # A second copy of the prover would load the libraries once more, and the rest of `rt ci` needs the processors.
+            # A second copy of the prover would load the libraries once more, and the rest of `rt
+            # ci` needs the processors.
             build_both(replace(own, copies=lambda: 1))
             fill_folder(own, asked.folder)
     elif asked.again:
@@ -79,8 +82,10 @@ def take_libraries(build: Build, own: Build) -> None:
 
 
 def take_from_ci(own: Build, log: Path, again: bool) -> None:
-    """Fills the temporary folder with what `rt ci` has proved: its libraries, its verdicts and, unless it is to be built again, its program.
-    A library with a stamp is from another run: `rt` has put it back after `rt ci` had ended."""
+    """Fills the temporary folder with what `rt ci` has proved: its libraries, its verdicts and,
+    unless it is to be built again, its program. A library with a stamp is from another run: `rt`
+    has put it back after `rt ci` had ended.
+    """
     verdicts = verdicts_in(text_of(log) or "")
     for crate in own.crates.order:
         if crate == PROGRAM and again:
@@ -102,7 +107,9 @@ def take_from_ci(own: Build, log: Path, again: bool) -> None:
 
 
 def verdicts_in(log: str) -> dict[str, str]:
-    """Finds the verdict that `rt ci` printed for each crate, or its reason for not proving the crate again."""
+    """Finds the verdict that `rt ci` printed for each crate, or its reason for not proving the
+    crate again.
+    """
     verdicts: dict[str, str] = {}
     crate = ""
     for line in log.splitlines():
@@ -129,7 +136,9 @@ def build_both(build: Build) -> None:
 
 
 def fill_folder(build: Build, folder: Path) -> None:
-    """Copies programs and verdicts into a folder. The file `from` is written last, so an interrupted copy doesn't count."""
+    """Copies programs and verdicts into a folder. The file `from` is written last, so an
+    interrupted copy doesn't count.
+    """
     try:
         folder.mkdir(parents=True, exist_ok=True)
         (folder / "from").unlink(missing_ok=True)
@@ -164,7 +173,9 @@ def digests_of(folder: Path) -> str:
 
 
 def look_at(places: Places, folder: str) -> int:
-    """Compares a folder's programs with this checkout. Returns 0 if they belong together, and otherwise names the first difference."""
+    """Compares a folder's programs with this checkout. Returns 0 if they belong together, and
+    otherwise names the first difference.
+    """
     wrong = fault_of(places, folder)
     if wrong:
         tell(f"programs: {wrong}\n")

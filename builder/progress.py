@@ -1,4 +1,6 @@
-"""The progress of a build: on a terminal one line that is rewritten, and elsewhere one line per crate."""
+"""The progress of a build: on a terminal one line that is rewritten, and elsewhere one line per
+crate.
+"""
 
 from __future__ import annotations
 
@@ -54,8 +56,9 @@ class Progress:
         return f"crate {self.places[crate]} of {self.crates}, {crate}"
 
     def _functions(self, crate: str) -> str:
-        """Returns how many functions of a crate have been started. For each function the prover first writes a file with its code, and
-        later one with what the logic sees of it."""
+        """Returns how many functions of a crate have been started. For each function the prover
+        first writes a file with its code, and later one with what the logic sees of it.
+        """
         seen, coded = (
             len(list(self.room.glob(f"{crate}/*/Rattle-{crate}-proofs.*.{kind}.oantt")))
             for kind in ("Lts", "Code")

@@ -44,9 +44,12 @@ class Log:
 
 @dataclass
 class Commands:
-    """The commands of a build. Each runs in its own process group, so that all of them can be stopped."""
+    """The commands of a build. Each runs in its own process group, so that all of them can be
+    stopped.
+    """
 
-    # Each command inherits the lock, so that the next call waits for a prover that outlives this process.
+    # Each command inherits the lock, so that the next call waits for a prover that outlives this
+    # process.
     lock: int
     running: set[int] = field(default_factory=set)
     turn: threading.Lock = field(default_factory=threading.Lock)
@@ -112,8 +115,10 @@ class Prover:
         return self.kept.made / "room"
 
     def prove(self, crate: str, copies: int, yielding: int) -> str:
-        """Proves a crate with `copies` copies of the prover, whose niceness is `yielding`, and returns the verdict. Of a library only the
-        statements are written: crates above need no more, and load them faster than the proofs."""
+        """Proves a crate with `copies` copies of the prover, whose niceness is `yielding`, and
+        returns the verdict. Of a library only the statements are written: crates above need no
+        more, and load them faster than the proofs.
+        """
         folder, room = self.places.crate(crate), self.room / crate
         room.mkdir(parents=True, exist_ok=True)
         result = self.kept.result(crate, self.cpu)
@@ -132,7 +137,9 @@ class Prover:
         return b"".join(line for line in lines if line.startswith(VERDICT)).decode().rstrip("\n")
 
     def _words(self, crate: str, copies: int) -> list[str]:
-        """Returns the prover's arguments for a crate: its root, the libraries that it names, and where to find what these use."""
+        """Returns the prover's arguments for a crate: its root, the libraries that it names, and
+        where to find what these use.
+        """
         kit, made = self.kit, self.kept.made
         words = [
             "build",

@@ -1,4 +1,6 @@
-"""Compares a file of a release with the one that was made anew: byte for byte, and if they differ, file for file."""
+"""Compares a file of a release with the one that was made anew: byte for byte, and if they differ,
+file for file.
+"""
 
 from __future__ import annotations
 
@@ -119,7 +121,9 @@ def members_of_archive(front: str, data: bytes) -> Iterator[tuple[str, Facts]]:
 
 
 def parts_of_package(data: bytes) -> Iterator[tuple[str, bytes]]:
-    """The files of an archive by `ar`: each has a head of 60 bytes, and a byte more if its length is odd."""
+    """The files of an archive by `ar`: each has a head of 60 bytes, and a byte more if its length
+    is odd.
+    """
     if not data.startswith(b"!<arch>\n"):
         raise Unreadable("it doesn't begin as a package does")
     place = 8

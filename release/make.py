@@ -24,7 +24,9 @@ def sha256(data: bytes) -> str:
 
 
 def files_of_release(checkout: Checkout, programs: Path) -> dict[str, bytes]:
-    """The files of the release of a checkout, with the programs in a folder. Where there is no dpkg-deb, it has no package."""
+    """The files of the release of a checkout, with the programs in a folder. Where there is no
+    dpkg-deb, it has no package.
+    """
     said = said_version(programs)
     if said != checkout.version:
         raise Failed(
@@ -43,7 +45,9 @@ def files_of_release(checkout: Checkout, programs: Path) -> dict[str, bytes]:
 
 
 def write_tree(tree: Tree, folder: Path, date: int) -> None:
-    """Writes the files below a folder, whatever is masked from the modes of new files, and all with one date."""
+    """Writes the files below a folder, whatever is masked from the modes of new files, and all with
+    one date.
+    """
     for place, file in tree.items():
         path = folder / place
         path.parent.mkdir(parents=True, exist_ok=True)

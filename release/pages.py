@@ -1,4 +1,6 @@
-"""Pages for another place: each link leads to where its file is there, and is plain text if the file isn't there."""
+"""Pages for another place: each link leads to where its file is there, and is plain text if the
+file isn't there.
+"""
 
 from __future__ import annotations
 
@@ -14,8 +16,9 @@ PIECE = re.compile(
 
 
 def moved_page(text: str, path: str, places: Mapping[str, str]) -> str:
-    """The text of a page of the repository in its place in a release. `places` says where files and folders of the repository are
-    there; the page is one of them."""
+    """The text of a page of the repository in its place in a release. `places` says where files and
+    folders of the repository are there; the page is one of them.
+    """
 
     def moved(found: re.Match[str]) -> str:
         if found["code"] is not None or "://" in found["target"] or found["target"].startswith("#"):

@@ -23,8 +23,9 @@ LIBEXEC = "libexec/gokzerd"
 
 
 def places_of(checkout: Checkout, zsh: str) -> dict[str, str]:
-    """Where the files of the repository are below the folder that they are installed in. The completions for zsh have a folder of
-    their own on each system."""
+    """Where the files of the repository are below the folder that they are installed in. The
+    completions for zsh have a folder of their own on each system.
+    """
     places = {"release/census": "bin/census", "release/processor.sh": f"{LIBEXEC}/processor.sh"}
     places |= {
         page: f"{DOC}/{page.rpartition('/')[2]}"
@@ -82,7 +83,9 @@ def name_of(checkout: Checkout) -> str:
 
 
 def package_tree(checkout: Checkout, programs: Path) -> Tree:
-    """What the package has: the same below /usr, in the form that Debian wants, and the package's own description."""
+    """What the package has: the same below /usr, in the form that Debian wants, and the package's
+    own description.
+    """
     own = checkout.top / "release"
     tree = {}
     for place, file in installed(checkout, programs, "vendor-completions").items():

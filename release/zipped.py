@@ -1,10 +1,12 @@
-"""Packs the companion `haul` into one file: the lines of bin/haul for the shell, and then a zip archive, which Python runs.
+"""Packs the companion `haul` into one file: the lines of bin/haul for the shell, and then a zip
+archive, which Python runs.
 
 usage: python3 -I -S release/zipped.py > FILE
 
-The shell becomes Python before it reads any of the archive, and Python looks for an archive at the end of the file that it is to run.
-The archive has the rest of bin/haul as `__main__.py`, and the package `haul` without its tests. Nothing in it is compressed, so its
-bytes depend on no version of zlib.
+The shell becomes Python before it reads any of the archive, and Python looks for an archive at the
+end of the file that it is to run. The archive has the rest of bin/haul as `__main__.py`, and the
+package `haul` without its tests. Nothing in it is compressed, so its bytes depend on no version of
+zlib.
 """
 
 from __future__ import annotations

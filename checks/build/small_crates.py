@@ -4,7 +4,8 @@ from __future__ import annotations
 
 from builder.crates import Crates, uses_in
 
-# `low` is below all, `long` is the way that takes longest, and `side` has a way of its own. `apart` is of no concern.
+# `low` is below all, `long` is the way that takes longest, and `side` has a way of its own. `apart`
+# is of no concern.
 LIST = """\
 # a comment: with a colon
 low: core

@@ -1,4 +1,6 @@
-"""A browser that opens the page of `haul page`, and what it shows. It needs Selenium, Pillow and Chromium."""
+"""A browser that opens the page of `haul page`, and what it shows. It needs Selenium, Pillow and
+Chromium.
+"""
 
 from __future__ import annotations
 
@@ -27,8 +29,9 @@ DARK = 128
 # How often a picture is taken until it no longer changes, and how long it may take between two.
 MOST_PICTURES, SECONDS_BETWEEN = 40, 0.05
 
-# The texts in sight whose colour has too little contrast with what is behind them, each with its contrast, by the formula of WCAG. In an
-# open dialog only its own texts count, and a control that is switched off doesn't.
+# The texts in sight whose colour has too little contrast with what is behind them, each with its
+# contrast, by the formula of WCAG. In an open dialog only its own texts count, and a control that
+# is switched off doesn't.
 CONTRASTS = """
 const numbers = color => { const [r, g, b, a = 1] = color.match(/[\\d.]+/g).map(Number); return [r, g, b, a]; };
 const over = ([r, g, b, a], under) => [r, g, b].map((value, at) => value * a + under[at] * (1 - a)).concat(1);
@@ -76,7 +79,9 @@ def browser(width: int, dark: bool = False, still: bool = True) -> Driver:
 def look_like(
     driver: Driver, width: int, dark: bool = False, still: bool = True, medium: str = ""
 ) -> None:
-    """Gives a browser a width and what it prefers. A window may not be as narrow as a telephone, but what it shows may."""
+    """Gives a browser a width and what it prefers. A window may not be as narrow as a telephone,
+    but what it shows may.
+    """
     driver.execute_cdp_cmd(
         "Emulation.setDeviceMetricsOverride",
         {"width": width, "height": HEIGHT, "deviceScaleFactor": 1, "mobile": False},
@@ -149,7 +154,9 @@ def address(driver: Driver) -> str:
 
 
 def settled(element: Element) -> bytes:
-    """Takes pictures of an element until two in a row are the same, since the first after a click may be taken before all is painted."""
+    """Takes pictures of an element until two in a row are the same, since the first after a click
+    may be taken before all is painted.
+    """
     before = b""
     for _ in range(MOST_PICTURES):
         now: bytes = element.screenshot_as_png
@@ -161,7 +168,9 @@ def settled(element: Element) -> bytes:
 
 
 def cells_in_picture(driver: Driver, selector: str) -> tuple[Cells, float]:
-    """Returns the live cells in a picture, by the colour of the point in the middle of each cell, and the width of a cell in points."""
+    """Returns the live cells in a picture, by the colour of the point in the middle of each cell,
+    and the width of a cell in points.
+    """
     element = driver.find_element(By.CSS_SELECTOR, selector)
     driver.execute_script("arguments[0].scrollIntoView({block: 'center'})", element)
     image = Image.open(io.BytesIO(settled(element))).convert("L")
@@ -181,7 +190,9 @@ def cells_of_path(path: str) -> Cells:
 
 
 def paths_seen(driver: Driver, selector: str, seconds: float) -> list[str]:
-    """Returns the paths that a picture has within some seconds, in order. The page notes each change, so that none is missed."""
+    """Returns the paths that a picture has within some seconds, in order. The page notes each
+    change, so that none is missed.
+    """
     seen: list[str] = driver.execute_async_script(
         """
 const [selector, seconds, done] = arguments, path = document.querySelector(`${selector} .live`), seen = [path.getAttribute('d')];
@@ -199,7 +210,9 @@ def is_narrow(driver: Driver) -> bool:
 
 
 def has_live_points(driver: Driver) -> bool:
-    """Checks whether the player's picture has points of the colour that live cells have on the page, within a second."""
+    """Checks whether the player's picture has points of the colour that live cells have on the
+    page, within a second.
+    """
     return wait_for(
         lambda: bool(
             driver.execute_script(
@@ -214,7 +227,9 @@ return data.some((value, at) => at % 4 === 0 && live.every((part, color) => data
 
 
 def complaints(driver: Driver) -> list[str]:
-    """Returns what is on the console since the last call, but for what it says about this module's reading of a canvas."""
+    """Returns what is on the console since the last call, but for what it says about this module's
+    reading of a canvas.
+    """
     return [
         entry["message"]
         for entry in driver.get_log("browser")
@@ -268,8 +283,10 @@ def seconds_to_open(driver: Driver, path: Path) -> float:
 
 
 def longest_frame(driver: Driver) -> float:
-    """Returns the most milliseconds that the page's main thread works in two frames, in 40 steps in which it scrolls by 300 points. The
-    processor's time is counted, so that other work on the machine doesn't count."""
+    """Returns the most milliseconds that the page's main thread works in two frames, in 40 steps in
+    which it scrolls by 300 points. The processor's time is counted, so that other work on the
+    machine doesn't count.
+    """
     driver.execute_cdp_cmd("Performance.enable", {"timeDomain": "threadTicks"})
 
     def worked() -> float:
@@ -290,7 +307,9 @@ def longest_frame(driver: Driver) -> float:
 
 
 def least_of(measure: Callable[[], float], tries: int, enough: float) -> float:
-    """Returns the smallest of up to `tries` measurements. Stops when one is less than `enough`, since other work on the machine counts too."""
+    """Returns the smallest of up to `tries` measurements. Stops when one is less than `enough`,
+    since other work on the machine counts too.
+    """
     least = measure()
     for _ in range(tries - 1):
         if least >= enough:

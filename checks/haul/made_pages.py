@@ -1,4 +1,6 @@
-"""Hauls and the pages that `haul page` makes of them, for the checks in a browser, and how these count."""
+"""Hauls and the pages that `haul page` makes of them, for the checks in a browser, and how these
+count.
+"""
 
 from __future__ import annotations
 
@@ -18,8 +20,8 @@ count = Count()
 HAUL = TOP / "bin" / "haul"
 WIDTHS = (390, 900, 1400)
 PULSAR = "xp3_co9nas0san9oczgoldlo0oldlogz1047210127401"
-# A haul that is lawful, though no census gives it: three objects of each code. By parts these are 3 + 2 * 3 + 4 * 3 blinkers,
-# 3 + 2 * 3 blocks, three boats, three tumblers and three beehives.
+# A haul that is lawful, though no census gives it: three objects of each code. By parts these are 3
+# + 2 * 3 + 4 * 3 blinkers, 3 + 2 * 3 blocks, three boats, three tumblers and three beehives.
 CODES = [
     "xp14_j9d0d9j",
     "xp2_1110s",
@@ -67,7 +69,9 @@ def rows_of(haul: bytes, table: str) -> Iterator[list[str]]:
 
 
 def in_order(code: str) -> tuple[str, int, str]:
-    """What codes of one frequency are sorted by: the number of cells and the period count as numbers."""
+    """What codes of one frequency are sorted by: the number of cells and the period count as
+    numbers.
+    """
     kind, number, rest = re.fullmatch(r"(\D*)(\d*)(.*)", code).groups()  # type: ignore[union-attr]
     return kind, int(number or 0), rest
 

@@ -150,7 +150,9 @@ def places_of_buttons(driver: Driver) -> list[float]:
 
 
 def try_refused_copies(driver: Driver, path: Path) -> None:
-    """If the browser doesn't copy, the text is selected beside the button, until something else is pressed."""
+    """If the browser doesn't copy, the text is selected beside the button, until something else is
+    pressed.
+    """
     opened(driver, path, "#xs4_33&soup=A1")
     wait_for(lambda: text(driver, "#player h3") == "Soup 1")
     driver.execute_script(

@@ -258,7 +258,9 @@ def try_parts(driver: Driver, path: Path) -> None:
 
 
 def try_charts(driver: Driver, folder: Path) -> None:
-    """The charts, and how often objects are said to come at the bound between the two ways of saying it."""
+    """The charts, and how often objects are said to come at the bound between the two ways of
+    saying it.
+    """
     path = page_of(
         folder / "charts.html",
         haul_of(

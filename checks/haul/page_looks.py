@@ -1,4 +1,6 @@
-"""How pages look and work: at three widths, in light and dark, with the keyboard only, printed, without scripts, with 12,124 objects."""
+"""How pages look and work: at three widths, in light and dark, with the keyboard only, printed,
+without scripts, with 12,124 objects.
+"""
 
 from __future__ import annotations
 
@@ -32,7 +34,9 @@ STATES = {
 
 
 def try_looks(driver: Driver, path: Path, both: Path, haul: bytes) -> None:
-    """Each state at each width, in light and in dark: nothing is too wide, nothing too pale, and everything has a name."""
+    """Each state at each width, in light and in dark: nothing is too wide, nothing too pale, and
+    everything has a name.
+    """
     sample = dict((row[0], row[1]) for row in rows_of(haul, "@SAMPLE_SOUPIDS"))[PULSAR]
     states = [
         *((name, path, address) for name, address in STATES.items()),
@@ -195,7 +199,9 @@ def try_other_readers(driver: Driver, path: Path, haul: bytes) -> None:
 
 
 def seconds_of_children() -> float:
-    """Returns the time that processors have spent on programs that were started and have ended. Other work on the machine doesn't count."""
+    """Returns the time that processors have spent on programs that were started and have ended.
+    Other work on the machine doesn't count.
+    """
     times = os.times()
     return times.children_user + times.children_system
 

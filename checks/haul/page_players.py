@@ -1,4 +1,6 @@
-"""How soups play on pages: to the ends that `census` says, in views of the ash and of all cells, and by keys."""
+"""How soups play on pages: to the ends that `census` says, in views of the ash and of all cells,
+and by keys.
+"""
 
 from __future__ import annotations
 
@@ -141,7 +143,9 @@ def try_end(driver: Driver) -> None:
 
 
 def margins_of(driver: Driver) -> list[float]:
-    """Returns how much of the player's picture is empty at the left, the right, the top and the bottom."""
+    """Returns how much of the player's picture is empty at the left, the right, the top and the
+    bottom.
+    """
     found: list[float] = driver.execute_script(
         """
 const canvas = document.querySelector('.player canvas'), { width, height } = canvas;

@@ -33,7 +33,9 @@ class Count:
         self.check(name, "" if condition else f"it doesn't hold{f': {seen}' if seen else ''}")
 
     def add(self, faults: Iterable[str]) -> None:
-        """Counts checks by their faults. A fault is empty if its check passed, and otherwise names the check."""
+        """Counts checks by their faults. A fault is empty if its check passed, and otherwise names
+        the check.
+        """
         for fault in faults:
             if fault:
                 print(f"FAILED: {fault}")
@@ -46,7 +48,9 @@ class Count:
         self.skipped += checks
 
     def lack(self, what: str, package: str, checks: int = 1) -> None:
-        """Counts checks whose package isn't installed: they are skipped, but in CI that is a failure."""
+        """Counts checks whose package isn't installed: they are skipped, but in CI that is a
+        failure.
+        """
         if IN_CI:
             self.check(what, f"{package} isn't installed")
         else:

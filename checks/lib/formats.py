@@ -1,4 +1,5 @@
-"""The texts that the program reads and writes, as docs/FORMATS.md and docs/COMMANDS.md describe them: profiles, hauls and report lines.
+"""The texts that the program reads and writes, as docs/FORMATS.md and docs/COMMANDS.md describe
+them: profiles, hauls and report lines.
 
 It is independent of `haul/`, which reads the same texts, on purpose.
 """
@@ -95,7 +96,9 @@ def report_line(
     version: int = 2,
     found: Sequence[bytes] = (b"unsettled",),
 ) -> bytes:
-    """Returns the report line of a soup, with its line feed. `found` are the fields after the soup's number."""
+    """Returns the report line of a soup, with its line feed. `found` are the fields after the
+    soup's number.
+    """
     return b"report %d rule=%s profile=%d,%d,%d,%d seed=%s worker=%d soup=%d %s\n" % (
         version,
         rule.encode(),

@@ -1,6 +1,8 @@
-"""Links within the pages below a folder: each has to lead to a file that is there, and to a heading, an element or a line in it.
+"""Links within the pages below a folder: each has to lead to a file that is there, and to a
+heading, an element or a line in it.
 
-usage: python3 -m checks.lib.links FOLDER        prints the links that lead nowhere, and fails if there is one
+usage: python3 -m checks.lib.links FOLDER        prints the links that lead nowhere, and fails if
+there is one
 """
 
 from __future__ import annotations
@@ -56,7 +58,9 @@ def fault_of(page: Path, target: str) -> str:
 
 
 def anchors_in(path: Path) -> set[str]:
-    """Returns the anchors of a file: headings of Markdown, elements of HTML, and lines of any other text."""
+    """Returns the anchors of a file: headings of Markdown, elements of HTML, and lines of any other
+    text.
+    """
     text = path.read_text()
     if path.suffix == ".html":
         return set(ELEMENT.findall(SCRIPT.sub("", text)))

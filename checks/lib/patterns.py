@@ -18,7 +18,9 @@ def drawing(*rows: str) -> Cells:
 
 
 def plaintext(cells: Cells) -> str:
-    """Returns the text of a pattern, with columns from x = 0 and rows from y = 0. All rows have the same length."""
+    """Returns the text of a pattern, with columns from x = 0 and rows from y = 0. All rows have the
+    same length.
+    """
     if not cells:
         return ""
     width, height = max(x for x, _ in cells) + 1, max(y for _, y in cells) + 1

@@ -1,6 +1,8 @@
-"""A plain program of the definitions: sets of cells, nothing clever, and none of the shortcuts that the census takes.
+"""A plain program of the definitions: sets of cells, nothing clever, and none of the shortcuts that
+the census takes.
 
-It was written from docs/PROFILE.md and docs/FORMATS.md, and is independent of `haul/` and of the crates on purpose.
+It was written from docs/PROFILE.md and docs/FORMATS.md, and is independent of `haul/` and of the
+crates on purpose.
 """
 
 from __future__ import annotations
@@ -28,7 +30,9 @@ class Rule(NamedTuple):
 
 
 class Profile(NamedTuple):
-    """The numbers that say when a pattern counts as at rest, and at which generations that is tested."""
+    """The numbers that say when a pattern counts as at rest, and at which generations that is
+    tested.
+    """
 
     period: int
     horizon: int
@@ -84,7 +88,9 @@ def clusters_of(cells: Cells) -> list[Cells]:
 
 
 def phases_of(rule: Rule, cells: Cells, period: int) -> tuple[list[Cells], Cells] | None:
-    """Returns all phases, and the pattern when it recurs, possibly displaced. `None` if that takes more than `period` generations."""
+    """Returns all phases, and the pattern when it recurs, possibly displaced. `None` if that takes
+    more than `period` generations.
+    """
     phases, shape = [cells], to_corner(cells)
     for _ in range(period):
         following = next_of(rule, phases[-1])
@@ -118,7 +124,9 @@ def strip_text(columns: list[int]) -> str:
 
 
 def wechsler(cells: Cells) -> str | None:
-    """Returns the text of a pattern at the corner, or `None` if its bounding box is larger than 40 by 40."""
+    """Returns the text of a pattern at the corner, or `None` if its bounding box is larger than 40
+    by 40.
+    """
     width, height = max(x for x, _ in cells) + 1, max(y for _, y in cells) + 1
     if width > MOST_SIDE or height > MOST_SIDE:
         return None

@@ -20,7 +20,9 @@ class Token(str):
 
 
 def without_comments(source: str) -> str:
-    """Replaces comments by blanks and each string or character literal by `""`. Line numbers stay the same."""
+    """Replaces comments by blanks and each string or character literal by `""`. Line numbers stay
+    the same.
+    """
     parts: list[str] = []
     in_text = False
     depth = 0
@@ -40,7 +42,9 @@ def without_comments(source: str) -> str:
 
 
 def tokens_of(source: str) -> list[Token]:
-    """Returns the tokens of a source, without comments. Every string or character literal is the token `""`."""
+    """Returns the tokens of a source, without comments. Every string or character literal is the
+    token `""`.
+    """
     tokens = []
     for number, line in enumerate(without_comments(source).split("\n")):
         for found in TOKEN.findall(line):

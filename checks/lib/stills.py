@@ -1,4 +1,5 @@
-"""Soups under the rule of which nothing dies, in which each cluster is an object, and their haul."""
+"""Soups under the rule of which nothing dies, in which each cluster is an object, and their haul.
+"""
 
 from __future__ import annotations
 
@@ -11,7 +12,9 @@ from checks.lib.plain import objects_at_rest, rule_named
 
 
 def objects_of_still_soup(number: int) -> dict[str, int]:
-    """Returns the number of objects of each code in a soup, by the plain program of the definitions."""
+    """Returns the number of objects of each code in a soup, by the plain program of the
+    definitions.
+    """
     objects = objects_at_rest(
         rule_named(STILL), ONE_CHECKPOINT.period, ONE_CHECKPOINT.horizon, soup(number)
     )

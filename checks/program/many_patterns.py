@@ -27,7 +27,8 @@ Shape = tuple[int, int]
 RULE = rule_named(LIFE)
 
 
-# Seeds of `confined`, found by a search: what the first draws comes back after a generation, what the second draws after two, and so on.
+# Seeds of `confined`, found by a search: what the first draws comes back after a generation, what
+# the second draws after two, and so on.
 SEEDS = [
     int(seed)
     for seed in (
@@ -41,7 +42,9 @@ SEEDS = [
 
 
 def numbers(most: int, dense: int = 300) -> list[int]:
-    """All numbers up to `dense`, and up to `most` the powers of two, the round numbers, those of one digit, and their neighbours."""
+    """All numbers up to `dense`, and up to `most` the powers of two, the round numbers, those of
+    one digit, and their neighbours.
+    """
     special = {2**k for k in range(41)} | {
         digit * 10**k for digit in range(1, 10) for k in range(13)
     }
@@ -217,7 +220,9 @@ def kinds() -> Iterator[Call]:
 
 
 def profiles() -> Iterator[Call]:
-    """Of name: seven cells in a row, which settle, under each horizon, stride and limit; and objects under each period."""
+    """Of name: seven cells in a row, which settle, under each horizon, stride and limit; and
+    objects under each period.
+    """
     row = frozenset((x, 0) for x in range(7))
     first = next(
         g for g in range(200) if objects_at_rest(RULE, 2, 64, later(RULE, row, g)) is not None
@@ -263,8 +268,9 @@ def profiles() -> Iterator[Call]:
 
 
 def confined(seed: int) -> tuple[str, Cells]:
-    """A rule, and a pattern that has gone on under it for 300 generations. Where four neighbours or more are needed for a birth, no pattern
-    leaves its box, so in the end each comes back."""
+    """A rule, and a pattern that has gone on under it for 300 generations. Where four neighbours or
+    more are needed for a birth, no pattern leaves its box, so in the end each comes back.
+    """
     draw = random.Random(seed)
     births = "".join(str(k) for k in range(4, 9) if draw.random() < 0.5)
     rule = f"b{births}s" + "".join(str(k) for k in range(9) if draw.random() < 0.5)
@@ -274,7 +280,9 @@ def confined(seed: int) -> tuple[str, Cells]:
 
 
 def periods() -> Iterator[Call]:
-    """Of name: an object of each period, where the period may be as long, or not quite, or 64, which not all of them are."""
+    """Of name: an object of each period, where the period may be as long, or not quite, or 64,
+    which not all of them are.
+    """
     for period, seed in enumerate(SEEDS, 1):
         rule, cells = confined(seed)
         for most in sorted({max(1, period - 1), period, 64}):
@@ -308,7 +316,9 @@ def fleet() -> list[Cells]:
 
 
 def spaceships() -> Iterator[Call]:
-    """Of name: so many gliders that fly side by side; and so many that fly away from an R-pentomino."""
+    """Of name: so many gliders that fly side by side; and so many that fly away from an
+    R-pentomino.
+    """
     for count in numbers(2500):
         said = b"settled 0\n" + b"xq4_153 %d\n" % count * (count > 0)
         yield Call(
@@ -360,7 +370,9 @@ def soups_by_number() -> Iterator[Call]:
 
 
 def codes() -> Iterator[Call]:
-    """Of show: a text of so many bytes, of which all but two are columns without a cell, or strips without one."""
+    """Of show: a text of so many bytes, of which all but two are columns without a cell, or strips
+    without one.
+    """
     for length in numbers(10_002):
         if length < 2:
             continue

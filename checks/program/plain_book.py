@@ -1,4 +1,6 @@
-"""A plain program of `gather`: what it prints of lines in any order, written from docs/FORMATS.md and docs/COMMANDS.md."""
+"""A plain program of `gather`: what it prints of lines in any order, written from docs/FORMATS.md
+and docs/COMMANDS.md.
+"""
 
 from __future__ import annotations
 

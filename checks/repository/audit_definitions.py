@@ -1,4 +1,6 @@
-"""The definitions and types of the crates, for `audit`: where each one is, and which others it names."""
+"""The definitions and types of the crates, for `audit`: where each one is, and which others it
+names.
+"""
 
 from __future__ import annotations
 
@@ -36,7 +38,8 @@ IMPORT = re.compile(
 )
 
 
-# The name of a record's field, where it is declared or gets its value: a definition may have the same name.
+# The name of a record's field, where it is declared or gets its value: a definition may have the
+# same name.
 FIELD = re.compile(r"^(\s+(?:pub )?|.*?[{;] *)[A-Za-z_][A-Za-z0-9_']* (?=[=:] )", re.MULTILINE)
 
 
@@ -57,7 +60,9 @@ Key = tuple[str, str]
 
 @dataclass
 class Definition:
-    """A definition of a file in `specs/`, with the comment above it; or a type, whose view may be elsewhere in its file."""
+    """A definition of a file in `specs/`, with the comment above it; or a type, whose view may be
+    elsewhere in its file.
+    """
 
     path: str
     # Where its own first line is, and how many lines it has in all.
@@ -198,7 +203,9 @@ def read_types(path: Path, crate: str, module: str, found: dict[Key, Definition]
 
 
 def add_view(of_type: Definition, lines: list[str]) -> None:
-    """Contracts see the value, by the view. What always holds of it, and how it is got back, is for the prover."""
+    """Contracts see the value, by the view. What always holds of it, and how it is got back, is for
+    the prover.
+    """
     names, kept, keeps = Names(), [], False
     for line in lines[1:-1]:
         names.add(line)

@@ -8,7 +8,8 @@ from dataclasses import dataclass
 
 from checks.repository.audit_definitions import CRATES, HEAD, WORD, Key, Names, toolchain
 
-# The toolchain's names that are read as in Rust or in mathematics. Operators, such as `◌+◌`, and Rust's types are too.
+# The toolchain's names that are read as in Rust or in mathematics. Operators, such as `◌+◌`, and
+# Rust's types are too.
 NOTATION = set(
     "Bool true false not IsTrue MatchBool List length map take drop zero suc pos negsuc max min nat_eq nat_le nat_lt int_eq int_lt int_le unsigned_abs "
     "Option Some None IfSome OnSome IsSomeAnd is_some unwrap_or option_map option_and_then "
@@ -99,7 +100,9 @@ def names_of_toolchain(text: str, names: Names) -> set[Key]:
 
 
 def is_meant(key: Key) -> bool:
-    """Whether the table of the toolchain's definitions has this name. Modules of Rust's types begin with a small letter."""
+    """Whether the table of the toolchain's definitions has this name. Modules of Rust's types begin
+    with a small letter.
+    """
     return (
         key[1] not in NOTATION
         and not OPERATOR.search(key[1])

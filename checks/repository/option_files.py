@@ -181,7 +181,9 @@ def fish(program: str, commands: list[Command]) -> str:
 
 
 def grouped(commands: list[Command]) -> list[tuple[Option, list[str]]]:
-    """Each option once, with the commands that have it. Options of one name with other help are other options."""
+    """Each option once, with the commands that have it. Options of one name with other help are
+    other options.
+    """
     found: dict[Option, list[str]] = {}
     for command in commands:
         for option in command.options:
