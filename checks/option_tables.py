@@ -13,7 +13,7 @@ from pathlib import Path
 TOP = Path(__file__).resolve().parents[1]
 sys.path.insert(0, str(TOP))
 
-from haul.options import parser  # noqa: E402
+from haul.cli.parser import make_parser  # noqa: E402
 
 OPTIONS, COMMANDS = (TOP / "crates" / "arguments" / "src" / name for name in ("options.rt", "commands.rt"))
 # The values of options that are files.
@@ -100,7 +100,7 @@ def census_commands() -> list[Command]:
 # ---- haul: the table in Python
 
 def haul_commands() -> list[Command]:
-    commands = next(action for action in parser()._actions if isinstance(action, argparse._SubParsersAction))
+    commands = next(action for action in make_parser()._actions if isinstance(action, argparse._SubParsersAction))
     abouts = {action.dest: action.help or "" for action in commands._choices_actions}
     return [Command(name, abouts[name], list(haul_options(command))) for name, command in commands.choices.items()]
 

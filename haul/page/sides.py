@@ -4,12 +4,12 @@ from __future__ import annotations
 
 from dataclasses import dataclass, field
 
-from haul.by_parts import Objects
-from haul.compare import lettered, ranked
-from haul.ends import End, ends_of
-from haul.parts import Separation
-from haul.program import Census
-from haul.text import Haul
+from haul.census.client import Census
+from haul.census.soup_ends import End, find_ends
+from haul.formats.haul import Haul
+from haul.hauls.by_parts import Objects
+from haul.life.parts import Separation
+from haul.views.compare import letter_hauls, rank_codes
 
 # A page has room for so many hauls.
 MOST_SIDES = 8
@@ -70,7 +70,7 @@ class Sides:
         asked = sorted(self.codes, key=lambda code: not self.is_strict(code))[: self.play]
         for side in self.all:
             numbers = side.soups(asked)
-            ends = ends_of(census, side.haul.job, numbers)
+            ends = find_ends(census, side.haul.job, numbers)
             side.ends = {number: ends.get(number) for number in numbers}
 
     def is_strict(self, code: str) -> bool:
@@ -88,16 +88,18 @@ class Sides:
         return next(side for side in self.all if side.has(code))
 
 
-def sides_of(hauls: list[Haul], least: int, play: int) -> Sides:
+def make_sides(hauls: list[Haul], least: int, play: int) -> Sides:
     sides: list[Side] = []
-    for letter, haul in lettered(hauls):
+    for letter, haul in letter_hauls(hauls):
         objects = Objects(haul)
         sides.append(Side(letter, objects, objects.by_parts()))
-    codes, parts = placed(hauls, least), placed([side.by_parts for side in sides], least)
+    codes, parts = rank_for_page(hauls, least), rank_for_page(
+        [side.by_parts for side in sides], least
+    )
     return Sides(sides, least, play, codes, list(dict.fromkeys([*codes, *parts])))
 
 
-def placed(hauls: list[Haul], least: int) -> list[str]:
+def rank_for_page(hauls: list[Haul], least: int) -> list[str]:
     """Returns the codes with a place on the page, by descending rate. One haul has an order even if it has objects and no soup."""
-    codes = ranked(hauls, least)
+    codes = rank_codes(hauls, least)
     return sorted(codes, key=lambda code: -hauls[0].totals[code]) if len(hauls) == 1 else codes

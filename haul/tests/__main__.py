@@ -15,5 +15,8 @@ with tempfile.TemporaryDirectory(ignore_cleanup_errors=True) as compiled:
     result = unittest.TextTestRunner(stream=sys.stdout).run(suite)
 failed = len({test.id() for test, _ in result.failures + result.errors})
 skipped = len(result.skipped)
-print(f"{result.testsRun - failed - skipped} passed, {failed} failed" + (f", {skipped} skipped" if skipped else ""))
+print(
+    f"{result.testsRun - failed - skipped} passed, {failed} failed"
+    + (f", {skipped} skipped" if skipped else "")
+)
 sys.exit(1 if failed or not result.testsRun else 0)

@@ -10,8 +10,8 @@ from collections.abc import Callable
 from functools import lru_cache
 from pathlib import Path
 
-from haul.children import children
-from haul.main import main
+from haul.census.children import children
+from haul.cli.process import main
 from haul.tests.forked import go_on
 
 TOP = Path(__file__).resolve().parents[2]
@@ -20,7 +20,9 @@ HAUL = str(TOP / "bin" / "haul")
 
 
 def census(*words: str) -> bytes:
-    return subprocess.run([CENSUS, *words], stdin=subprocess.DEVNULL, stdout=subprocess.PIPE, check=True).stdout
+    return subprocess.run(
+        [CENSUS, *words], stdin=subprocess.DEVNULL, stdout=subprocess.PIPE, check=True
+    ).stdout
 
 
 @lru_cache
@@ -31,7 +33,14 @@ def taken(count: int) -> bytes:
 
 def run(*words: str, text: bytes = b"", cwd: str | None = None) -> tuple[int, str, str]:
     """The status of `haul`, and what it prints on both streams. It is forked from this process, see `as_haul`."""
-    ended = subprocess.run([HAUL, *words], input=text, capture_output=True, check=False, cwd=cwd, preexec_fn=as_haul(*words))
+    ended = subprocess.run(
+        [HAUL, *words],
+        input=text,
+        capture_output=True,
+        check=False,
+        cwd=cwd,
+        preexec_fn=as_haul(*words),
+    )
     return ended.returncode, ended.stdout.decode(), ended.stderr.decode()
 
 
@@ -39,7 +48,7 @@ def as_haul(*words: str) -> Callable[[], None]:
     """What a process that `subprocess` forks is given as its `preexec_fn`, to be `haul` with these words.
 
     A start of Python with all modules of `haul` takes longer than what most tests ask of it, and here they are there already. What
-    is tried is the same program, from its first line in `haul/main.py` on. It stands beside the census program, so no launcher looks
+    is tried is the same program, from its first line in `haul/cli/process.py` on. It stands beside the census program, so no launcher looks
     at each call whether that has to be built. What a user starts, with the lines of bin/haul, is tried by test_ends.py and test_packed.py.
     """
     # Another thread could hold a lock, which nobody would give back.

@@ -8,24 +8,26 @@ from dataclasses import dataclass, field
 from html.parser import HTMLParser
 from typing import Any
 
-from haul.page import page_of
-from haul.program import Census
+from haul.census.client import Census
+from haul.formats.haul import Haul
+from haul.page.document import make_page
 from haul.tests.called import CENSUS
-from haul.text import Haul
 
 
 def page(haul: Haul, *more: int) -> str:
     """Returns the page of a haul. `more` is `--play`."""
-    return "".join(page_of(Census(CENSUS), [haul], 1, *more))
+    return "".join(make_page(Census(CENSUS), [haul], 1, *more))
 
 
 def compared(*hauls: Haul, least: int = 1, play: int = 0) -> str:
-    return "".join(page_of(Census(CENSUS), list(hauls), least, play))
+    return "".join(make_page(Census(CENSUS), list(hauls), least, play))
 
 
 def data_of(text: str) -> dict[str, Any]:
     """Reads the data of a page."""
-    found: dict[str, Any] = json.loads(re.findall('<script type="application/json" id="data">(.*?)</script>', text, re.DOTALL)[0])
+    found: dict[str, Any] = json.loads(
+        re.findall('<script type="application/json" id="data">(.*?)</script>', text, re.DOTALL)[0]
+    )
     return found
 
 

@@ -1,0 +1,254 @@
+"""What each command of `haul` does."""
+
+from __future__ import annotations
+
+import argparse
+import sys
+from contextlib import suppress
+
+from haul.census.children import children
+from haul.census.client import Census
+from haul.cli.files import (
+    Refused,
+    format_place,
+    open_input,
+    read_haul_file,
+    read_pattern,
+    write_lines,
+)
+from haul.cli.statuses import DONE, NOT_RIGHT, REFUSED
+from haul.formats.field_reader import BadHaul
+from haul.formats.haul_reader import read_hauls
+from haul.formats.haul_writer import format_haul
+from haul.formats.plaintext import BadPlaintext, is_plaintext, read_plaintext
+from haul.formats.report_files import Reports
+from haul.formats.rle import BadRle, format_rle, read_rle
+from haul.formats.rules import LIFE, parse_rule
+from haul.hauls.by_parts import Objects
+from haul.hauls.check import find_wrong_samples, list_differences, retake
+from haul.hauls.file_choice import FileChoice
+from haul.hauls.join import CantJoin, Joining
+from haul.life.catagolue_soups import BadSample, format_soups
+from haul.page.document import make_page
+from haul.search.job import Disagrees, begin_haul, find_next_soup, refuse_other_jobs
+from haul.search.keeper import CantKeep, Keeper
+from haul.search.search import Dropped, Plan, Search, count_processors
+from haul.search.stopping import Stopping
+from haul.terminal import complain, complain_and_return, find_output_width, show_progress
+from haul.views.compare import Comparison, rank_codes
+from haul.views.settling import Settling
+from haul.views.soup_lists import Leaving, Longest, SoupList, Unsettled
+from haul.views.table import (
+    RowChoice,
+    choose_rows,
+    format_table_csv,
+    format_table_json,
+    format_table_text,
+)
+
+RIGHT = "right"
+
+
+def run_check(asked: argparse.Namespace) -> int:
+    if len(asked.files) <= 1 and asked.random is None:
+        lines = check_haul(asked, asked.files[0] if asked.files else None)
+        write_lines(lines)
+        return DONE if lines == [RIGHT] else NOT_RIGHT
+    files = asked.files
+    if asked.random is not None:
+        choice = FileChoice(files, asked.random, asked.choice)
+        write_lines([choice.text()])
+        sys.stdout.flush()
+        files = choice.chosen()
+    return find_worst_status([check_one_file(asked, name) for name in files])
+
+
+def check_one_file(asked: argparse.Namespace, name: str) -> int:
+    """Checks one of several files, and returns the status for it. What is said begins with its name."""
+    try:
+        lines = check_haul(asked, name)
+    except Refused as why:
+        place = format_place(name)
+        return complain_and_return(
+            str(why) if str(why).startswith(place) else f"{place}{why}", REFUSED
+        )
+    write_lines(f"{name}: {line}" for line in lines)
+    sys.stdout.flush()
+    return DONE if lines == [RIGHT] else NOT_RIGHT
+
+
+def find_worst_status(statuses: list[int]) -> int:
+    """Returns the status for several files: a wrong haul counts more than a refused text."""
+    return max(statuses, default=DONE)
+
+
+def check_haul(asked: argparse.Namespace, name: str | None) -> list[str]:
+    """Returns what `haul check` says of a haul."""
+    haul = read_haul_file(name)
+    census = Census(asked.census)
+    if asked.samples:
+        wrong = list(find_wrong_samples(census, haul))
+    elif haul.soups != haul.size():
+        raise Refused("haul with missing soups")
+    else:
+        wrong = list(list_differences(haul, retake(census, haul, asked.workers)))
+    return wrong or [RIGHT]
+
+
+def run_join(asked: argparse.Namespace) -> int:
+    joining = Joining()
+    bad: str | None = None
+    for done, name in enumerate(asked.files or [None], 1):
+        with open_input(name) as stream:
+            try:
+                for haul in read_hauls(stream):
+                    joining.add(haul, format_place(name))
+            except BadHaul as fault:
+                # The first one is told; the files after it are not read.
+                bad = f"{format_place(name)}{fault}"
+                break
+        show_progress(f"{done} of {len(asked.files or [None])} files")
+    show_progress("")
+    if bad is not None:
+        raise Refused(bad)
+    try:
+        joined = joining.joined()
+    except CantJoin as why:
+        raise Refused(str(why)) from None
+    write_lines(format_haul(joined))
+    return DONE
+
+
+def run_compare(asked: argparse.Namespace) -> int:
+    objects = [Objects(read_haul_file(name)) for name in (asked.a, asked.b, *asked.more)]
+    hauls = [one.by_parts() if asked.parts else one.haul for one in objects]
+    codes = rank_codes(hauls, asked.least, asked.rare)
+    has_intervals = len(hauls) > 2 or asked.intervals or asked.per is not None or asked.rare
+    comparison = Comparison(
+        hauls, objects, codes, asked.parts, asked.per or "million", has_intervals
+    )
+    write_lines(
+        comparison.csv()
+        if asked.csv
+        else comparison.json()
+        if asked.json
+        else comparison.text(find_output_width())
+    )
+    return DONE
+
+
+def run_table(asked: argparse.Namespace) -> int:
+    objects = Objects(read_haul_file(asked.file))
+    haul = objects.by_parts() if asked.parts else objects.haul
+    lines = choose_rows(
+        haul, objects, RowChoice(asked.kind, asked.period, asked.strict, asked.rare, asked.top)
+    )
+    by_parts = objects if asked.parts else None
+    write_lines(
+        format_table_csv(lines, asked.parts)
+        if asked.csv
+        else format_table_json(haul, lines, by_parts)
+        if asked.json
+        else format_table_text(lines, find_output_width())
+    )
+    return DONE
+
+
+def run_page(asked: argparse.Namespace) -> int:
+    hauls = [read_haul_file(name) for name in asked.files or [None]]
+    sys.stdout.writelines(make_page(Census(asked.census), hauls, asked.least, asked.play))
+    return DONE
+
+
+def run_cells(asked: argparse.Namespace) -> int:
+    text = read_pattern(asked.file)
+    rule: str | None = None
+    try:
+        if is_plaintext(text):
+            rows = read_plaintext(text)
+        else:
+            rows, rule = read_rle(text)
+    except (BadPlaintext, BadRle) as bad:
+        raise Refused(f"{format_place(asked.file)}{bad}") from None
+    if rule is not None and parse_rule(rule) != LIFE:
+        complain(f"rule {rule} is --rule {parse_rule(rule)}")
+    write_lines(rows)
+    return DONE
+
+
+def run_rle(asked: argparse.Namespace) -> int:
+    try:
+        rows = read_plaintext(read_pattern(asked.file))
+    except BadPlaintext as bad:
+        raise Refused(f"{format_place(asked.file)}{bad}") from None
+    write_lines(format_rle(rows, asked.rule))
+    return DONE
+
+
+def run_soup(asked: argparse.Namespace) -> int:
+    try:
+        write_lines(list(format_soups(asked.samples)))
+    except BadSample as bad:
+        raise Refused(str(bad)) from None
+    return DONE
+
+
+def run_soups(asked: argparse.Namespace) -> int:
+    reports, settling, soups = Reports(), Settling(), choose_soup_list(asked)
+    for name in asked.files or [None]:
+        with open_input(name) as stream:
+            for report in reports.read(stream, format_place(name)):
+                settling.add(report)
+                soups.add(report)
+    show_progress("")
+    table = soups.table(reports.job, settling)
+    form = table.csv if asked.csv else table.json if asked.json else table.text
+    write_lines(form(reports.job, settling))
+    return DONE
+
+
+def choose_soup_list(asked: argparse.Namespace) -> SoupList:
+    """The list of soups that is asked for."""
+    if asked.longest is not None:
+        return Longest(asked.longest, Census(asked.census) if asked.exact else None)
+    if asked.unsettled:
+        return Unsettled(Census(asked.census))
+    return Leaving(asked.code) if asked.code is not None else SoupList()
+
+
+def run_search(asked: argparse.Namespace) -> int:
+    try:
+        keeper = Keeper(asked.file)
+        haul = keeper.read()
+        if haul is None:
+            haul = begin_haul(asked)
+        refuse_other_jobs(asked, haul)
+        plan = Plan(
+            find_next_soup(asked, haul),
+            asked.until,
+            asked.part,
+            asked.workers or count_processors(),
+            asked.finds,
+        )
+        stopping = Stopping()
+        search = Search(plan, haul, keeper, Census(asked.census), stopping)
+        children.heed(stopping)
+        with suppress(Dropped):
+            search.run()
+    except (CantKeep, Disagrees, CantJoin) as why:
+        raise Refused(str(why)) from None
+    return DONE
+
+
+COMMANDS = {
+    "check": run_check,
+    "search": run_search,
+    "join": run_join,
+    "compare": run_compare,
+    "table": run_table,
+    "page": run_page,
+    "soup": run_soup,
+    "soups": run_soups,
+    "cells": run_cells,
+    "rle": run_rle,
+}

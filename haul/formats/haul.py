@@ -1,0 +1,61 @@
+"""Hauls: how many objects of each code the soups of a census left."""
+
+from __future__ import annotations
+
+from collections.abc import Iterable
+from dataclasses import dataclass
+
+# No soup has this number, or a larger one.
+NUMBER_LIMIT = 2**40
+# No total is as large.
+TOTAL_LIMIT = 2**64
+# The most samples of a code.
+MOST_SAMPLES = 3
+
+Range = tuple[int, int]
+
+
+@dataclass(frozen=True)
+class Job:
+    """What soups a census runs, and how."""
+
+    seed: str
+    rule: str
+    # Period, horizon, stride and limit.
+    profile: tuple[int, int, int, int]
+
+
+@dataclass
+class Haul:
+    """What a census says of the soups that it has taken."""
+
+    job: Job
+    # First number and how many, ascending; none of them is empty, and none touches the next.
+    ranges: list[Range]
+    soups: int
+    unsettled: int
+    for_good: int
+    # How many objects there are of each code, in the order of the codes.
+    totals: dict[str, int]
+    # The lowest numbers of soups that left an object of a code, for the same codes.
+    samples: dict[str, list[int]]
+    # The line of the input in which the text begins.
+    line: int = 1
+
+    def objects(self) -> int:
+        return sum(self.totals.values())
+
+    def size(self) -> int:
+        """How many numbers the set has."""
+        return count_numbers(self.ranges)
+
+    def first_total_line(self) -> int:
+        """The line of the input in which the first total stands. The others follow."""
+        return self.line + 11 + max(1, len(self.ranges))
+
+    def first_sample_line(self) -> int:
+        return self.first_total_line() + len(self.totals) + 2
+
+
+def count_numbers(ranges: Iterable[Range]) -> int:
+    return sum(count for _, count in ranges)

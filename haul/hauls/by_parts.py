@@ -1,0 +1,58 @@
+"""The separations of a haul's objects, and its totals with each object replaced by its parts."""
+
+from __future__ import annotations
+
+from collections import defaultdict
+from collections.abc import Iterable
+
+from haul.formats.haul import MOST_SAMPLES, Haul
+from haul.life.generations import read_rule
+from haul.life.parts import Separation, Separator
+from haul.terminal import show_progress
+
+# After so many objects a line says how far it is.
+OBJECTS_BETWEEN_PROGRESS = 500
+
+
+class Objects:
+    """The objects of one haul, each of which is separated once, when that is asked for."""
+
+    def __init__(self, haul: Haul) -> None:
+        self.haul = haul
+        self.separator = Separator(read_rule(haul.job.rule))
+        self.known: dict[str, Separation] = {}
+
+    def separation_of(self, code: str) -> Separation:
+        if code not in self.known:
+            self.known[code] = self.separator.separation_of(code)
+        return self.known[code]
+
+    def separations(self, codes: Iterable[str]) -> dict[str, Separation]:
+        """Returns the separations of these objects, and says on a terminal how far it is."""
+        codes = list(codes)
+        for done in range(0, len(codes), OBJECTS_BETWEEN_PROGRESS):
+            show_progress(f"{done} of {len(codes)} objects separated")
+            for code in codes[done : done + OBJECTS_BETWEEN_PROGRESS]:
+                self.separation_of(code)
+        show_progress("")
+        return {code: self.known[code] for code in codes}
+
+    def by_parts(self) -> Haul:
+        """Returns the haul with each object replaced by its parts. The samples of a part are the three lowest of its objects."""
+        totals: defaultdict[str, int] = defaultdict(int)
+        samples: defaultdict[str, set[int]] = defaultdict(set)
+        for code, separation in self.separations(self.haul.totals).items():
+            for part in separation.parts:
+                totals[part] += self.haul.totals[code]
+                samples[part].update(self.haul.samples[code])
+        haul, codes = self.haul, sorted(totals)
+        return Haul(
+            haul.job,
+            haul.ranges,
+            haul.soups,
+            haul.unsettled,
+            haul.for_good,
+            {code: totals[code] for code in codes},
+            {code: sorted(samples[code])[:MOST_SAMPLES] for code in codes},
+            haul.line,
+        )

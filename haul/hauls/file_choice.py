@@ -1,0 +1,54 @@
+"""A random choice of files to check, which anybody can repeat, and how much it shows."""
+
+from __future__ import annotations
+
+import secrets
+import string
+from hashlib import sha256
+from math import comb
+
+from haul.plurals import pluralize, write_count
+
+CHOICE_LENGTH = 12
+# How much is said of a choice is for a census in which one file of so many is wrong.
+FILES_FOR_ONE_WRONG = 100
+
+
+class FileChoice:
+    """So many of these files, by a text that decides which ones: those with the lowest SHA-256 of the text, a space and the name."""
+
+    def __init__(self, files: list[str], number: int, choice: str | None) -> None:
+        """There are at least as many files as are chosen. If no text is given, one is drawn."""
+        self.files = files
+        self.number = number
+        self.choice = choice or "".join(
+            secrets.choice(string.ascii_lowercase + string.digits) for _ in range(CHOICE_LENGTH)
+        )
+
+    def chosen(self) -> list[str]:
+        """Returns the chosen files, in the order in which they were given."""
+        places = sorted(
+            range(len(self.files)), key=lambda place: (self.digest(self.files[place]), place)
+        )
+        return [self.files[place] for place in sorted(places[: self.number])]
+
+    def digest(self, name: str) -> bytes:
+        return sha256(f"{self.choice} {name}".encode("utf-8", "surrogateescape")).digest()
+
+    def text(self) -> str:
+        """Returns a line that says what is chosen, and how likely it is that no wrong file is among it."""
+        wrong = count_wrong_files(len(self.files))
+        return (
+            f"choice {self.choice}: {self.number} of {write_count(len(self.files), 'file')}; if {wrong} {pluralize(wrong, 'was', 'were')} wrong, "
+            f"a choice like this would miss {pluralize(wrong, 'it', 'them all')} with probability {compute_chance_to_miss(len(self.files), self.number):.4f}"
+        )
+
+
+def count_wrong_files(files: int) -> int:
+    """Returns how many files are wrong if one in a hundred is, rounded up."""
+    return -(-files // FILES_FOR_ONE_WRONG)
+
+
+def compute_chance_to_miss(files: int, number: int) -> float:
+    """Returns the probability that no wrong file is among those that are chosen (hypergeometric distribution)."""
+    return comb(files - count_wrong_files(files), number) / comb(files, number)

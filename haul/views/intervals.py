@@ -1,0 +1,72 @@
+"""How far a count may lie from what it is expected to be: the exact interval of 95 % of a Poisson count (Garwood 1936).
+
+A count follows Poisson's law if what is counted comes singly. Objects don't: a soup often leaves several of a kind. So an
+interval says what it is worth: as if objects came singly.
+
+The low end is the mean at which so many or more come with a chance of 2.5 %, and the high end the one at which so many or less
+do. Both are found by bisection.
+"""
+
+from __future__ import annotations
+
+from collections.abc import Callable
+from math import erfc, exp, log1p, pi, sqrt
+
+TAIL = 0.025
+# After so many steps a double changes no more.
+STEPS = 60
+# Up to here the terms of the sum are added up. Above it two terms of an expansion have more than six digits.
+MOST_TERMS = 30
+# Neither end is as many standard deviations away, above that.
+DEVIATIONS = 5
+
+
+def find_interval(total: int) -> tuple[float, float]:
+    """The low and the high end for a count."""
+    low = find_mean(total, 1 - TAIL) if total else 0.0
+    return low, find_mean(total + 1, TAIL)
+
+
+def find_mean(count: int, chance: float) -> float:
+    """The mean at which less than so many come with this chance."""
+    if count <= MOST_TERMS:
+        return bisect(lambda mean: sum_terms(count, mean), chance, 0.0, 2.0 * MOST_TERMS)
+    # The mean is looked for by how far it is from the count, since that has more digits.
+    most = DEVIATIONS / sqrt(count)
+    return count * (1 + bisect(lambda apart: expand(count, apart), chance, -most, most))
+
+
+def bisect(falls: Callable[[float], float], wanted: float, low: float, high: float) -> float:
+    """Where a function that falls has a value."""
+    for _ in range(STEPS):
+        middle = (low + high) / 2
+        if falls(middle) > wanted:
+            low = middle
+        else:
+            high = middle
+    return (low + high) / 2
+
+
+def sum_terms(count: int, mean: float) -> float:
+    """The chance that less than so many come, by its terms."""
+    term = chance = exp(-mean)
+    for number in range(1, count):
+        term *= mean / number
+        chance += term
+    return chance
+
+
+def expand(count: int, apart: float) -> float:
+    """The same where the mean is `count * (1 + apart)`: Temme's expansion of the incomplete gamma function, as in the NIST
+    Digital Library of Mathematical Functions, 8.12.4."""
+    if abs(apart) < 1e-4:
+        # Here a difference would lose most of its digits.
+        half_square = apart * apart * (1 / 2 - apart * (1 / 3 - apart / 4))
+    else:
+        half_square = apart - log1p(apart)
+    eta = sqrt(2 * half_square) if apart > 0 else -sqrt(2 * half_square)
+    first = -1 / 3 + eta * (1 / 12 + eta * (-2 / 135 + eta * (1 / 864 + eta / 2835)))
+    second = (-1 / 540 - eta / 288) / count
+    return erfc(eta * sqrt(count / 2)) / 2 + exp(-count * half_square) / sqrt(2 * pi * count) * (
+        first + second
+    )

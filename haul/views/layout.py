@@ -1,0 +1,71 @@
+"""Tables as text, as comma-separated values, and as JSON."""
+
+from __future__ import annotations
+
+import csv
+import io
+import json
+from collections.abc import Iterable, Iterator
+
+GAP = "  "
+# A code is cut to no fewer characters than these.
+LEAST_OF_A_CODE = 8
+# Larger numbers lose digits where numbers are doubles, as they are in JavaScript.
+EXACT = 2**53
+
+
+def align_columns(
+    rows: list[list[str]], texts: set[int], code: int, width: int | None
+) -> Iterator[str]:
+    """Lines of which the columns line up: texts to the left, and numbers to the right. Where there is a width, the codes, which
+    stand in a column of their own, are cut so that no line is wider."""
+    widths = [max(len(row[column]) for row in rows) for column in range(len(rows[0]))]
+    over = sum(widths) + len(GAP) * (len(widths) - 1) - width if width is not None else 0
+    if over > 0:
+        widths[code] = min(widths[code], max(LEAST_OF_A_CODE, widths[code] - over))
+    for row in rows:
+        cells: list[str] = []
+        for column, (cell, most) in enumerate(zip(row, widths, strict=True)):
+            shown = cut_text(cell, most) if column == code else cell
+            cells.append(shown.ljust(most) if column in texts else shown.rjust(most))
+        yield GAP.join(cells).rstrip()
+
+
+def cut_text(text: str, most: int) -> str:
+    return text if len(text) <= most else text[: most - 1] + "…"
+
+
+def format_figure(number: float) -> str:
+    """A number with two digits after the point, or with three that count where it is small."""
+    return f"{number:.2f}" if number >= 1 or number == 0 else f"{number:.3g}"
+
+
+def format_truth(holds: bool) -> str:
+    return "yes" if holds else "no"
+
+
+def make_exact(number: int) -> int | str:
+    """A whole number for JSON: as text where a double would lose digits."""
+    return number if number <= EXACT else str(number)
+
+
+def format_csv(rows: Iterable[list[str]]) -> Iterator[str]:
+    """The lines of these rows, each without its line feed."""
+    for row in rows:
+        told = io.StringIO()
+        csv.writer(told, lineterminator="").writerow(row)
+        yield told.getvalue()
+
+
+def format_json(
+    facts: dict[str, object], objects: Iterable[dict[str, object]], name: str = "objects"
+) -> Iterator[str]:
+    """The lines of a JSON object. The objects are a list of this name in it, each in a line of its own."""
+    yield f'{json.dumps(facts)[:-1]}, "{name}": ['
+    before: str | None = None
+    for one in objects:
+        if before is not None:
+            yield before + ","
+        before = json.dumps(one)
+    yield from [] if before is None else [before]
+    yield "]}"
