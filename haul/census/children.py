@@ -9,8 +9,7 @@ import subprocess
 import threading
 from collections.abc import Iterator
 from contextlib import contextmanager, suppress
-
-from haul.search.stopping import Stopping
+from typing import Protocol
 
 
 class NoThread(Exception):
@@ -24,6 +23,16 @@ def start_thread(thread: threading.Thread) -> None:
         raise NoThread(str(error)) from None
 
 
+class SignalHandler(Protocol):
+    """Work that ends by itself when a signal comes."""
+
+    # The signal that ends the program, or `None` if there isn't one.
+    number: int | None
+
+    def came(self, number: int) -> bool:
+        """Notes a signal, and returns whether the work may go on until it ends by itself."""
+
+
 class Children:
     """The programs that run."""
 
@@ -32,7 +41,7 @@ class Children:
         # Held while one is started, so that each that runs is known.
         self.starts = threading.Lock()
         # The work that ends by itself when a signal comes; none if a signal ends it.
-        self.stopping: Stopping | None = None
+        self.stopping: SignalHandler | None = None
 
     def start(
         self, words: list[str], stdout: int, stderr: int | None, stdin: int
@@ -43,7 +52,7 @@ class Children:
             self.running.append(program)
         return program
 
-    def heed(self, stopping: Stopping) -> None:
+    def heed(self, stopping: SignalHandler) -> None:
         """From here on signals are noted, and the work ends by itself."""
         self.stopping = stopping
 

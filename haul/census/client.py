@@ -6,18 +6,16 @@ import os
 import re
 import shutil
 import subprocess
-import sys
 import threading
 from collections.abc import Callable, Iterator
 from concurrent.futures import ThreadPoolExecutor
-from contextlib import suppress
 from typing import IO, TypeVar
 
 from haul.census.children import NoCensus, NoThread, missing, open_pipe, start_child, start_thread
 from haul.census.command_lines import list_job_options, list_set_options
 from haul.census.locate import find_beside
 from haul.formats.haul import Job
-from haul.terminal import show_progress
+from haul.terminal import Terminal
 
 # The statuses of the program that are passed on; each other one counts as a read that failed.
 PASSED_ON = (2, 3, 4, 5)
@@ -45,11 +43,13 @@ class Ended(Exception):
 class Census:
     """The census program at a path."""
 
-    def __init__(self, path: str | None) -> None:
+    def __init__(self, path: str | None, terminal: Terminal) -> None:
         found = path or find_beside() or shutil.which("census")
         if found is None:
             raise NoCensus("no census beside this program or on the PATH")
         self.path = found
+        # Where it shows how far it is.
+        self.terminal = terminal
 
     def ask(self, words: list[str], pattern: bytes = b"") -> bytes:
         """What the program prints. The pattern that it reads has to fit into a pipe, as that of a soup does."""
@@ -81,9 +81,9 @@ class Census:
         with ThreadPoolExecutor(len(os.sched_getaffinity(0))) as pool:
             for part, said in zip(parts, ask_all(pool, ask, parts), strict=True):
                 done += len(part)
-                show_progress(f"{done} of {len(asked)} {told}")
+                self.terminal.show_progress(f"{done} of {len(asked)} {told}")
                 yield said
-        show_progress("")
+        self.terminal.show_progress("")
 
     def reports(self, job: Job, numbers: list[int]) -> dict[int, list[str]]:
         """What these soups leave, by one call: the fields of a report line after the number of the soup."""
@@ -110,7 +110,7 @@ class Census:
 
     def take(self, words: list[str], out: IO[bytes]) -> None:
         """Writes the haul of a call of `take`, whose line of progress is shown where this program has a terminal."""
-        shows = sys.stderr.isatty()
+        shows = self.terminal.is_interactive()
         with start_child(
             [self.path, "take", *words, *(["--progress"] if shows else [])],
             subprocess.PIPE,
@@ -118,7 +118,7 @@ class Census:
         ) as program:
             assert program.stdout and program.stderr
             errors = bytearray()
-            watcher = threading.Thread(target=pass_progress_on, args=(program.stderr, errors))
+            watcher = threading.Thread(target=self.pass_progress_on, args=(program.stderr, errors))
             try:
                 start_thread(watcher)
                 shutil.copyfileobj(program.stdout, out)
@@ -130,6 +130,15 @@ class Census:
                 if watcher.ident is not None:
                     watcher.join()
         check_ending(program.returncode, b"", bytes(errors))
+
+    def pass_progress_on(self, stream: IO[bytes], errors: bytearray) -> None:
+        """Shows what ends with a carriage return, which is a line of progress, and keeps the rest."""
+        while piece := os.read(stream.fileno(), 4096):
+            errors += piece
+            shown, returned, rest = bytes(errors).rpartition(b"\r")
+            if returned:
+                self.terminal.pass_progress_on(shown + returned)
+            errors[:] = rest
 
 
 def ask_all(
@@ -148,14 +157,3 @@ def check_ending(status: int, printed: bytes, errors: bytes) -> bytes:
         how = f"ended with status {status}" if status > 0 else f"was ended by signal {-status}"
         raise Ended(status, lines[-1].removeprefix("census: ") if lines else f"census {how}")
     return printed
-
-
-def pass_progress_on(stream: IO[bytes], errors: bytearray) -> None:
-    """Shows what ends with a carriage return, which is a line of progress, and keeps the rest."""
-    while piece := os.read(stream.fileno(), 4096):
-        errors += piece
-        shown, returned, rest = bytes(errors).rpartition(b"\r")
-        if returned and sys.stderr.isatty():
-            with suppress(OSError):
-                os.write(sys.stderr.fileno(), shown + returned)
-        errors[:] = rest

@@ -1,49 +1,59 @@
-"""The command line of `haul`: its words, its streams, and the status with which it ends."""
+"""Runs a call of `haul`: reads its arguments, runs the command, and says why it failed."""
 
 from __future__ import annotations
 
-import sys
+from contextlib import redirect_stderr, redirect_stdout
+from typing import BinaryIO, TextIO
 
 from haul.census.children import NoCensus, NoThread
 from haul.census.client import Ended
 from haul.cli.commands import COMMANDS
-from haul.cli.files import Refused
 from haul.cli.parser import parse_arguments
 from haul.cli.statuses import DONE, FAILED, NO_MEMORY, REFUSED, USAGE
-from haul.terminal import complain_and_return
+from haul.cli.streams import Refused, Streams
 
 
-def run() -> int:
+def main(arguments: list[str], stdin: BinaryIO, stdout: TextIO, stderr: TextIO) -> int:
+    """Runs a call with these arguments, and returns its exit status."""
+    streams = Streams(stdin, stdout, stderr)
+    complain = streams.terminal.complain
     try:
-        status = run_command()
-        sys.stdout.flush()
+        status = run_command(arguments, streams)
+        stdout.flush()
         return status
     except Refused as why:
-        return complain_and_return(str(why), REFUSED)
+        complain(str(why))
+        return REFUSED
     except NoCensus as why:
-        return complain_and_return(str(why), USAGE)
+        complain(str(why))
+        return USAGE
     except Ended as why:
-        return complain_and_return(str(why), why.status)
+        complain(str(why))
+        return why.status
     except MemoryError:
-        return complain_and_return("out of memory", NO_MEMORY)
+        complain("out of memory")
+        return NO_MEMORY
     except NoThread as error:
-        return complain_and_return(str(error), NO_MEMORY)
+        complain(str(error))
+        return NO_MEMORY
     except BrokenPipeError:
         # The program that reads the output has ended.
         return FAILED
     except OSError as error:
-        return complain_and_return(describe_error(error), FAILED)
+        complain(describe_error(error))
+        return FAILED
+
+
+def run_command(arguments: list[str], streams: Streams) -> int:
+    try:
+        with redirect_stdout(streams.stdout), redirect_stderr(streams.terminal.stderr):
+            asked = parse_arguments(arguments)
+    except SystemExit as ended:
+        # The help, the version or the fault of the arguments has been written.
+        return DONE if ended.code == 0 else USAGE
+    return COMMANDS[asked.command](asked, streams)
 
 
 def describe_error(error: OSError) -> str:
     reason = error.strerror or "read or write failed"
     return f"{error.filename}: {reason}" if error.filename else reason
-
-
-def run_command() -> int:
-    try:
-        asked = parse_arguments()
-    except SystemExit as ended:
-        # Help or the version was asked for, or the words weren't understood; either has been told.
-        return DONE if ended.code == 0 else USAGE
-    return COMMANDS[asked.command](asked)

@@ -7,11 +7,13 @@ import signal
 import sys
 import threading
 from collections.abc import Callable
+from typing import NoReturn
 
 from haul.census.children import NoThread, children, start_thread
-from haul.cli.main import describe_error, run
+from haul.cli.main import describe_error
+from haul.cli.main import main as run
 from haul.cli.statuses import FAILED, NO_MEMORY
-from haul.terminal import complain_and_return
+from haul.terminal import Terminal
 
 # What ends this program, unless it was started so that it takes no notice of it.
 ENDING = (signal.SIGINT, signal.SIGTERM, signal.SIGHUP)
@@ -71,13 +73,22 @@ def open_streams() -> None:
         sys.stderr = open(2, "w", encoding="utf-8", closefd=False)
 
 
-def main() -> None:
+def main() -> NoReturn:
+    """Runs the call of this process, and ends the process with the status of the call."""
     try:
         open_streams()
-        status = run_heeding_signals(run)
+        status = run_heeding_signals(
+            lambda: run(sys.argv[1:], sys.stdin.buffer, sys.stdout, sys.stderr)
+        )
     except NoThread as error:
-        status = complain_and_return(str(error), NO_MEMORY)
+        status = fail(str(error), NO_MEMORY)
     except OSError as error:
-        status = complain_and_return(describe_error(error), FAILED)
+        status = fail(describe_error(error), FAILED)
     # Python's own end would write once more what couldn't be written.
     os._exit(status)
+
+
+def fail(line: str, status: int) -> int:
+    """Complains, and returns the status."""
+    Terminal(sys.stderr).complain(line)
+    return status

@@ -7,7 +7,7 @@ from typing import IO
 
 from haul.formats.haul import Job
 from haul.formats.report_lines import LINE_LIMIT, BadLine, Report, read_report_line
-from haul.terminal import complain, show_progress
+from haul.terminal import Terminal
 
 # A line of progress is written after this many lines.
 LINES_BETWEEN_PROGRESS = 10_000
@@ -16,7 +16,8 @@ LINES_BETWEEN_PROGRESS = 10_000
 class Reports:
     """The reports that have been read so far."""
 
-    def __init__(self) -> None:
+    def __init__(self, terminal: Terminal) -> None:
+        self.terminal = terminal
         # The job of the first good line.
         self.job: Job | None = None
         self.soups: set[int] = set()
@@ -28,15 +29,15 @@ class Reports:
         for number, line in enumerate(split_lines(stream), 1):
             self.lines += 1
             if self.lines % LINES_BETWEEN_PROGRESS == 0:
-                show_progress(f"{self.lines} lines")
+                self.terminal.show_progress(f"{self.lines} lines")
             try:
                 report = read_report_line(line)
             except BadLine as bad:
-                complain(f"{place}line {number}: {bad}")
+                self.terminal.complain(f"{place}line {number}: {bad}")
                 continue
             self.job = self.job or report.job
             if report.job != self.job:
-                complain(f"{place}line {number}: other job")
+                self.terminal.complain(f"{place}line {number}: other job")
             elif report.soup not in self.soups:
                 self.soups.add(report.soup)
                 yield report

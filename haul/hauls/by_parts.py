@@ -8,7 +8,7 @@ from collections.abc import Iterable
 from haul.formats.haul import MOST_SAMPLES, Haul
 from haul.life.generations import read_rule
 from haul.life.parts import Separation, Separator
-from haul.terminal import show_progress
+from haul.terminal import Terminal
 
 # After so many objects a line says how far it is.
 OBJECTS_BETWEEN_PROGRESS = 500
@@ -17,8 +17,9 @@ OBJECTS_BETWEEN_PROGRESS = 500
 class Objects:
     """The objects of one haul, each of which is separated once, when that is asked for."""
 
-    def __init__(self, haul: Haul) -> None:
+    def __init__(self, haul: Haul, terminal: Terminal) -> None:
         self.haul = haul
+        self.terminal = terminal
         self.separator = Separator(read_rule(haul.job.rule))
         self.known: dict[str, Separation] = {}
 
@@ -31,10 +32,10 @@ class Objects:
         """Returns the separations of these objects, and says on a terminal how far it is."""
         codes = list(codes)
         for done in range(0, len(codes), OBJECTS_BETWEEN_PROGRESS):
-            show_progress(f"{done} of {len(codes)} objects separated")
+            self.terminal.show_progress(f"{done} of {len(codes)} objects separated")
             for code in codes[done : done + OBJECTS_BETWEEN_PROGRESS]:
                 self.separation_of(code)
-        show_progress("")
+        self.terminal.show_progress("")
         return {code: self.known[code] for code in codes}
 
     def by_parts(self) -> Haul:

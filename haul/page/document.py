@@ -18,8 +18,6 @@ from haul.page.object_table import write_table
 from haul.page.sides import make_sides
 from haul.page.summary import write_foot, write_title, write_top
 
-__all__ = ["MOST_SIDES", "page_of"]
-
 # In this order, since a file uses what those before it define.
 SCRIPTS = (
     "cells",
@@ -41,7 +39,7 @@ PIECES = re.compile(r"\$(?:table|data)_pieces")
 def make_page(census: Census, hauls: list[Haul], least: int, play: int = 500) -> Iterator[str]:
     """Yields the page, piece by piece. Codes with fewer than `least` objects in each haul have no place on it. `census` is asked when the
     sample soups of the first `play` objects have settled."""
-    sides = make_sides(hauls, least, play)
+    sides = make_sides(hauls, least, play, census.terminal)
     # All is known before the first byte is written, so a page is whole or not there.
     sides.ask(census)
     before, between, after = map(Template, PIECES.split(read_file("page.html")))

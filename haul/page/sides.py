@@ -9,6 +9,7 @@ from haul.census.soup_ends import End, find_ends
 from haul.formats.haul import Haul
 from haul.hauls.by_parts import Objects
 from haul.life.parts import Separation
+from haul.terminal import Terminal
 from haul.views.compare import letter_hauls, rank_codes
 
 # A page has room for so many hauls.
@@ -88,10 +89,10 @@ class Sides:
         return next(side for side in self.all if side.has(code))
 
 
-def make_sides(hauls: list[Haul], least: int, play: int) -> Sides:
+def make_sides(hauls: list[Haul], least: int, play: int, terminal: Terminal) -> Sides:
     sides: list[Side] = []
     for letter, haul in letter_hauls(hauls):
-        objects = Objects(haul)
+        objects = Objects(haul, terminal)
         sides.append(Side(letter, objects, objects.by_parts()))
     codes, parts = rank_for_page(hauls, least), rank_for_page(
         [side.by_parts for side in sides], least

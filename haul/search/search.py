@@ -17,6 +17,7 @@ import time
 from collections.abc import Callable
 from contextlib import suppress
 from dataclasses import dataclass
+from typing import TextIO
 
 from haul.census.children import missing
 from haul.census.client import Census
@@ -32,7 +33,6 @@ from haul.search.finds import Finder
 from haul.search.keeper import Keeper
 from haul.search.status_line import Status, StatusLine, format_duration
 from haul.search.stopping import Stopping
-from haul.terminal import complain, show_progress
 
 MOST_WORKERS = 16
 # No more than a fiftieth of the running time goes to writing the file, unless batches have waited for ten minutes.
@@ -77,12 +77,21 @@ class Search:
     """A search that runs."""
 
     def __init__(
-        self, plan: Plan, haul: Haul, keeper: Keeper, census: Census, stopping: Stopping
+        self,
+        plan: Plan,
+        haul: Haul,
+        keeper: Keeper,
+        census: Census,
+        stopping: Stopping,
+        output: TextIO,
     ) -> None:
+        """Makes a search that goes on with `haul`, and writes its finds to `output`."""
         self.plan = plan
         self.keeper = keeper
         self.census = census
         self.stopping = stopping
+        self.output = output
+        self.terminal = census.terminal
         self.job = haul.job
         self.joining = Joining()
         self.joining.add(haul)
@@ -97,9 +106,9 @@ class Search:
         self.waiter = StreamWaiter()
         self.waiter.add(stopping.heard, stopping.hear)
         self.finder = Finder(haul.job, haul)
-        self.calls = FindCalls(self.waiter, plan.finds, complain)
+        self.calls = FindCalls(self.waiter, plan.finds, self.terminal.complain)
         self.finds = 0
-        self.line = StatusLine()
+        self.line = StatusLine(self.terminal)
         self.said_that_it_finishes = self.said_what_is_left = False
         self.began = self.kept_at = time.monotonic()
         # How long all writing took, and the latest.
@@ -115,7 +124,7 @@ class Search:
                 self.keep()
         finally:
             self.tell_rest()
-            show_progress("")
+            self.terminal.show_progress("")
 
     # ---- Batches
 
@@ -243,8 +252,8 @@ class Search:
         while not self.finder.is_done() and time.monotonic() < end:
             for find in self.finder.step():
                 fields = find.fields(self.job)
-                show_progress("")
-                print("\t".join(fields), flush=True)
+                self.terminal.show_progress("")
+                print("\t".join(fields), file=self.output, flush=True)
                 self.finds += 1
                 self.calls.add(fields)
 
@@ -263,7 +272,7 @@ class Search:
                 self.wait_until(is_told)
             self.find_for(LAST_SECONDS)
             if not self.finder.is_done() or not self.calls.is_done():
-                complain(f"not all finds are told: {self.what_is_left()}")
+                self.terminal.complain(f"not all finds are told: {self.what_is_left()}")
         finally:
             self.calls.end()
 
@@ -275,14 +284,14 @@ class Search:
         rate = self.status().rate()
         left = self.batch.count - self.batch.call.soups()
         when = f", in about {format_duration(left / rate)}" if rate > 0 else ""
-        complain(f"stops after this batch{when}; Ctrl-C again drops the batch")
+        self.terminal.complain(f"stops after this batch{when}; Ctrl-C again drops the batch")
 
     def say_what_is_left(self) -> None:
         """Says once what is still to be done after the last batch."""
         if not self.said_what_is_left:
             self.said_what_is_left = True
             again = "again" if self.stopping.finishes else "twice"
-            complain(
+            self.terminal.complain(
                 f"finds are still told: {self.what_is_left() or 'the last ones'}; Ctrl-C {again} stops that"
             )
 

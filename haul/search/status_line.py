@@ -2,12 +2,11 @@
 
 from __future__ import annotations
 
-import sys
 import time
 from dataclasses import dataclass
 
 from haul.plurals import pluralize, write_count
-from haul.terminal import complain, get_terminal_width, show_progress
+from haul.terminal import Terminal
 
 # How often the status is told.
 SECONDS_ON_A_TERMINAL, SECONDS_ELSEWHERE = 1.0, 60.0
@@ -89,8 +88,9 @@ def format_short(number: int) -> str:
 class StatusLine:
     """Tells a status when it is time for that."""
 
-    def __init__(self) -> None:
-        self.is_on_a_terminal = sys.stderr.isatty()
+    def __init__(self, terminal: Terminal) -> None:
+        self.terminal = terminal
+        self.is_on_a_terminal = terminal.is_interactive()
         self.every = SECONDS_ON_A_TERMINAL if self.is_on_a_terminal else SECONDS_ELSEWHERE
         self.next = time.monotonic() + self.every
 
@@ -103,11 +103,11 @@ class StatusLine:
         if self.is_on_a_terminal:
             # A line that is wider than the terminal couldn't be wiped.
             text = (
-                status.text() if len(status.text()) < get_terminal_width() else status.short_text()
+                status.text() if len(status.text()) < self.terminal.width() else status.short_text()
             )
-            show_progress(text[: get_terminal_width() - 1])
+            self.terminal.show_progress(text[: self.terminal.width() - 1])
         else:
-            complain(status.text())
+            self.terminal.complain(status.text())
 
     def seconds_left(self) -> float:
         return max(0.0, self.next - time.monotonic())
