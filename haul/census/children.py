@@ -90,12 +90,11 @@ NOT_THERE = (
 
 
 class NoCensus(Exception):
-    """There is no program to ask, or it isn't the census program."""
+    """There is no program to ask, or it doesn't answer as the census program does."""
 
-
-def missing(path: str) -> NoCensus:
-    """What is said if there is no program at a path, or one that doesn't answer as the census program does."""
-    return NoCensus(f"no census at {path}")
+    @classmethod
+    def at(cls, path: str) -> NoCensus:
+        return cls(f"no census at {path}")
 
 
 @contextmanager
@@ -119,7 +118,7 @@ def start_child(
         program = children.start(words, stdout, stderr, stdin)
     except OSError as error:
         if error.errno in NOT_THERE:
-            raise missing(words[0]) from None
+            raise NoCensus.at(words[0]) from None
         raise
     with children.known(program):
         yield program

@@ -11,10 +11,10 @@ from collections.abc import Callable, Iterator
 from concurrent.futures import ThreadPoolExecutor
 from typing import IO, TypeVar
 
-from haul.census.children import NoCensus, NoThread, missing, open_pipe, start_child, start_thread
-from haul.census.command_lines import list_job_options, list_set_options
+from haul.census.children import NoCensus, NoThread, open_pipe, start_child, start_thread
+from haul.census.command_lines import list_take_arguments, list_work_arguments
 from haul.census.locate import find_beside
-from haul.formats.haul import Job
+from haul.formats.haul import Job, Range
 from haul.terminal import Terminal
 
 # The statuses of the program that are passed on; each other one counts as a read that failed.
@@ -87,35 +87,24 @@ class Census:
 
     def reports(self, job: Job, numbers: list[int]) -> dict[int, list[str]]:
         """What these soups leave, by one call: the fields of a report line after the number of the soup."""
-        printed = self.ask(
-            [
-                "work",
-                "--worker=1",
-                *list_job_options(job),
-                *list_set_options([(number, 1) for number in numbers]),
-            ]
-        )
-        before = f"report 2 rule={job.rule} profile={','.join(map(str, job.profile))} seed={job.seed} worker=1 soup=".encode(
-            "ascii"
-        )
+        printed = self.ask(list_work_arguments(job, [(number, 1) for number in numbers]))
+        start = f"report 2 rule={job.rule} profile={job.profile.format()} seed={job.seed}"
+        before = f"{start} worker=1 soup=".encode("ascii")
         reports: dict[int, list[str]] = {}
         for line in printed.splitlines():
             found = REPORT.fullmatch(line.removeprefix(before))
             if found is None or not line.startswith(before):
-                raise missing(self.path)
+                raise NoCensus.at(self.path)
             reports[int(found[1])] = found[2].decode("ascii").split(" ")
         if list(reports) != numbers:
-            raise missing(self.path)
+            raise NoCensus.at(self.path)
         return reports
 
-    def take(self, words: list[str], out: IO[bytes]) -> None:
-        """Writes the haul of a call of `take`, whose line of progress is shown where this program has a terminal."""
-        shows = self.terminal.is_interactive()
-        with start_child(
-            [self.path, "take", *words, *(["--progress"] if shows else [])],
-            subprocess.PIPE,
-            subprocess.PIPE,
-        ) as program:
+    def take(self, job: Job, ranges: list[Range], workers: int, out: IO[bytes]) -> None:
+        """Writes the haul of a set of soups, which one call can take, to a file. The program's line
+        of progress is shown on a terminal."""
+        words = list_take_arguments(job, ranges, workers, self.terminal.is_interactive())
+        with start_child([self.path, *words], subprocess.PIPE, subprocess.PIPE) as program:
             assert program.stdout and program.stderr
             errors = bytearray()
             watcher = threading.Thread(target=self.pass_progress_on, args=(program.stderr, errors))

@@ -1,4 +1,4 @@
-"""Command lines of `census`, for calls and for readers to copy."""
+"""Command lines of `census`: arguments for calls, and commands that a reader can copy into a shell."""
 
 from __future__ import annotations
 
@@ -9,41 +9,59 @@ from haul.formats.haul import Haul, Job, Range
 from haul.formats.profile import STANDARD
 from haul.formats.rules import LIFE
 
-# The program takes no more numbers in one call.
+# `census` takes at most this number of soups in one call.
 NUMBERS_IN_A_CALL = 2**24
-# So many ranges stand in one call at most: a word has at most 131,071 bytes on Linux, and a range 31.
+# The most ranges in one call: an argument has at most 131,071 bytes on Linux, and a range 31.
 RANGES_IN_A_CALL = 2000
+# A command for more ranges would be longer than a reader copies.
+RANGES_TO_COPY = 12
+
+# ---- Arguments of calls
 
 
-def list_job_options(job: Job) -> list[str]:
-    return [f"--seed={job.seed}", *list_pattern_options(job)]
+def list_take_arguments(
+    job: Job, ranges: list[Range], workers: int, has_progress: bool
+) -> list[str]:
+    """Returns the arguments for the haul of a set of soups, which one call can take."""
+    progress = ["--progress"] if has_progress else []
+    return ["take", *list_set_options(job, ranges), f"--workers={workers}", *progress]
+
+
+def list_work_arguments(job: Job, ranges: list[Range]) -> list[str]:
+    """Returns the arguments for report lines about a set of soups, which one call can take."""
+    return ["work", "--worker=1", *list_set_options(job, ranges)]
+
+
+def list_name_arguments(job: Job) -> list[str]:
+    """Returns the arguments for what a pattern, which has no seed, becomes."""
+    return ["name", *list_pattern_options(job)]
+
+
+def list_run_arguments(job: Job, generations: int) -> list[str]:
+    """Returns the arguments for a pattern some generations later."""
+    return ["run", f"--rule={job.rule}", str(generations)]
+
+
+def list_set_options(job: Job, ranges: list[Range]) -> list[str]:
+    """Returns the options of a job and of a set of soups."""
+    (first, count), *more = ranges or [
+        (0, 0)
+    ]  # mutant: equal because an empty set is the same wherever it begins
+    options = [f"--seed={job.seed}", *list_pattern_options(job)]
+    options += [f"--first={first}", f"--count={count}"]
+    if more:
+        options.append("--also=" + ",".join(f"{first}+{count}" for first, count in more))
+    return options
 
 
 def list_pattern_options(job: Job) -> list[str]:
-    """The words for a pattern, which has no seed."""
-    period, horizon, stride, limit = job.profile
-    return [
-        f"--rule={job.rule}",
-        f"--period={period}",
-        f"--horizon={horizon}",
-        f"--stride={stride}",
-        f"--limit={limit}",
-    ]
-
-
-def list_set_options(ranges: list[Range]) -> list[str]:
-    """The words for a set that one call takes."""
-    (first, count), *more = ranges or [(0, 0)]
-    words = [f"--first={first}", f"--count={count}"]
-    return (
-        words + ["--also=" + ",".join(f"{first}+{count}" for first, count in more)]
-        if more
-        else words
-    )
+    profile = [f"{option}={number}" for option, number in job.profile.list_options()]
+    return [f"--rule={job.rule}", *profile]
 
 
 def split_ranges(ranges: list[Range], numbers: int = NUMBERS_IN_A_CALL) -> Iterator[list[Range]]:
-    """These ranges, cut into sets that one call takes, of so many numbers at most."""
+    """Yields sets that together are these ranges. One call can take each set, which has at most
+    `numbers` soups."""
     piece: list[Range] = []
     room = numbers
     for first, count in ranges:
@@ -58,62 +76,49 @@ def split_ranges(ranges: list[Range], numbers: int = NUMBERS_IN_A_CALL) -> Itera
         yield piece
 
 
+# ---- Commands to copy
+
+
 def format_find_command(job: Job, soup: int) -> str:
-    """Returns the command for a shell that runs a soup and names what it leaves."""
+    """Returns the command that runs the soup of a find and names what it leaves. If the profile
+    isn't the standard one, the command has all of it."""
     # A value that begins with a hyphen has to be attached.
     seed = ["--seed", job.seed] if not job.seed.startswith("-") else [f"--seed={job.seed}"]
-    profile = (
-        []
-        if job.profile == STANDARD
-        else [
-            word
-            for name, number in zip(
-                ("period", "horizon", "stride", "limit"), job.profile, strict=True
-            )
-            for word in (f"--{name}", str(number))
-        ]
-    )
-    return f"{shlex.join(['census', 'soup', *seed, str(soup)])} | {shlex.join(['census', 'name', '--rule', job.rule, *profile])}"
-
-
-STANDARD_PROFILE = (64, 512, 101, 30300)
-PROFILE_OPTIONS = ("--period", "--horizon", "--stride", "--limit")
-# A command for more ranges would be longer than a reader copies.
-MOST_RANGES = 12
+    profile: list[str] = []
+    if job.profile != STANDARD:
+        for option, number in job.profile.list_options():
+            profile += [option, str(number)]
+    print_soup = shlex.join(["census", "soup", *seed, str(soup)])
+    return f"{print_soup} | {shlex.join(['census', 'name', '--rule', job.rule, *profile])}"
 
 
 def format_soup_commands(job: Job) -> tuple[str, str]:
-    """Returns what to type to see what becomes of a soup, before and after its number, whatever stands in the seed."""
-    return " ".join(["census soup", *list_seed_option(job), ""]), " ".join(
-        [" | census name", *list_changed_options(job)]
-    )
+    """Returns the command that shows what becomes of a soup, before and after the soup's number."""
+    before = ["census soup", *list_quoted_seed(job), ""]
+    after = [" | census name", *list_changed_options(job)]
+    return " ".join(before), " ".join(after)
 
 
 def format_unsettled_command(haul: Haul) -> str:
     """Returns the command that lists the unsettled soups of a haul."""
-    words = [*list_seed_option(haul.job), *list_changed_options(haul.job)]
+    options = [*list_quoted_seed(haul.job), *list_changed_options(haul.job)]
     ranges = [range_ for piece in split_ranges(haul.ranges) for range_ in piece]
     calls = [
-        " ".join(["census work", *words, f"--first={first} --count={count} --worker=1"])
-        for first, count in ranges[:MOST_RANGES]
+        " ".join(["census work", *options, f"--first={first} --count={count} --worker=1"])
+        for first, count in ranges[:RANGES_TO_COPY]
     ]
-    if len(ranges) > MOST_RANGES:
+    if len(ranges) > RANGES_TO_COPY:
         calls.append("..")
     before = calls[0] if len(calls) == 1 else f"{{ {'; '.join(calls)}; }}"
     return f"{before} | haul soups --unsettled"
 
 
-def list_seed_option(job: Job) -> list[str]:
+def list_quoted_seed(job: Job) -> list[str]:
+    """Returns the option of the seed for a shell; none for the empty seed."""
     return [f"--seed={shlex.quote(job.seed)}"] if job.seed else []
 
 
 def list_changed_options(job: Job) -> list[str]:
-    """Returns the options of rule and profile that aren't standard."""
+    """Returns the options of rule and profile whose values aren't the defaults."""
     rule = [f"--rule={job.rule}"] if job.rule != LIFE else []
-    return rule + [
-        f"{option}={value}"
-        for option, value, standard in zip(
-            PROFILE_OPTIONS, job.profile, STANDARD_PROFILE, strict=True
-        )
-        if value != standard
-    ]
+    return rule + [f"{option}={number}" for option, number in job.profile.list_changed_options()]

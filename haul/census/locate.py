@@ -7,7 +7,7 @@ import subprocess
 import sys
 from pathlib import Path
 
-from haul.census.children import missing, start_child
+from haul.census.children import NoCensus, start_child
 
 # A release has a program for each level of processors, and this shell script says which one is for the processor that is there.
 SHELL = ["/bin/sh", "-c"]
@@ -28,7 +28,7 @@ def find_beside() -> str | None:
     with start_child([str(starter), "--version"], subprocess.DEVNULL, None) as launcher:
         launcher.wait()
     if launcher.returncode != 0:
-        raise missing(str(starter))
+        raise NoCensus.at(str(starter))
     return str(top / "crates" / "census" / "out" / "census")
 
 
@@ -37,5 +37,5 @@ def choose_for_processor(starter: Path, libexec: Path) -> str:
     with start_child([*SHELL, CHOOSES, "sh", str(libexec)], subprocess.PIPE, None) as shell:
         chosen = shell.communicate()[0]
     if shell.returncode != 0:
-        raise missing(str(starter))
+        raise NoCensus.at(str(starter))
     return os.fsdecode(chosen)

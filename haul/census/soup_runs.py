@@ -7,9 +7,9 @@ from collections.abc import Iterator
 from dataclasses import replace
 from functools import partial
 
-from haul.census.children import missing
+from haul.census.children import NoCensus
 from haul.census.client import Census
-from haul.census.command_lines import list_pattern_options
+from haul.census.command_lines import list_name_arguments, list_run_arguments
 from haul.formats.haul import Job
 from haul.life.soups import make_soup
 
@@ -34,13 +34,12 @@ def find_exact_generations(census: Census, job: Job, soups: list[int]) -> Iterat
 
 
 def find_exact_generation(census: Census, job: Job, soups: list[int]) -> int | None:
-    period, horizon, _, limit = job.profile
     (soup,) = soups
-    words = list_pattern_options(replace(job, profile=(period, horizon, EVERY_GENERATION, limit)))
-    finding = census.ask(["name", *words], draw_soup(job, soup))
+    exact = replace(job, profile=job.profile._replace(stride=EVERY_GENERATION))
+    finding = census.ask(list_name_arguments(exact), draw_soup(job, soup))
     found = SETTLED.match(finding)
     if found is None and finding != b"unsettled\n":
-        raise missing(census.path)
+        raise NoCensus.at(census.path)
     return int(found[1]) if found else None
 
 
@@ -52,10 +51,9 @@ def measure_growths(census: Census, job: Job, soups: list[int]) -> Iterator[tupl
 
 def measure_growth(census: Census, job: Job, soups: list[int]) -> tuple[int, int, int]:
     (soup,) = soups
-    _, _, stride, limit = job.profile
-    last = limit - limit % stride
+    last = job.profile.limit - job.profile.limit % job.profile.stride
     before, after = (
-        census.live_cells(["run", f"--rule={job.rule}", str(generation)], draw_soup(job, soup))
+        census.live_cells(list_run_arguments(job, generation), draw_soup(job, soup))
         for generation in (max(0, last - GENERATIONS_OF_GROWTH), last)
     )
     return last, after, after - before

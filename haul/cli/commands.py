@@ -239,17 +239,3 @@ def run_search(asked: argparse.Namespace, streams: Streams) -> int:
     except (CantKeep, Disagrees, CantJoin) as why:
         raise Refused(str(why)) from None
     return DONE
-
-
-COMMANDS = {
-    "check": run_check,
-    "search": run_search,
-    "join": run_join,
-    "compare": run_compare,
-    "table": run_table,
-    "page": run_page,
-    "soup": run_soup,
-    "soups": run_soups,
-    "cells": run_cells,
-    "rle": run_rle,
-}

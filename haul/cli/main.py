@@ -7,7 +7,6 @@ from typing import BinaryIO, TextIO
 
 from haul.census.children import NoCensus, NoThread
 from haul.census.client import Ended
-from haul.cli.commands import COMMANDS
 from haul.cli.parser import parse_arguments
 from haul.cli.statuses import DONE, FAILED, NO_MEMORY, REFUSED, USAGE
 from haul.cli.streams import Refused, Streams
@@ -51,7 +50,8 @@ def run_command(arguments: list[str], streams: Streams) -> int:
     except SystemExit as ended:
         # The help, the version or the fault of the arguments has been written.
         return DONE if ended.code == 0 else USAGE
-    return COMMANDS[asked.command](asked, streams)
+    status: int = asked.command.run(asked, streams)
+    return status
 
 
 def describe_error(error: OSError) -> str:

@@ -3,7 +3,9 @@
 from __future__ import annotations
 
 from collections.abc import Iterable
-from dataclasses import dataclass
+from dataclasses import KW_ONLY, dataclass, field
+
+from haul.formats.profile import Profile
 
 # No soup has this number, or a larger one.
 NUMBER_LIMIT = 2**40
@@ -21,8 +23,7 @@ class Job:
 
     seed: str
     rule: str
-    # Period, horizon, stride and limit.
-    profile: tuple[int, int, int, int]
+    profile: Profile
 
 
 @dataclass
@@ -30,17 +31,19 @@ class Haul:
     """What a census says of the soups that it has taken."""
 
     job: Job
-    # First number and how many, ascending; none of them is empty, and none touches the next.
-    ranges: list[Range]
-    soups: int
-    unsettled: int
-    for_good: int
+    _: KW_ONLY
+    # The first number and the count of each range, in ascending order. No range is empty, and none
+    # touches the next.
+    ranges: list[Range] = field(default_factory=list)
+    soups: int = 0
+    unsettled: int = 0
+    for_good: int = 0
     # How many objects there are of each code, in the order of the codes.
-    totals: dict[str, int]
+    totals: dict[str, int] = field(default_factory=dict)
     # The lowest numbers of soups that left an object of a code, for the same codes.
-    samples: dict[str, list[int]]
+    samples: dict[str, list[int]] = field(default_factory=dict)
     # The line of the input in which the text begins.
-    line: int = 1
+    line: int = 1  # mutant: equal because only a haul that was read is named by its line
 
     def objects(self) -> int:
         return sum(self.totals.values())

@@ -20,7 +20,7 @@ from haul.formats.haul import (
     Range,
     count_numbers,
 )
-from haul.formats.profile import LIMIT, MOST_HORIZON, PERIOD, STRIDE
+from haul.formats.profile import LIMIT, MOST_HORIZON, PERIOD, STRIDE, Profile
 from haul.formats.syntax import CODE, DECIMAL, RULE, SEED
 
 # The rows of the two tables.
@@ -76,7 +76,16 @@ def read_haul(lines: FieldReader) -> Haul:
         raise not_the_sum
     lines.only_words(b"@SAMPLE_SOUPIDS")
     samples = read_samples(lines, ranges, totals)
-    return Haul(job, ranges, soups, unsettled, for_good, totals, samples, begins)
+    return Haul(
+        job,
+        ranges=ranges,
+        soups=soups,
+        unsettled=unsettled,
+        for_good=for_good,
+        totals=totals,
+        samples=samples,
+        line=begins,
+    )
 
 
 def read_job(lines: FieldReader) -> Job:
@@ -97,7 +106,7 @@ def read_job(lines: FieldReader) -> Job:
     stride = lines.number_in(*STRIDE)
     limit = lines.number_in(*LIMIT)
     lines.end_line()
-    return Job(seed, rule, (period, horizon, stride, limit))
+    return Job(seed, rule, Profile(period, horizon, stride, limit))
 
 
 def read_ranges(lines: FieldReader) -> list[Range]:

@@ -6,7 +6,7 @@ import re
 from dataclasses import dataclass
 
 from haul.formats.haul import NUMBER_LIMIT, TOTAL_LIMIT, Job
-from haul.formats.profile import LIMIT, MOST_HORIZON, PERIOD, STRIDE
+from haul.formats.profile import LIMIT, Profile
 from haul.formats.syntax import CODE, RULE, SEED
 
 # A longer line is bad, as for `census gather`.
@@ -107,16 +107,10 @@ def build_report(found: re.Match[bytes]) -> Report | None:
     return Report(job, soup, settled, found["good"] == b"yes" if found["good"] else None, counts)
 
 
-def read_profile(text: bytes) -> tuple[int, int, int, int] | None:
-    """Returns the four numbers of a profile; nothing if one is out of its range."""
-    period, horizon, stride, limit = map(int, text.split(b","))
-    is_lawful = (
-        is_between(period, PERIOD)
-        and is_between(horizon, (period, MOST_HORIZON))
-        and is_between(stride, STRIDE)
-        and is_between(limit, LIMIT)
-    )
-    return (period, horizon, stride, limit) if is_lawful else None
+def read_profile(text: bytes) -> Profile | None:
+    """Reads a profile. Returns `None` if a number is out of its range."""
+    profile = Profile._make(map(int, text.split(b",")))
+    return profile if profile.is_lawful() else None
 
 
 def read_counts(text: bytes) -> dict[str, int] | None:

@@ -4,6 +4,7 @@ from __future__ import annotations
 
 from collections import defaultdict
 from collections.abc import Iterable
+from dataclasses import replace
 
 from haul.formats.haul import MOST_SAMPLES, Haul
 from haul.life.generations import read_rule
@@ -46,14 +47,9 @@ class Objects:
             for part in separation.parts:
                 totals[part] += self.haul.totals[code]
                 samples[part].update(self.haul.samples[code])
-        haul, codes = self.haul, sorted(totals)
-        return Haul(
-            haul.job,
-            haul.ranges,
-            haul.soups,
-            haul.unsettled,
-            haul.for_good,
-            {code: totals[code] for code in codes},
-            {code: sorted(samples[code])[:MOST_SAMPLES] for code in codes},
-            haul.line,
+        codes = sorted(totals)
+        return replace(
+            self.haul,
+            totals={code: totals[code] for code in codes},
+            samples={code: sorted(samples[code])[:MOST_SAMPLES] for code in codes},
         )

@@ -5,9 +5,9 @@ from __future__ import annotations
 import tempfile
 from collections.abc import Iterator
 
-from haul.census.children import missing
+from haul.census.children import NoCensus
 from haul.census.client import Census
-from haul.census.command_lines import list_job_options, list_set_options, split_ranges
+from haul.census.command_lines import split_ranges
 from haul.formats.field_reader import BadHaul
 from haul.formats.haul import Haul, Job, Range
 from haul.formats.haul_reader import read_one_haul
@@ -29,16 +29,14 @@ def retake(census: Census, haul: Haul, workers: int) -> Haul:
 def take_set(census: Census, job: Job, ranges: list[Range], workers: int) -> Haul:
     """The haul of a set that one call takes."""
     with tempfile.TemporaryFile() as text:
-        census.take(
-            [*list_job_options(job), *list_set_options(ranges), f"--workers={workers}"], text
-        )
+        census.take(job, ranges, workers, text)
         text.seek(0)
         try:
             haul = read_one_haul(text)
         except BadHaul:
-            raise missing(census.path) from None
+            raise NoCensus.at(census.path) from None
     if (haul.job, haul.ranges, haul.soups) != (job, ranges, haul.size()):
-        raise missing(census.path)
+        raise NoCensus.at(census.path)
     return haul
 
 

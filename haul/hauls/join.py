@@ -82,7 +82,12 @@ class Joining:
         if sum(self.totals.values()) >= TOTAL_LIMIT:
             raise CantJoin("totals too large")
         totals = dict(sorted(self.totals.items()))
-        samples = {code: self.samples[code] for code in totals}
         return Haul(
-            self.job, self.ranges, self.soups, self.unsettled, self.for_good, totals, samples
+            self.job,
+            ranges=self.ranges,
+            soups=self.soups,
+            unsettled=self.unsettled,
+            for_good=self.for_good,
+            totals=totals,
+            samples={code: self.samples[code] for code in totals},
         )

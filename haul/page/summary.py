@@ -8,6 +8,7 @@ from string import Template
 from haul import VERSION
 from haul.census.command_lines import format_unsettled_command
 from haul.formats.haul import Haul, Job
+from haul.formats.profile import Profile
 from haul.formats.rules import LIFE, format_rule
 from haul.page.sides import Side, Sides
 from haul.plurals import pluralize, write_count
@@ -140,7 +141,7 @@ def write_tiles(side: Side) -> str:
 def list_tiles(side: Side) -> list[tuple[str, str, str]]:
     """Returns the facts on all objects of a haul, with or without a place on the page: their names, their values, and what they mean if
     that isn't plain."""
-    haul, (_, horizon, _, limit) = side.haul, side.haul.job.profile
+    haul, profile = side.haul, side.haul.job.profile
     others = haul.soups - haul.unsettled - haul.for_good
     strict = sum(side.separation_of(code).is_strict() for code in haul.totals)
     return [
@@ -155,11 +156,11 @@ def list_tiles(side: Side) -> list[tuple[str, str, str]]:
         ("objects per soup", f"{haul.objects() / haul.soups:.2f}" if haul.soups else NO_NUMBER, ""),
         ("distinct objects", f"{len(haul.totals):,}", ""),
         ("of these strict", f"{strict:,}", "not made of smaller objects"),
-        ("unsettled soups", f"{haul.unsettled:,}", f"not at rest by generation {limit:,}"),
+        ("unsettled soups", f"{haul.unsettled:,}", f"not at rest by generation {profile.limit:,}"),
         (
             "settled for good",
             f"{haul.for_good:,}",
-            f"at rest forever; the other {others:,} for at least {write_count(horizon, 'generation')}",
+            f"at rest forever; the other {others:,} for at least {write_count(profile.horizon, 'generation')}",
         ),
     ]
 
@@ -208,7 +209,7 @@ def write_verification(sides: Sides) -> str:
 
 def write_definitions(sides: Sides) -> str:
     """Writes the definitions by which objects were counted."""
-    profiles: dict[tuple[int, int, int, int], list[str]] = {}
+    profiles: dict[Profile, list[str]] = {}
     for side in sides.all:
         profiles.setdefault(side.haul.job.profile, []).append(side.letter)
     words = "".join(
@@ -218,7 +219,7 @@ def write_definitions(sides: Sides) -> str:
     return fold("How objects are counted", words + NOTES)
 
 
-def describe_profile(profile: tuple[int, int, int, int]) -> str:
+def describe_profile(profile: Profile) -> str:
     period, horizon, stride, limit = profile
     each = f"{stride:,} generations" if stride > 1 else "generation"
     checkpoints = (

@@ -7,11 +7,11 @@ import secrets
 import string
 
 from haul.formats.haul import Haul, Job
-from haul.formats.profile import STANDARD
+from haul.formats.profile import STANDARD, Profile
+from haul.formats.rules import LIFE
 
 # Two people who draw their seeds don't take the same soups: there are 62^12 of these.
 SEED_BEGINS, SEED_LENGTH = "h_", 12
-PROFILE_NAMES = ("period", "horizon", "stride", "limit")
 
 
 class Disagrees(Exception):
@@ -25,13 +25,9 @@ def begin_haul(asked: argparse.Namespace) -> Haul:
         seed = SEED_BEGINS + "".join(
             secrets.choice(string.ascii_letters + string.digits) for _ in range(SEED_LENGTH)
         )
-    period, horizon, stride, limit = (
-        usual if said is None else said
-        for said, usual in zip(list_profile_numbers(asked), STANDARD, strict=True)
-    )
-    return Haul(
-        Job(seed, asked.rule or "b3s23", (period, horizon, stride, limit)), [], 0, 0, 0, {}, {}
-    )
+    numbers = zip(list_profile_numbers(asked), STANDARD, strict=True)
+    profile = Profile._make(usual if said is None else said for said, usual in numbers)
+    return Haul(Job(seed, asked.rule or LIFE, profile))
 
 
 def refuse_other_jobs(asked: argparse.Namespace, haul: Haul) -> None:
@@ -40,7 +36,7 @@ def refuse_other_jobs(asked: argparse.Namespace, haul: Haul) -> None:
     first = haul.ranges[0][0] if haul.ranges else asked.first
     there = (haul.job.seed, haul.job.rule, *haul.job.profile, first)
     for name, wanted, is_so in zip(
-        ("seed", "rule", *PROFILE_NAMES, "first soup"), said, there, strict=True
+        ("seed", "rule", *Profile._fields, "first soup"), said, there, strict=True
     ):
         if wanted is not None and wanted != is_so:
             raise Disagrees(f"{asked.file}: the {name} is {is_so}, and not {wanted}")
@@ -48,7 +44,7 @@ def refuse_other_jobs(asked: argparse.Namespace, haul: Haul) -> None:
 
 def list_profile_numbers(asked: argparse.Namespace) -> list[int | None]:
     """Returns the four numbers of the profile, with none for each that isn't given."""
-    return [getattr(asked, name) for name in PROFILE_NAMES]
+    return [getattr(asked, name) for name in Profile._fields]
 
 
 def find_next_soup(asked: argparse.Namespace, haul: Haul) -> int:

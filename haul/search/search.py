@@ -19,9 +19,9 @@ from contextlib import suppress
 from dataclasses import dataclass
 from typing import TextIO
 
-from haul.census.children import missing
+from haul.census.children import NoCensus
 from haul.census.client import Census
-from haul.census.command_lines import list_job_options
+from haul.census.command_lines import list_take_arguments
 from haul.formats.field_reader import BadHaul
 from haul.formats.haul import NUMBER_LIMIT, Haul
 from haul.formats.haul_reader import read_one_haul
@@ -150,14 +150,7 @@ class Search:
         count = min(self.plan.batch_size, most, NUMBER_LIMIT - self.next)
         if count <= 0 or self.stopping.finishes:
             return None
-        words = [
-            "take",
-            *list_job_options(self.job),
-            f"--first={self.next}",
-            f"--count={count}",
-            f"--workers={self.plan.workers}",
-            "--progress",
-        ]
+        words = list_take_arguments(self.job, [(self.next, count)], self.plan.workers, True)
         batch = Batch(self.next, count, BackgroundTake(self.waiter, [self.census.path, *words]))
         self.next += count
         self.begun += count
@@ -169,13 +162,10 @@ class Search:
         try:
             haul = read_one_haul(io.BytesIO(text))
         except BadHaul:
-            raise missing(self.census.path) from None
-        if (haul.job, haul.ranges, haul.soups) != (
-            self.job,
-            [(batch.first, batch.count)],
-            batch.count,
-        ):
-            raise missing(self.census.path)
+            raise NoCensus.at(self.census.path) from None
+        ranges = [(batch.first, batch.count)]
+        if (haul.job, haul.ranges, haul.soups) != (self.job, ranges, batch.count):
+            raise NoCensus.at(self.census.path)
         return haul
 
     def drop_batch(self) -> None:

@@ -204,7 +204,7 @@ class Comparison:
         for haul, objects, cell in zip(self.hauls, self.objects, self.cells(code), strict=True):
             low, high = map(str, cell.ends) if cell.ends else ("", "")
             ratio = "" if cell.ratio is None else str(cell.ratio)
-            facts = [haul.job.seed, haul.job.rule, ",".join(map(str, haul.job.profile))]
+            facts = [haul.job.seed, haul.job.rule, haul.job.profile.format()]
             facts += map(str, [haul.soups, haul.unsettled, haul.for_good, haul.objects()])
             row += [
                 *facts,

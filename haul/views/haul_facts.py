@@ -9,7 +9,7 @@ from haul.views.layout import make_exact
 
 
 def describe_job(job: Job) -> str:
-    return f"seed={job.seed} rule={job.rule} profile={','.join(map(str, job.profile))}"
+    return f"seed={job.seed} rule={job.rule} profile={job.profile.format()}"
 
 
 def describe_lettered_job(letter: str, haul: Haul) -> str:

@@ -93,7 +93,7 @@ def describe_settling(settling: Settling) -> str:
 
 
 def list_csv_facts(job: Job | None, settling: Settling) -> list[str]:
-    of_job = [job.seed, job.rule, ",".join(map(str, job.profile))] if job else [""] * 3
+    of_job = [job.seed, job.rule, job.profile.format()] if job else [""] * 3
     numbers = [settling.soups(), settling.unsettled, settling.for_good, settling.unmarked]
     quartiles, mean = settling.quartiles(), settling.mean()
     return [
