@@ -4,6 +4,7 @@ from __future__ import annotations
 
 import random
 
+from haul.formats.profile import Profile
 from haul.formats.haul import Haul, Job, MOST_SAMPLES, Range
 from haul.formats.haul_writer import format_haul
 
@@ -18,7 +19,9 @@ def drawn_job(draw: random.Random) -> Job:
     return Job(
         seed,
         f"b{births}s{survivals}",
-        (period, draw.randint(period, 4096), draw.randint(1, 10000), draw.randint(0, 100000)),
+        Profile(
+            period, draw.randint(period, 4096), draw.randint(1, 10000), draw.randint(0, 100000)
+        ),
     )
 
 
@@ -57,7 +60,15 @@ def drawn_haul(
         )
         for code in codes
     }
-    return Haul(job, ranges, soups, unsettled, draw.randint(0, soups - unsettled), totals, samples)
+    return Haul(
+        job,
+        ranges=ranges,
+        soups=soups,
+        unsettled=unsettled,
+        for_good=draw.randint(0, soups - unsettled),
+        totals=totals,
+        samples=samples,
+    )
 
 
 def any_haul(draw: random.Random) -> Haul:

@@ -8,19 +8,18 @@ from dataclasses import dataclass, field
 from html.parser import HTMLParser
 from typing import Any
 
-from haul.census.client import Census
 from haul.formats.haul import Haul
 from haul.page.document import make_page
-from haul.tests.called import CENSUS
+from haul.tests.called import make_client
 
 
 def page(haul: Haul, *more: int) -> str:
     """Returns the page of a haul. `more` is `--play`."""
-    return "".join(make_page(Census(CENSUS), [haul], 1, *more))
+    return "".join(make_page(make_client(), [haul], 1, *more))
 
 
 def compared(*hauls: Haul, least: int = 1, play: int = 0) -> str:
-    return "".join(make_page(Census(CENSUS), list(hauls), least, play))
+    return "".join(make_page(make_client(), list(hauls), least, play))
 
 
 def data_of(text: str) -> dict[str, Any]:

@@ -13,7 +13,7 @@ import unittest
 from contextlib import suppress
 from pathlib import Path
 
-from haul.census.command_lines import list_job_options, list_set_options
+from haul.census.command_lines import list_take_arguments
 from haul.formats.haul import Haul
 from haul.formats.haul_reader import read_one_haul
 from haul.tests.called import CENSUS, HAUL, as_haul, census
@@ -26,9 +26,7 @@ QUICK = ["--period=1", "--horizon=1", "--stride=1", "--limit=0"]
 
 def of_take(haul: Haul) -> bytes:
     """What `census take` prints over the soups of a haul."""
-    return census(
-        "take", *list_job_options(haul.job), *list_set_options(haul.ranges), "--workers=4"
-    )
+    return census(*list_take_arguments(haul.job, haul.ranges, 4, False))
 
 
 class Searches(unittest.TestCase):

@@ -4,7 +4,6 @@ from __future__ import annotations
 
 import io
 import os
-import pty
 import shutil
 import signal
 import subprocess
@@ -12,15 +11,15 @@ import sys
 import tempfile
 import time
 import unittest
-from contextlib import redirect_stderr, suppress
+from contextlib import suppress
 from pathlib import Path
 from unittest.mock import patch
 
-from haul.cli import main
+from haul.formats.profile import Profile
 from haul.census.children import NoThread
 from haul.formats.haul import Haul, Job
 from haul.formats.haul_reader import read_one_haul
-from haul.tests.called import CENSUS, HAUL, TOP, as_haul, census, run, taken
+from haul.tests.called import CENSUS, HAUL, TOP, call, census, read_terminal, run, taken
 from haul.tests.drawn import text_of
 from haul.tests.test_text import SMALL
 
@@ -35,13 +34,13 @@ LONG = (
 CODES = [f"xs4_{number}" for number in range(1000, 1600)]
 MANY = text_of(
     Haul(
-        Job("", "b3s23", (1, 1, 1, 0)),
-        [(0, 600)],
-        600,
-        0,
-        0,
-        {code: 1 for code in CODES},
-        {code: [k] for k, code in enumerate(CODES)},
+        Job("", "b3s23", Profile(1, 1, 1, 0)),
+        ranges=[(0, 600)],
+        soups=600,
+        unsettled=0,
+        for_good=0,
+        totals={code: 1 for code in CODES},
+        samples={code: [k] for k, code in enumerate(CODES)},
     )
 )
 
@@ -161,37 +160,20 @@ class Progress(unittest.TestCase):
 
     def written(self, *words: str, text: bytes) -> bytes:
         """What is written to a terminal as standard error."""
-        ours, its = pty.openpty()
-        with tempfile.TemporaryFile() as given:
-            given.write(text)
-            given.seek(0)
-            with subprocess.Popen(
-                [HAUL, *words],
-                stdin=given,
-                stdout=subprocess.DEVNULL,
-                stderr=its,
-                preexec_fn=as_haul(*words),
-            ):
-                os.close(its)
-                said = b""
-                with suppress(OSError):
-                    while piece := os.read(ours, 65536):
-                        said += piece
-        os.close(ours)
-        return said
+        return read_terminal(lambda stderr: call(words, io.BytesIO(text), io.StringIO(), stderr))
 
     def test_objects_that_are_separated(self) -> None:
         """After each five hundred."""
         codes = [f"xs4_{number}" for number in range(1000, 1600)]
         text = text_of(
             Haul(
-                Job("", "b3s23", (1, 1, 1, 0)),
-                [(0, 1)],
-                1,
-                0,
-                0,
-                {code: 1 for code in codes},
-                {code: [0] for code in codes},
+                Job("", "b3s23", Profile(1, 1, 1, 0)),
+                ranges=[(0, 1)],
+                soups=1,
+                unsettled=0,
+                for_good=0,
+                totals={code: 1 for code in codes},
+                samples={code: [0] for code in codes},
             )
         )
         for words in (["table"], ["table", "--parts"], ["page", "--play", "0"]):
@@ -205,13 +187,13 @@ class Progress(unittest.TestCase):
         codes = [f"xs4_{number}" for number in range(1000, 1150)]
         text = text_of(
             Haul(
-                Job("", "b3s23", (1, 1, 1, 0)),
-                [(0, 150)],
-                150,
-                0,
-                0,
-                {code: 1 for code in codes},
-                {code: [k] for k, code in enumerate(codes)},
+                Job("", "b3s23", Profile(1, 1, 1, 0)),
+                ranges=[(0, 150)],
+                soups=150,
+                unsettled=0,
+                for_good=0,
+                totals={code: 1 for code in codes},
+                samples={code: [k] for k, code in enumerate(codes)},
             )
         )
         self.assertEqual(
@@ -220,18 +202,28 @@ class Progress(unittest.TestCase):
         )
 
     def test_samples(self) -> None:
-        text = text_of(Haul(Job("", "b3s23", (1, 1, 1, 0)), [(0, 900)], 900, 900, 0, {}, {}))
+        text = text_of(
+            Haul(
+                Job("", "b3s23", Profile(1, 1, 1, 0)),
+                ranges=[(0, 900)],
+                soups=900,
+                unsettled=900,
+                for_good=0,
+                totals={},
+                samples={},
+            )
+        )
         self.assertEqual(self.told("check", "--samples", text=text.encode()), [])
         codes = [f"xs4_{number}" for number in range(1000, 1600)]
         text = text_of(
             Haul(
-                Job("", "b3s23", (1, 1, 1, 0)),
-                [(0, 900)],
-                900,
-                0,
-                0,
-                {code: 1 for code in codes},
-                {code: [k] for k, code in enumerate(codes)},
+                Job("", "b3s23", Profile(1, 1, 1, 0)),
+                ranges=[(0, 900)],
+                soups=900,
+                unsettled=0,
+                for_good=0,
+                totals={code: 1 for code in codes},
+                samples={code: [k] for k, code in enumerate(codes)},
             )
         )
         self.assertEqual(
@@ -382,17 +374,15 @@ class Unforeseen(unittest.TestCase):
         with patch(
             "haul.cli.main.run_command", side_effect=RuntimeError("other")
         ), self.assertRaisesRegex(RuntimeError, "^other$"):
-            main.run()
+            run()
 
     def test_no_memory(self) -> None:
         for error, line in (
             (MemoryError(), "out of memory"),
             (NoThread("can't start new thread"), "can't start new thread"),
         ):
-            with patch("haul.cli.main.run_command", side_effect=error), redirect_stderr(
-                io.StringIO()
-            ) as said:
-                self.assertEqual((main.run(), said.getvalue()), (4, f"haul: {line}\n"))
+            with patch("haul.cli.main.run_command", side_effect=error):
+                self.assertEqual(run(), (4, "", f"haul: {line}\n"))
 
 
 class OtherPrograms(unittest.TestCase):

@@ -10,17 +10,17 @@ import subprocess
 import sys
 import time
 import unittest
-from contextlib import redirect_stderr, redirect_stdout, suppress
+from contextlib import redirect_stderr, suppress
 from fcntl import ioctl
 from struct import pack
 from termios import TIOCSWINSZ
 from unittest.mock import Mock, patch
 
-from haul.census.client import Census
 from haul.census.command_lines import format_find_command
+from haul.census.client import Census
 from haul.formats.haul import Haul, Job
 from haul.formats.haul_reader import read_one_haul
-from haul.formats.profile import STANDARD
+from haul.formats.profile import STANDARD, Profile
 from haul.life.generations import read_rule
 from haul.life.parts import Separator
 from haul.names.common_parts import COMMON, LEAST
@@ -31,13 +31,14 @@ from haul.search.keeper import Keeper
 from haul.search.search import Batch, Dropped, Plan, Search
 from haul.search.status_line import Status, StatusLine, format_duration, format_short
 from haul.search.stopping import Stopping
-from haul.tests.called import CENSUS, HAUL, TOP, census, run
+from haul.tests.called import CENSUS, HAUL, TOP, census, make_client, run
+from haul.terminal import Terminal
 from haul.tests.searching import CLOCK, CLOCK_SOUP, Searches
 
 LIFE, OTHER_RULE, OTHER_PROFILE = (
     Job("a", "b3s23", STANDARD),
     Job("a", "b36s23", STANDARD),
-    Job("a", "b3s23", (4, 8, 10, 30)),
+    Job("a", "b3s23", Profile(4, 8, 10, 30)),
 )
 # The last of them is two blocks. The tripole isn't common under Life, and the others are.
 TRIPOLE, BLINKER, BLOCK, BI_BLOCK = "xp2_31ago", "xp2_7", "xs4_33", "xs8_rr"
@@ -46,12 +47,12 @@ TRIPOLE, BLINKER, BLOCK, BI_BLOCK = "xp2_31ago", "xp2_7", "xs4_33", "xs8_rr"
 def haul_of(job: Job, *codes: str) -> Haul:
     return Haul(
         job,
-        [(0, 100)] if codes else [],
-        100 if codes else 0,
-        0,
-        0,
-        {code: 1 for code in sorted(codes)},
-        {code: [0] for code in sorted(codes)},
+        ranges=[(0, 100)] if codes else [],
+        soups=100 if codes else 0,
+        unsettled=0,
+        for_good=0,
+        totals={code: 1 for code in sorted(codes)},
+        samples={code: [0] for code in sorted(codes)},
     )
 
 
@@ -130,7 +131,18 @@ class Finds(unittest.TestCase):
         """Its soups have begun the file, though they left nothing, so that later batches tell finds."""
         self.assertEqual(
             found(
-                Finder(OTHER_PROFILE, Haul(OTHER_PROFILE, [(0, 9)], 9, 9, 0, {}, {})),
+                Finder(
+                    OTHER_PROFILE,
+                    Haul(
+                        OTHER_PROFILE,
+                        ranges=[(0, 9)],
+                        soups=9,
+                        unsettled=9,
+                        for_good=0,
+                        totals={},
+                        samples={},
+                    ),
+                ),
                 [(TRIPOLE, 9)],
             ),
             [Find(TRIPOLE, 9)],
@@ -242,7 +254,7 @@ class Fields(Searches):
             for job, words in (
                 (Job(seed, "b3s23", STANDARD), ""),
                 (
-                    Job(seed, "b36s23", (4, 8, 10, 300)),
+                    Job(seed, "b36s23", Profile(4, 8, 10, 300)),
                     "--rule=b36s23 --period=4 --horizon=8 --stride=10 --limit=300",
                 ),
             ):
@@ -513,18 +525,19 @@ class Telling(Searches):
                 Plan(100, 200, 30, 1, None),
                 haul_of(LIFE, BLOCK, TRIPOLE),
                 keeper,
-                Census(CENSUS),
+                make_client(),
                 Stopping(),
+                sys.stdout,
             )
             search.add(
                 Haul(
                     LIFE,
-                    [(100, 30)],
-                    30,
-                    0,
-                    0,
-                    {BLINKER: 7, BLOCK: 1},
-                    {BLINKER: [100], BLOCK: [101]},
+                    ranges=[(100, 30)],
+                    soups=30,
+                    unsettled=0,
+                    for_good=0,
+                    totals={BLINKER: 7, BLOCK: 1},
+                    samples={BLINKER: [100], BLOCK: [101]},
                 )
             )
             search.batch = Batch(130, 30, Mock(**{"soups.return_value": 10}))
@@ -537,7 +550,12 @@ class Telling(Searches):
     def test_a_search_with_more_than_is_asked_for(self) -> None:
         keeper = Keeper(str(self.file))
         search = Search(
-            Plan(100, 50, 30, 1, None), haul_of(LIFE, BLOCK), keeper, Census(CENSUS), Stopping()
+            Plan(100, 50, 30, 1, None),
+            haul_of(LIFE, BLOCK),
+            keeper,
+            make_client(),
+            Stopping(),
+            sys.stdout,
         )
         self.assertEqual(search.status().left, 0)
         os.close(keeper.lock)
@@ -547,7 +565,12 @@ class Telling(Searches):
         with patch("time.monotonic", return_value=1000.0) as now:
             keeper = Keeper(str(self.file))
             search = Search(
-                Plan(0, None, 30, 1, None), haul_of(LIFE), keeper, Census(CENSUS), Stopping()
+                Plan(0, None, 30, 1, None),
+                haul_of(LIFE),
+                keeper,
+                make_client(),
+                Stopping(),
+                sys.stdout,
             )
             now.return_value = 1010.0
             for soups, when in ((0, ""), (1, ", in about 0:04:50"), (10, ", in about 0:00:20")):
@@ -593,7 +616,7 @@ class Telling(Searches):
         with patch("time.monotonic", return_value=100.0) as now, redirect_stderr(
             io.StringIO()
         ) as said:
-            line = StatusLine()
+            line = StatusLine(Terminal(sys.stderr))
             self.assertEqual((line.is_due(), line.seconds_left()), (False, 60.0))
             now.return_value = 160.0
             self.assertTrue(line.is_due())
@@ -605,8 +628,8 @@ class Telling(Searches):
         """What is shown on a terminal of so many columns; 0 if it doesn't say."""
         ours, its = pty.openpty()
         ioctl(its, TIOCSWINSZ, pack("HHHH", 0, columns, 0, 0))
-        with open(its, "w") as errors, patch("sys.stderr", errors):
-            StatusLine().show(status)
+        with open(its, "w") as errors:
+            StatusLine(Terminal(errors)).show(status)
             said = os.read(ours, 65536).decode()
         os.close(ours)
         self.assertTrue(said.startswith("\r\x1b[K"))
@@ -637,7 +660,7 @@ class Telling(Searches):
         with open(its, "w") as errors, patch("sys.stderr", errors), patch(
             "time.monotonic", return_value=100.0
         ) as now:
-            line = StatusLine()
+            line = StatusLine(Terminal(sys.stderr))
             for at, is_due, left in (
                 (100.0, False, 1.0),
                 (100.75, False, 0.25),
@@ -697,7 +720,12 @@ class Pace(Searches):
         with patch("time.monotonic", return_value=1000.0) as now:
             keeper = Keeper(str(self.file))
             search = Search(
-                Plan(0, None, 10, 1, None), haul_of(LIFE), keeper, Census(CENSUS), Stopping()
+                Plan(0, None, 10, 1, None),
+                haul_of(LIFE),
+                keeper,
+                make_client(),
+                Stopping(),
+                sys.stdout,
             )
             self.assertTrue(search.may_keep())
             search.writing, search.latest_writing = 1.0, 1.0
@@ -718,7 +746,12 @@ class Pace(Searches):
         with patch("time.monotonic", return_value=1000.0) as now:
             keeper, stopping = Keeper(str(self.file)), Stopping()
             search = Search(
-                Plan(0, None, 10, 1, None), haul_of(LIFE), keeper, Census(CENSUS), stopping
+                Plan(0, None, 10, 1, None),
+                haul_of(LIFE),
+                keeper,
+                make_client(),
+                stopping,
+                sys.stdout,
             )
 
             def slow_write(_haul: Haul) -> None:
@@ -746,9 +779,11 @@ class Pace(Searches):
         """For streams up to half a second, or until the status is due. Where there are objects to look at, it looks at them for a
         fiftieth of a second, and doesn't wait. After a signal it looks at them for a second."""
         keeper, stopping = Keeper(str(self.file)), Stopping()
+        said, told = io.StringIO(), io.StringIO()
+        client = Census(CENSUS, Terminal(said))
         with patch("time.monotonic", return_value=1000.0) as now:
             search = Search(
-                Plan(0, None, 10, 1, None), haul_of(LIFE), keeper, Census(CENSUS), stopping
+                Plan(0, None, 10, 1, None), haul_of(LIFE), keeper, client, stopping, told
             )
             with patch.object(search, "find_for") as find_for, patch.object(
                 search.waiter, "wait"
@@ -761,16 +796,14 @@ class Pace(Searches):
                 search.wait_until(Mock(side_effect=[False, True]))
                 self.assertEqual((wait.call_args.args, find_for.call_args.args), ((0,), (0.02,)))
                 stopping.came(signal.SIGTERM)
-                with redirect_stderr(io.StringIO()) as said:
-                    search.tell_rest()
+                search.tell_rest()
                 self.assertEqual(
                     (find_for.call_args.args, said.getvalue()),
                     ((1.0,), "haul: not all finds are told: 1 object to look at\n"),
                 )
-            with redirect_stdout(io.StringIO()) as told:
-                search.find_for(0.0)
-                self.assertEqual(told.getvalue(), "")
-                search.find_for(0.001)
+            search.find_for(0.0)
+            self.assertEqual(told.getvalue(), "")
+            search.find_for(0.001)
             self.assertIn(TRIPOLE, told.getvalue())
             self.assertEqual(search.status().finds, 1)
         os.close(keeper.lock)
@@ -782,7 +815,12 @@ class Pace(Searches):
             io.StringIO()
         ) as said:
             search = Search(
-                Plan(0, None, 10, 1, None), haul_of(LIFE), keeper, Census(CENSUS), Stopping()
+                Plan(0, None, 10, 1, None),
+                haul_of(LIFE),
+                keeper,
+                make_client(),
+                Stopping(),
+                sys.stdout,
             )
             search.finder.add([(TRIPOLE, 1), (CLOCK, 2)])
             looked: list[tuple[float, int]] = []
@@ -805,7 +843,9 @@ class Pace(Searches):
     def test_a_signal_while_batches_wait(self) -> None:
         """They are written, and the batch that runs isn't."""
         keeper, stopping = Keeper(str(self.file)), Stopping()
-        search = Search(Plan(0, None, 10, 1, None), haul_of(LIFE), keeper, Census(CENSUS), stopping)
+        search = Search(
+            Plan(0, None, 10, 1, None), haul_of(LIFE), keeper, make_client(), stopping, sys.stdout
+        )
         begin_batch = search.begin_batch
 
         def begin_the_last() -> Batch | None:
@@ -825,7 +865,9 @@ class Pace(Searches):
     def test_batches_that_wait_in_memory(self) -> None:
         """They are written together, at the end at the latest."""
         keeper = Keeper(str(self.file))
-        search = Search(Plan(0, 60, 10, 2, None), haul_of(LIFE), keeper, Census(CENSUS), Stopping())
+        search = Search(
+            Plan(0, 60, 10, 2, None), haul_of(LIFE), keeper, make_client(), Stopping(), sys.stdout
+        )
         written: list[int] = []
         write = keeper.write
 

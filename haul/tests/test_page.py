@@ -13,10 +13,10 @@ from pathlib import Path
 from unittest.mock import patch
 
 from haul import VERSION
+from haul.formats.profile import STANDARD, Profile
 from haul.census.command_lines import format_unsettled_command
 from haul.census.soup_ends import End, list_populations, read_end
-from haul.cli.commands import run_page
-from haul.cli.parser import make_parser
+from haul.cli.streams import Streams
 from haul.formats.haul import Haul, Job, Range
 from haul.formats.haul_reader import read_one_haul
 from haul.life.generations import read_rule
@@ -27,7 +27,6 @@ from haul.tests.pages import before_table, compared, data_of, objects_of, page, 
 from haul.tests.test_whole import cells_of, drawn, made
 from haul.views.intervals import find_interval
 
-STANDARD = (64, 512, 101, 30300)
 PULSAR = "xp3_co9nas0san9oczgoldlo0oldlogz1047210127401"
 
 
@@ -48,12 +47,12 @@ def folds(text: str) -> dict[str, str]:
 class Top(unittest.TestCase):
     HAUL = Haul(
         Job("a", "b36s23", STANDARD),
-        [(5, 7), (2048, 1)],
-        8,
-        1,
-        2,
-        {"xp2_7": 10, "xs4_33": 100, "xs4_y": 1, "xs8_rr": 2},
-        {"xp2_7": [6], "xs4_33": [5, 2048], "xs4_y": [11], "xs8_rr": [5, 6]},
+        ranges=[(5, 7), (2048, 1)],
+        soups=8,
+        unsettled=1,
+        for_good=2,
+        totals={"xp2_7": 10, "xs4_33": 100, "xs4_y": 1, "xs8_rr": 2},
+        samples={"xp2_7": [6], "xs4_33": [5, 2048], "xs4_y": [11], "xs8_rr": [5, 6]},
     )
 
     def test_each_word(self) -> None:
@@ -99,7 +98,18 @@ and <code>haul check --samples all.haul</code> runs only the sample soups.</p>
         self.assertEqual(tiles(compared(self.HAUL, least=50)), tiles(page(self.HAUL, 0)))
 
     def test_no_soup(self) -> None:
-        text = page(Haul(Job("", "b3s23", (1, 1, 1, 0)), [], 0, 0, 0, {}, {}), 0)
+        text = page(
+            Haul(
+                Job("", "b3s23", Profile(1, 1, 1, 0)),
+                ranges=[],
+                soups=0,
+                unsettled=0,
+                for_good=0,
+                totals={},
+                samples={},
+            ),
+            0,
+        )
         self.assertEqual(dict(tiles(text))["objects per soup"], "–")
         self.assertIn("(numbers none of the empty seed)", text)
         self.assertNotIn("Soups are missing", text)
@@ -107,11 +117,27 @@ and <code>haul check --samples all.haul</code> runs only the sample soups.</p>
 
     def test_missing_soups(self) -> None:
         """They can't be run again, since a haul doesn't say which ones they are."""
-        some = Haul(Job("", "b3s23", (1, 1, 1, 0)), [(0, 2000)], 1999, 0, 0, {}, {})
+        some = Haul(
+            Job("", "b3s23", Profile(1, 1, 1, 0)),
+            ranges=[(0, 2000)],
+            soups=1999,
+            unsettled=0,
+            for_good=0,
+            totals={},
+            samples={},
+        )
         self.assertEqual(tiles(page(some, 0))[0], ("soups", "1,999 <small>of 2,000</small>"))
         said = "Soups are missing from this haul, so only <code>haul check --samples all.haul</code> works there."
         self.assertIn(said, folds(page(some, 0))["How to verify it"])
-        whole = Haul(Job("", "b3s23", (1, 1, 1, 0)), [(0, 2)], 2, 0, 0, {}, {})
+        whole = Haul(
+            Job("", "b3s23", Profile(1, 1, 1, 0)),
+            ranges=[(0, 2)],
+            soups=2,
+            unsettled=0,
+            for_good=0,
+            totals={},
+            samples={},
+        )
         self.assertIn("Soups are missing from the haul B, so only", compared(whole, some))
         self.assertIn("Soups are missing from the hauls A, C, so only", compared(some, whole, some))
 
@@ -132,11 +158,11 @@ and <code>haul check --samples all.haul</code> runs only the sample soups.</p>
 
     def test_checkpoints(self) -> None:
         for profile, said in (
-            ((1, 2, 1, 0), "the only one, at generation 0"),
-            ((1, 2, 1, 1), "one every generation, up to generation 1"),
-            ((1, 2, 2, 2), "one every 2 generations, up to generation 2"),
-            ((1, 2, 3, 2), "the only one, at generation 0"),
-            ((1, 2, 3, 1234), "one every 3 generations, up to generation 1,234"),
+            (Profile(1, 2, 1, 0), "the only one, at generation 0"),
+            (Profile(1, 2, 1, 1), "one every generation, up to generation 1"),
+            (Profile(1, 2, 2, 2), "one every 2 generations, up to generation 2"),
+            (Profile(1, 2, 3, 2), "the only one, at generation 0"),
+            (Profile(1, 2, 3, 1234), "one every 3 generations, up to generation 1,234"),
         ):
             words = describe_profile(profile)
             self.assertIn(f"first checkpoint ({said}) at", words)
@@ -150,7 +176,7 @@ and <code>haul check --samples all.haul</code> runs only the sample soups.</p>
         """Which hauls a profile is of is said only if there are several profiles."""
         one, other = (
             made({"xs4_33": 1}, [(5, 1)], profile)
-            for profile in ((64, 512, 101, 30300), (4, 8, 10, 30))
+            for profile in (Profile(64, 512, 101, 30300), Profile(4, 8, 10, 30))
         )
         self.assertEqual(
             folds(compared(one, one))["How objects are counted"],
@@ -169,7 +195,13 @@ class Unsettled(unittest.TestCase):
 
     def haul(self, ranges: list[Range], seed: str = "", rule: str = "b3s23") -> Haul:
         return Haul(
-            Job(seed, rule, STANDARD), ranges, sum(count for _, count in ranges), 1, 0, {}, {}
+            Job(seed, rule, STANDARD),
+            ranges=ranges,
+            soups=sum(count for _, count in ranges),
+            unsettled=1,
+            for_good=0,
+            totals={},
+            samples={},
         )
 
     def test_one_call_for_each_range(self) -> None:
@@ -357,7 +389,13 @@ class Rows(unittest.TestCase):
     def test_addresses_of_soups(self) -> None:
         """A seed may have any sign."""
         haul = Haul(
-            Job("a/b?#%", "b36s23", STANDARD), [(5, 1)], 1, 0, 0, {"xs4_33": 1}, {"xs4_33": [5]}
+            Job("a/b?#%", "b36s23", STANDARD),
+            ranges=[(5, 1)],
+            soups=1,
+            unsettled=0,
+            for_good=0,
+            totals={"xs4_33": 1},
+            samples={"xs4_33": [5]},
         )
         self.assertEqual(
             table_of(page(haul, 0)).rows[0].links[1],
@@ -515,7 +553,16 @@ class Data(unittest.TestCase):
     def test_nothing_ends_the_script(self) -> None:
         seed = "</script><!--"
         text = page(
-            Haul(Job(seed, "b3s23", STANDARD), [(0, 1)], 1, 0, 0, {"xs4_33": 1}, {"xs4_33": [0]}), 0
+            Haul(
+                Job(seed, "b3s23", STANDARD),
+                ranges=[(0, 1)],
+                soups=1,
+                unsettled=0,
+                for_good=0,
+                totals={"xs4_33": 1},
+                samples={"xs4_33": [0]},
+            ),
+            0,
         )
         self.assertEqual(data_of(text)["hauls"][0]["seed"], seed)
         self.assertEqual((text.count("</script>"), text.count("<!--")), (2, 0))
@@ -539,12 +586,12 @@ class Comparing(unittest.TestCase):
     LIFE = made({"xs4_33": 1000, "xp2_7": 10, "xs12_raar": 4}, [(0, 100)])
     OTHER = Haul(
         Job("b", "bs123", STANDARD),
-        [(7, 50)],
-        50,
-        3,
-        4,
-        {"xs12_raar": 4, "xs4_33": 5},
-        {"xs12_raar": [7], "xs4_33": [8, 9]},
+        ranges=[(7, 50)],
+        soups=50,
+        unsettled=3,
+        for_good=4,
+        totals={"xs12_raar": 4, "xs4_33": 5},
+        samples={"xs12_raar": [7], "xs4_33": [8, 9]},
     )
 
     def test_title(self) -> None:
@@ -766,24 +813,19 @@ class Ends(unittest.TestCase):
 
     def test_a_soup_without_end(self) -> None:
         """It was asked about, and its end is 0."""
-        (end,) = data_of(page(made({"xs4_33": 8}, [(9, 1)], (1, 1, 1, 0))))["soups"][0].values()
+        (end,) = data_of(page(made({"xs4_33": 8}, [(9, 1)], Profile(1, 1, 1, 0))))["soups"][
+            0
+        ].values()
         self.assertEqual(end[1:], [0])
 
     def test_which_options_are_passed_on(self) -> None:
         none: list[str] = []
         for words, wanted in ((none, (1, 500)), (["--least=7", "--play=3"], (7, 3))):
-            with patch("haul.cli.commands.make_page", return_value=[]) as made_of, patch(
-                "haul.cli.commands.read_haul_file"
+            with patch("haul.cli.commands.make_page", return_value=[]) as made_of, patch.object(
+                Streams, "read_haul"
             ) as the_haul:
-                self.assertEqual(
-                    run_page(make_parser().parse_args(["page", "--census", CENSUS, *words])), 0
-                )
-                self.assertEqual(
-                    run_page(
-                        make_parser().parse_args(["page", "--census", CENSUS, *words, "x", "y"])
-                    ),
-                    0,
-                )
+                for files in (none, ["x", "y"]):
+                    self.assertEqual(run("page", "--census", CENSUS, *words, *files), (0, "", ""))
             self.assertEqual([call.args[2:] for call in made_of.call_args_list], [wanted, wanted])
             self.assertEqual(
                 [call.args for call in the_haul.call_args_list], [(None,), ("x",), ("y",)]

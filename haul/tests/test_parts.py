@@ -12,6 +12,7 @@ import unittest
 from pathlib import Path
 from unittest.mock import patch
 
+from haul.tests.called import QUIET
 from haul.hauls.by_parts import Objects
 from haul.life.blocks import Blocks, Run
 from haul.life.clusters import is_cluster
@@ -218,7 +219,7 @@ class Parts(unittest.TestCase):
 
     def test_the_example(self) -> None:
         """The totals by parts of 100,000 soups, computed by brute force from the definition."""
-        objects = Objects(example())
+        objects = Objects(example(), QUIET)
         by_parts = objects.by_parts()
         self.assertEqual((len(by_parts.totals), by_parts.objects()), (82, 2_188_270))
         self.assertEqual(
@@ -524,7 +525,7 @@ class SideBySide(unittest.TestCase):
 
 class Once(unittest.TestCase):
     def test_each_object_is_separated_once(self) -> None:
-        objects = Objects(example())
+        objects = Objects(example(), QUIET)
         codes = sorted(example().totals)[:20]
         with patch.object(
             Separator, "separation_of", autospec=True, side_effect=Separator.separation_of

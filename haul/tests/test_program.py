@@ -13,12 +13,14 @@ from html import escape
 from pathlib import Path
 from typing import IO
 
+from haul.tests.called import QUIET
+from haul.formats.profile import Profile
 from haul.census.children import NoCensus
 from haul.census.client import Census
-from haul.census.command_lines import format_soup_commands, list_set_options, split_ranges
+from haul.census.command_lines import format_soup_commands, list_take_arguments, split_ranges
 from haul.census.locate import find_beside
 from haul.formats.field_reader import BadHaul
-from haul.formats.haul import Haul, Job
+from haul.formats.haul import Haul, Job, Range
 from haul.formats.haul_reader import read_one_haul
 from haul.hauls.by_parts import Objects
 from haul.hauls.check import list_differences, retake
@@ -31,13 +33,13 @@ class Kept(Census):
     """The program, with what each call of `take` printed kept."""
 
     def __init__(self) -> None:
-        super().__init__(CENSUS)
+        super().__init__(CENSUS, QUIET)
         self.known: dict[tuple[str, ...], bytes] = {}
 
-    def take(self, words: list[str], out: IO[bytes]) -> None:
-        asked = tuple(words)
+    def take(self, job: Job, ranges: list[Range], workers: int, out: IO[bytes]) -> None:
+        asked = tuple(list_take_arguments(job, ranges, workers, False))
         if asked not in self.known:
-            self.known[asked] = census("take", *words)
+            self.known[asked] = census(*asked)
         out.write(self.known[asked])
 
 
@@ -59,21 +61,8 @@ def says_right(kept: Kept, text: bytes) -> bool:
 def is_printed(kept: Kept, text: bytes) -> bool:
     """Whether `take` prints this text, by the words that stand in it."""
     haul = read_one_haul(io.BytesIO(text))
-    period, horizon, stride, limit = haul.job.profile
     again = io.BytesIO()
-    kept.take(
-        [
-            f"--seed={haul.job.seed}",
-            f"--rule={haul.job.rule}",
-            f"--period={period}",
-            f"--horizon={horizon}",
-            f"--stride={stride}",
-            f"--limit={limit}",
-            *list_set_options(haul.ranges),
-            "--workers=1",
-        ],
-        again,
-    )
+    kept.take(haul.job, haul.ranges, 1, again)
     return again.getvalue() == text
 
 
@@ -199,11 +188,11 @@ class Checking(unittest.TestCase):
 
     def test_a_haul_that_is_taken_again_in_pieces(self) -> None:
         """More ranges than one call has words for."""
-        profile = ["--period=1", "--horizon=1", "--stride=1", "--limit=0"]
+        job = Job("", "b3s23", Profile(1, 1, 1, 0))
         parts = b""
         for start in (0, 2000):
             ranges = [(3 * k, 1) for k in range(start, start + 2000)]
-            parts += census("take", *profile, *list_set_options(ranges))
+            parts += census(*list_take_arguments(job, ranges, 1, False))
         status, joined, _ = run("join", text=parts)
         self.assertEqual((status, joined.count("@RANGE")), (0, 4000))
         self.assertEqual(run("check", text=joined.encode()), (0, "right\n", ""))
@@ -290,10 +279,16 @@ class Comparing(unittest.TestCase):
             (status, output, errors), (3, "", "haul: /dev/null: bad haul at line 1 column 1\n")
         )
         haul = Haul(
-            Job("", "b3s23", (1, 1, 1, 0)), [(0, 1)], 1, 0, 0, {"xs4_33": 1}, {"xs4_33": [0]}
+            Job("", "b3s23", Profile(1, 1, 1, 0)),
+            ranges=[(0, 1)],
+            soups=1,
+            unsettled=0,
+            for_good=0,
+            totals={"xs4_33": 1},
+            samples={"xs4_33": [0]},
         )
         self.assertEqual(
-            list(Comparison([haul, haul], [Objects(haul)] * 2, ["xs4_33"]).text(None))[1],
+            list(Comparison([haul, haul], [Objects(haul, QUIET)] * 2, ["xs4_33"]).text(None))[1],
             "A: 1 soup, 0 unsettled, 0 for good, 1 object",
         )
 
@@ -406,13 +401,13 @@ class Pages(unittest.TestCase):
     def test_options_of_a_sample(self) -> None:
         """Those that aren't standard, and no other."""
         for profile, words in (
-            ((64, 512, 101, 30300), ""),
-            ((64, 512, 100, 30300), " --stride=100"),
-            ((64, 512, 102, 30300), " --stride=102"),
-            ((63, 512, 101, 30300), " --period=63"),
-            ((64, 511, 101, 30300), " --horizon=511"),
-            ((64, 512, 101, 30299), " --limit=30299"),
-            ((1, 2, 3, 4), " --period=1 --horizon=2 --stride=3 --limit=4"),
+            (Profile(64, 512, 101, 30300), ""),
+            (Profile(64, 512, 100, 30300), " --stride=100"),
+            (Profile(64, 512, 102, 30300), " --stride=102"),
+            (Profile(63, 512, 101, 30300), " --period=63"),
+            (Profile(64, 511, 101, 30300), " --horizon=511"),
+            (Profile(64, 512, 101, 30299), " --limit=30299"),
+            (Profile(1, 2, 3, 4), " --period=1 --horizon=2 --stride=3 --limit=4"),
         ):
             with self.subTest(profile=profile):
                 self.assertEqual(
@@ -424,13 +419,13 @@ class Pages(unittest.TestCase):
         """A haul may be lawful with codes that the program can't draw. What else is in it is shown."""
         codes = ["xs4_33", "xs4_y", "yl3_1", "zz_"]
         haul = Haul(
-            Job("", "b3s23", (64, 512, 101, 30300)),
-            [(0, 1)],
-            1,
-            0,
-            0,
-            {code: 1 for code in codes},
-            {code: [0] for code in codes},
+            Job("", "b3s23", Profile(64, 512, 101, 30300)),
+            ranges=[(0, 1)],
+            soups=1,
+            unsettled=0,
+            for_good=0,
+            totals={code: 1 for code in codes},
+            samples={code: [0] for code in codes},
         )
         self.assertEqual(
             [row.cells[0] for row in table_of(page(haul)).rows],

@@ -8,6 +8,8 @@ import re
 import unittest
 from fractions import Fraction
 
+from haul.tests.called import QUIET
+from haul.formats.profile import Profile
 from haul.census.client import Census
 from haul.formats.haul import Haul, Job
 from haul.formats.haul_reader import read_one_haul
@@ -136,7 +138,7 @@ class Once(Census):
     """The program, of which each soup's objects are known already."""
 
     def __init__(self, left: dict[int, set[str]]) -> None:
-        super().__init__(CENSUS)
+        super().__init__(CENSUS, QUIET)
         self.left = left
 
     def reports(self, job: Job, numbers: list[int]) -> dict[int, list[str]]:
@@ -219,13 +221,13 @@ class Shown(unittest.TestCase):
     def test_four_thousand(self) -> None:
         codes = [f"xs4_{number:04}" for number in range(4000)]
         haul = Haul(
-            Job("", "b3s23", (1, 1, 1, 0)),
-            [(0, 1)],
-            1,
-            0,
-            0,
-            {code: 1 + k for k, code in enumerate(codes)},
-            {code: [0] for code in codes},
+            Job("", "b3s23", Profile(1, 1, 1, 0)),
+            ranges=[(0, 1)],
+            soups=1,
+            unsettled=0,
+            for_good=0,
+            totals={code: 1 + k for k, code in enumerate(codes)},
+            samples={code: [0] for code in codes},
         )
         self.assertEqual(
             [row.cells[1].split()[-1] for row in table_of(page(haul, 0)).rows], codes[::-1]

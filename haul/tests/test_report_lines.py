@@ -8,6 +8,7 @@ import re
 import subprocess
 import unittest
 
+from haul.formats.profile import Profile
 from haul.formats.haul import Job
 from haul.formats.report_files import split_lines
 from haul.formats.report_lines import BadLine, Report, read_report_line
@@ -15,7 +16,7 @@ from haul.tests.called import CENSUS
 
 # 57 bytes, as in docs/FORMATS.md.
 START = "report 1 rule=b3s23 profile=1,1,1,0 seed= worker=1 soup=0"
-SMALL_JOB = Job("", "b3s23", (1, 1, 1, 0))
+SMALL_JOB = Job("", "b3s23", Profile(1, 1, 1, 0))
 # Soup 101 of the empty seed.
 WHOLE = "report 2 rule=b3s23 profile=64,512,101,30300 seed= worker=3 soup=101 at=202 good=yes xp2_7*1 xs4_33*3 xs5_253*1 xs7_2596*1"
 # The most bytes of a line.
@@ -36,7 +37,7 @@ class Reading(unittest.TestCase):
         counts = {"xp2_7": 1, "xs4_33": 3, "xs5_253": 1, "xs7_2596": 1}
         self.assertEqual(
             read_report_line(WHOLE.encode()),
-            Report(Job("", "b3s23", (64, 512, 101, 30300)), 101, 202, True, counts),
+            Report(Job("", "b3s23", Profile(64, 512, 101, 30300)), 101, 202, True, counts),
         )
         self.assertEqual(read_report_line(WHOLE.replace("yes", "no").encode()).for_good, False)
         self.assertEqual(read_report_line(WHOLE.encode()).objects(), 6)

@@ -21,7 +21,7 @@ from haul.formats.haul_reader import read_one_haul
 from haul.search.background import (
     BackgroundProgram,
     BackgroundTake,
-    CENSUS as CENSUS_OF_STARTER,
+    CENSUS as LAUNCH_CENSUS,
     StreamWaiter,
 )
 from haul.search.keeper import CantKeep, Keeper
@@ -471,7 +471,7 @@ class Programs(Searches):
     def test_streams_that_are_closed_early(self) -> None:
         """It is waited for then, a moment at a time."""
         running = BackgroundProgram(
-            StreamWaiter(), CENSUS, [self.stub("exec 1>&-; exec sleep 1000")], None
+            StreamWaiter(), LAUNCH_CENSUS, [self.stub("exec 1>&-; exec sleep 1000")], None
         )
         while running.open:
             running.waiter.wait(1)

@@ -14,8 +14,9 @@ import unittest
 from collections.abc import Iterator
 from contextlib import contextmanager
 from pathlib import Path
-from unittest.mock import call, patch
+from unittest.mock import Mock, call
 
+from haul.formats.profile import Profile
 from haul.formats.haul import Job
 from haul.formats.report_files import Reports
 from haul.formats.report_lines import Report
@@ -137,7 +138,7 @@ from    to  settled
             settling = Settling()
             for checkpoint in range(number, 0, -1):
                 settling.add(
-                    Report(Job("", "b3s23", (1, 1, 1, 0)), checkpoint, checkpoint, None, {})
+                    Report(Job("", "b3s23", Profile(1, 1, 1, 0)), checkpoint, checkpoint, None, {})
                 )
             self.assertEqual(settling.quartiles(), quartiles, number)
 
@@ -241,15 +242,14 @@ class Lines(unittest.TestCase):
 
     def test_progress(self) -> None:
         """A line of progress is written after each ten thousand lines of all inputs together."""
-        reports, inputs = Reports(), [
+        terminal = Mock()
+        reports, inputs = Reports(terminal), [
             text_of(LINES[:1] * number) for number in (6_000, 6_000, 7_999)
         ]
-        with patch("haul.formats.report_files.show_progress") as tell:
-            self.assertEqual(
-                [report.soup for lines in inputs for report in reports.read(io.BytesIO(lines), "")],
-                [7],
-            )
-        self.assertEqual(tell.call_args_list, [call("10000 lines")])
+        self.assertEqual(
+            [report.soup for lines in inputs for report in reports.read(io.BytesIO(lines), "")], [7]
+        )
+        self.assertEqual(terminal.show_progress.call_args_list, [call("10000 lines")])
 
     def test_a_file_that_is_not_there(self) -> None:
         self.assertEqual(
@@ -364,7 +364,7 @@ class TheLongest(unittest.TestCase):
         """Of however many soups, only those that may be listed are kept."""
         longest = Longest(3, None)
         for soup in range(999):
-            longest.add(Report(Job("", "b3s23", (1, 1, 1, 0)), soup, soup // 2, None, {}))
+            longest.add(Report(Job("", "b3s23", Profile(1, 1, 1, 0)), soup, soup // 2, None, {}))
         self.assertEqual(longest.kept, {498: [(996, 0), (997, 0)], 499: [(998, 0)]})
 
     def test_exact(self) -> None:

@@ -3,10 +3,9 @@
 from __future__ import annotations
 
 import csv
+import io
 import json
 import os
-import pty
-import subprocess
 import sys
 import tempfile
 import unittest
@@ -19,8 +18,9 @@ from types import FrameType
 from typing import Any
 from unittest.mock import patch
 
+from haul.formats.profile import Profile
 from haul.formats.haul import Haul, Job
-from haul.tests.called import HAUL, as_haul, run
+from haul.tests.called import call, read_terminal, run
 from haul.views.compare import letter_hauls, overlap
 from haul.views.intervals import find_interval
 from haul.views.layout import format_figure
@@ -684,7 +684,15 @@ in A alone: xq4_153 xs8_rr; in B alone: xp15_4r4z4r4
 
     def test_none_vanishes(self) -> None:
         """There are sixteen letters."""
-        none = Haul(Job("", "b3s23", (1, 1, 1, 0)), [], 0, 0, 0, {}, {})
+        none = Haul(
+            Job("", "b3s23", Profile(1, 1, 1, 0)),
+            ranges=[],
+            soups=0,
+            unsettled=0,
+            for_good=0,
+            totals={},
+            samples={},
+        )
         self.assertEqual(
             "".join(letter for letter, _ in letter_hauls([none] * 16)), "ABCDEFGHIJKLMNOP"
         )
@@ -715,21 +723,10 @@ class Terminals(Tables):
 
     def on_terminal(self, columns: int, *words: str) -> list[str]:
         """The lines that are printed on a terminal of so many columns."""
-        ours, its = pty.openpty()
-        with patch.dict(os.environ, COLUMNS=str(columns)), subprocess.Popen(
-            [HAUL, *words], stdout=its, cwd=self.folder.name, preexec_fn=as_haul(*words)
-        ):
-            os.close(its)
-            said = b""
-            while True:
-                try:
-                    piece = os.read(ours, 65536)
-                except OSError:
-                    break
-                if not piece:
-                    break
-                said += piece
-        os.close(ours)
+        with patch.dict(os.environ, COLUMNS=str(columns)):
+            said = read_terminal(
+                lambda stdout: call(words, io.BytesIO(), stdout, sys.stderr, self.folder.name)
+            )
         return said.decode().replace("\r\n", "\n").splitlines()
 
     def test_long_codes_are_cut_there(self) -> None:

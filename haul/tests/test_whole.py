@@ -10,6 +10,8 @@ import tempfile
 import unittest
 from pathlib import Path
 
+from haul.tests.called import QUIET
+from haul.formats.profile import STANDARD, Profile
 from haul.census.command_lines import split_ranges
 from haul.formats.haul import Haul, Job, Range
 from haul.formats.haul_reader import read_one_haul
@@ -19,25 +21,24 @@ from haul.tests.drawn import any_haul, text_of
 from haul.tests.pages import page, table_of
 from haul.views.compare import Comparison, rank_codes
 
-STANDARD = (64, 512, 101, 30300)
 NOTES = '#!/bin/sh\necho "$@" >> asked\nexit 4\n'
 
 
 def made(
     totals: dict[str, int],
     ranges: list[Range],
-    profile: tuple[int, int, int, int] = STANDARD,
+    profile: Profile = STANDARD,
     samples: dict[str, list[int]] | None = None,
 ) -> Haul:
     soups = sum(count for _, count in ranges)
     return Haul(
         Job("a", "b3s23", profile),
-        ranges,
-        soups,
-        0,
-        0,
-        dict(sorted(totals.items())),
-        samples or {code: [ranges[0][0]] for code in sorted(totals)},
+        ranges=ranges,
+        soups=soups,
+        unsettled=0,
+        for_good=0,
+        totals=dict(sorted(totals.items())),
+        samples=samples or {code: [ranges[0][0]] for code in sorted(totals)},
     )
 
 
@@ -202,30 +203,30 @@ class Joins(unittest.TestCase):
     def test_each_number(self) -> None:
         one = Haul(
             Job("a", "b3s23", STANDARD),
-            [(0, 10)],
-            10,
-            2,
-            3,
-            {"xs4_33": 5, "xs5_253": 7},
-            {"xs4_33": [1, 4, 9], "xs5_253": [2]},
+            ranges=[(0, 10)],
+            soups=10,
+            unsettled=2,
+            for_good=3,
+            totals={"xs4_33": 5, "xs5_253": 7},
+            samples={"xs4_33": [1, 4, 9], "xs5_253": [2]},
         )
         other = Haul(
             Job("a", "b3s23", STANDARD),
-            [(20, 10)],
-            10,
-            4,
-            5,
-            {"xp2_7": 1, "xs5_253": 8},
-            {"xp2_7": [20], "xs5_253": [21, 22, 29]},
+            ranges=[(20, 10)],
+            soups=10,
+            unsettled=4,
+            for_good=5,
+            totals={"xp2_7": 1, "xs5_253": 8},
+            samples={"xp2_7": [20], "xs5_253": [21, 22, 29]},
         )
         both = Haul(
             Job("a", "b3s23", STANDARD),
-            [(0, 10), (20, 10)],
-            20,
-            6,
-            8,
-            {"xp2_7": 1, "xs4_33": 5, "xs5_253": 15},
-            {"xp2_7": [20], "xs4_33": [1, 4, 9], "xs5_253": [2, 21, 22]},
+            ranges=[(0, 10), (20, 10)],
+            soups=20,
+            unsettled=6,
+            for_good=8,
+            totals={"xp2_7": 1, "xs4_33": 5, "xs5_253": 15},
+            samples={"xp2_7": [20], "xs4_33": [1, 4, 9], "xs5_253": [2, 21, 22]},
         )
         for parts in ((one, other), (other, one)):
             self.assertEqual(
@@ -238,12 +239,12 @@ class Joins(unittest.TestCase):
         def part(ranges: list[Range], numbers: list[int]) -> Haul:
             return Haul(
                 Job("a", "b3s23", STANDARD),
-                ranges,
-                sum(count for _, count in ranges),
-                0,
-                0,
-                {"xs4_33": 9},
-                {"xs4_33": numbers},
+                ranges=ranges,
+                soups=sum(count for _, count in ranges),
+                unsettled=0,
+                for_good=0,
+                totals={"xs4_33": 9},
+                samples={"xs4_33": numbers},
             )
 
         for number, least in ((6, [1, 4, 6]), (7, [1, 4, 7]), (15, [1, 4, 12])):
@@ -282,7 +283,10 @@ class Compares(unittest.TestCase):
             there, back = (
                 list(
                     Comparison(
-                        pair, list(map(Objects, pair)), rank_codes(pair, 1), has_intervals=False
+                        pair,
+                        [Objects(haul, QUIET) for haul in pair],
+                        rank_codes(pair, 1),
+                        has_intervals=False,
                     ).text(None)
                 )
                 for pair in ([one, other], [other, one])
