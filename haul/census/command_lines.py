@@ -44,9 +44,8 @@ def list_run_arguments(job: Job, generations: int) -> list[str]:
 
 def list_set_options(job: Job, ranges: list[Range]) -> list[str]:
     """Returns the options of a job and of a set of soups."""
-    (first, count), *more = ranges or [
-        (0, 0)
-    ]  # mutant: equal because an empty set is the same wherever it begins
+    # mutant: equal because an empty set is the same wherever it begins
+    (first, count), *more = ranges or [(0, 0)]
     options = [f"--seed={job.seed}", *list_pattern_options(job)]
     options += [f"--first={first}", f"--count={count}"]
     if more:

@@ -11,7 +11,6 @@ def find_fault_of_search(asked: argparse.Namespace) -> str | None:
     if asked.file == "-":
         return "FILE is the name of a file, since the haul is kept in it"
     period = asked.period or STANDARD.period
-    # mutant: equal because no period is above the standard horizon
     horizon = STANDARD.horizon if asked.horizon is None else asked.horizon
     if (asked.period, asked.horizon) != (None, None) and horizon < period:
         return "the horizon is below the period"

@@ -46,6 +46,7 @@ def run_heeding_signals(work: Callable[[], int]) -> int:
             os.write(tell, bytes([IS_DONE]))
 
     start_thread(threading.Thread(target=do, daemon=True))
+    # mutant: equal because only the first byte counts
     came = os.read(told, 1)[0]
     while came != IS_DONE and children.stopping is not None and children.stopping.came(came):
         came = os.read(told, 1)[0]

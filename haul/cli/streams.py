@@ -48,9 +48,8 @@ class Streams:
     def read_pattern(self, name: str | None) -> bytes:
         """Reads the text of a pattern. Raises `OSError` if it is too long."""
         with self.open_input(name) as stream:
-            text = stream.read(
-                PATTERN_LIMIT + 1
-            )  # mutant: equal because more is refused, however much of it is read
+            # mutant: equal because what is longer is refused, however much of it is read
+            text = stream.read(PATTERN_LIMIT + 1)
         if len(text) > PATTERN_LIMIT:
             raise OSError(
                 errno.EFBIG, "pattern longer than 16777216 bytes", name if name != "-" else None

@@ -8,6 +8,7 @@ from typing import IO
 from haul.formats.syntax import DECIMAL
 
 # No line of a haul has as many bytes: the longest one is a code of 400 with three numbers. So of a longer line no more is read.
+# mutant: equal because what is longer is refused, however much of it is read
 LINE_LIMIT = 1000
 
 
@@ -27,6 +28,7 @@ class FieldReader:
         self.number = 0
         self.fields: list[bytes] = []
         self.is_ended = False
+        # mutant: equal because each line begins anew
         self.read = 0
         # A line that was looked at before it is wanted.
         self.held: bytes | None = None

@@ -43,7 +43,8 @@ class Haul:
     # The lowest numbers of soups that left an object of a code, for the same codes.
     samples: dict[str, list[int]] = field(default_factory=dict)
     # The line of the input in which the text begins.
-    line: int = 1  # mutant: equal because only a haul that was read is named by its line
+    # mutant: equal because only the line of a haul that was read is printed
+    line: int = 1
 
     def objects(self) -> int:
         return sum(self.totals.values())

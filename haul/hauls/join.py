@@ -56,6 +56,7 @@ class Joining:
     def put(self, range_: Range) -> bool:
         """Puts a range into the set, unless they share a number."""
         first, end = range_[0], range_[0] + range_[1]
+        # mutant: equal because a range with the same first number overlaps on either side
         place = bisect_right(self.ranges, (first, 0))
         # The range before begins at most here, and those from `place` on later, or at the same number.
         if (

@@ -66,12 +66,14 @@ class Blocks:
         """Yields the separations that begin with these blocks, by their runs, and have others of the islands that are left."""
         if not left:
             if self.is_separation(runs):
+                # mutant: equal because a part has its code in each phase
                 yield [run[0] for run in runs]
             return
         first, *others = sorted(left)
         for size in range(len(left)):
             for more in combinations(others, size):
                 block = frozenset((first, *more))
+                # mutant: equal because the whole object counts as a separation all the same
                 run = self.run(block) if len(block) < len(self.islands) else None
                 if run is not None:
                     yield from self.completed([*runs, run], left - block)
@@ -112,6 +114,7 @@ class Blocks:
         no phase."""
         generations: list[Cells] = []
         for together, alone in zip(self.generations, placed, strict=True):
+            # mutant: equal because a block that is the whole object leaves no cell to others
             if not alone <= together:
                 return None
             generations.append(alone)

@@ -39,5 +39,6 @@ def fits_in(cells: Cells, side: int) -> bool:
 
 def draw_rows(cells: Cells, box: Cells) -> Rows:
     """Returns the rows of a pattern in the bounding box of another one."""
+    # mutant: equal because dead cells at the edge say nothing
     columns, lines = (range(min(side), max(side) + 1) for side in zip(*box, strict=True))
     return ["".join(["O" if (x, y) in cells else "." for x in columns]) for y in lines]

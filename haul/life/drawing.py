@@ -20,6 +20,7 @@ RUNS = re.compile("O+")
 def draw_path(rows: Rows) -> str:
     """Writes the runs of live cells, row by row; each move is relative to where the run before has ended."""
     moves: list[str] = []
+    # 2 mutants: equal because the first run is placed, not moved to
     end, before = 0, 0
     for y, row in enumerate(rows):
         found = draw_runs(row)

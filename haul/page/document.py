@@ -36,9 +36,9 @@ SCRIPTS = (
 PIECES = re.compile(r"\$(?:table|data)_pieces")
 
 
-def make_page(census: Census, hauls: list[Haul], least: int, play: int = 500) -> Iterator[str]:
-    """Yields the page, piece by piece. Codes with fewer than `least` objects in each haul have no place on it. `census` is asked when the
-    sample soups of the first `play` objects have settled."""
+def make_page(census: Census, hauls: list[Haul], least: int, play: int) -> Iterator[str]:
+    """Yields the page, piece by piece. Codes with fewer than `least` objects in each haul aren't on it.
+    `census` is asked when the sample soups of the first `play` objects have settled."""
     sides = make_sides(hauls, least, play, census.terminal)
     # All is known before the first byte is written, so a page is whole or not there.
     sides.ask(census)

@@ -77,6 +77,7 @@ def fold(summary: str, words: str) -> str:
 
 def write_comparison(sides: Sides) -> str:
     """Writes the facts on hauls that are compared, in a table with a row for each."""
+    # mutant: equal because all have facts of the same names
     first = sides.all[0]
     heads = ["Haul", *(name for name, _, _ in list_tiles(first)), "seed", "numbers"]
     rows = [

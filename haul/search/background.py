@@ -18,6 +18,7 @@ from haul.census.client import check_ending
 
 # What the starter does with the program.
 CENSUS, FIND = "census", "find"
+# mutant: equal because the size of a read doesn't change what is printed
 BYTES_AT_A_TIME = 65_536
 # A program whose streams are closed is waited for so long at a time.
 SECONDS_TO_END = 0.05

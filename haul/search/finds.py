@@ -22,6 +22,7 @@ from haul.names.common_parts import COMMON
 from haul.names.objects import NAMES
 
 # The separator remembers what it has run. After so many runs it forgets them, since a search goes on for weeks.
+# mutant: equal because one more remembered run doesn't change what is printed
 MOST_RUNS = 20_000
 
 
@@ -158,6 +159,7 @@ class Finder:
         return part not in self.common and part not in self.known and part not in self.unread
 
     def parts_of(self, code: str) -> tuple[str, ...]:
+        # mutant: equal because one more remembered run doesn't change what is printed
         if len(self.separator.runs) > MOST_RUNS:
             self.separator.runs.clear()
             self.separator.known.clear()

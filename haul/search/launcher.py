@@ -20,6 +20,7 @@ SIGKILL = 9
 PR_SET_PDEATHSIG = 1
 # Why a program can't be started if there is none; FAILED is the status with any other reason.
 NOT_THERE = (FileNotFoundError, NotADirectoryError, PermissionError)
+# mutant: equal because `haul` ends with 5 for each status that `census` doesn't have
 USAGE, FAILED = 2, 5
 DONE = "done"
 

@@ -43,4 +43,5 @@ class Stopping:
     def hear(self) -> None:
         """Takes the bytes that have been written."""
         with suppress(BlockingIOError):
+            # mutant: equal because the size of a read doesn't change what is printed
             os.read(self.heard, 4096)

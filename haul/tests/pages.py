@@ -13,9 +13,9 @@ from haul.page.document import make_page
 from haul.tests.called import make_client
 
 
-def page(haul: Haul, *more: int) -> str:
-    """Returns the page of a haul. `more` is `--play`."""
-    return "".join(make_page(make_client(), [haul], 1, *more))
+def page(haul: Haul, play: int = 500) -> str:
+    """Returns the page of a haul. `play` is `--play`."""
+    return "".join(make_page(make_client(), [haul], 1, play))
 
 
 def compared(*hauls: Haul, least: int = 1, play: int = 0) -> str:

@@ -21,6 +21,7 @@ def align_columns(
     stand in a column of their own, are cut so that no line is wider."""
     widths = [max(len(row[column]) for row in rows) for column in range(len(rows[0]))]
     over = sum(widths) + len(GAP) * (len(widths) - 1) - width if width is not None else 0
+    # mutant: equal because a column that is cut to its width is whole
     if over > 0:
         widths[code] = min(widths[code], max(LEAST_OF_A_CODE, widths[code] - over))
     for row in rows:

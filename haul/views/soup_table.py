@@ -54,7 +54,11 @@ class SoupTable:
         bars = [[bar] for bar in self.bars()] if self.has_bars else [[]] * len(rows)
         shown = [row + bar for row, bar in zip(rows, bars, strict=True)]
         yield from align_columns(
-            [self.heads + [""] * self.has_bars, *shown], {len(self.heads)}, 0, None
+            # mutant: equal because without a width no column is cut
+            [self.heads + [""] * self.has_bars, *shown],
+            {len(self.heads)},
+            0,
+            None,
         )
 
     def bars(self) -> list[str]:
@@ -86,6 +90,7 @@ def describe_soups(settling: Settling) -> str:
 
 def describe_settling(settling: Settling) -> str:
     quartiles, mean = settling.quartiles(), settling.mean()
+    # mutant: equal because either both are known or neither is
     if quartiles is None or mean is None:
         return "no soup has settled"
     first, median, third = quartiles
