@@ -1,4 +1,5 @@
-"""The programs that are started from here, none of which may go on when this one is ended by a signal."""
+"""The programs that are started from here, none of which may go on when this one is ended by a
+signal."""
 
 from __future__ import annotations
 
@@ -76,7 +77,8 @@ class Children:
 
 # All of them are here, since a signal is for the whole program.
 children = Children()
-# Why a program can't be started where there is none, or none of this machine. With any other reason there may be one.
+# Why a program can't be started where there is none, or none of this machine. With any other reason
+# there may be one.
 NOT_THERE = (
     errno.ENOENT,
     errno.ENOTDIR,
@@ -113,7 +115,8 @@ def open_pipe(text: bytes) -> Iterator[int]:
 def start_child(
     words: list[str], stdout: int, stderr: int | None, stdin: int = subprocess.DEVNULL
 ) -> Iterator[subprocess.Popen[bytes]]:
-    """A program that runs, and has ended after this. With no number for the errors, it complains by itself."""
+    """A program that runs, and has ended after this. With no number for the errors, it complains by
+    itself."""
     try:
         program = children.start(words, stdout, stderr, stdin)
     except OSError as error:

@@ -53,7 +53,8 @@ class Census:
         self.terminal = terminal
 
     def ask(self, words: list[str], pattern: bytes = b"") -> bytes:
-        """What the program prints. The pattern that it reads has to fit into a pipe, as that of a soup does."""
+        """What the program prints. The pattern that it reads has to fit into a pipe, as that of a
+        soup does."""
         with open_pipe(pattern) as read, start_child(
             [self.path, *words], subprocess.PIPE, subprocess.PIPE, read
         ) as program:
@@ -61,7 +62,8 @@ class Census:
         return check_ending(program.returncode, printed, errors)
 
     def live_cells(self, words: list[str], pattern: bytes) -> int:
-        """Counts the live cells of the pattern that the program prints. The pattern isn't kept, since it may be larger than memory."""
+        """Counts the live cells of the pattern that the program prints. The pattern isn't kept,
+        since it may be larger than memory."""
         cells = 0
         with open_pipe(pattern) as read, start_child(
             [self.path, *words], subprocess.PIPE, subprocess.PIPE, read
@@ -89,7 +91,8 @@ class Census:
         self.terminal.show_progress("")
 
     def reports(self, job: Job, numbers: list[int]) -> dict[int, list[str]]:
-        """What these soups leave, by one call: the fields of a report line after the number of the soup."""
+        """What these soups leave, by one call: the fields of a report line after the number of the
+        soup."""
         printed = self.ask(list_work_arguments(job, [(number, 1) for number in numbers]))
         start = f"report 2 rule={job.rule} profile={job.profile.format()} seed={job.seed}"
         before = f"{start} worker=1 soup=".encode("ascii")
@@ -125,7 +128,8 @@ class Census:
         check_ending(program.returncode, b"", bytes(errors))
 
     def pass_progress_on(self, stream: IO[bytes], errors: bytearray) -> None:
-        """Shows what ends with a carriage return, which is a line of progress, and keeps the rest."""
+        """Shows what ends with a carriage return, which is a line of progress, and keeps the
+        rest."""
         # mutant: equal because the size of a read doesn't change what is printed
         while piece := os.read(stream.fileno(), 4096):
             errors += piece

@@ -1,4 +1,5 @@
-"""Command lines of `census`: arguments for calls, and commands that a reader can copy into a shell."""
+"""Command lines of `census`: arguments for calls, and commands that a reader can copy into a
+shell."""
 
 from __future__ import annotations
 

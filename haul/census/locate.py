@@ -9,13 +9,15 @@ from pathlib import Path
 
 from haul.census.children import NoCensus, start_child
 
-# A release has a program for each level of processors, and this shell script says which one is for the processor that is there.
+# A release has a program for each level of processors, and this shell script says which one is for
+# the processor that is there.
 SHELL = ["/bin/sh", "-c"]
 CHOOSES = 'libexec=$1; . "$libexec/processor.sh"; printf %s "$program"'
 
 
 def find_beside() -> str | None:
-    """The program that is installed with this one, or that of this checkout, which its launcher builds if need be."""
+    """The program that is installed with this one, or that of this checkout, which its launcher
+    builds if need be."""
     starter = Path(sys.argv[0]).resolve().parent / "census"
     if not os.access(starter, os.X_OK):
         return None

@@ -17,10 +17,11 @@ SOUPS_IN_A_CALL = 100
 
 @dataclass(frozen=True)
 class End:
-    """The checkpoint at which a soup has settled, and how many live cells the objects have that it leaves.
+    """The checkpoint at which a soup has settled, and how many live cells the objects have that it
+    leaves.
 
-    Both numbers are the same unless an object has more cells in some phases, since `census` doesn't say in which phase it is.
-    """
+    Both numbers are the same unless an object has more cells in some phases, since `census` doesn't
+    say in which phase it is."""
 
     generation: int
     least: int
@@ -28,7 +29,8 @@ class End:
 
 
 def find_ends(census: Census, job: Job, numbers: list[int]) -> dict[int, End]:
-    """Returns the ends of these soups, without those that don't settle, or leave an object whose cells aren't known."""
+    """Returns the ends of these soups, without those that don't settle, or leave an object whose
+    cells aren't known."""
     rule = read_rule(job.rule)
     ends: dict[int, End] = {}
     for reports in census.each(
@@ -42,7 +44,8 @@ def find_ends(census: Census, job: Job, numbers: list[int]) -> dict[int, End]:
 
 
 def read_end(rule: Rule, fields: list[str]) -> End | None:
-    """Reads the fields of a report line after the number: `unsettled`, or `at=`, `good=` and the objects with their numbers."""
+    """Reads the fields of a report line after the number: `unsettled`, or `at=`, `good=` and the
+    objects with their numbers."""
     settled, *found = fields
     if not settled.startswith("at="):
         return None

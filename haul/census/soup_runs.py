@@ -1,4 +1,5 @@
-"""Asks `census` about the patterns of soups: in which generation exactly they settle, and how they grow."""
+"""Asks `census` about the patterns of soups: in which generation exactly they settle, and how they
+grow."""
 
 from __future__ import annotations
 
@@ -27,7 +28,8 @@ def draw_soup(job: Job, soup: int) -> bytes:
 
 
 def find_exact_generations(census: Census, job: Job, soups: list[int]) -> Iterator[int | None]:
-    """Yields the first generation at which each soup is at rest; none if there isn't one up to the limit."""
+    """Yields the first generation at which each soup is at rest; none if there isn't one up to the
+    limit."""
     return census.each(
         partial(find_exact_generation, census, job), soups, SOUPS_IN_A_CALL, "soups run"
     )
@@ -44,8 +46,8 @@ def find_exact_generation(census: Census, job: Job, soups: list[int]) -> int | N
 
 
 def measure_growths(census: Census, job: Job, soups: list[int]) -> Iterator[tuple[int, int, int]]:
-    """Yields three numbers for each soup: the last checkpoint, the population there, and its growth in the
-    `GENERATIONS_OF_GROWTH` before it, or since the soup if there are fewer."""
+    """Yields three numbers for each soup: the last checkpoint, the population there, and its growth
+    in the `GENERATIONS_OF_GROWTH` before it, or since the soup if there are fewer."""
     return census.each(partial(measure_growth, census, job), soups, SOUPS_IN_A_CALL, "soups run")
 
 

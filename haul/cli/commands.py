@@ -56,7 +56,8 @@ def run_check(asked: argparse.Namespace, streams: Streams) -> int:
 
 
 def check_one_file(asked: argparse.Namespace, streams: Streams, name: str) -> int:
-    """Checks one of several files, and returns the status for it. What is said begins with its name."""
+    """Checks one of several files, and returns the status for it. What is said begins with its
+    name."""
     try:
         lines = check_haul(asked, streams, name)
     except Refused as why:

@@ -35,8 +35,8 @@ exit status: 0 done, 2 usage, 3 a text is refused, 4 out of memory, 5 a read or 
 
 
 def parse_arguments(words: list[str]) -> argparse.Namespace:
-    """Reads the arguments of a call. Raises `SystemExit` after it has written the help, the version,
-    or why it doesn't understand them."""
+    """Reads the arguments of a call. Raises `SystemExit` after it has written the help, the
+    version, or why it doesn't understand them."""
     asked = make_parser().parse_args(words)
     fault = asked.command.find_fault(asked)
     if fault is not None:

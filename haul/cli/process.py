@@ -1,4 +1,5 @@
-"""The process of `haul`: its streams, its signals and its end. Only this module and bin/haul deal with them."""
+"""The process of `haul`: its streams, its signals and its end. Only this module and bin/haul deal
+with them."""
 
 from __future__ import annotations
 
@@ -22,13 +23,13 @@ IS_DONE = 0
 
 
 def run_heeding_signals(work: Callable[[], int]) -> int:
-    """Does the work in a thread of its own, and returns its status. A signal ends the programs that were started, and then this
-    one, as if nothing had been done about it. If the work heeds signals, it is told of them instead, and the one that it ended for
-    ends this program after it.
+    """Does the work in a thread of its own, and returns its status. A signal ends the programs that
+    were started, and then this one, as if nothing had been done about it. If the work heeds
+    signals, it is told of them instead, and the one that it ended for ends this program after it.
 
-    Python looks for signals between two steps of its main thread, so one that comes just before that thread begins to wait would
-    be seen only after the wait. Here it waits for nothing but a byte, which each signal writes as soon as it comes.
-    """
+    Python looks for signals between two steps of its main thread, so one that comes just before
+    that thread begins to wait would be seen only after the wait. Here it waits for nothing but a
+    byte, which each signal writes as soon as it comes."""
     told, tell = os.pipe()
     os.set_blocking(tell, False)
     signal.set_wakeup_fd(tell)
@@ -60,12 +61,13 @@ def run_heeding_signals(work: Callable[[], int]) -> int:
 
 
 def open_streams() -> None:
-    """Makes standard output a buffered stream of UTF-8, whatever the environment says; the name of a file is written byte for byte.
-    Where a standard stream is closed, each read or write of it fails from here on, and no file that is opened later takes its place.
-    """
+    """Makes standard output a buffered stream of UTF-8, whatever the environment says; the name of
+    a file is written byte for byte. Where a standard stream is closed, each read or write of it
+    fails from here on, and no file that is opened later takes its place."""
     for number, stream in enumerate((sys.stdin, sys.stdout, sys.stderr)):
         if stream is None:
-            # This is the lowest number that is free. What is opened for reading can't be written, and the other way round.
+            # This is the lowest number that is free. What is opened for reading can't be written,
+            # and the other way round.
             os.open(os.devnull, os.O_WRONLY if number == 0 else os.O_RDONLY)
     if sys.stdin is None:
         sys.stdin = open(0, encoding="utf-8", closefd=False)

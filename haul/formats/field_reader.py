@@ -7,21 +7,23 @@ from typing import IO
 
 from haul.formats.syntax import DECIMAL
 
-# No line of a haul has as many bytes: the longest one is a code of 400 with three numbers. So of a longer line no more is read.
-# mutant: equal because what is longer is refused, however much of it is read
+# No line of a haul has as many bytes: the longest one is a code of 400 with three numbers. So of a
+# longer line no more is read. mutant: equal because what is longer is refused, however much of it
+# is read
 LINE_LIMIT = 1000
 
 
 class BadHaul(Exception):
-    """A text is not that of a haul, from a place on: line and column count from 1, and a column is a byte. If the words there are
-    well formed, it says why they are wrong."""
+    """A text is not that of a haul, from a place on: line and column count from 1, and a column is
+    a byte. If the words there are well formed, it says why they are wrong."""
 
     def __init__(self, line: int, column: int, why: str = "") -> None:
         super().__init__(f"bad haul at line {line} column {column}" + (f": {why}" if why else ""))
 
 
 class FieldReader:
-    """The lines of an input, and where reading is: the latest line, its fields, and how many of these have been read."""
+    """The lines of an input, and where reading is: the latest line, its fields, and how many of
+    these have been read."""
 
     def __init__(self, stream: IO[bytes]) -> None:
         self.stream = stream
@@ -55,14 +57,16 @@ class FieldReader:
         self.read = 0
 
     def bad_field(self, back: int = 0, why: str = "") -> BadHaul:
-        """The fault that the field to be read next, or one read before it, isn't as it should be."""
+        """The fault that the field to be read next, or one read before it, isn't as it should
+        be."""
         before = self.fields[: self.read - back]
         return BadHaul(
             self.number, sum(map(len, before)) + len(before) + 1 - (self.is_missing(back)), why
         )
 
     def is_missing(self, back: int) -> int:
-        """1 if there is no such field: what is missing would begin after a space that isn't there."""
+        """1 if there is no such field: what is missing would begin after a space that isn't
+        there."""
         return 1 if self.read - back >= len(self.fields) and self.fields else 0
 
     def field(self) -> bytes:
@@ -83,7 +87,8 @@ class FieldReader:
         return found.decode("ascii")
 
     def number_in(self, least: int, most: int, too_small: str = "", too_large: str = "") -> int:
-        """The next field, a number. Both texts say what is wrong with one that isn't from `least` to `most`."""
+        """The next field, a number. Both texts say what is wrong with one that isn't from `least`
+        to `most`."""
         found = self.field()
         if not DECIMAL.fullmatch(found):
             raise self.bad_field(1)

@@ -1,7 +1,7 @@
 """Reads haul texts, byte for byte as docs/FORMATS.md describes them.
 
-A text that is read is one that `census take` or `census gather` can print, so writing it again gives the same text.
-"""
+A text that is read is one that `census take` or `census gather` can print, so writing it again
+gives the same text. """
 
 from __future__ import annotations
 
@@ -44,7 +44,8 @@ MORE_HAULS = "more than one haul"
 
 
 def read_hauls(stream: IO[bytes]) -> Iterator[Haul]:
-    """The hauls that stand one after another in an input; at least one. Raises `BadHaul` at the first fault."""
+    """The hauls that stand one after another in an input; at least one. Raises `BadHaul` at the
+    first fault."""
     lines = FieldReader(stream)
     yield read_haul(lines)
     while lines.peek():

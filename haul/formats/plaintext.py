@@ -1,4 +1,5 @@
-"""Plaintext patterns, as `census` reads them: what is wrong with one is said as `census` says it."""
+"""Plaintext patterns, as `census` reads them: what is wrong with one is said as `census` says
+it."""
 
 from __future__ import annotations
 

@@ -1,4 +1,5 @@
-"""Reads the reports in files: those of one job, and the first one of each soup. Whether they are right isn't checked."""
+"""Reads the reports in files: those of one job, and the first one of each soup. Whether they are
+right isn't checked."""
 
 from __future__ import annotations
 
@@ -24,8 +25,9 @@ class Reports:
         self.lines = 0
 
     def read(self, stream: IO[bytes], place: str) -> Iterator[Report]:
-        """Yields each report that has the job of the first one, unless its soup has been read before. A bad line, or a report of
-        another job, is told on standard error, with `place` before the number of the line."""
+        """Yields each report that has the job of the first one, unless its soup has been read
+        before. A bad line, or a report of another job, is told on standard error, with `place`
+        before the number of the line."""
         for number, line in enumerate(split_lines(stream), 1):
             self.lines += 1
             if self.lines % LINES_BETWEEN_PROGRESS == 0:
@@ -44,7 +46,8 @@ class Reports:
 
 
 def split_lines(stream: IO[bytes]) -> Iterator[bytes]:
-    """Yields the lines of an input without their line feeds. A line that is too long is cut to one byte more than is allowed."""
+    """Yields the lines of an input without their line feeds. A line that is too long is cut to one
+    byte more than is allowed."""
     # mutant: equal because what is longer is refused, however much of it is read
     while line := stream.readline(LINE_LIMIT + 1):
         yield line.removesuffix(b"\n")

@@ -1,4 +1,5 @@
-"""Reads report lines of versions 1 and 2, as docs/FORMATS.md describes them, and finds where a bad line is wrong."""
+"""Reads report lines of versions 1 and 2, as docs/FORMATS.md describes them, and finds where a bad
+line is wrong."""
 
 from __future__ import annotations
 
@@ -51,8 +52,8 @@ VERSION_PLACE, AT_PLACE = 1, 7
 
 
 class BadLine(Exception):
-    """A line is no report line. The place, which counts bytes from 0, is where its first wrong field begins, or its length if it
-    ends too early."""
+    """A line is no report line. The place, which counts bytes from 0, is where its first wrong
+    field begins, or its length if it ends too early."""
 
     def __init__(self, place: int) -> None:
         super().__init__(f"bad line at {place}")
@@ -87,7 +88,8 @@ def read_report_line(line: bytes) -> Report:
 
 
 def build_report(found: re.Match[bytes]) -> Report | None:
-    """Returns what a line says; nothing if a number is out of its range, or if its codes don't ascend."""
+    """Returns what a line says; nothing if a number is out of its range, or if its codes don't
+    ascend."""
     profile, soup, settled = (
         read_profile(found["profile"]),
         int(found["soup"]),
@@ -115,7 +117,8 @@ def read_profile(text: bytes) -> Profile | None:
 
 
 def read_counts(text: bytes) -> dict[str, int] | None:
-    """Returns how many objects of each code there are; nothing if the codes don't ascend, or if a count is too large."""
+    """Returns how many objects of each code there are; nothing if the codes don't ascend, or if a
+    count is too large."""
     pairs = [field.split("*") for field in text.decode("ascii").split()]
     codes = [code for code, _ in pairs]
     counts = {code: int(count) for code, count in pairs}
@@ -134,7 +137,8 @@ def is_between(number: int, ends: tuple[int, int]) -> bool:
 
 
 def find_fault(line: bytes) -> int:
-    """Returns where the first wrong field of a bad line begins, or its length if a field is missing."""
+    """Returns where the first wrong field of a bad line begins, or its length if a field is
+    missing."""
     fields = line.split(b" ")
     begins = 0
     for place, field in enumerate(fields):
@@ -182,7 +186,8 @@ def is_number_between(found: re.Match[bytes] | None, ends: tuple[int, int]) -> b
 
 
 def is_next_count(field: bytes, before: bytes | None) -> bool:
-    """Returns whether a field is a code with a count, and its code comes after that of the count before it, if there is one."""
+    """Returns whether a field is a code with a count, and its code comes after that of the count
+    before it, if there is one."""
     found = COUNT_FIELD.fullmatch(field)
     return (
         found is not None

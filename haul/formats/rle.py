@@ -1,7 +1,7 @@
 """RLE, in which LifeWiki, Catagolue and Golly write patterns: read, and written.
 
-A pattern is the rows of its plaintext, of `.` and `O`, from the corner (0, 0) to its last live column and row.
-"""
+A pattern is the rows of its plaintext, of `.` and `O`, from the corner (0, 0) to its last live
+column and row. """
 
 from __future__ import annotations
 
@@ -12,8 +12,9 @@ from haul.formats.rules import format_rule, parse_rule
 
 # The longest line that is written.
 LINE_LENGTH = 70
-# A longer count is cut to as many digits. It is too large for live cells all the same, and dead ones are only passed over.
-# mutant: equal because what is longer is refused, however much of it is read
+# A longer count is cut to as many digits. It is too large for live cells all the same, and dead
+# ones are only passed over. mutant: equal because what is longer is refused, however much of it is
+# read
 COUNT_DIGITS = 20
 
 HEADER = re.compile(
@@ -26,7 +27,8 @@ STATE = re.compile(rb"[.A-X]|[p-y][A-X]")
 
 
 class BadRle(Exception):
-    """A text is not RLE from a place on, or it is that of a pattern that can't be written as plaintext."""
+    """A text is not RLE from a place on, or it is that of a pattern that can't be written as
+    plaintext."""
 
     def __init__(self, text: bytes, place: int, why: str) -> None:
         line, begins = text.count(b"\n", 0, place) + 1, text.rfind(b"\n", 0, place) + 1

@@ -41,7 +41,8 @@ class Objects:
         return {code: self.known[code] for code in codes}
 
     def by_parts(self) -> Haul:
-        """Returns the haul with each object replaced by its parts. The samples of a part are the three lowest of its objects."""
+        """Returns the haul with each object replaced by its parts. The samples of a part are the
+        three lowest of its objects."""
         totals: defaultdict[str, int] = defaultdict(int)
         samples: defaultdict[str, set[int]] = defaultdict(set)
         for code, separation in self.separations(self.haul.totals).items():

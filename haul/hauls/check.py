@@ -1,4 +1,5 @@
-"""Checks a haul: takes its census again and compares, or runs the soups alone that it names as samples."""
+"""Checks a haul: takes its census again and compares, or runs the soups alone that it names as
+samples."""
 
 from __future__ import annotations
 

@@ -15,7 +15,8 @@ FILES_FOR_ONE_WRONG = 100
 
 
 class FileChoice:
-    """So many of these files, by a text that decides which ones: those with the lowest SHA-256 of the text, a space and the name."""
+    """So many of these files, by a text that decides which ones: those with the lowest SHA-256 of
+    the text, a space and the name."""
 
     def __init__(self, files: list[str], number: int, choice: str | None) -> None:
         """There are at least as many files as are chosen. If no text is given, one is drawn."""
@@ -36,7 +37,8 @@ class FileChoice:
         return sha256(f"{self.choice} {name}".encode("utf-8", "surrogateescape")).digest()
 
     def text(self) -> str:
-        """Returns a line that says what is chosen, and how likely it is that no wrong file is among it."""
+        """Returns a line that says what is chosen, and how likely it is that no wrong file is among
+        it."""
         wrong = count_wrong_files(len(self.files))
         return (
             f"choice {self.choice}: {self.number} of {write_count(len(self.files), 'file')}; if {wrong} {pluralize(wrong, 'was', 'were')} wrong, "
@@ -50,5 +52,6 @@ def count_wrong_files(files: int) -> int:
 
 
 def compute_chance_to_miss(files: int, number: int) -> float:
-    """Returns the probability that no wrong file is among those that are chosen (hypergeometric distribution)."""
+    """Returns the probability that no wrong file is among those that are chosen (hypergeometric
+    distribution)."""
     return comb(files - count_wrong_files(files), number) / comb(files, number)

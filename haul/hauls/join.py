@@ -1,7 +1,8 @@
-"""Joins hauls of one job over sets that share no number: what is printed is the haul over all of them.
+"""Joins hauls of one job over sets that share no number: what is printed is the haul over all of
+them.
 
-If each haul is right, so is the one that is printed: a total over two sets that share no number is the sum of the two totals,
-and the least three samples of both are among the least three of each.
+If each haul is right, so is the one that is printed: a total over two sets that share no number is
+the sum of the two totals, and the least three samples of both are among the least three of each.
 """
 
 from __future__ import annotations
@@ -18,8 +19,8 @@ class CantJoin(Exception):
 class Joining:
     """What has been joined so far.
 
-    A haul that can't be joined is remembered by its line, since a haul after it may be no haul at all, which is said first.
-    """
+    A haul that can't be joined is remembered by its line, since a haul after it may be no haul at
+    all, which is said first."""
 
     def __init__(self) -> None:
         self.job: Job | None = None
@@ -30,13 +31,15 @@ class Joining:
         self.for_good = 0
         self.totals: dict[str, int] = {}
         self.samples: dict[str, list[int]] = {}
-        # The first haul, by what is said of it, that has another job, lacks soups, or shares a number with one before it.
+        # The first haul, by what is said of it, that has another job, lacks soups, or shares a
+        # number with one before it.
         self.other_job: str | None = None
         self.missing: str | None = None
         self.overlap: str | None = None
 
     def add(self, haul: Haul, place: str = "") -> None:
-        """Joins a haul to those so far. The place is what stands before the line of a haul of a file."""
+        """Joins a haul to those so far. The place is what stands before the line of a haul of a
+        file."""
         if self.job is None:
             self.job = haul.job
         elif haul.job != self.job:
@@ -58,7 +61,8 @@ class Joining:
         first, end = range_[0], range_[0] + range_[1]
         # mutant: equal because a range with the same first number overlaps on either side
         place = bisect_right(self.ranges, (first, 0))
-        # The range before begins at most here, and those from `place` on later, or at the same number.
+        # The range before begins at most here, and those from `place` on later, or at the same
+        # number.
         if (
             place > 0
             and sum(self.ranges[place - 1]) > first

@@ -1,4 +1,5 @@
-"""Apgcodes: the extended Wechsler format of patterns, and the code of an object. docs/FORMATS.md describes both."""
+"""Apgcodes: the extended Wechsler format of patterns, and the code of an object. docs/FORMATS.md
+describes both."""
 
 from __future__ import annotations
 
@@ -12,20 +13,23 @@ from haul.life.generations import Recurrence
 # The most columns and rows of the box of a code's text.
 SIDE_OF_TEXT = 40
 
-# The characters of extended Wechsler format. The first 32 are columns of a strip, which is five rows high; these are their live rows.
+# The characters of extended Wechsler format. The first 32 are columns of a strip, which is five
+# rows high; these are their live rows.
 CHARACTERS = "0123456789abcdefghijklmnopqrstuvwxyz"
 STRIP = 5
 ROWS_OF_COLUMN = {
     character: [row for row in range(STRIP) if value >> row & 1]
     for value, character in enumerate(CHARACTERS)
 }
-# Runs of one, two and three dead columns. A longer one is `y` and the character of its length less four.
+# Runs of one, two and three dead columns. A longer one is `y` and the character of its length less
+# four.
 RUNS = {"0": 1, "w": 2, "x": 3}
 LEAST_LONG_RUN = 4
 
 
 def read_wechsler(text: str) -> Cells | None:
-    """Reads a text in extended Wechsler format; none if it isn't one, has no live cell, or is larger than `SIDE`."""
+    """Reads a text in extended Wechsler format; none if it isn't one, has no live cell, or is
+    larger than `SIDE`."""
     cells: list[Cell] = []
     x = top = 0
     characters = iter(text)
@@ -50,7 +54,8 @@ def read_wechsler(text: str) -> Cells | None:
 
 
 def write_wechsler(cells: Cells) -> str | None:
-    """Writes a pattern, moved to the corner, in extended Wechsler format; none if its box is larger than `SIDE_OF_TEXT`."""
+    """Writes a pattern, moved to the corner, in extended Wechsler format; none if its box is larger
+    than `SIDE_OF_TEXT`."""
     if not fits_in(cells, SIDE_OF_TEXT):
         return None
     strips: dict[int, dict[int, int]] = {}

@@ -63,7 +63,8 @@ class Blocks:
         return self.completed([], frozenset(range(len(self.islands))))
 
     def completed(self, runs: list[list[Cells]], left: Block) -> Iterator[list[Cells]]:
-        """Yields the separations that begin with these blocks, by their runs, and have others of the islands that are left."""
+        """Yields the separations that begin with these blocks, by their runs, and have others of
+        the islands that are left."""
         if not left:
             if self.is_separation(runs):
                 # mutant: equal because a part has its code in each phase
@@ -79,14 +80,16 @@ class Blocks:
                     yield from self.completed([*runs, run], left - block)
 
     def is_separation(self, runs: list[list[Cells]]) -> bool:
-        """Returns whether these blocks, by their runs, share no cell in any generation and together are the object."""
+        """Returns whether these blocks, by their runs, share no cell in any generation and together
+        are the object."""
         return all(
             sum(map(len, live)) == len(together) and frozenset().union(*live) == together
             for together, *live in zip(self.generations, *runs, strict=True)
         )
 
     def run(self, block: Block) -> list[Cells] | None:
-        """Returns a block in generations 0 to the object's period, run alone; none if it can't be one of a separation."""
+        """Returns a block in generations 0 to the object's period, run alone; none if it can't be
+        one of a separation."""
         if block not in self.known:
             islands = [self.islands[place] for place in block]
             self.known[block] = (
@@ -110,8 +113,8 @@ class Blocks:
         )
 
     def checked(self, run: Run, placed: Iterator[Cells]) -> list[Cells] | None:
-        """Returns a run in its true place; none if it makes another cell than the object, doesn't recur with it, or is a cluster in
-        no phase."""
+        """Returns a run in its true place; none if it makes another cell than the object, doesn't
+        recur with it, or is a cluster in no phase."""
         generations: list[Cells] = []
         for together, alone in zip(self.generations, placed, strict=True):
             # mutant: equal because a block that is the whole object leaves no cell to others

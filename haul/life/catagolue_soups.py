@@ -1,8 +1,7 @@
 """The soups that samples of Catagolue name, such as `C1/k_abcdef12345`.
 
-A sample is the symmetry and the text of which the soup is made: the seed, which apgsearch calls root, and the number. It doesn't
-matter where the seed ends and the number begins.
-"""
+A sample is the symmetry and the text of which the soup is made: the seed, which apgsearch calls
+root, and the number. It doesn't matter where the seed ends and the number begins. """
 
 from __future__ import annotations
 
@@ -32,7 +31,8 @@ def read_sample(name: str) -> str:
 
 
 def format_soups(names: list[str]) -> Iterator[str]:
-    """Yields the lines of the soups, as `census soup` prints them. Each of several comes after a comment that names it."""
+    """Yields the lines of the soups, as `census soup` prints them. Each of several comes after a
+    comment that names it."""
     texts = [read_sample(name) for name in names]
     for name, text in zip(names, texts, strict=True):
         if len(names) > 1:

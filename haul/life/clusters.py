@@ -7,10 +7,11 @@ from haul.life.generations import list_neighbours
 
 
 def find_islands(phases: list[Cells]) -> list[Cells]:
-    """Returns the islands of an object, each as its cells in phase 0, in the order of their first cells.
+    """Returns the islands of an object, each as its cells in phase 0, in the order of their first
+    cells.
 
-    Two cells that touch (also at corners) in the same phase belong to one island, and a place is one cell in all phases.
-    """
+    Two cells that touch (also at corners) in the same phase belong to one island, and a place is
+    one cell in all phases."""
     left = [set(phase) for phase in phases]
     islands: list[Cells] = []
     while left[0]:
@@ -28,7 +29,8 @@ def find_islands(phases: list[Cells]) -> list[Cells]:
 
 
 def is_cluster(cells: Cells) -> bool:
-    """Returns whether steps of at most two cells, in any direction, join all live cells; there has to be one."""
+    """Returns whether steps of at most two cells, in any direction, join all live cells; there has
+    to be one."""
     left, edge = set(cells), list(cells)[:1]
     left.difference_update(edge)
     while edge and left:

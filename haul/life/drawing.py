@@ -1,4 +1,5 @@
-"""Drawings of patterns as paths of SVG: a line for each run of live cells, as wide as a cell is high."""
+"""Drawings of patterns as paths of SVG: a line for each run of live cells, as wide as a cell is
+high."""
 
 from __future__ import annotations
 
@@ -18,7 +19,8 @@ RUNS = re.compile("O+")
 
 
 def draw_path(rows: Rows) -> str:
-    """Writes the runs of live cells, row by row; each move is relative to where the run before has ended."""
+    """Writes the runs of live cells, row by row; each move is relative to where the run before has
+    ended."""
     moves: list[str] = []
     # 2 mutants: equal because the first run is placed, not moved to
     end, before = 0, 0
@@ -35,8 +37,8 @@ def draw_path(rows: Rows) -> str:
 
 @cache
 def draw_runs(row: str) -> tuple[int, str, int] | None:
-    """Returns where the first run of live cells in a row begins, the runs with the moves between them, and where the last one ends;
-    none if there is no run."""
+    """Returns where the first run of live cells in a row begins, the runs with the moves between
+    them, and where the last one ends; none if there is no run."""
     runs = [run.span() for run in RUNS.finditer(row)]
     if not runs:
         return None
@@ -60,6 +62,7 @@ def draw_picture(cells: Cells, name: str) -> str:
 
 
 def measure(cells: Cells) -> tuple[int, int]:
-    """Returns the width and the height of a pattern whose bounding box begins in column 0 and row 0."""
+    """Returns the width and the height of a pattern whose bounding box begins in column 0 and row
+    0."""
     width, height = (max(side) + 1 for side in zip(*cells, strict=True))
     return width, height

@@ -1,7 +1,7 @@
 """Life-like rules on sets of cells: generations, and patterns that recur.
 
-These are the definitions of docs/PROFILE.md, written plainly. They aren't proved; the tests compare each function with `census`.
-"""
+These are the definitions of docs/PROFILE.md, written plainly. They aren't proved; the tests compare
+each function with `census`. """
 
 from __future__ import annotations
 
@@ -71,7 +71,8 @@ def advance(rule: Rule, cells: Cells) -> Cells:
 
 
 def find_recurrence(rule: Rule, cells: Cells, most: int = MOST_PERIOD) -> Recurrence | None:
-    """Returns how a pattern recurs within so many generations; none if it doesn't, or if it outgrows `SIDE` on the way."""
+    """Returns how a pattern recurs within so many generations; none if it doesn't, or if it
+    outgrows `SIDE` on the way."""
     phases = [cells]
     while len(phases) <= most and phases[-1] and fits_in(phases[-1], SIDE):
         later = advance(rule, phases[-1])

@@ -16,7 +16,8 @@ from haul.life.blocks import Blocks, Run
 from haul.life.cells import Cells, move_to_corner
 from haul.life.generations import MOST_PERIOD, Recurrence, Rule, find_recurrence
 
-# Of an object with more islands only the separation into single islands is tried: there are too many others.
+# Of an object with more islands only the separation into single islands is tried: there are too
+# many others.
 MOST_ISLANDS = 10
 
 
@@ -40,7 +41,8 @@ class Separator:
         self.rule = rule
         # The codes of parts, by their cells moved to the corner.
         self.known: dict[Cells, str] = {}
-        # The runs of islands, by their cells moved to the corner. Many objects have the same islands.
+        # The runs of islands, by their cells moved to the corner. Many objects have the same
+        # islands.
         self.runs: dict[Cells, Run] = {}
 
     def separation_of(self, code: str) -> Separation:
@@ -54,7 +56,8 @@ class Separator:
         return Separation(self.codes(parts))
 
     def most_parts(self, blocks: Blocks) -> list[Cells] | None:
-        """Returns the parts by the separation with the most blocks; none if there are too many islands to look for it."""
+        """Returns the parts by the separation with the most blocks; none if there are too many
+        islands to look for it."""
         if len(blocks.islands) > MOST_ISLANDS:
             return None
         found = [*blocks.separations(), [blocks.object]]
@@ -74,8 +77,9 @@ class Separator:
 
 
 def read_object(rule: Rule, code: str) -> Recurrence | None:
-    """Returns the phases of the object that a code names, in which the drawing of the code is phase 0; none if the code can't be
-    drawn, or if what is drawn doesn't recur with the kind and the number of the prefix."""
+    """Returns the phases of the object that a code names, in which the drawing of the code is phase
+    0; none if the code can't be drawn, or if what is drawn doesn't recur with the kind and the
+    number of the prefix."""
     text, known = read_drawing(code), read_kind(code)
     cells = read_wechsler(text) if text is not None else None
     if known is None or cells is None or known.period() > MOST_PERIOD:

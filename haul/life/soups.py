@@ -12,7 +12,8 @@ SOUP_SIDE = 16
 
 
 def make_soup(text: str) -> Rows:
-    """Returns the rows of the soup of a seed followed by a number: the bits of the text's SHA-256, two bytes a row, high bits first."""
+    """Returns the rows of the soup of a seed followed by a number: the bits of the text's SHA-256,
+    two bytes a row, high bits first."""
     bits = format(
         int.from_bytes(sha256(text.encode("ascii")).digest(), "big"), f"0{SOUP_SIDE * SOUP_SIDE}b"
     ).translate(LIVE_AND_DEAD)

@@ -1,6 +1,6 @@
-"""Parts that are common under Life, so that `haul search` doesn't tell of them: those with a total of at least three by
-`haul table --parts` of `examples/100000.haul`. A test compares the list with that haul.
-"""
+"""Parts that are common under Life, so that `haul search` doesn't tell of them: those with a total
+of at least three by `haul table --parts` of `examples/100000.haul`. A test compares the list with
+that haul. """
 
 from __future__ import annotations
 

@@ -31,7 +31,8 @@ def mark_label(label: str, separation: Separation) -> str:
 
 
 def describe_parts(parts: tuple[str, ...]) -> str:
-    """Writes parts as `2 blocks`, or `block and beehive`: oscillators first and still lifes last, small ones before large ones."""
+    """Writes parts as `2 blocks`, or `block and beehive`: oscillators first and still lifes last,
+    small ones before large ones."""
     counts = Counter(sorted(parts, key=lambda code: (read_kind(code), code)))
     *before, last = (name_several(code, count) for code, count in counts.items())
     return f"{', '.join(before)} and {last}" if before else last
@@ -43,7 +44,8 @@ def name_several(code: str, count: int) -> str:
 
 
 def make_plural(name: str) -> str:
-    """Returns `half-bakeries`, `loaves`, `blocks on table`. Names that end in an `s`, an `x` or a digit stay as they are."""
+    """Returns `half-bakeries`, `loaves`, `blocks on table`. Names that end in an `s`, an `x` or a
+    digit stay as they are."""
     thing, rest = re.fullmatch("(.*?)((?: on | with ).*)?", name).groups(default="")  # type: ignore[union-attr]
     if thing[-1] not in "sx0123456789":
         thing = re.sub("y$", "ie", re.sub("f$", "ve", thing)) + "s"

@@ -1,4 +1,5 @@
-"""What the script of a page shows, as JSON: the hauls, the objects with their parts, and the sample soups."""
+"""What the script of a page shows, as JSON: the hauls, the objects with their parts, and the sample
+soups."""
 
 from __future__ import annotations
 
@@ -25,7 +26,8 @@ BITS = str.maketrans(".O", "01")
 
 
 def write_data(sides: Sides) -> Iterator[str]:
-    """Yields the JSON, piece by piece. No text in it ends the element of HTML in which it stands."""
+    """Yields the JSON, piece by piece. No text in it ends the element of HTML in which it
+    stands."""
     yield f'{{"least": {sides.least}, "play": {sides.play}, "kinds": {len(sides.kinds())}, "kindsOfParts": {len(sides.kinds_of_parts())}, "hauls": '
     yield dump([describe_haul(side) for side in sides.all])
     yield ', "intervals": ' + dump(list_intervals(sides))
@@ -81,7 +83,8 @@ def list_counts(haul: Haul, code: str) -> list[object] | int:
 
 
 def describe_parts(side: Side, code: str) -> object:
-    """Returns what an object is made of in a haul that has it: its parts, or a word if it is whole."""
+    """Returns what an object is made of in a haul that has it: its parts, or a word if it is
+    whole."""
     if not side.has(code):
         return None
     separation = side.separation_of(code)
@@ -101,9 +104,9 @@ def count_cells(code: str) -> int | None:
 
 
 def list_soups(side: Side, codes: list[str]) -> dict[int, list[object]]:
-    """Returns the sample soups of a haul by their numbers. Each has its 256 cells, and if `census` was asked about it, the checkpoint at
-    which it has settled with the least and the most live cells there, or a zero if that isn't known.
-    """
+    """Returns the sample soups of a haul by their numbers. Each has its 256 cells, and if `census`
+    was asked about it, the checkpoint at which it has settled with the least and the most live
+    cells there, or a zero if that isn't known."""
     return {
         number: [encode_soup(f"{side.haul.job.seed}{number}"), *describe_end(side, number)]
         for number in side.soups(codes)
@@ -118,7 +121,8 @@ def describe_end(side: Side, number: int) -> list[object]:
 
 
 def encode_soup(text: str) -> str:
-    """Returns the 256 cells of the soup of a seed and a number, row by row, as bits in base64. The sign at the end is left out."""
+    """Returns the 256 cells of the soup of a seed and a number, row by row, as bits in base64. The
+    sign at the end is left out."""
     bits = "".join(make_soup(text)).translate(BITS)
     return b64encode(int(bits, 2).to_bytes(len(bits) // 8, "big")).decode("ascii").rstrip("=")
 

@@ -1,7 +1,7 @@
 """A page of one haul or of several: one file of HTML 5 that loads nothing.
 
-Its script makes the page from data that stand in it. For readers without JavaScript, a `noscript` element has a table.
-"""
+Its script makes the page from data that stand in it. For readers without JavaScript, a `noscript`
+element has a table. """
 
 from __future__ import annotations
 
@@ -37,8 +37,8 @@ PIECES = re.compile(r"\$(?:table|data)_pieces")
 
 
 def make_page(census: Census, hauls: list[Haul], least: int, play: int) -> Iterator[str]:
-    """Yields the page, piece by piece. Codes with fewer than `least` objects in each haul aren't on it.
-    `census` is asked when the sample soups of the first `play` objects have settled."""
+    """Yields the page, piece by piece. Codes with fewer than `least` objects in each haul aren't on
+    it. `census` is asked when the sample soups of the first `play` objects have settled."""
     sides = make_sides(hauls, least, play, census.terminal)
     # All is known before the first byte is written, so a page is whole or not there.
     sides.ask(census)

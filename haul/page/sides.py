@@ -24,7 +24,8 @@ class Side:
     objects: Objects
     # The same haul, with each object replaced by its parts.
     by_parts: Haul
-    # The sample soups about which `census` was asked; none for a soup that has no end that is known.
+    # The sample soups about which `census` was asked; none for a soup that has no end that is
+    # known.
     ends: dict[int, End | None] = field(default_factory=dict)
 
     @property
@@ -67,7 +68,8 @@ class Sides:
     known: list[str]
 
     def ask(self, census: Census) -> None:
-        """Asks when the soups of the first objects have settled. The page begins with strict objects, so these are asked about first."""
+        """Asks when the soups of the first objects have settled. The page begins with strict
+        objects, so these are asked about first."""
         asked = sorted(self.codes, key=lambda code: not self.is_strict(code))[: self.play]
         for side in self.all:
             numbers = side.soups(asked)
@@ -75,7 +77,8 @@ class Sides:
             side.ends = {number: ends.get(number) for number in numbers}
 
     def is_strict(self, code: str) -> bool:
-        """Checks whether an object is strict, or couldn't be separated, in one of the hauls that have it."""
+        """Checks whether an object is strict, or couldn't be separated, in one of the hauls that
+        have it."""
         return any(side.is_strict(code) for side in self.all)
 
     def kinds(self) -> set[str]:
@@ -101,6 +104,7 @@ def make_sides(hauls: list[Haul], least: int, play: int, terminal: Terminal) -> 
 
 
 def rank_for_page(hauls: list[Haul], least: int) -> list[str]:
-    """Returns the codes with a place on the page, by descending rate. One haul has an order even if it has objects and no soup."""
+    """Returns the codes with a place on the page, by descending rate. One haul has an order even if
+    it has objects and no soup."""
     codes = rank_codes(hauls, least)
     return sorted(codes, key=lambda code: -hauls[0].totals[code]) if len(hauls) == 1 else codes

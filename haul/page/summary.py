@@ -1,4 +1,5 @@
-"""What stands at the top of a page: what it shows, in a sentence and in tiles for each haul, and how to verify it. At the foot: what made it."""
+"""What stands at the top of a page: what it shows, in a sentence and in tiles for each haul, and
+how to verify it. At the foot: what made it."""
 
 from __future__ import annotations
 
@@ -140,8 +141,8 @@ def write_tiles(side: Side) -> str:
 
 
 def list_tiles(side: Side) -> list[tuple[str, str, str]]:
-    """Returns the facts on all objects of a haul, with or without a place on the page: their names, their values, and what they mean if
-    that isn't plain."""
+    """Returns the facts on all objects of a haul, with or without a place on the page: their names,
+    their values, and what they mean if that isn't plain."""
     haul, profile = side.haul, side.haul.job.profile
     others = haul.soups - haul.unsettled - haul.for_good
     strict = sum(side.separation_of(code).is_strict() for code in haul.totals)
@@ -183,7 +184,8 @@ def write_unsettled(side: Side, is_compared: bool) -> str:
 
 
 def write_verification(sides: Sides) -> str:
-    """Writes how the hauls can be verified. One with missing soups doesn't say which ones, so it can't be run again."""
+    """Writes how the hauls can be verified. One with missing soups doesn't say which ones, so it
+    can't be run again."""
     hauls = [side.haul for side in sides.all]
     name, these = (
         ("all.haul", "the haul of this page")

@@ -1,4 +1,5 @@
-"""Programs that run in sessions of their own, which Ctrl-C doesn't reach, and that end when `haul` ends."""
+"""Programs that run in sessions of their own, which Ctrl-C doesn't reach, and that end when `haul`
+ends."""
 
 from __future__ import annotations
 
@@ -28,12 +29,14 @@ PROGRESS = re.compile(rb"([0-9]{1,8}) of [0-9]{1,8} soups")
 
 @cache
 def read_launcher() -> str:
-    """Returns the text of `launcher.py`. It is read once, since an installed `haul` is one file, which may be replaced while this runs."""
+    """Returns the text of `launcher.py`. It is read once, since an installed `haul` is one file,
+    which may be replaced while this runs."""
     return files("haul.search").joinpath("launcher.py").read_text("utf-8")
 
 
 class StreamWaiter:
-    """Waits for streams, each of which has a function that is called when there is something to read."""
+    """Waits for streams, each of which has a function that is called when there is something to
+    read."""
 
     def __init__(self) -> None:
         self.selector = selectors.DefaultSelector()
@@ -56,10 +59,12 @@ class BackgroundProgram:
     def __init__(
         self, waiter: StreamWaiter, how: str, words: list[str], stderr: int | None
     ) -> None:
-        """Starts a program by `launcher.py`, with `CENSUS` or `FIND`. Raises `OSError` if that fails."""
+        """Starts a program by `launcher.py`, with `CENSUS` or `FIND`. Raises `OSError` if that
+        fails."""
         starts = [sys.executable, "-I", "-S", "-c", read_launcher(), how, str(os.getpid())]
         self.waiter = waiter
-        # Ctrl-C mustn't end it before it is in its own session. The starter drops a Ctrl-C that came until then.
+        # Ctrl-C mustn't end it before it is in its own session. The starter drops a Ctrl-C that
+        # came until then.
         mask = signal.pthread_sigmask(signal.SIG_BLOCK, {signal.SIGINT})
         try:
             self.process = subprocess.Popen(

@@ -1,8 +1,8 @@
 """Finds: the parts of objects that a search comes upon for the first time.
 
-A find is a part whose code no object of the haul had as a part before, and that isn't common. docs/HAUL.md says what the parts of an
-object are. The soups that one call of `census take` runs are a batch, as in search.py.
-"""
+A find is a part whose code no object of the haul had as a part before, and that isn't common.
+docs/HAUL.md says what the parts of an object are. The soups that one call of `census take` runs are
+a batch, as in search.py. """
 
 from __future__ import annotations
 
@@ -21,8 +21,8 @@ from haul.life.parts import Separator
 from haul.names.common_parts import COMMON
 from haul.names.objects import NAMES
 
-# The separator remembers what it has run. After so many runs it forgets them, since a search goes on for weeks.
-# mutant: equal because one more remembered run doesn't change what is printed
+# The separator remembers what it has run. After so many runs it forgets them, since a search goes
+# on for weeks. mutant: equal because one more remembered run doesn't change what is printed
 MOST_RUNS = 20_000
 
 
@@ -34,7 +34,8 @@ class Find:
     soup: int
 
     def fields(self, job: Job) -> list[str]:
-        """Returns what is told of the find: when that is, the code, the name or `-`, the soup, and a command that shows it."""
+        """Returns what is told of the find: when that is, the code, the name or `-`, the soup, and
+        a command that shows it."""
         now = datetime.now(timezone.utc).strftime("%Y-%m-%dT%H:%M:%SZ")
         return [
             now,
@@ -74,7 +75,8 @@ class Unread:
         return kind in self.codes and code in self.codes[kind]
 
     def holders(self, parts: Iterable[str]) -> list[set[str]]:
-        """Returns sets of codes, which aren't empty, of all objects that can have one of these parts beside others."""
+        """Returns sets of codes, which aren't empty, of all objects that can have one of these
+        parts beside others."""
         kinds = {kind for part in parts if (kind := read_kind(part)) is not None}
         return [
             codes
@@ -88,9 +90,9 @@ class Unread:
 
 
 def can_hold(whole: Kind, part: Kind) -> bool:
-    """Checks whether an object of a kind can have a part of another kind beside others. The period of a part divides that of the
-    whole, a part moves exactly if the whole does, and a part of a still life has fewer cells than the whole.
-    """
+    """Checks whether an object of a kind can have a part of another kind beside others. The period
+    of a part divides that of the whole, a part moves exactly if the whole does, and a part of a
+    still life has fewer cells than the whole."""
     if whole.letter == "s":
         return part.letter == "s" and part.number < whole.number
     return (part.letter == "q") == (whole.letter == "q") and whole.number % part.period() == 0
@@ -99,14 +101,15 @@ def can_hold(whole: Kind, part: Kind) -> bool:
 class Finder:
     """Looks for finds, an object at a time, so that the search can do other things in between.
 
-    The objects that the file had at first are separated only when there is a part that may be in one of them. A part that is also
-    an object of its own in the file is known without that, and for most parts that is enough.
-    """
+    The objects that the file had at first are separated only when there is a part that may be in
+    one of them. A part that is also an object of its own in the file is known without that, and for
+    most parts that is enough."""
 
     def __init__(self, job: Job, haul: Haul) -> None:
         self.separator = Separator(read_rule(job.rule))
         self.common = COMMON if job.rule == LIFE else frozenset()
-        # Under another rule or profile the first batch tells no finds: almost every part in it would be one.
+        # Under another rule or profile the first batch tells no finds: almost every part in it
+        # would be one.
         self.is_silent = (job.rule != LIFE or job.profile != STANDARD) and haul.soups == 0
         # The objects whose parts aren't known yet, although they were there before.
         self.unread = Unread(haul.totals)
@@ -115,7 +118,8 @@ class Finder:
         self.queue: deque[NewCodes] = deque()
 
     def add(self, codes: Iterable[tuple[str, int]]) -> None:
-        """Takes the new codes of the next batch, each with its lowest soup, once they are in the file."""
+        """Takes the new codes of the next batch, each with its lowest soup, once they are in the
+        file."""
         new = NewCodes(deque(codes))
         if self.is_silent:
             self.unread.add(code for code, _ in new.codes)
@@ -133,7 +137,8 @@ class Finder:
         return not self.queue
 
     def step(self) -> list[Find]:
-        """Separates an object, and returns the finds of a batch if that was its last one. The queue isn't empty."""
+        """Separates an object, and returns the finds of a batch if that was its last one. The queue
+        isn't empty."""
         first = self.queue[0]
         if first.codes:
             code, soup = first.codes.popleft()
@@ -154,8 +159,8 @@ class Finder:
         )
 
     def is_new(self, part: str) -> bool:
-        """Checks whether a part is neither common nor known, and isn't an object that was there before. Such an object has no
-        other parts than itself, since a part has none."""
+        """Checks whether a part is neither common nor known, and isn't an object that was there
+        before. Such an object has no other parts than itself, since a part has none."""
         return part not in self.common and part not in self.known and part not in self.unread
 
     def parts_of(self, code: str) -> tuple[str, ...]:

@@ -48,5 +48,6 @@ def list_profile_numbers(asked: argparse.Namespace) -> list[int | None]:
 
 
 def find_next_soup(asked: argparse.Namespace, haul: Haul) -> int:
-    """Returns the number of the next soup: the end of the last range, or else the first one that is asked for."""
+    """Returns the number of the next soup: the end of the last range, or else the first one that is
+    asked for."""
     return sum(haul.ranges[-1]) if haul.ranges else asked.first or 0

@@ -1,4 +1,5 @@
-"""Keeps a haul in a file: the file always has a whole haul, whenever this program or the machine stops."""
+"""Keeps a haul in a file: the file always has a whole haul, whenever this program or the machine
+stops."""
 
 from __future__ import annotations
 
@@ -24,8 +25,8 @@ class CantKeep(Exception):
 class Keeper:
     """A file with a haul, and the lock by which no second search keeps the same file.
 
-    The lock is FILE.lock, which stays when the search ends. A new text is written to FILE.new, which then takes the place of FILE.
-    """
+    The lock is FILE.lock, which stays when the search ends. A new text is written to FILE.new,
+    which then takes the place of FILE."""
 
     def __init__(self, name: str) -> None:
         """Locks the file. Raises `CantKeep` if it is locked or isn't a regular file."""
@@ -52,7 +53,8 @@ class Keeper:
         return os.path.exists(self.path)
 
     def read(self) -> Haul | None:
-        """Returns the haul in the file; none if there is no file. Raises `CantKeep` if it isn't one haul without missing soups."""
+        """Returns the haul in the file; none if there is no file. Raises `CantKeep` if it isn't one
+        haul without missing soups."""
         try:
             with open(self.path, "rb") as file:
                 haul = read_one_haul(file)
@@ -65,7 +67,8 @@ class Keeper:
         return haul
 
     def write(self, haul: Haul) -> None:
-        """Replaces the file. It has its old text until the new one is safe on the disk, also if this fails with `OSError`."""
+        """Replaces the file. It has its old text until the new one is safe on the disk, also if
+        this fails with `OSError`."""
         new = f"{self.path}.new"
         # A search that was killed may have left one.
         with suppress(FileNotFoundError):
@@ -90,7 +93,8 @@ class Keeper:
 
 
 def sync_folder(path: str) -> None:
-    """Makes sure that a new name in a folder is on the disk. Some file systems can't do that for a folder."""
+    """Makes sure that a new name in a folder is on the disk. Some file systems can't do that for a
+    folder."""
     folder = os.open(path, os.O_RDONLY | os.O_DIRECTORY | os.O_CLOEXEC)
     try:
         os.fsync(folder)

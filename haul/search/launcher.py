@@ -1,4 +1,5 @@
-"""Starts a program that ends when `haul` ends, even if `haul` is killed. It is a tiny program of its own, whose text `haul` passes to Python.
+"""Starts a program that ends when `haul` ends, even if `haul` is killed. It is a tiny program of
+its own, whose text `haul` passes to Python.
 
 usage: python3 -I -S -c TEXT HOW PARENT PROGRAM [ARGUMENT ..]
 
@@ -14,7 +15,8 @@ from __future__ import annotations
 import os
 import sys
 
-# Other modules are imported only where they are needed, since `signal` takes longer than all the rest, and `haul` imports this module too.
+# Other modules are imported only where they are needed, since `signal` takes longer than all the
+# rest, and `haul` imports this module too.
 SIGKILL = 9
 # Of the system's call `prctl`: which signal comes when the parent ends.
 PR_SET_PDEATHSIG = 1
@@ -26,7 +28,8 @@ DONE = "done"
 
 
 def drop_interrupts() -> None:
-    """Drops a Ctrl-C that came before this was in its own session, and lets later ones through. `haul` blocks the signal until then."""
+    """Drops a Ctrl-C that came before this was in its own session, and lets later ones through.
+    `haul` blocks the signal until then."""
     # `signal` without its enums, which take long; mypy knows nothing of it.
     import _signal  # type: ignore[import]
 

@@ -6,8 +6,8 @@ The census program takes one batch of soups after another, each in one call of `
     batch 2           while this batch runs, all that is done for batch 1
     ..
 
-One thread does everything except running soups. While a batch runs, it looks for finds, one object at a time, and waits for streams.
-"""
+One thread does everything except running soups. While a batch runs, it looks for finds, one object
+at a time, and waits for streams. """
 
 from __future__ import annotations
 
@@ -35,9 +35,11 @@ from haul.search.status_line import Status, StatusLine, format_duration
 from haul.search.stopping import Stopping
 
 MOST_WORKERS = 16
-# No more than a fiftieth of the running time goes to writing the file, unless batches have waited for ten minutes.
+# No more than a fiftieth of the running time goes to writing the file, unless batches have waited
+# for ten minutes.
 SHARE_OF_WRITING, MOST_SECONDS_UNKEPT = 50, 600.0
-# The longest time for which it waits for streams, and for which it looks for finds before it looks at streams again.
+# The longest time for which it waits for streams, and for which it looks for finds before it looks
+# at streams again.
 SECONDS_AT_A_TIME, SECONDS_OF_FINDING = 0.5, 0.02
 # The time for which finds are still told after a signal that ends the search at once.
 LAST_SECONDS = 1.0
@@ -115,7 +117,8 @@ class Search:
         self.writing = self.latest_writing = 0.0
 
     def run(self) -> None:
-        """Takes soups until the haul has as many as it should, or until it is stopped. Raises `Dropped` if a signal ends it."""
+        """Takes soups until the haul has as many as it should, or until it is stopped. Raises
+        `Dropped` if a signal ends it."""
         try:
             try:
                 self.take_batches()
@@ -201,7 +204,8 @@ class Search:
         )
 
     def keep(self) -> None:
-        """Writes the finished batches that aren't in the file. Their objects are looked at for finds after that."""
+        """Writes the finished batches that aren't in the file. Their objects are looked at for
+        finds after that."""
         if not self.unkept:
             return
         began = time.monotonic()
@@ -248,8 +252,8 @@ class Search:
                 self.calls.add(fields)
 
     def tell_rest(self) -> None:
-        """Tells the finds that are left, and waits for the calls of the program for finds. After a signal that ends the search at
-        once, it tells what it can in a second, and calls nothing."""
+        """Tells the finds that are left, and waits for the calls of the program for finds. After a
+        signal that ends the search at once, it tells what it can in a second, and calls nothing."""
         began = time.monotonic()
 
         def is_told() -> bool:
@@ -314,5 +318,6 @@ class Search:
 
 
 def count_processors() -> int:
-    """Returns how many workers run if nobody says how many: one for each processor that this process may use."""
+    """Returns how many workers run if nobody says how many: one for each processor that this
+    process may use."""
     return min(MOST_WORKERS, len(os.sched_getaffinity(0)))

@@ -1,4 +1,5 @@
-"""The status line of a search: on a terminal one line that is written again and again, and otherwise a line per minute."""
+"""The status line of a search: on a terminal one line that is written again and again, and
+otherwise a line per minute."""
 
 from __future__ import annotations
 

@@ -7,13 +7,14 @@ import signal
 import time
 from contextlib import suppress
 
-# Work that was asked to end at once has so many seconds for it. After that a further signal ends the program.
+# Work that was asked to end at once has so many seconds for it. After that a further signal ends
+# the program.
 SECONDS_TO_END = 10.0
 
 
 class Stopping:
-    """The signals that have come so far. The first Ctrl-C asks the work to finish what runs. Any other signal asks it to drop that
-    and to end; the program is then ended by the signal."""
+    """The signals that have come so far. The first Ctrl-C asks the work to finish what runs. Any
+    other signal asks it to drop that and to end; the program is then ended by the signal."""
 
     def __init__(self) -> None:
         self.finishes = False
@@ -28,7 +29,8 @@ class Stopping:
         os.set_blocking(self.tell, False)
 
     def came(self, number: int) -> bool:
-        """Notes a signal, and returns whether the work may go on until it ends by itself. The main thread calls this."""
+        """Notes a signal, and returns whether the work may go on until it ends by itself. The main
+        thread calls this."""
         if number == signal.SIGINT and not self.finishes and self.number is None:
             self.finishes = True
         elif self.number is None:

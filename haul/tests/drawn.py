@@ -1,4 +1,5 @@
-"""Hauls that are drawn at random, the same ones in each call. What they say of soups isn't right; it only is lawful."""
+"""Hauls that are drawn at random, the same ones in each call. What they say of soups isn't right;
+it only is lawful."""
 
 from __future__ import annotations
 

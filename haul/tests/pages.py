@@ -1,4 +1,5 @@
-"""Pages, and what is read from them: the table for readers without scripts, and the data of the script."""
+"""Pages, and what is read from them: the table for readers without scripts, and the data of the
+script."""
 
 from __future__ import annotations
 
@@ -50,7 +51,8 @@ class Row:
 
 
 class Table(HTMLParser):
-    """The table of a page. What stands in a `noscript` element is for this reader as for a browser without scripts."""
+    """The table of a page. What stands in a `noscript` element is for this reader as for a browser
+    without scripts."""
 
     def __init__(self, text: str) -> None:
         super().__init__()

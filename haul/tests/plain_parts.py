@@ -1,4 +1,5 @@
-"""Separation by brute force, written from the definition in docs/HAUL.md alone. It shares no code with the program."""
+"""Separation by brute force, written from the definition in docs/HAUL.md alone. It shares no code
+with the program."""
 
 from __future__ import annotations
 

@@ -1,4 +1,5 @@
-"""What the tests of `haul search` share: a folder with a file, searches that run in it, and the processes that are left."""
+"""What the tests of `haul search` share: a folder with a file, searches that run in it, and the
+processes that are left."""
 
 from __future__ import annotations
 
@@ -49,12 +50,14 @@ class Searches(unittest.TestCase):
         most_bytes: int | None = None,
         is_forked: bool = False,
     ) -> subprocess.Popen[bytes]:
-        """Starts a search in a process group of its own, in which no file may be longer than `most_bytes`. It may be forked."""
+        """Starts a search in a process group of its own, in which no file may be longer than
+        `most_bytes`. It may be forked."""
         words = ("search", *words, "--census", program, file)
         become = as_haul(*words)
 
         def prepare() -> None:
-            # Tests that run in the background, or under `nohup`, ignore signals, and so would the program.
+            # Tests that run in the background, or under `nohup`, ignore signals, and so would the
+            # program.
             signal.signal(signal.SIGINT, signal.SIG_DFL)
             signal.signal(signal.SIGHUP, signal.SIG_IGN if self.has_nohup else signal.SIG_DFL)
             if most_bytes is not None:

@@ -1,4 +1,5 @@
-"""How `haul` ends: its statuses and lines where a stream, the census program or the user lets it down, and what it leaves running."""
+"""How `haul` ends: its statuses and lines where a stream, the census program or the user lets it
+down, and what it leaves running."""
 
 from __future__ import annotations
 
@@ -46,7 +47,8 @@ MANY = text_of(
 
 
 def fill(folder: str, script: str) -> None:
-    """Writes `small`, a haul of two soups, `three`, one of three, and `other`, a program with this script."""
+    """Writes `small`, a haul of two soups, `three`, one of three, and `other`, a program with this
+    script."""
     Path(folder, "small").write_bytes(taken(2))
     Path(folder, "three").write_bytes(taken(3))
     Path(folder, "other").write_text(f"#!/bin/sh\n{script}\n")
@@ -54,8 +56,8 @@ def fill(folder: str, script: str) -> None:
 
 
 def in_shell(command: str, script: str = "", few: str = "") -> tuple[int, str, str]:
-    """The status and both outputs of a shell's command in a folder that `fill` has filled, in which `haul` is the companion, and
-    `$few` a text of Python."""
+    """The status and both outputs of a shell's command in a folder that `fill` has filled, in which
+    `haul` is the companion, and `$few` a text of Python."""
     with tempfile.TemporaryDirectory() as folder:
         fill(folder, script)
         shell = f'haul() {{ "{sys.executable}" "{HAUL}" "$@"; }}; {command}'
@@ -388,8 +390,8 @@ class Unforeseen(unittest.TestCase):
 class OtherPrograms(unittest.TestCase):
     """What stands at the path isn't the census program."""
 
-    # A program that ends well, and answers nothing, its words, bytes that are no text, a haul that wasn't asked for, a line of
-    # another job, and something like a pattern.
+    # A program that ends well, and answers nothing, its words, bytes that are no text, a haul that
+    # wasn't asked for, a line of another job, and something like a pattern.
     ANSWERS = [
         "true",
         'echo "$@"',
@@ -403,7 +405,8 @@ class OtherPrograms(unittest.TestCase):
     COMMANDS = ["check", "check --samples", "page"]
 
     def answer(self, script: str, command: str, program: str = "./other") -> tuple[int, str, str]:
-        """What `haul` says of a haul of three soups, if this shell script, or another program, is the one that it asks."""
+        """What `haul` says of a haul of three soups, if this shell script, or another program, is
+        the one that it asks."""
         with tempfile.TemporaryDirectory() as folder:
             fill(folder, script)
             return run(*command.split(), "--census", program, "three", cwd=folder)
@@ -472,13 +475,15 @@ class OtherPrograms(unittest.TestCase):
 
 
 class Calls(unittest.TestCase):
-    """What a page, a check and the other commands ask of the census program. In these scripts `real` is the program."""
+    """What a page, a check and the other commands ask of the census program. In these scripts
+    `real` is the program."""
 
     # Notes the words of the call, and answers as the program does.
     NOTES = f'echo "$*" >> calls; real() {{ "{CENSUS}" "$@"; }}; '
 
     def ended(self, command: str, script: str) -> tuple[int, str, str, list[str]]:
-        """What a command ends with and prints over a haul of forty soups, if this script is the program, and the calls that it made."""
+        """What a command ends with and prints over a haul of forty soups, if this script is the
+        program, and the calls that it made."""
         with tempfile.TemporaryDirectory() as folder:
             fill(folder, self.NOTES + script)
             Path(folder, "forty").write_bytes(taken(40))
@@ -543,7 +548,8 @@ class Signals(unittest.TestCase):
     """A signal that ends `haul` ends the programs that it has started."""
 
     def running(self) -> dict[int, tuple[str, int]]:
-        """The processes that run, each with its name and its parent; none that is dead and only not yet waited for."""
+        """The processes that run, each with its name and its parent; none that is dead and only not
+        yet waited for."""
         found: dict[int, tuple[str, int]] = {}
         for folder in Path("/proc").glob("[0-9]*"):
             with suppress(OSError):
@@ -565,14 +571,16 @@ class Signals(unittest.TestCase):
         return found
 
     def ended_by(self, number: int, words: list[str], least: int) -> None:
-        """A signal ends `haul`, and so many calls of the program at least that run then, with all that was started for them."""
+        """A signal ends `haul`, and so many calls of the program at least that run then, with all
+        that was started for them."""
         with tempfile.TemporaryDirectory() as folder:
             Path(folder, "long").write_text(LONG)
             Path(folder, "many").write_text(MANY)
             # A program that would go on for long, and answers nothing.
             Path(folder, "sleeps").write_text("#!/bin/sh\nexec sleep 1000\n")
             Path(folder, "sleeps").chmod(0o755)
-            # Who runs tests in the background takes no notice of SIGINT, and neither would the program.
+            # Who runs tests in the background takes no notice of SIGINT, and neither would the
+            # program.
             program = subprocess.Popen(
                 [sys.executable, HAUL, *words],
                 cwd=folder,

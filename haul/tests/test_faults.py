@@ -101,7 +101,8 @@ def wrong_writing(haul: Haul, at: Fields) -> Iterator[tuple[str, Place]]:
 
 
 def wrong_lines(haul: Haul, at: Fields) -> Iterator[tuple[str, Place]]:
-    """A line that is left out or stands twice, two that have changed places, and a sample too many."""
+    """A line that is left out or stands twice, two that have changed places, and a sample too
+    many."""
     lines = at.text().splitlines(True)
     is_row = range(at.totals, at.totals + len(haul.totals))
     for line in range(len(lines)):
@@ -128,7 +129,8 @@ def wrong_lines(haul: Haul, at: Fields) -> Iterator[tuple[str, Place]]:
 
 
 def cut(haul: Haul, at: Fields) -> Iterator[tuple[str, Place]]:
-    """An input that ends before a field, or after a line's last one: bad at its end. In a word that is no field: where that begins."""
+    """An input that ends before a field, or after a line's last one: bad at its end. In a word that
+    is no field: where that begins."""
     text = ""
     for line, fields in enumerate(at.lines):
         for field, word in enumerate(fields):

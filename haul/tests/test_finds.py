@@ -100,7 +100,8 @@ class Finds(unittest.TestCase):
         )
 
     def test_parts_of_objects_that_were_there(self) -> None:
-        """A blinker that was there as a part of a traffic light is known, and so is one that was an object."""
+        """A blinker that was there as a part of a traffic light is known, and so is one that was an
+        object."""
         for there in ("xp2_s01110szw222", BLINKER):
             finder = Finder(OTHER_RULE, haul_of(OTHER_RULE, BLOCK, there))
             self.assertEqual(
@@ -128,7 +129,8 @@ class Finds(unittest.TestCase):
             )
 
     def test_a_haul_without_objects(self) -> None:
-        """Its soups have begun the file, though they left nothing, so that later batches tell finds."""
+        """Its soups have begun the file, though they left nothing, so that later batches tell
+        finds."""
         self.assertEqual(
             found(
                 Finder(
@@ -164,7 +166,8 @@ class Finds(unittest.TestCase):
         ) as separated:
             self.assertEqual(found(finder, [(TRIPOLE, 200), (BLOCK, 201)]), [])
             self.assertEqual(separated.call_count, 2)
-            # An oscillator of period 3 is in none of the three, and a still life of seven cells may be in each of them.
+            # An oscillator of period 3 is in none of the three, and a still life of seven cells may
+            # be in each of them.
             self.assertEqual(found(finder, [("xp3_695qc8zx33", 11)]), [Find("xp3_695qc8zx33", 11)])
             self.assertEqual(separated.call_count, 3)
             finder.add([("xs7_2552", 11)])
@@ -421,7 +424,8 @@ class Calls(Searches):
         self.assert_nothing_runs()
 
     def test_an_interrupt_before_it_has_its_session(self) -> None:
-        """A Ctrl-C for `haul` that comes then is dropped, and later the program is ended by that signal as usual."""
+        """A Ctrl-C for `haul` that comes then is dropped, and later the program is ended by that
+        signal as usual."""
 
         def interrupted() -> None:
             signal.signal(signal.SIGINT, signal.SIG_DFL)
@@ -776,8 +780,9 @@ class Pace(Searches):
         os.close(keeper.lock)
 
     def test_how_long_it_waits(self) -> None:
-        """For streams up to half a second, or until the status is due. Where there are objects to look at, it looks at them for a
-        fiftieth of a second, and doesn't wait. After a signal it looks at them for a second."""
+        """For streams up to half a second, or until the status is due. Where there are objects to
+        look at, it looks at them for a fiftieth of a second, and doesn't wait. After a signal it
+        looks at them for a second."""
         keeper, stopping = Keeper(str(self.file)), Stopping()
         said, told = io.StringIO(), io.StringIO()
         client = Census(CENSUS, Terminal(said))

@@ -24,7 +24,8 @@ RULES = ["b3s23", "b36s23", "b3678s34678", "b37s0123", STILL]
 
 
 def asked(calls: list[tuple[list[str], str]]) -> list[str]:
-    """What `census` prints for these calls, some of which read a text. A shell makes them, one after another."""
+    """What `census` prints for these calls, some of which read a text. A shell makes them, one
+    after another."""
     script = "".join(
         f"\"$0\" {' '.join(words)}" + (f" << 'END'\n{read}\nEND" if read else "") + "\necho =$?\n"
         for words, read in calls
@@ -89,7 +90,8 @@ def patterns() -> tuple[Cells, ...]:
 
 class Drawings(unittest.TestCase):
     def test_each_code_of_the_example(self) -> None:
-        """It is drawn as `census show` draws it, and its phases have the code that `census` gave them."""
+        """It is drawn as `census show` draws it, and its phases have the code that `census` gave
+        them."""
         codes, rule = list(example().totals), read_rule("b3s23")
         for code, shown in zip(codes, asked([(["show", code], "") for code in codes]), strict=True):
             cells = read_wechsler(code.partition("_")[2])
@@ -100,7 +102,8 @@ class Drawings(unittest.TestCase):
             self.assertEqual((find_code(recurrence), recurrence.phases[0]), (code, cells))
 
     def test_texts(self) -> None:
-        """What is written is read again, by `census show` too, and nothing shorter could be written."""
+        """What is written is read again, by `census show` too, and nothing shorter could be
+        written."""
         written = [text for cells in patterns() if (text := write_wechsler(cells)) is not None]
         for cells, text, shown in zip(
             patterns(), written, asked([(["show", text], "") for text in written]), strict=True
@@ -136,7 +139,8 @@ class Drawings(unittest.TestCase):
 
 class Generations(unittest.TestCase):
     def test_drawn_patterns(self) -> None:
-        """One, two and three generations later they are as `census run` has them; each in its place, beside a far cell that stays."""
+        """One, two and three generations later they are as `census run` has them; each in its
+        place, beside a far cell that stays."""
         calls, wanted = [], []
         for place, cells in enumerate(patterns()):
             name, later = RULES[place % len(RULES)], cells
@@ -160,8 +164,8 @@ class Generations(unittest.TestCase):
         self.assertEqual(advance(read_rule("bs"), frozenset([(5, 5)])), frozenset())
 
     def test_how_patterns_recur(self) -> None:
-        """A single cluster that recurs within eight generations has the code that `census name` gives it; of anything else it names no
-        single object."""
+        """A single cluster that recurs within eight generations has the code that `census name`
+        gives it; of anything else it names no single object."""
         most = ["--period=8", "--horizon=8"]
         calls = [
             (["name", "--limit=0", *most, f"--rule={RULES[place % len(RULES)]}"], plaintext(cells))
@@ -205,7 +209,8 @@ class Generations(unittest.TestCase):
             )
 
     def test_the_longest_period(self) -> None:
-        """A census looks for 64 generations, and a pulsar takes three; what dies or becomes another pattern never recurs."""
+        """A census looks for 64 generations, and a pulsar takes three; what dies or becomes another
+        pattern never recurs."""
         self.assertEqual(MOST_PERIOD, 64)
         pulsar = read_wechsler("co9nas0san9oczgoldlo0oldlogz1047210127401")
         assert pulsar is not None
@@ -234,8 +239,8 @@ class Generations(unittest.TestCase):
 
 class Clusters(unittest.TestCase):
     def test_clusters_and_islands(self) -> None:
-        """Where all cells stay, `census` counts the clusters. Stretched by two, cells that touch are two steps apart, and cells two
-        steps apart are four: so the clusters are the islands."""
+        """Where all cells stay, `census` counts the clusters. Stretched by two, cells that touch
+        are two steps apart, and cells two steps apart are four: so the clusters are the islands."""
         stretched = [frozenset((2 * x, 2 * y) for x, y in cells) for cells in patterns()]
         # A longer horizon shows nothing where all cells stay.
         short = ["--period=1", "--horizon=1"]
@@ -261,9 +266,9 @@ class Clusters(unittest.TestCase):
         self.assertFalse(is_cluster(frozenset()))
 
     def test_islands_of_several_phases(self) -> None:
-        """Cells that touch in a later phase belong together; a place that lives in two phases is one cell; a cell beside a place that
-        lives only in another phase does not touch it; and what has no cell in phase 0 is no island.
-        """
+        """Cells that touch in a later phase belong together; a place that lives in two phases is
+        one cell; a cell beside a place that lives only in another phase does not touch it; and what
+        has no cell in phase 0 is no island."""
         a, b, far, between = (0, 0), (3, 0), (9, 9), frozenset([(1, 0), (2, 0)])
         self.assertEqual(find_islands([frozenset([b, a, far])]), [{a}, {b}, {far}])
         self.assertEqual(find_islands([frozenset([a, b, far]), between | {a, b}]), [{a, b}, {far}])

@@ -1,4 +1,5 @@
-"""The one file into which `release/zipped.py` packs `haul`: what is in it, and that it does what `haul` does in a checkout."""
+"""The one file into which `release/zipped.py` packs `haul`: what is in it, and that it does what
+`haul` does in a checkout."""
 
 from __future__ import annotations
 
@@ -19,7 +20,8 @@ from release.zipped import is_packed, packed, paths_in
 
 # What the shell reads.
 HEAD = b"""#!/bin/sh
-# The companion `haul` of Gokzerd: these lines for the shell, and a zip archive for Python, which `unzip -l` lists.
+# The companion `haul` of Gokzerd: these lines for the shell, and a zip archive for Python, which
+# `unzip -l` lists.
 [ -d /dev/stdin ] && { echo 'haul: Is a directory' >&2; exit 5; }
 exec env --block-signal=INT python3 "$0" "$@"
 """
@@ -107,7 +109,8 @@ class Packed(Searches):
     def call(
         self, *words: str, text: bytes = b"", program: str | None = None, **more: str
     ) -> tuple[int, str, str]:
-        """The status of the file, and what it prints on both streams. Only the `PATH` and these variables are in the environment."""
+        """The status of the file, and what it prints on both streams. Only the `PATH` and these
+        variables are in the environment."""
         ended = subprocess.run(
             [program or str(self.haul_file), *words],
             input=text,
@@ -151,7 +154,8 @@ class Packed(Searches):
         )
 
     def test_links_and_ways_to_call_it(self) -> None:
-        """The program beside the file is asked, and not one beside a link. Python may also be told to run the file."""
+        """The program beside the file is asked, and not one beside a link. Python may also be told
+        to run the file."""
         (self.folder / "elsewhere").mkdir()
         (self.folder / "elsewhere" / "link").symlink_to(self.haul_file)
         haul = census("take", "--count", "2")
@@ -163,7 +167,8 @@ class Packed(Searches):
         self.assertEqual(self.call("check", text=haul, PYTHONSAFEPATH="1"), (0, "right\n", ""))
 
     def test_no_module_is_compiled_twice(self) -> None:
-        """All of them are read at the start, so nothing is read from the file after it was replaced."""
+        """All of them are read at the start, so nothing is read from the file after it was
+        replaced."""
         noting = (
             f"import os, runpy, sys; names = []; sys.addaudithook(lambda what, said: names.append(said[1]) if what == 'compile' else None)\n"
             f"os._exit = lambda status: print(*names, sep='\\n', flush=True); sys.argv = ['haul', '--version']\n"
@@ -180,7 +185,8 @@ class Packed(Searches):
         )
 
     def test_modules_of_others(self) -> None:
-        """What has the name of a module beside the file, or in the folder in which it is called, isn't imported."""
+        """What has the name of a module beside the file, or in the folder in which it is called,
+        isn't imported."""
         for folder in (self.folder, self.folder / "bin"):
             (folder / "argparse.py").write_text("raise SystemExit('another module')")
             (folder / "release").mkdir()
@@ -220,7 +226,8 @@ class Packed(Searches):
             self.assertEqual((program.returncode, errors), (-signal.SIGINT, b""))
 
     def test_a_search(self) -> None:
-        """It goes on while the file is replaced by that of another version, as after an upgrade, and Ctrl-C ends it."""
+        """It goes on while the file is replaced by that of another version, as after an upgrade,
+        and Ctrl-C ends it."""
         program = self.stub('echo "$2" >> told')
         searching = subprocess.Popen(
             [

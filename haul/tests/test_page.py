@@ -368,7 +368,8 @@ class Rows(unittest.TestCase):
         )
 
     def test_pictures(self) -> None:
-        """Objects of more than ten rows, too, cell for cell, with a margin of one cell. A cell has twelve points if there are under ten."""
+        """Objects of more than ten rows, too, cell for cell, with a margin of one cell. A cell has
+        twelve points if there are under ten."""
         for code, scale in (
             ("xs28_g88m952g8gz1218kid221", 4),
             (PULSAR, 4),
@@ -514,7 +515,8 @@ class Data(unittest.TestCase):
         )
 
     def test_least(self) -> None:
-        """An object has a place if there are as many of it, and a part if there are as many by parts. What is left out counts as parts."""
+        """An object has a place if there are as many of it, and a part if there are as many by
+        parts. What is left out counts as parts."""
         text = compared(self.HAUL, least=3)
         self.assertEqual(
             [
@@ -643,7 +645,8 @@ class Comparing(unittest.TestCase):
         )
 
     def test_each_under_its_rule(self) -> None:
-        """A table on table falls apart under the rule of B alone, and each value has a place for each haul."""
+        """A table on table falls apart under the rule of B alone, and each value has a place for
+        each haul."""
         objects = objects_of(compared(self.LIFE, self.OTHER))
         self.assertEqual(
             objects["xs12_raar"],
@@ -769,7 +772,8 @@ class Ends(unittest.TestCase):
         self.assertGreater(exact, 5)
 
     def test_how_many_cells_there_are_then(self) -> None:
-        """A pulsar has 48, 56 or 72 cells, a glider always five. What can't be drawn is known only if it is a still life."""
+        """A pulsar has 48, 56 or 72 cells, a glider always five. What can't be drawn is known only
+        if it is a still life."""
         life = read_rule("b3s23")
         for code, sizes in (
             (PULSAR, {48, 56, 72}),
@@ -792,7 +796,8 @@ class Ends(unittest.TestCase):
             self.assertEqual(read_end(life, fields), end)
 
     def test_which_have_one(self) -> None:
-        """Those of the first objects. Strict ones come first, and objects that couldn't be separated count as strict."""
+        """Those of the first objects. Strict ones come first, and objects that couldn't be
+        separated count as strict."""
         haul = made(
             {"xp2_1110s": 9, "xs4_33": 8, "ov_p3": 7},
             [(0, 9)],

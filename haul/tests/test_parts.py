@@ -25,8 +25,9 @@ from haul.tests.called import CENSUS, census, run
 from haul.tests.test_life import STILL, example
 from haul.tests.test_tables import haul
 
-# Those of the twenty most frequent objects that have no name. What they are is seen from their texts: `7` is a column of three
-# cells, `111` a row of them, `33` two columns of two, `2552` and `8kk8` a ring of six.
+# Those of the twenty most frequent objects that have no name. What they are is seen from their
+# texts: `7` is a column of three cells, `111` a row of them, `33` two columns of two, `2552` and
+# `8kk8` a ring of six.
 FREQUENT = {
     "xp2_1110s": "2 blinkers",
     "xp2_70ggg07": "3 blinkers",
@@ -52,7 +53,8 @@ def unknown(code: str) -> Separation:
 
 class Names(unittest.TestCase):
     def test_each_is_named_so(self) -> None:
-        """What `census show` draws of a code has that code. Of some the phase that is drawn is in two pieces, so it settles later."""
+        """What `census show` draws of a code has that code. Of some the phase that is drawn is in
+        two pieces, so it settles later."""
         self.assertEqual(len(NAMES), 92)
         self.assertEqual(len(set(NAMES.values())), 92)
         for code in NAMES:
@@ -82,7 +84,8 @@ class Names(unittest.TestCase):
 
 class Parts(unittest.TestCase):
     def test_pseudo_objects(self) -> None:
-        """A bi-block is two blocks, a traffic light four blinkers; a block beside a pulsar is taken off it."""
+        """A bi-block is two blocks, a traffic light four blinkers; a block beside a pulsar is taken
+        off it."""
         pulsar = "xp3_co9nas0san9oczgoldlo0oldlogz1047210127401"
         for code, wanted in (
             ("xs8_rr", ["xs4_33"] * 2),
@@ -94,7 +97,8 @@ class Parts(unittest.TestCase):
             self.assertEqual(parts(code), Separation(tuple(wanted)))
 
     def test_strict_objects(self) -> None:
-        """One island; two tables that are unstable alone; the four islands of a beacon, a pulsar's sixteen and a pentadecathlon."""
+        """One island; two tables that are unstable alone; the four islands of a beacon, a pulsar's
+        sixteen and a pentadecathlon."""
         for code in (
             "xs4_33",
             "xq4_153",
@@ -132,11 +136,13 @@ class Parts(unittest.TestCase):
         self.assertTrue(strict("xs4_33").is_strict() and not parts("xs8_rr").is_strict())
 
     def test_many_islands(self) -> None:
-        """Where all cells stay, eleven cells two steps apart are eleven parts. In Life, of so many islands only that is tried."""
+        """Where all cells stay, eleven cells two steps apart are eleven parts. In Life, of so many
+        islands only that is tried."""
         for count in (MOST_ISLANDS, MOST_ISLANDS + 1, 30):
             row = "0".join("1" * count)
             self.assertEqual(parts(f"xs{count}_{row}", STILL), Separation(("xs1_1",) * count))
-        # Six bi-blocks in a row are twelve blocks; two tables on each other beside nine blocks have eleven islands, and two are no parts.
+        # Six bi-blocks in a row are twelve blocks; two tables on each other beside nine blocks have
+        # eleven islands, and two are no parts.
         self.assertEqual(parts("xs48_" + "rr0" * 6), Separation(("xs4_33",) * 12))
         for blocks, wanted in ((8, Separation(("xs12_raar", *["xs4_33"] * 8))), (9, None)):
             code = f"xs{12 + 4 * blocks}_raar" + "0rr" * (blocks // 2) + "w33" * (blocks % 2)
@@ -144,7 +150,8 @@ class Parts(unittest.TestCase):
             self.assertEqual(parts(code), wanted or unknown(code))
 
     def test_a_part_that_falls_apart(self) -> None:
-        """A blocker is one cluster in two of its eight phases, and not in the one that is drawn. A block is beside it."""
+        """A blocker is one cluster in two of its eight phases, and not in the one that is drawn. A
+        block is beside it."""
         self.assertFalse(is_cluster(read_object(read_rule("b3s23"), "xp8_g3jgz1ut").phases[0]))  # type: ignore[union-attr]
         self.assertEqual(parts("xp8_g3jgy066z1ut"), Separation(("xp8_g3jgz1ut", "xs4_33")))
 
@@ -165,12 +172,14 @@ class Parts(unittest.TestCase):
         self.assertEqual((len(left), len(right), left | right), (4, 4, found.phases[0]))
         one, other = [left, left], [right, right]
         self.assertTrue(blocks.is_separation([one, other]))
-        # They share a cell, though together they are the object; they have as many cells, and aren't the object; one is missing.
+        # They share a cell, though together they are the object; they have as many cells, and
+        # aren't the object; one is missing.
         shared = left | {min(right)}
         self.assertFalse(blocks.is_separation([[shared, shared], other]))
         self.assertFalse(blocks.is_separation([one, one]))
         self.assertFalse(blocks.is_separation([one]))
-        # It is in order; another block a period later; no cluster; and a cell that the object doesn't have.
+        # It is in order; another block a period later; no cluster; and a cell that the object
+        # doesn't have.
         run = Run(read_rule("b3s23"), left)
         self.assertEqual(blocks.checked(run, iter(one)), one)
         self.assertIsNone(blocks.checked(run, iter([left, right])))
@@ -192,7 +201,8 @@ class Parts(unittest.TestCase):
         self.assertEqual(found.phases, [{(0, 0), (0, 1), (0, 2)}, {(-1, 1), (0, 1), (1, 1)}])
 
     def test_by_brute_force(self) -> None:
-        """Drawn objects of the example, without long ones, which take too long; and those of two other rules."""
+        """Drawn objects of the example, without long ones, which take too long; and those of two
+        other rules."""
         draw = random.Random("objects")
         tried = [("b3s23", draw.sample([code for code in example().totals if len(code) < 22], 250))]
         for rule, count in (("b36s23", 800), ("b3678s34678", 3000)):
@@ -343,7 +353,8 @@ class Tables(unittest.TestCase):
         )
 
     def test_by_parts(self) -> None:
-        """50 blocks and two in each of 17 objects; 3 blinkers and three in each of 4. The samples are the three lowest numbers."""
+        """50 blocks and two in each of 17 objects; 3 blinkers and three in each of 4. The samples
+        are the three lowest numbers."""
         self.assertEqual(
             self.rows("--parts"),
             [
@@ -464,8 +475,9 @@ class SideBySide(unittest.TestCase):
         self.assertEqual([one["not_separated"] for one in told["hauls"]], [["ov_p12"], []])
 
     def test_other_parts_under_another_rule(self) -> None:
-        """Each table of a table on table dies in Life, and stays where nothing is born and one neighbour is enough. On its side it is
-        two columns of four cells, of which one lacks the middle."""
+        """Each table of a table on table dies in Life, and stays where nothing is born and one
+        neighbour is enough. On its side it is two columns of four cells, of which one lacks the
+        middle."""
         for name, rule in zip(self.names, ("b3s23", "bs123"), strict=True):
             Path(name).write_text(haul(rule, 100, {"xs12_raar": 4}))
         told = json.loads(run("compare", "--json", *self.names)[1])

@@ -1,4 +1,5 @@
-"""What asks the census program: checks, joins, comparisons and pages. The built program is used, and not the launcher."""
+"""What asks the census program: checks, joins, comparisons and pages. The built program is used,
+and not the launcher."""
 
 from __future__ import annotations
 
@@ -355,7 +356,8 @@ class Pages(unittest.TestCase):
     ]
 
     def test_hostile_seeds(self) -> None:
-        """What the page shows is run by a shell, and prints what the program prints of that soup."""
+        """What the page shows is run by a shell, and prints what the program prints of that
+        soup."""
         with tempfile.TemporaryDirectory() as folder:
             os.symlink(CENSUS, os.path.join(folder, "census"))
             for seed in self.HOSTILE:
@@ -416,7 +418,8 @@ class Pages(unittest.TestCase):
                 )
 
     def test_codes_that_name_nothing(self) -> None:
-        """A haul may be lawful with codes that the program can't draw. What else is in it is shown."""
+        """A haul may be lawful with codes that the program can't draw. What else is in it is
+        shown."""
         codes = ["xs4_33", "xs4_y", "yl3_1", "zz_"]
         haul = Haul(
             Job("", "b3s23", Profile(64, 512, 101, 30300)),

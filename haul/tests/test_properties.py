@@ -1,4 +1,5 @@
-"""What holds of every haul: one wrong thing at a time is told where it is, and what a page shows is what the haul has."""
+"""What holds of every haul: one wrong thing at a time is told where it is, and what a page shows is
+what the haul has."""
 
 from __future__ import annotations
 
@@ -24,7 +25,8 @@ def read(lines: list[str]) -> Haul:
 
 
 class OneWrongThing(unittest.TestCase):
-    """A right haul with one row changed, at each place. What is said is put together from its lines."""
+    """A right haul with one row changed, at each place. What is said is put together from its
+    lines."""
 
     def setUp(self) -> None:
         self.lines = census("take", "--count", "40").decode().splitlines()
@@ -149,8 +151,8 @@ class Once(Census):
 
 
 def how_often(soups: int, total: int) -> str:
-    """Returns how often an object comes: at most in one of this many soups, or, if there are more objects than half the soups, how many
-    there are per soup, with three digits."""
+    """Returns how often an object comes: at most in one of this many soups, or, if there are more
+    objects than half the soups, how many there are per soup, with three digits."""
     if soups == 0:
         return "none"
     if Fraction(total, soups) <= Fraction(1, 2):
@@ -164,7 +166,8 @@ def how_often(soups: int, total: int) -> str:
 
 class Shown(unittest.TestCase):
     def test_number_for_number(self) -> None:
-        """Each code with its numbers, the most frequent first, in the table and in the data, and all facts before the table."""
+        """Each code with its numbers, the most frequent first, in the table and in the data, and
+        all facts before the table."""
         draw = random.Random("pages")
         rows = 0
         for _ in range(200):

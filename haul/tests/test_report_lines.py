@@ -162,7 +162,8 @@ class Faults(unittest.TestCase):
             self.assertEqual(fault(second + after), place, after)
 
     def test_a_line_that_lost_its_end(self) -> None:
-        """It is bad where its last field begins, or at its length if that field is right, unless it is a line by itself."""
+        """It is bad where its last field begins, or at its length if that field is right, unless it
+        is a line by itself."""
         for end, place in (
             ("", 0),
             ("repor", 0),
@@ -211,7 +212,8 @@ class Faults(unittest.TestCase):
 
 class BesideGather(unittest.TestCase):
     def test_changed_lines(self) -> None:
-        """Each is bad at the same place for `census gather`, or for neither. No soup is in the set, so none is run."""
+        """Each is bad at the same place for `census gather`, or for neither. No soup is in the set,
+        so none is run."""
         draw = random.Random("changed lines")
         lines = [
             self.changed(

@@ -482,7 +482,8 @@ class Programs(Searches):
         self.assert_nothing_runs()
 
     def test_what_holds_one_stream(self) -> None:
-        """When the program has ended, what it has left running is killed, although one stream is closed by then."""
+        """When the program has ended, what it has left running is killed, although one stream is
+        closed by then."""
         for closed in ("1", "2"):
             running = BackgroundTake(
                 StreamWaiter(), [self.stub(f"exec {closed}>&-; sleep 1000 & exit 0")]
@@ -621,7 +622,8 @@ class Keeping(Searches):
         os.close(keeper.lock)
 
     def test_a_folder_that_cant_be_synced(self) -> None:
-        """Some file systems refuse that with `EINVAL`, which is no fault. Another refusal is one."""
+        """Some file systems refuse that with `EINVAL`, which is no fault. Another refusal is
+        one."""
         keeper = Keeper(str(self.file))
         fsync = os.fsync
         for number, is_fault in ((errno.EINVAL, False), (errno.EIO, True)):

@@ -124,7 +124,8 @@ from    to  settled
         )
 
     def test_quartiles(self) -> None:
-        """They are the smallest but so many: a quarter, a half, and three quarters of all, rounded up."""
+        """They are the smallest but so many: a quarter, a half, and three quarters of all, rounded
+        up."""
         for number, quartiles in (
             (1, [1, 1, 1]),
             (2, [1, 1, 2]),
@@ -184,7 +185,8 @@ from    to  settled
 
 class Lines(unittest.TestCase):
     def test_what_is_skipped(self) -> None:
-        """Bad lines and those of another job are told by file and number, and soups that come again are not."""
+        """Bad lines and those of another job are told by file and number, and soups that come again
+        are not."""
         with tempfile.TemporaryDirectory() as folder:
             one, other = os.path.join(folder, "one"), os.path.join(folder, "other")
             Path(one).write_bytes(
@@ -368,7 +370,8 @@ class TheLongest(unittest.TestCase):
         self.assertEqual(longest.kept, {498: [(996, 0), (997, 0)], 499: [(998, 0)]})
 
     def test_exact(self) -> None:
-        """The generations are those of a census with each generation as a checkpoint; they decide between equal checkpoints."""
+        """The generations are those of a census with each generation as a checkpoint; they decide
+        between equal checkpoints."""
         lines = census("work", "--count=60", "--worker=1", "--seed=c")
         each = {
             line.split()[6][5:]: int(line.split()[7][3:])
@@ -452,7 +455,8 @@ class UnsettledSoups(unittest.TestCase):
             )
 
     def test_a_thousand_generations(self) -> None:
-        """It is called with the last checkpoint, and a thousand generations before; the growth may be negative."""
+        """It is called with the last checkpoint, and a thousand generations before; the growth may
+        be negative."""
         line = "report 2 rule=b36s23 profile=1,1,7,1010 seed=a worker=1 soup=0 unsettled"
         script = 'case "$*" in "run --rule=b36s23 8") echo OOO.O ;; "run --rule=b36s23 1008") echo "O..O" ;; *) exit 5 ;; esac; cat > "$0.read"'
         with program(script) as path:

@@ -19,7 +19,8 @@ def said_of(*names: str) -> str:
 
 class Soups(unittest.TestCase):
     def test_a_sample(self) -> None:
-        """With its symmetry or without, it is the soup of the seed and the number, wherever the number begins."""
+        """With its symmetry or without, it is the soup of the seed and the number, wherever the
+        number begins."""
         for seed, number in (
             ("k_abcdef", "12345"),
             ("k_abcdef1", "2345"),

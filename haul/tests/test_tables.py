@@ -92,7 +92,8 @@ class Tables(unittest.TestCase):
 
 
 def exact_ends(total: int) -> tuple[float, float]:
-    """The ends of the interval of 95 %, by halving, of sums of the terms of Poisson's law as it is defined."""
+    """The ends of the interval of 95 %, by halving, of sums of the terms of Poisson's law as it is
+    defined."""
 
     def mean_at(count: int, chance: float) -> float:
         low, high = 0.0, 2.0 * count + 20
@@ -133,7 +134,8 @@ class Intervals(unittest.TestCase):
             self.assertAlmostEqual((high - total) / total**0.5, 1.95996, places=3)
 
     def test_by_an_expansion(self) -> None:
-        """The quantile of the gamma law, of which these ends are some, by its expansion after Cornish and Fisher: to the last digits."""
+        """The quantile of the gamma law, of which these ends are some, by its expansion after
+        Cornish and Fisher: to the last digits."""
         deviations = 1.959963984540054
 
         def quantile(shape: int, z: float) -> float:
@@ -166,7 +168,8 @@ class Intervals(unittest.TestCase):
             self.assertAlmostEqual(high, quantile(total + 1, deviations), delta=near)
 
     def test_by_sums(self) -> None:
-        """By its terms up to 30, and from there on by an expansion that has four digits after the point."""
+        """By its terms up to 30, and from there on by an expansion that has four digits after the
+        point."""
         for total in (*range(0, 12), 29, 30, 31, 32, 40, 60):
             for found, known in zip(find_interval(total), exact_ends(total), strict=True):
                 self.assertAlmostEqual(found, known, delta=1e-9 if total < 30 else 2e-5)
@@ -196,7 +199,8 @@ class Intervals(unittest.TestCase):
             self.assertEqual((overlap(one, other), overlap(other, one)), (wanted, wanted))
 
     def test_time(self) -> None:
-        """The lines that it runs are counted, since a clock tells what else runs on the machine as well."""
+        """The lines that it runs are counted, since a clock tells what else runs on the machine as
+        well."""
         for total in (0, 10, 28, 29, 30, 31, 1000, 2**64 - 1):
             self.assertLess(lines_of(find_interval, total), 12_000)
 
@@ -220,7 +224,8 @@ def lines_of(function: Callable[[int], object], number: int) -> int:
 
 
 class Rates(unittest.TestCase):
-    """Each is the double nearest to the exact quotient, which `Fraction` rounds to, and is printed as short as it reads back."""
+    """Each is the double nearest to the exact quotient, which `Fraction` rounds to, and is printed
+    as short as it reads back."""
 
     def test_each_is_the_nearest(self) -> None:
         self.assertEqual(
@@ -480,7 +485,8 @@ in A alone: xq4_153 xs8_rr; in B alone: xp15_4r4z4r4
         self.assertIn("as if objects came singly", lines[-1])
 
     def test_all_that_is_printed(self) -> None:
-        """Three hauls in each order, with each option: facts, rates, intervals, ratios and stars, and who has what alone."""
+        """Three hauls in each order, with each option: facts, rates, intervals, ratios and stars,
+        and who has what alone."""
         names = {
             "xs4_33": "block",
             "xp2_7": "blinker",
@@ -749,7 +755,8 @@ class Terminals(Tables):
                 self.assertIn(self.CODE, self.printed(words[0], *words[1:]))
 
     def test_where_they_are_cut(self) -> None:
-        """Nothing is cut where all fits; a column less costs a character, and eight are always left."""
+        """Nothing is cut where all fits; a column less costs a character, and eight are always
+        left."""
         code = "xs40_" + "g" * 20
         Path(self.folder.name, "a").write_text(haul("b3s23", 10, {"xs4_33": 5, code: 7}))
         for words in (["table", "a"], ["compare", "a", "a"]):

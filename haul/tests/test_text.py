@@ -59,7 +59,8 @@ def read(text: str) -> Haul:
 
 
 def said_of(text: str) -> str:
-    """What is said of a text that is no haul's: a place, and a reason if its words are well formed."""
+    """What is said of a text that is no haul's: a place, and a reason if its words are well
+    formed."""
     try:
         list(read_hauls(io.BytesIO(text.encode("latin-1"))))
     except BadHaul as bad:
@@ -113,7 +114,8 @@ class Reading(unittest.TestCase):
         self.assertEqual([haul.line for haul in hauls], [1, 15, 34])
 
     def test_places_and_reasons(self) -> None:
-        """Where the words are well formed, the message says why they are wrong, and otherwise only where. `None`: the reason isn't looked at."""
+        """Where the words are well formed, the message says why they are wrong, and otherwise only
+        where. `None`: the reason isn't looked at."""
         for old, new, place, reason in [
             ("@VERSION 2", "", "line 1 column 1", None),
             ("@VERSION 2", "@VERSION", "line 1 column 9", None),
@@ -237,7 +239,8 @@ class Reading(unittest.TestCase):
         self.assertEqual(fault(""), "line 1 column 1")
 
     def test_cut(self) -> None:
-        """Cut within a word that is no field yet, it is bad where that word begins, and else at the end."""
+        """Cut within a word that is no field yet, it is bad where that word begins, and else at the
+        end."""
         self.assertEqual(fault(LARGER[:5]), "line 1 column 1")
         self.assertEqual(fault("@VERSION "), "line 1 column 10")
         self.assertEqual(fault("@VERSION 2"), "line 1 column 11")
@@ -258,9 +261,9 @@ class Drawn(unittest.TestCase):
             self.assertEqual(read(text_of(haul)), haul)
 
     def test_changed_bytes(self) -> None:
-        """A text with a byte changed, added or left out is lawful, and then it is written as it was read, or it is refused at a
-        place. What stands before that is refused only where it ends, and whatever comes after the field at that place, it is
-        refused there."""
+        """A text with a byte changed, added or left out is lawful, and then it is written as it was
+        read, or it is refused at a place. What stands before that is refused only where it ends,
+        and whatever comes after the field at that place, it is refused there."""
         draw = random.Random("mutations")
         refused = 0
         for _ in range(4000):

@@ -1,4 +1,5 @@
-"""What is printed of hauls that are made by hand: each number, row and word that a slip could change unseen."""
+"""What is printed of hauls that are made by hand: each number, row and word that a slip could
+change unseen."""
 
 from __future__ import annotations
 
@@ -305,7 +306,8 @@ class Compares(unittest.TestCase):
         self.assertGreater(rows, 1000)
 
     def test_order(self) -> None:
-        """By the greater of the two rates, to which a haul that lacks the code adds nothing, and then by code."""
+        """By the greater of the two rates, to which a haul that lacks the code adds nothing, and
+        then by code."""
         one = made({"xs4_33": 5, "xs5_253": 1, "xq4_153": 1}, [(0, 10)])
         other = made({"xs4_33": 30, "xp2_7": 4, "xs6_696": 3, "xs8_rr": 99}, [(0, 1000)])
         for pair in ([one, other], [other, one]):
@@ -324,7 +326,8 @@ class Compares(unittest.TestCase):
             Path(names[0]).write_text(text_of(made({"xs4_33": 2, "xp2_7": 50}, [(0, 4000)])))
             Path(names[1]).write_text(text_of(made({"xs4_33": 3, "xp2_7": 5}, [(0, 1001)])))
             rows = [line.split() for line in run("compare", *names)[1].splitlines()[5:-1]]
-        # 50 in 4,000 are 12,500 in a million, and 5 in 1,001 are 4,995.004995; 2 are 500, and 3 are 2,997.002997.
+        # 50 in 4,000 are 12,500 in a million, and 5 in 1,001 are 4,995.004995; 2 are 500, and 3 are
+        # 2,997.002997.
         self.assertEqual(
             rows,
             [

@@ -1,4 +1,5 @@
-"""Sets hauls side by side: each code, with how often each haul has it, and how far each count may lie from what it is expected to be."""
+"""Sets hauls side by side: each code, with how often each haul has it, and how far each count may
+lie from what it is expected to be."""
 
 from __future__ import annotations
 
@@ -33,7 +34,8 @@ MOST_HAULS = len(LETTERS)
 UNITS = {"million": MILLION, "soup": 1}
 # The columns of code and name. In those after them a number stands.
 TEXTS = {0, 1}
-# The columns about a haul in each row of comma-separated values: what the text says before its table.
+# The columns about a haul in each row of comma-separated values: what the text says before its
+# table.
 FACTS = ("seed", "rule", "profile", "soups", "unsettled", "for_good", "objects")
 EXPLAINED = (
     "intervals: 95 %, as if objects came singly; *: doesn't meet that of A, which is no test at 5 %"
@@ -46,8 +48,8 @@ def letter_hauls(hauls: list[Haul]) -> Iterator[tuple[str, Haul]]:
 
 
 def rank_codes(hauls: list[Haul], least: int, rare: bool = False) -> list[str]:
-    """Returns the codes by descending rate, without those of which each haul has less than so many objects. With `rare` the rarest
-    come first, and those that all hauls have are left out."""
+    """Returns the codes by descending rate, without those of which each haul has less than so many
+    objects. With `rare` the rarest come first, and those that all hauls have are left out."""
     codes = [
         code
         for code in set().union(*(haul.totals for haul in hauls))
@@ -162,7 +164,8 @@ class Comparison:
         return objects.separation_of(code)
 
     def arranged(self, shown: list[list[str]]) -> Iterable[str]:
-        """Arranges what each haul has in columns: haul by haul, or without intervals the totals and then the rates."""
+        """Arranges what each haul has in columns: haul by haul, or without intervals the totals and
+        then the rates."""
         return chain(*shown) if self.has_intervals else chain(*list(zip(*shown, strict=True))[:-1])
 
     def alone(self, haul: Haul) -> list[str]:
@@ -181,7 +184,8 @@ class Comparison:
         )
 
     def csv(self) -> Iterator[str]:
-        """Yields the lines of a table for a spreadsheet, with all that the text has. A missing value is empty."""
+        """Yields the lines of a table for a spreadsheet, with all that the text has. A missing
+        value is empty."""
         heads = ["code", "name", "alone"]
         for letter in self.letters():
             heads += [

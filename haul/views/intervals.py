@@ -1,11 +1,11 @@
-"""How far a count may lie from what it is expected to be: the exact interval of 95 % of a Poisson count (Garwood 1936).
+"""How far a count may lie from what it is expected to be: the exact interval of 95 % of a Poisson
+count (Garwood 1936).
 
-A count follows Poisson's law if what is counted comes singly. Objects don't: a soup often leaves several of a kind. So an
-interval says what it is worth: as if objects came singly.
+A count follows Poisson's law if what is counted comes singly. Objects don't: a soup often leaves
+several of a kind. So an interval says what it is worth: as if objects came singly.
 
-The low end is the mean at which so many or more come with a chance of 2.5 %, and the high end the one at which so many or less
-do. Both are found by bisection.
-"""
+The low end is the mean at which so many or more come with a chance of 2.5 %, and the high end the
+one at which so many or less do. Both are found by bisection. """
 
 from __future__ import annotations
 
@@ -16,8 +16,8 @@ TAIL = 0.025
 # After so many steps a double changes no more.
 # mutant: equal because a double changes no more
 STEPS = 60
-# Up to here the terms of the sum are added up. Above it two terms of an expansion have more than six digits.
-# mutant: equal because both ways have more digits than are shown
+# Up to here the terms of the sum are added up. Above it two terms of an expansion have more than
+# six digits. mutant: equal because both ways have more digits than are shown
 MOST_TERMS = 30
 # Neither end is as many standard deviations away, above that.
 # mutant: equal because the same value is found between other ends
@@ -63,8 +63,8 @@ def sum_terms(count: int, mean: float) -> float:
 
 
 def expand(count: int, apart: float) -> float:
-    """The same where the mean is `count * (1 + apart)`: Temme's expansion of the incomplete gamma function, as in the NIST
-    Digital Library of Mathematical Functions, 8.12.4."""
+    """The same where the mean is `count * (1 + apart)`: Temme's expansion of the incomplete gamma
+    function, as in the NIST Digital Library of Mathematical Functions, 8.12.4."""
     # mutant: equal because both forms agree there
     if abs(apart) < 1e-4:
         # Here a difference would lose most of its digits.

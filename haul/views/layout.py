@@ -17,8 +17,9 @@ EXACT = 2**53
 def align_columns(
     rows: list[list[str]], texts: set[int], code: int, width: int | None
 ) -> Iterator[str]:
-    """Lines of which the columns line up: texts to the left, and numbers to the right. Where there is a width, the codes, which
-    stand in a column of their own, are cut so that no line is wider."""
+    """Lines of which the columns line up: texts to the left, and numbers to the right. Where there
+    is a width, the codes, which stand in a column of their own, are cut so that no line is
+    wider."""
     widths = [max(len(row[column]) for row in rows) for column in range(len(rows[0]))]
     over = sum(widths) + len(GAP) * (len(widths) - 1) - width if width is not None else 0
     # mutant: equal because a column that is cut to its width is whole
@@ -61,7 +62,8 @@ def format_csv(rows: Iterable[list[str]]) -> Iterator[str]:
 def format_json(
     facts: dict[str, object], objects: Iterable[dict[str, object]], name: str = "objects"
 ) -> Iterator[str]:
-    """The lines of a JSON object. The objects are a list of this name in it, each in a line of its own."""
+    """The lines of a JSON object. The objects are a list of this name in it, each in a line of its
+    own."""
     yield f'{json.dumps(facts)[:-1]}, "{name}": ['
     before: str | None = None
     for one in objects:

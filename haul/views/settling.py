@@ -1,4 +1,5 @@
-"""When soups settled: how many at each checkpoint, and the quartiles and the mean of the checkpoints."""
+"""When soups settled: how many at each checkpoint, and the quartiles and the mean of the
+checkpoints."""
 
 from __future__ import annotations
 
@@ -37,7 +38,8 @@ class Settling:
         return self.unsettled + self.settled()
 
     def quartiles(self) -> list[int] | None:
-        """Returns the first quartile, the median and the third quartile of the checkpoints; nothing without a settled soup."""
+        """Returns the first quartile, the median and the third quartile of the checkpoints; nothing
+        without a settled soup."""
         soups = self.settled()
         return (
             [self.smallest(-(-quarter * soups // QUARTERS)) for quarter in range(1, QUARTERS)]
@@ -46,7 +48,8 @@ class Settling:
         )
 
     def smallest(self, place: int) -> int:
-        """Returns the `place`-th smallest checkpoint, counted from 1, where each settled soup has one."""
+        """Returns the `place`-th smallest checkpoint, counted from 1, where each settled soup has
+        one."""
         for checkpoint, soups in sorted(self.checkpoints.items()):
             place -= soups
             if place <= 0:
@@ -62,7 +65,8 @@ class Settling:
         )
 
     def bars(self) -> list[tuple[int, int, int]]:
-        """Returns the bars, up to the last checkpoint: the first and the last generation of each, and how many soups settled there."""
+        """Returns the bars, up to the last checkpoint: the first and the last generation of each,
+        and how many soups settled there."""
         soups: Counter[int] = Counter()
         for checkpoint, number in self.checkpoints.items():
             soups[checkpoint // GENERATIONS_OF_A_BAR] += number

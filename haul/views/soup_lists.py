@@ -16,13 +16,15 @@ from haul.views.soup_table import SoupTable, describe_settling
 
 
 class SoupList:
-    """Lists no single soup: its table counts all soups together. This is the base of the other lists."""
+    """Lists no single soup: its table counts all soups together. This is the base of the other
+    lists."""
 
     def add(self, report: Report) -> None:
         """Keeps what the list needs of a report."""
 
     def table(self, _job: Job | None, settling: Settling) -> SoupTable:
-        """Returns the table of the reports that were added, which are of this job. Without a report there is no job."""
+        """Returns the table of the reports that were added, which are of this job. Without a report
+        there is no job."""
         return SoupTable(
             "bars",
             ["from", "to", "settled"],
@@ -39,8 +41,8 @@ class Longest(SoupList):
     most: int
     # The program that is asked for exact generations; none if checkpoints will do.
     census: Census | None
-    # Numbers of soups and of their objects, by the checkpoint. All soups of a checkpoint are kept, so that exact generations can
-    # decide between them.
+    # Numbers of soups and of their objects, by the checkpoint. All soups of a checkpoint are kept,
+    # so that exact generations can decide between them.
     kept: dict[int, list[tuple[int, int]]] = field(default_factory=dict)
     count: int = 0
 
@@ -54,7 +56,8 @@ class Longest(SoupList):
             self.count -= len(self.kept.pop(first))
 
     def table(self, job: Job | None, _settling: Settling) -> SoupTable:
-        """Returns the table by descending generation. If generations are equal, the lower number comes first."""
+        """Returns the table by descending generation. If generations are equal, the lower number
+        comes first."""
         rows: list[list[int | None]] = [
             [soup, checkpoint, objects]
             for checkpoint, soups in self.kept.items()
@@ -76,7 +79,8 @@ class Longest(SoupList):
 
 @dataclass
 class Unsettled(SoupList):
-    """The unsettled soups, each with its population at the last checkpoint and its growth before that."""
+    """The unsettled soups, each with its population at the last checkpoint and its growth before
+    that."""
 
     census: Census
     soups: list[int] = field(default_factory=list)

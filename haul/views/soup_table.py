@@ -62,7 +62,8 @@ class SoupTable:
         )
 
     def bars(self) -> list[str]:
-        """Returns a bar for each row. The longest has `LONGEST_BAR` characters, and only that of 0 is empty."""
+        """Returns a bar for each row. The longest has `LONGEST_BAR` characters, and only that of 0
+        is empty."""
         numbers = [row[-1] or 0 for row in self.rows]
         most = max(numbers)
         return ["#" * -(-number * LONGEST_BAR // most) if number else "" for number in numbers]

@@ -111,7 +111,8 @@ class RowChoice:
 
 
 def choose_rows(haul: Haul, objects: Objects, choice: RowChoice) -> list[TableRow]:
-    """Returns the chosen lines of a haul's table, each with its rank among all: by descending total, or the rarest first."""
+    """Returns the chosen lines of a haul's table, each with its rank among all: by descending
+    total, or the rarest first."""
     codes = sorted(haul.totals, key=lambda code: (-haul.totals[code], code))
     ranks = [(rank, code) for rank, code in enumerate(codes, 1) if choice.has(code)]
     if choice.strict:
@@ -149,7 +150,8 @@ def format_table_csv(lines: list[TableRow], by_parts: bool) -> Iterator[str]:
 
 
 def format_table_json(haul: Haul, lines: list[TableRow], by_parts: Objects | None) -> Iterator[str]:
-    """Yields the lines of a JSON object. Where totals are by parts it has the parts of each object, too."""
+    """Yields the lines of a JSON object. Where totals are by parts it has the parts of each object,
+    too."""
     facts = list_haul_facts(haul) | {"by_parts": by_parts is not None}
     return format_json(
         facts | list_part_facts(by_parts) if by_parts else facts,
