@@ -54,12 +54,12 @@ class Children:
         return program
 
     def heed(self, stopping: SignalHandler) -> None:
-        """From here on signals are noted, and the work ends by itself."""
+        """Passes signals to the work from here on, which then ends by itself."""
         self.stopping = stopping
 
     @contextmanager
-    def known(self, program: subprocess.Popen[bytes]) -> Iterator[None]:
-        """A program that was started is one of these until it ends, which it has after this."""
+    def track(self, program: subprocess.Popen[bytes]) -> Iterator[None]:
+        """Keeps a program that was started in the list until it ends, which it has after this."""
         try:
             with program:
                 yield
@@ -101,7 +101,8 @@ class NoCensus(Exception):
 
 @contextmanager
 def open_pipe(text: bytes) -> Iterator[int]:
-    """The end of a pipe from which a text can be read. The text has to fit into the pipe."""
+    """Opens a pipe from which a text can be read, and yields its end. The text has to fit into
+    the pipe."""
     read, written = os.pipe()
     try:
         with open(written, "wb") as pipe:
@@ -115,13 +116,13 @@ def open_pipe(text: bytes) -> Iterator[int]:
 def start_child(
     words: list[str], stdout: int, stderr: int | None, stdin: int = subprocess.DEVNULL
 ) -> Iterator[subprocess.Popen[bytes]]:
-    """A program that runs, and has ended after this. With no number for the errors, it complains by
-    itself."""
+    """Starts a program, which has ended after this. Without a number for the errors, it writes
+    them to standard error. Raises `NoCensus` if there is no such program."""
     try:
         program = children.start(words, stdout, stderr, stdin)
     except OSError as error:
         if error.errno in NOT_THERE:
             raise NoCensus.at(words[0]) from None
         raise
-    with children.known(program):
+    with children.track(program):
         yield program

@@ -53,8 +53,8 @@ class Census:
         self.terminal = terminal
 
     def ask(self, words: list[str], pattern: bytes = b"") -> bytes:
-        """What the program prints. The pattern that it reads has to fit into a pipe, as that of a
-        soup does."""
+        """Returns what the program prints. The pattern that it reads has to fit into a pipe, as
+        a soup does."""
         with open_pipe(pattern) as read, start_child(
             [self.path, *words], subprocess.PIPE, subprocess.PIPE, read
         ) as program:
@@ -76,10 +76,11 @@ class Census:
         check_ending(program.returncode, b"", errors)
         return cells
 
-    def each(
+    def ask_in_parts(
         self, ask: Callable[[list[Asked]], Said], asked: list[Asked], size: int, told: str
     ) -> Iterator[Said]:
-        """What is answered to these, so many at once, and several times so many at a time."""
+        """Asks about parts of `size` of a list, several parts at a time, and yields the answers
+        in order. `told` says what has been done, for the line of progress."""
         parts = [asked[start : start + size] for start in range(0, len(asked), size)]
         done = 0
         # mutant: equal because the size of a read doesn't change what is printed
@@ -91,8 +92,8 @@ class Census:
         self.terminal.show_progress("")
 
     def reports(self, job: Job, numbers: list[int]) -> dict[int, list[str]]:
-        """What these soups leave, by one call: the fields of a report line after the number of the
-        soup."""
+        """Returns what these soups leave, by one call: the fields of each report line after the
+        number of the soup."""
         printed = self.ask(list_work_arguments(job, [(number, 1) for number in numbers]))
         start = f"report 2 rule={job.rule} profile={job.profile.format()} seed={job.seed}"
         before = f"{start} worker=1 soup=".encode("ascii")

@@ -16,8 +16,8 @@ CHOOSES = 'libexec=$1; . "$libexec/processor.sh"; printf %s "$program"'
 
 
 def find_beside() -> str | None:
-    """The program that is installed with this one, or that of this checkout, which its launcher
-    builds if need be."""
+    """Returns the program that is installed beside this one, or that of this checkout, which its
+    launcher builds if need be; `None` if there is neither."""
     starter = Path(sys.argv[0]).resolve().parent / "census"
     if not os.access(starter, os.X_OK):
         return None
@@ -35,7 +35,7 @@ def find_beside() -> str | None:
 
 
 def choose_for_processor(starter: Path, libexec: Path) -> str:
-    """The program of a release that its starter runs."""
+    """Returns the program of a release for this processor."""
     with start_child([*SHELL, CHOOSES, "sh", str(libexec)], subprocess.PIPE, None) as shell:
         chosen = shell.communicate()[0]
     if shell.returncode != 0:

@@ -33,7 +33,7 @@ def find_ends(census: Census, job: Job, numbers: list[int]) -> dict[int, End]:
     cells aren't known."""
     rule = read_rule(job.rule)
     ends: dict[int, End] = {}
-    for reports in census.each(
+    for reports in census.ask_in_parts(
         lambda part: census.reports(job, part), numbers, SOUPS_IN_A_CALL, "soups run"
     ):
         for number, fields in reports.items():

@@ -30,7 +30,7 @@ def draw_soup(job: Job, soup: int) -> bytes:
 def find_exact_generations(census: Census, job: Job, soups: list[int]) -> Iterator[int | None]:
     """Yields the first generation at which each soup is at rest; none if there isn't one up to the
     limit."""
-    return census.each(
+    return census.ask_in_parts(
         partial(find_exact_generation, census, job), soups, SOUPS_IN_A_CALL, "soups run"
     )
 
@@ -48,7 +48,9 @@ def find_exact_generation(census: Census, job: Job, soups: list[int]) -> int | N
 def measure_growths(census: Census, job: Job, soups: list[int]) -> Iterator[tuple[int, int, int]]:
     """Yields three numbers for each soup: the last checkpoint, the population there, and its growth
     in the `GENERATIONS_OF_GROWTH` before it, or since the soup if there are fewer."""
-    return census.each(partial(measure_growth, census, job), soups, SOUPS_IN_A_CALL, "soups run")
+    return census.ask_in_parts(
+        partial(measure_growth, census, job), soups, SOUPS_IN_A_CALL, "soups run"
+    )
 
 
 def measure_growth(census: Census, job: Job, soups: list[int]) -> tuple[int, int, int]:

@@ -209,7 +209,7 @@ def run_soups(asked: argparse.Namespace, streams: Streams) -> int:
 
 
 def choose_soup_list(asked: argparse.Namespace, terminal: Terminal) -> SoupList:
-    """The list of soups that is asked for."""
+    """Returns the list of soups that is asked for."""
     if asked.longest is not None:
         return Longest(asked.longest, Census(asked.census, terminal) if asked.exact else None)
     if asked.unsettled:

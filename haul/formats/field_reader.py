@@ -36,7 +36,7 @@ class FieldReader:
         self.held: bytes | None = None
 
     def peek(self) -> bytes:
-        """The next line with its line feed, or no byte at the end of the input."""
+        """Returns the next line with its line feed, or no byte at the end of the input."""
         if self.held is None:
             self.held = self.stream.readline(LINE_LIMIT)
         return self.held
@@ -57,20 +57,20 @@ class FieldReader:
         self.read = 0
 
     def bad_field(self, back: int = 0, why: str = "") -> BadHaul:
-        """The fault that the field to be read next, or one read before it, isn't as it should
-        be."""
+        """Returns the fault that the next field is wrong, or one that was read `back` fields
+        before it."""
         before = self.fields[: self.read - back]
         return BadHaul(
             self.number, sum(map(len, before)) + len(before) + 1 - (self.is_missing(back)), why
         )
 
     def is_missing(self, back: int) -> int:
-        """1 if there is no such field: what is missing would begin after a space that isn't
-        there."""
+        """Returns 1 if there is no such field: what is missing would begin after a space that
+        isn't there."""
         return 1 if self.read - back >= len(self.fields) and self.fields else 0
 
     def field(self) -> bytes:
-        """The next field."""
+        """Reads the next field."""
         if self.read == len(self.fields):
             raise self.bad_field()
         self.read += 1
@@ -87,8 +87,8 @@ class FieldReader:
         return found.decode("ascii")
 
     def number_in(self, least: int, most: int, too_small: str = "", too_large: str = "") -> int:
-        """The next field, a number. Both texts say what is wrong with one that isn't from `least`
-        to `most`."""
+        """Reads the next field, a number. The texts say what is wrong with one that isn't
+        between `least` and `most`."""
         found = self.field()
         if not DECIMAL.fullmatch(found):
             raise self.bad_field(1)
@@ -104,7 +104,7 @@ class FieldReader:
             raise self.bad_field()
 
     def only_number(self, name: bytes, most: int, too_large: str) -> int:
-        """A line of its own: a name and a number."""
+        """Reads a line of a name and a number."""
         self.next_line()
         self.word(name)
         number = self.number_in(0, most, too_large=too_large)
@@ -112,7 +112,7 @@ class FieldReader:
         return number
 
     def only_words(self, *words: bytes) -> None:
-        """A line of its own with just these words."""
+        """Reads a line of just these words."""
         self.next_line()
         for word in words:
             self.word(word)

@@ -50,11 +50,11 @@ class Haul:
         return sum(self.totals.values())
 
     def size(self) -> int:
-        """How many numbers the set has."""
+        """Returns how many numbers the set has."""
         return count_numbers(self.ranges)
 
     def first_total_line(self) -> int:
-        """The line of the input in which the first total stands. The others follow."""
+        """Returns the line of the input that has the first total. The others follow."""
         return self.line + 11 + max(1, len(self.ranges))
 
     def first_sample_line(self) -> int:

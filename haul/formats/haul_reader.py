@@ -44,8 +44,7 @@ MORE_HAULS = "more than one haul"
 
 
 def read_hauls(stream: IO[bytes]) -> Iterator[Haul]:
-    """The hauls that stand one after another in an input; at least one. Raises `BadHaul` at the
-    first fault."""
+    """Yields the hauls of an input, at least one. Raises `BadHaul` at the first fault."""
     lines = FieldReader(stream)
     yield read_haul(lines)
     while lines.peek():
@@ -53,7 +52,7 @@ def read_hauls(stream: IO[bytes]) -> Iterator[Haul]:
 
 
 def read_one_haul(stream: IO[bytes]) -> Haul:
-    """The only haul of an input."""
+    """Reads the only haul of an input. Raises `BadHaul` at the first fault."""
     lines = FieldReader(stream)
     haul = read_haul(lines)
     if lines.peek():
@@ -111,7 +110,7 @@ def read_job(lines: FieldReader) -> Job:
 
 
 def read_ranges(lines: FieldReader) -> list[Range]:
-    """One range at least, or one that is empty, which begins at 0 and stands for none."""
+    """Reads at least one range. An empty range, which begins at 0, stands for none."""
     ranges: list[Range] = []
     least = 0
     while not ranges or lines.peek().removesuffix(b"\n").split(b" ")[0] == b"@RANGE":
@@ -129,7 +128,7 @@ def read_ranges(lines: FieldReader) -> list[Range]:
 
 
 def read_totals(lines: FieldReader) -> dict[str, int]:
-    """The rows of the census table, and the empty line after them."""
+    """Reads the rows of the census table, and the empty line after them."""
     totals: dict[str, int] = {}
     latest = b""
     while lines.peek() != b"\n":
@@ -144,7 +143,7 @@ def read_totals(lines: FieldReader) -> dict[str, int]:
 
 
 def find_fault_of_total(lines: FieldReader, latest: bytes) -> BadHaul:
-    """What is wrong with the next line, which is no row after the one of the latest code."""
+    """Returns what is wrong with the next line, which isn't a row after that of the latest code."""
     try:
         lines.next_line()
         if lines.matched(CODE).encode("ascii") <= latest:
@@ -159,7 +158,7 @@ def find_fault_of_total(lines: FieldReader, latest: bytes) -> BadHaul:
 def read_samples(
     lines: FieldReader, ranges: list[Range], totals: dict[str, int]
 ) -> dict[str, list[int]]:
-    """A row for each code of the census table: its samples ascend, and are in the ranges."""
+    """Reads a row for each code of the census table. Its samples ascend, and are in the ranges."""
     firsts = [first for first, _ in ranges]
     samples: dict[str, list[int]] = {}
     for code, total in totals.items():
@@ -182,7 +181,7 @@ def read_samples(
 def find_fault_of_samples(
     lines: FieldReader, code: str, total: int, ranges: list[Range], firsts: list[int]
 ) -> BadHaul:
-    """What is wrong with the next line, which is no row of samples for this code."""
+    """Returns what is wrong with the next line, which isn't a row of samples for this code."""
     try:
         lines.next_line()
         if lines.matched(CODE) != code:
@@ -206,6 +205,6 @@ def find_fault_of_samples(
 
 
 def is_in_ranges(number: int, ranges: list[Range], firsts: list[int]) -> bool:
-    """Whether a number is in one of these ranges, which ascend and begin at these numbers."""
+    """Checks whether a number is in one of these ranges, which ascend and begin at `firsts`."""
     place = bisect_right(firsts, number) - 1
     return place >= 0 and number < ranges[place][0] + ranges[place][1]

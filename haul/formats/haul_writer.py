@@ -8,7 +8,7 @@ from haul.formats.haul import Haul
 
 
 def format_header(haul: Haul) -> list[str]:
-    """The lines before the table of totals."""
+    """Returns the lines before the table of totals."""
     return [
         "@VERSION 2",
         f"@ROOT seed={haul.job.seed}",
@@ -26,7 +26,7 @@ def format_header(haul: Haul) -> list[str]:
 
 
 def format_haul(haul: Haul) -> Iterator[str]:
-    """The lines of a haul's text, without their line feeds."""
+    """Yields the lines of a haul's text, without their line feeds."""
     yield from format_header(haul)
     for code, total in haul.totals.items():
         yield f"{code} {total}"

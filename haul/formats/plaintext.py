@@ -14,12 +14,12 @@ class BadPlaintext(Exception):
 
 
 def is_plaintext(text: bytes) -> bool:
-    """Whether the first line that isn't empty is one of plaintext and not of RLE."""
+    """Checks whether the first line that isn't empty is plaintext and not RLE."""
     return text.lstrip(b"\r\n")[:1] in (b"", b"!", b".", b"O", b"*")
 
 
 def read_plaintext(text: bytes) -> Rows:
-    """The rows without comments. Raises `BadPlaintext` at the first fault."""
+    """Returns the rows without comments. Raises `BadPlaintext` at the first fault."""
     rows: Rows = []
     *lines, last = text.split(b"\n")
     for number, line in enumerate([*lines, last] if last else lines, 1):

@@ -66,7 +66,7 @@ class RleReader:
         return end if end >= 0 else len(self.text)
 
     def header(self) -> str | None:
-        """The rule of the header as it stands there, if there is one."""
+        """Reads the header, if there is one, and returns its rule as it is written there."""
         self.skip()
         if self.text[self.place : self.place + 1] != b"x":
             return None
@@ -132,7 +132,7 @@ class RleReader:
 
 
 def read_rle(text: bytes) -> tuple[Rows, str | None]:
-    """The pattern, and the rule in the header. Raises `BadRle`."""
+    """Returns the pattern, and the rule in the header. Raises `BadRle` at the first fault."""
     reading = RleReader(text)
     rule = reading.header()
     while reading.run():
@@ -143,7 +143,7 @@ def read_rle(text: bytes) -> tuple[Rows, str | None]:
 
 
 def format_rle(rows: Rows, option: str) -> list[str]:
-    """The lines of a pattern's RLE. No count stands apart from what it counts."""
+    """Returns the lines of a pattern's RLE. A count and what it counts are on one line."""
     width = max((len(row.rstrip(".")) for row in rows), default=0)
     height = max((y for y, row in enumerate(rows, 1) if "O" in row), default=0)
     lines = [f"x = {width}, y = {height}, rule = {format_rule(option)}", ""]

@@ -11,7 +11,7 @@ SURVIVALS_FIRST = re.compile(r"(?P<survivals>[0-8]*)/(?P<births>[0-8]*)")
 
 
 def parse_rule(rule: str) -> str | None:
-    """A rule or its name as it stands in a header, as the value of `--rule`."""
+    """Returns a rule or its name in a header as the value of `--rule`; `None` if it is neither."""
     found = BIRTHS_FIRST.fullmatch(rule) or SURVIVALS_FIRST.fullmatch(rule)
     if found is None:
         return find_named_rule(rule)
@@ -20,7 +20,7 @@ def parse_rule(rule: str) -> str | None:
 
 
 def format_rule(option: str) -> str:
-    """The value of `--rule` as it is mostly written: B3/S23."""
+    """Returns the value of `--rule` as it is usually written: B3/S23."""
     births, survivals = option[1:].split("s")
     return f"B{births}/S{survivals}"
 

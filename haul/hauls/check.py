@@ -20,7 +20,7 @@ SAMPLES_IN_A_CALL = 500
 
 
 def retake(census: Census, haul: Haul, workers: int) -> Haul:
-    """The haul of the same job over the same set, taken by this machine."""
+    """Returns the haul of the same job and the same set, taken by this machine."""
     joining = Joining()
     for ranges in split_ranges(haul.ranges):
         joining.add(take_set(census, haul.job, ranges, workers))
@@ -28,7 +28,7 @@ def retake(census: Census, haul: Haul, workers: int) -> Haul:
 
 
 def take_set(census: Census, job: Job, ranges: list[Range], workers: int) -> Haul:
-    """The haul of a set that one call takes."""
+    """Returns the haul of a set that one call takes."""
     with tempfile.TemporaryFile() as text:
         census.take(job, ranges, workers, text)
         text.seek(0)
@@ -42,7 +42,7 @@ def take_set(census: Census, job: Job, ranges: list[Range], workers: int) -> Hau
 
 
 def list_differences(haul: Haul, right: Haul) -> Iterator[str]:
-    """What should be otherwise in a haul, in the order of its lines."""
+    """Yields what is wrong in a haul, in the order of its lines."""
     for line, (is_so, should_be) in enumerate(
         zip(format_header(haul), format_header(right), strict=True), haul.line
     ):
@@ -70,7 +70,7 @@ def describe_difference(line: int, is_so: str, should_be: str) -> str:
 
 
 def find_wrong_samples(census: Census, haul: Haul) -> Iterator[str]:
-    """The samples whose soup leaves no object of the code, in the order of the haul."""
+    """Yields the samples whose soup leaves no object of the code, in the order of the haul."""
     left = find_codes_left(census, haul)
     for line, (code, numbers) in enumerate(haul.samples.items(), haul.first_sample_line()):
         for number in numbers:
@@ -79,9 +79,9 @@ def find_wrong_samples(census: Census, haul: Haul) -> Iterator[str]:
 
 
 def find_codes_left(census: Census, haul: Haul) -> dict[int, set[str]]:
-    """What each sample soup leaves, by a report line of the program for each."""
+    """Returns the codes that each sample soup leaves."""
     numbers = sorted({number for row in haul.samples.values() for number in row})
-    reports = census.each(
+    reports = census.ask_in_parts(
         lambda part: census.reports(haul.job, part), numbers, SAMPLES_IN_A_CALL, "soups run"
     )
     # A field with a star is a code and how many there are.

@@ -19,7 +19,8 @@ class FileChoice:
     the text, a space and the name."""
 
     def __init__(self, files: list[str], number: int, choice: str | None) -> None:
-        """There are at least as many files as are chosen. If no text is given, one is drawn."""
+        """Chooses `number` of the files, which are at least as many. Without a text, one is
+        drawn."""
         self.files = files
         self.number = number
         self.choice = choice or "".join(

@@ -79,7 +79,8 @@ class Joining:
         return True
 
     def joined(self) -> Haul:
-        """The haul over all sets. There is one at least."""
+        """Returns the haul of all sets, of which there is at least one. Raises `CantJoin` if
+        there is a reason."""
         assert self.job is not None
         for fault in (self.other_job, self.missing, self.overlap):
             if fault is not None:

@@ -34,7 +34,7 @@ class Recurrence:
     phases: list[Cells]
 
     def kind(self) -> str:
-        """`s` for a still life, `p` for an oscillator, `q` for a spaceship."""
+        """Returns `s` for a still life, `p` for an oscillator, and `q` for a spaceship."""
         return "q" if self.shift != (0, 0) else "s" if self.period == 1 else "p"
 
 

@@ -19,7 +19,7 @@ class FindCalls:
     def __init__(
         self, waiter: StreamWaiter, program: str | None, complain: Callable[[str], None]
     ) -> None:
-        """Without a program nothing is called. What goes wrong is told as a line."""
+        """Calls nothing without a program. Failures are passed to `complain` as lines."""
         self.waiter = waiter
         self.program = program
         self.complain = complain

@@ -25,13 +25,13 @@ DEVIATIONS = 5
 
 
 def find_interval(total: int) -> tuple[float, float]:
-    """The low and the high end for a count."""
+    """Returns the low and the high end for a count."""
     low = find_mean(total, 1 - TAIL) if total else 0.0
     return low, find_mean(total + 1, TAIL)
 
 
 def find_mean(count: int, chance: float) -> float:
-    """The mean at which less than so many come with this chance."""
+    """Returns the mean at which fewer than `count` come with this chance."""
     # mutant: equal because both ways have more digits than are shown
     if count <= MOST_TERMS:
         # mutant: equal because the same value is found between other ends
@@ -42,7 +42,7 @@ def find_mean(count: int, chance: float) -> float:
 
 
 def bisect(falls: Callable[[float], float], wanted: float, low: float, high: float) -> float:
-    """Where a function that falls has a value."""
+    """Returns where a falling function has a value."""
     for _ in range(STEPS):
         middle = (low + high) / 2
         # mutant: equal because a double changes no more
@@ -54,7 +54,7 @@ def bisect(falls: Callable[[float], float], wanted: float, low: float, high: flo
 
 
 def sum_terms(count: int, mean: float) -> float:
-    """The chance that less than so many come, by its terms."""
+    """Returns the chance that fewer than `count` come, as a sum of terms."""
     term = chance = exp(-mean)
     for number in range(1, count):
         term *= mean / number
@@ -63,8 +63,8 @@ def sum_terms(count: int, mean: float) -> float:
 
 
 def expand(count: int, apart: float) -> float:
-    """The same where the mean is `count * (1 + apart)`: Temme's expansion of the incomplete gamma
-    function, as in the NIST Digital Library of Mathematical Functions, 8.12.4."""
+    """Returns the same chance if the mean is `count * (1 + apart)`, by Temme's expansion of the
+    incomplete gamma function: the NIST Digital Library of Mathematical Functions, 8.12.4."""
     # mutant: equal because both forms agree there
     if abs(apart) < 1e-4:
         # Here a difference would lose most of its digits.

@@ -17,9 +17,8 @@ EXACT = 2**53
 def align_columns(
     rows: list[list[str]], texts: set[int], code: int, width: int | None
 ) -> Iterator[str]:
-    """Lines of which the columns line up: texts to the left, and numbers to the right. Where there
-    is a width, the codes, which stand in a column of their own, are cut so that no line is
-    wider."""
+    """Yields lines whose columns line up: texts to the left, numbers to the right. If there is a
+    width, the codes in column `code` are cut so that no line is wider."""
     widths = [max(len(row[column]) for row in rows) for column in range(len(rows[0]))]
     over = sum(widths) + len(GAP) * (len(widths) - 1) - width if width is not None else 0
     # mutant: equal because a column that is cut to its width is whole
@@ -38,7 +37,8 @@ def cut_text(text: str, most: int) -> str:
 
 
 def format_figure(number: float) -> str:
-    """A number with two digits after the point, or with three that count where it is small."""
+    """Returns a number with two digits after the point, or with three significant digits if it
+    is below 1."""
     return f"{number:.2f}" if number >= 1 or number == 0 else f"{number:.3g}"
 
 
@@ -47,12 +47,12 @@ def format_truth(holds: bool) -> str:
 
 
 def make_exact(number: int) -> int | str:
-    """A whole number for JSON: as text where a double would lose digits."""
+    """Returns a whole number for JSON, as text if a double would lose digits."""
     return number if number <= EXACT else str(number)
 
 
 def format_csv(rows: Iterable[list[str]]) -> Iterator[str]:
-    """The lines of these rows, each without its line feed."""
+    """Yields the lines of these rows, without their line feeds."""
     for row in rows:
         told = io.StringIO()
         csv.writer(told, lineterminator="").writerow(row)
@@ -62,8 +62,8 @@ def format_csv(rows: Iterable[list[str]]) -> Iterator[str]:
 def format_json(
     facts: dict[str, object], objects: Iterable[dict[str, object]], name: str = "objects"
 ) -> Iterator[str]:
-    """The lines of a JSON object. The objects are a list of this name in it, each in a line of its
-    own."""
+    """Yields the lines of a JSON object, in which the objects are a list of this name, each on a
+    line of its own."""
     yield f'{json.dumps(facts)[:-1]}, "{name}": ['
     before: str | None = None
     for one in objects:
