@@ -39,7 +39,7 @@ class Side:
     def separation_of(self, code: str) -> Separation:
         return self.objects.separation_of(code)
 
-    def is_strict(self, code: str) -> bool:
+    def may_be_strict(self, code: str) -> bool:
         """Checks whether the haul has an object that is strict, or that could not be separated."""
         separation = self.separation_of(code) if self.has(code) else None
         return separation is not None and (separation.is_strict() or not separation.is_separated)
@@ -70,16 +70,16 @@ class Sides:
     def ask(self, census: Census) -> None:
         """Asks when the soups of the first objects have settled. The page begins with strict
         objects, so these are asked about first."""
-        asked = sorted(self.codes, key=lambda code: not self.is_strict(code))[: self.play]
+        asked = sorted(self.codes, key=lambda code: not self.may_be_strict(code))[: self.play]
         for side in self.all:
             numbers = side.soups(asked)
             ends = find_ends(census, side.haul.job, numbers)
             side.ends = {number: ends.get(number) for number in numbers}
 
-    def is_strict(self, code: str) -> bool:
+    def may_be_strict(self, code: str) -> bool:
         """Checks whether an object is strict, or couldn't be separated, in one of the hauls that
         have it."""
-        return any(side.is_strict(code) for side in self.all)
+        return any(side.may_be_strict(code) for side in self.all)
 
     def kinds(self) -> set[str]:
         """Returns the codes of all objects, with or without a place on the page."""

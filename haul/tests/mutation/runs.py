@@ -53,7 +53,8 @@ def make_copy(copy: Path) -> None:
     (copy / "bin" / "census").write_text(f'#!/bin/sh\nexec "{PROGRAM}" "$@"\n')
     (copy / "bin" / "census").chmod(0o755)
     (copy / "crates" / "census" / "out" / "census").symlink_to(PROGRAM)
-    (copy / "examples").symlink_to(TOP / "examples")
+    for folder in ("docs", "examples"):
+        (copy / folder).symlink_to(TOP / folder)
 
 
 def compile_copy(copy: Path) -> None:
