@@ -77,17 +77,17 @@ class Census:
         return cells
 
     def ask_in_parts(
-        self, ask: Callable[[list[Asked]], Said], asked: list[Asked], size: int, told: str
+        self, ask: Callable[[list[Asked]], Said], asked: list[Asked], size: int, done_what: str
     ) -> Iterator[Said]:
         """Asks about parts of `size` of a list, several parts at a time, and yields the answers
-        in order. `told` says what has been done, for the line of progress."""
+        in order. `done_what` says what has been done, for the line of progress."""
         parts = [asked[start : start + size] for start in range(0, len(asked), size)]
         done = 0
         # mutant: equal because the size of a read doesn't change what is printed
         with ThreadPoolExecutor(len(os.sched_getaffinity(0))) as pool:
             for part, said in zip(parts, ask_all(pool, ask, parts), strict=True):
                 done += len(part)
-                self.terminal.show_progress(f"{done} of {len(asked)} {told}")
+                self.terminal.show_progress(f"{done} of {len(asked)} {done_what}")
                 yield said
         self.terminal.show_progress("")
 

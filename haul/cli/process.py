@@ -30,9 +30,9 @@ def run_heeding_signals(work: Callable[[], int]) -> int:
     Python looks for signals between two steps of its main thread, so one that comes just before
     that thread begins to wait would be seen only after the wait. Here it waits for nothing but a
     byte, which each signal writes as soon as it comes."""
-    told, tell = os.pipe()
-    os.set_blocking(tell, False)
-    signal.set_wakeup_fd(tell)
+    reading, writing = os.pipe()
+    os.set_blocking(writing, False)
+    signal.set_wakeup_fd(writing)
     for number in ENDING:
         if signal.getsignal(number) is not signal.SIG_IGN:
             signal.signal(number, lambda _number, _frame: None)
@@ -44,13 +44,13 @@ def run_heeding_signals(work: Callable[[], int]) -> int:
         try:
             status = work()
         finally:
-            os.write(tell, bytes([IS_DONE]))
+            os.write(writing, bytes([IS_DONE]))
 
     start_thread(threading.Thread(target=do, daemon=True))
     # mutant: equal because only the first byte counts
-    came = os.read(told, 1)[0]
+    came = os.read(reading, 1)[0]
     while came != IS_DONE and children.stopping is not None and children.stopping.came(came):
-        came = os.read(told, 1)[0]
+        came = os.read(reading, 1)[0]
     if came == IS_DONE and children.stopping is not None and children.stopping.number is not None:
         came = children.stopping.number
     if came != IS_DONE:

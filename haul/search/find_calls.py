@@ -44,11 +44,11 @@ class FindCalls:
         if self.running is None and self.waiting:
             self.begin(self.waiting.popleft())
         elif self.running is not None and self.running.is_ended():
-            self.tell(self.running.printed.decode("utf-8", "replace").strip() or "was ended")
+            self.report(self.running.printed.decode("utf-8", "replace").strip() or "was ended")
             self.running = None
         elif self.running is not None and time.monotonic() - self.began >= MOST_SECONDS:
             self.end()
-            self.tell(f"ended after {MOST_SECONDS:.0f} seconds")
+            self.report(f"ended after {MOST_SECONDS:.0f} seconds")
 
     def begin(self, arguments: list[str]) -> None:
         assert self.program is not None
@@ -56,9 +56,9 @@ class FindCalls:
             self.running = BackgroundProgram(self.waiter, FIND, [self.program, *arguments], None)
             self.began = time.monotonic()
         except OSError as error:
-            self.tell(error.strerror or "can't be started")
+            self.report(error.strerror or "can't be started")
 
-    def tell(self, how: str) -> None:
+    def report(self, how: str) -> None:
         if how != DONE:
             self.complain(f"{self.program}: {how}")
 

@@ -76,7 +76,7 @@ def run_find(parent: int, words: list[str]) -> None:
     end_with(parent, signal.SIGTERM)
     itself = os.getpid()
     # It is closed when the program begins. If it can't, the reason is written to it first.
-    reason, tell = os.pipe()
+    reason, writing = os.pipe()
     program = os.fork()
     if program == 0:
         end_with(itself, SIGKILL)
@@ -88,11 +88,11 @@ def run_find(parent: int, words: list[str]) -> None:
         try:
             os.execvp(words[0], words)
         except OSError as error:
-            os.write(tell, (error.strerror or "can't be started").encode())
+            os.write(writing, (error.strerror or "can't be started").encode())
         os._exit(FAILED)
-    os.close(tell)
-    with open(reason, encoding="utf-8") as told:
-        why = told.read()
+    os.close(writing)
+    with open(reason, encoding="utf-8") as pipe:
+        why = pipe.read()
     _, ended = os.waitpid(program, 0)
     print(why or how_ended(os.waitstatus_to_exitcode(ended)), flush=True)
     end_session()

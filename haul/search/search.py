@@ -106,7 +106,7 @@ class Search:
         self.unkept: list[list[tuple[str, int]]] = []
         self.batch: Batch | None = None
         self.waiter = StreamWaiter()
-        self.waiter.add(stopping.heard, stopping.hear)
+        self.waiter.add(stopping.reading, stopping.hear)
         self.finder = Finder(haul.job, haul)
         self.calls = FindCalls(self.waiter, plan.finds, self.terminal.complain)
         self.finds = 0
@@ -126,7 +126,7 @@ class Search:
                 self.drop_batch()
                 self.keep()
         finally:
-            self.tell_rest()
+            self.report_rest()
             self.terminal.show_progress("")
 
     # ---- Batches
@@ -251,19 +251,19 @@ class Search:
                 self.finds += 1
                 self.calls.add(fields)
 
-    def tell_rest(self) -> None:
+    def report_rest(self) -> None:
         """Tells the finds that are left, and waits for the calls of the program for finds. After a
         signal that ends the search at once, it tells what it can in a second, and calls nothing."""
         began = time.monotonic()
 
-        def is_told() -> bool:
+        def is_reported() -> bool:
             if time.monotonic() - began >= SECONDS_WITHOUT_A_WORD:
                 self.say_what_is_left()
             return self.finder.is_done() and self.calls.is_done()
 
         try:
             with suppress(Dropped):
-                self.wait_until(is_told)
+                self.wait_until(is_reported)
             self.find_for(LAST_SECONDS)
             if not self.finder.is_done() or not self.calls.is_done():
                 self.terminal.complain(f"not all finds are told: {self.what_is_left()}")

@@ -24,9 +24,9 @@ class Stopping:
         # Whether the work is at something that has to be done before the program ends.
         self.is_writing = False
         # A byte comes out of this pipe for each signal, so that work that waits hears of it.
-        self.heard, self.tell = os.pipe()
-        os.set_blocking(self.heard, False)
-        os.set_blocking(self.tell, False)
+        self.reading, self.writing = os.pipe()
+        os.set_blocking(self.reading, False)
+        os.set_blocking(self.writing, False)
 
     def came(self, number: int) -> bool:
         """Notes a signal, and returns whether the work may go on until it ends by itself. The main
@@ -39,11 +39,11 @@ class Stopping:
             return False
         # If the pipe is full, its bytes say the same.
         with suppress(BlockingIOError):
-            os.write(self.tell, b"\0")
+            os.write(self.writing, b"\0")
         return True
 
     def hear(self) -> None:
         """Takes the bytes that have been written."""
         with suppress(BlockingIOError):
             # mutant: equal because the size of a read doesn't change what is printed
-            os.read(self.heard, 4096)
+            os.read(self.reading, 4096)

@@ -801,7 +801,7 @@ class Pace(Searches):
                 search.wait_until(Mock(side_effect=[False, True]))
                 self.assertEqual((wait.call_args.args, find_for.call_args.args), ((0,), (0.02,)))
                 stopping.came(signal.SIGTERM)
-                search.tell_rest()
+                search.report_rest()
                 self.assertEqual(
                     (find_for.call_args.args, said.getvalue()),
                     ((1.0,), "haul: not all finds are told: 1 object to look at\n"),
@@ -837,7 +837,7 @@ class Pace(Searches):
                     search.finder.queue.clear()
 
             with patch.object(search, "find_for", find_for):
-                search.tell_rest()
+                search.report_rest()
         self.assertEqual(looked[:4], [(1000.0, 0), (1002.5, 0), (1005.0, 1), (1007.5, 1)])
         self.assertEqual(
             said.getvalue(),

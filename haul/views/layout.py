@@ -54,9 +54,9 @@ def make_exact(number: int) -> int | str:
 def format_csv(rows: Iterable[list[str]]) -> Iterator[str]:
     """Yields the lines of these rows, without their line feeds."""
     for row in rows:
-        told = io.StringIO()
-        csv.writer(told, lineterminator="").writerow(row)
-        yield told.getvalue()
+        text = io.StringIO()
+        csv.writer(text, lineterminator="").writerow(row)
+        yield text.getvalue()
 
 
 def format_json(
