@@ -566,21 +566,23 @@ class Telling(Searches):
 
     def test_when_the_batch_ends(self) -> None:
         """By the rate so far, if there is one."""
+        said = io.StringIO()
         with patch("time.monotonic", return_value=1000.0) as now:
             keeper = Keeper(str(self.file))
             search = Search(
                 Plan(0, None, 30, 1, None),
                 haul_of(LIFE),
                 keeper,
-                make_client(),
+                Census(CENSUS, Terminal(said)),
                 Stopping(),
                 sys.stdout,
             )
             now.return_value = 1010.0
             for soups, when in ((0, ""), (1, ", in about 0:04:50"), (10, ", in about 0:00:20")):
                 search.batch = Batch(0, 30, Mock(**{"soups.return_value": soups}))
-                with redirect_stderr(io.StringIO()) as said:
-                    search.say_that_it_finishes()
+                said.truncate(0)
+                said.seek(0)
+                search.say_that_it_finishes()
                 self.assertEqual(
                     said.getvalue(),
                     f"haul: stops after this batch{when}; Ctrl-C again drops the batch\n",

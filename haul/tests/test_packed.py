@@ -20,8 +20,7 @@ from release.zipped import is_packed, packed, paths_in
 
 # What the shell reads.
 HEAD = b"""#!/bin/sh
-# The companion `haul` of Gokzerd: these lines for the shell, and a zip archive for Python, which
-# `unzip -l` lists.
+# The companion `haul` of Gokzerd: these lines for the shell, and a zip archive for Python, which `unzip -l` lists.
 [ -d /dev/stdin ] && { echo 'haul: Is a directory' >&2; exit 5; }
 exec env --block-signal=INT python3 "$0" "$@"
 """
