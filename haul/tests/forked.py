@@ -11,7 +11,7 @@ import traceback
 from collections.abc import Callable
 from typing import NoReturn
 
-# Files with lower numbers are closed. `haul/tests/mutate` notes lines in one with a higher number.
+# Files with lower numbers are closed.
 FILES = 100
 
 
