@@ -12,6 +12,19 @@ from collections.abc import Iterator
 from contextlib import contextmanager, suppress
 from typing import Protocol
 
+# Why a program can't be started where there is none, or none of this machine. With any other reason
+# there may be one.
+NOT_THERE = (
+    errno.ENOENT,
+    errno.ENOTDIR,
+    errno.EACCES,
+    errno.EPERM,
+    errno.ENOEXEC,
+    errno.ELOOP,
+    errno.ENAMETOOLONG,
+    errno.EINVAL,
+)
+
 
 class NoThread(Exception):
     """A thread can't be started: there is no memory for one, or the system starts no more."""
@@ -77,18 +90,6 @@ class Children:
 
 # All of them are here, since a signal is for the whole program.
 children = Children()
-# Why a program can't be started where there is none, or none of this machine. With any other reason
-# there may be one.
-NOT_THERE = (
-    errno.ENOENT,
-    errno.ENOTDIR,
-    errno.EACCES,
-    errno.EPERM,
-    errno.ENOEXEC,
-    errno.ELOOP,
-    errno.ENAMETOOLONG,
-    errno.EINVAL,
-)
 
 
 class NoCensus(Exception):

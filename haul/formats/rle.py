@@ -18,7 +18,8 @@ LINE_LENGTH = 70
 COUNT_DIGITS = 20
 
 HEADER = re.compile(
-    rb"[ \t]*x[ \t]*=[ \t]*[0-9]+[ \t]*,[ \t]*y[ \t]*=[ \t]*[0-9]+[ \t]*(?:,[ \t]*rule[ \t]*=[ \t]*([^\r\n]*?)[ \t]*)?"
+    rb"[ \t]*x[ \t]*=[ \t]*[0-9]+[ \t]*,[ \t]*y[ \t]*=[ \t]*[0-9]+[ \t]*"
+    rb"(?:,[ \t]*rule[ \t]*=[ \t]*([^\r\n]*?)[ \t]*)?"
 )
 BLANKS = re.compile(rb"[ \t\r\n]*")
 COUNT = re.compile(rb"[0-9]*")

@@ -40,10 +40,12 @@ class FileChoice:
     def text(self) -> str:
         """Returns a line that says what is chosen, and how likely it is that no wrong file is among
         it."""
-        wrong = count_wrong_files(len(self.files))
+        files = len(self.files)
+        wrong, chance = count_wrong_files(files), compute_chance_to_miss(files, self.number)
         return (
-            f"choice {self.choice}: {self.number} of {write_count(len(self.files), 'file')}; if {wrong} {pluralize(wrong, 'was', 'were')} wrong, "
-            f"a choice like this would miss {pluralize(wrong, 'it', 'them all')} with probability {compute_chance_to_miss(len(self.files), self.number):.4f}"
+            f"choice {self.choice}: {self.number} of {write_count(files, 'file')}; "
+            f"if {wrong} {pluralize(wrong, 'was', 'were')} wrong, a choice like this would miss "
+            f"{pluralize(wrong, 'it', 'them all')} with probability {chance:.4f}"
         )
 
 

@@ -55,8 +55,10 @@ def draw_picture(cells: Cells, name: str) -> str:
     width, height = measure(cells)
     scale = LARGER_SCALE if len(cells) < FEW_CELLS else SCALE
     title = f"{name}: {width} by {height}, {write_count(len(cells), 'cell')}"
+    columns, rows = width + 2, height + 2
     return (
-        f'<svg class="cells-{scale}" width="{(width + 2) * scale}" height="{(height + 2) * scale}" viewBox="-1 -1 {width + 2} {height + 2}" role="img">'
+        f'<svg class="cells-{scale}" width="{columns * scale}" height="{rows * scale}" '
+        f'viewBox="-1 -1 {columns} {rows}" role="img">'
         f'<title>{escape(title)}</title><path d="{draw_path(draw_rows(cells, cells))}"/></svg>'
     )
 

@@ -28,7 +28,8 @@ BITS = str.maketrans(".O", "01")
 def write_data(sides: Sides) -> Iterator[str]:
     """Yields the JSON, piece by piece. No text in it ends the element of HTML in which it
     stands."""
-    yield f'{{"least": {sides.least}, "play": {sides.play}, "kinds": {len(sides.kinds())}, "kindsOfParts": {len(sides.kinds_of_parts())}, "hauls": '
+    yield f'{{"least": {sides.least}, "play": {sides.play}, "kinds": {len(sides.kinds())}, '
+    yield f'"kindsOfParts": {len(sides.kinds_of_parts())}, "hauls": '
     yield dump([describe_haul(side) for side in sides.all])
     yield ', "intervals": ' + dump(list_intervals(sides))
     yield ', "soups": [' + ",\n".join(

@@ -47,10 +47,10 @@ def write_row(sides: Sides, code: str) -> str:
     cells = count_cells(code)
     rule = sides.first_with(code).haul.job.rule
     named = f"<b>{escape(label)}</b> {link_code(code, rule)}" if label else link_code(code, rule)
-    return (
-        f'<tr id="{escape(code)}"><td>{draw_object(code)}</td><td>{named}</td><td>{describe_kind(code)}</td>'
-        f'<td>{"" if cells is None else cells}</td>{"".join(write_counts(side, code) for side in sides.all)}</tr>\n'
-    )
+    columns = [draw_object(code), named, describe_kind(code), "" if cells is None else cells]
+    row = "".join(f"<td>{column}</td>" for column in columns)
+    counts = "".join(write_counts(side, code) for side in sides.all)
+    return f'<tr id="{escape(code)}">{row}{counts}</tr>\n'
 
 
 def write_counts(side: Side, code: str) -> str:

@@ -96,13 +96,15 @@ def write_comparison(sides: Sides) -> str:
     )
     head = "".join(f'<th scope="col">{name}</th>' for name in heads)
     return (
-        f"<p>Random soups of 16 by 16 cells ran under each rule until they had settled, and {COUNTED}.</p>\n"
-        f'<div class="scroll" tabindex="0" role="region" aria-label="The hauls"><table class="hauls"><thead><tr>{head}</tr></thead><tbody>\n{body}</tbody></table></div>\n'
+        "<p>Random soups of 16 by 16 cells ran under each rule until they had settled, and "
+        f'{COUNTED}.</p>\n<div class="scroll" tabindex="0" role="region" aria-label="The hauls">'
+        f'<table class="hauls"><thead><tr>{head}</tr></thead><tbody>\n{body}</tbody></table></div>\n'
     )
 
 
 def write_rule(side: Side) -> str:
-    return f'<span class="letter" data-haul="{side.letter}">{side.letter}</span> {format_rule(side.haul.job.rule)}'
+    letter = f'<span class="letter" data-haul="{side.letter}">{side.letter}</span>'
+    return f"{letter} {format_rule(side.haul.job.rule)}"
 
 
 def write_seed(job: Job) -> str:
@@ -112,8 +114,9 @@ def write_seed(job: Job) -> str:
 def write_sentence(haul: Haul) -> str:
     seed = f"the seed {write_seed(haul.job)}" if haul.job.seed else "the empty seed"
     return (
-        f"Random soups of 16 by 16 cells (numbers {describe_ranges(haul)} of {seed}) ran under the rule <code>{haul.job.rule}</code> "
-        f"({format_rule(haul.job.rule)}) until they had settled, and {COUNTED}."
+        f"Random soups of 16 by 16 cells (numbers {describe_ranges(haul)} of {seed}) ran under the "
+        f"rule <code>{haul.job.rule}</code> ({format_rule(haul.job.rule)}) until they had settled, "
+        f"and {COUNTED}."
     )
 
 
@@ -162,7 +165,8 @@ def list_tiles(side: Side) -> list[tuple[str, str, str]]:
         (
             "settled for good",
             f"{haul.for_good:,}",
-            f"at rest forever; the other {others:,} for at least {write_count(profile.horizon, 'generation')}",
+            f"at rest forever; the other {others:,} for at least "
+            f"{write_count(profile.horizon, 'generation')}",
         ),
     ]
 
@@ -172,15 +176,14 @@ def write_unsettled(side: Side, is_compared: bool) -> str:
     haul = side.haul
     if not haul.unsettled:
         return ""
+    soups = pluralize(haul.unsettled, "a soup that has", "soups that have")
     them = pluralize(haul.unsettled, "it", "them")
     words = (
-        f"<p>What is in {pluralize(haul.unsettled, 'a soup that has', 'soups that have')} not settled isn't counted. This command runs the census again, and "
+        f"<p>What is in {soups} not settled isn't counted. This command runs the census again, and "
         f"lists {them}:</p>\n<pre><code>{escape(format_unsettled_command(haul))}</code></pre>\n"
     )
-    return fold(
-        f"{side.letter + ': ' if is_compared else ''}{write_count(haul.unsettled, 'unsettled soup')}",
-        words,
-    )
+    letter = f"{side.letter}: " if is_compared else ""
+    return fold(letter + write_count(haul.unsettled, "unsettled soup"), words)
 
 
 def write_verification(sides: Sides) -> str:
@@ -194,8 +197,8 @@ def write_verification(sides: Sides) -> str:
     )
     samples = f"<code>haul check --samples {name}</code>"
     text = (
-        f"<p>If {these} is in the file <code>{name}</code>, <code>haul check {name}</code> runs the whole census again "
-        f"and compares, and {samples} runs only the sample soups."
+        f"<p>If {these} is in the file <code>{name}</code>, <code>haul check {name}</code> runs the "
+        f"whole census again and compares, and {samples} runs only the sample soups."
     )
     missing = [side.letter for side in sides.all if side.haul.soups < side.haul.size()]
     if missing:
@@ -215,10 +218,10 @@ def write_definitions(sides: Sides) -> str:
     profiles: dict[Profile, list[str]] = {}
     for side in sides.all:
         profiles.setdefault(side.haul.job.profile, []).append(side.letter)
-    words = "".join(
-        f"<p>{', '.join(letters) + ': ' if len(profiles) > 1 else ''}{describe_profile(profile)}</p>\n"
-        for profile, letters in profiles.items()
-    )
+    words = ""
+    for profile, letters in profiles.items():
+        which = f"{', '.join(letters)}: " if len(profiles) > 1 else ""
+        words += f"<p>{which}{describe_profile(profile)}</p>\n"
     return fold("How objects are counted", words + NOTES)
 
 
@@ -231,7 +234,8 @@ def describe_profile(profile: Profile) -> str:
         else "the only one, at generation 0"
     )
     return (
-        f"A soup has settled at the first checkpoint ({checkpoints}) at which each of its objects recurs within "
-        f"{write_count(period, 'generation')}, and for {write_count(horizon, 'generation')} no object meets another. It is settled for "
-        "good if it has no spaceship and all its objects recur together within that time."
+        f"A soup has settled at the first checkpoint ({checkpoints}) at which each of its objects "
+        f"recurs within {write_count(period, 'generation')}, and for "
+        f"{write_count(horizon, 'generation')} no object meets another. It is settled for good if "
+        "it has no spaceship and all its objects recur together within that time."
     )

@@ -6,8 +6,8 @@ import time
 from collections import deque
 from collections.abc import Callable
 
-from haul.search.background import FIND, BackgroundProgram, StreamWaiter
-from haul.search.launcher import DONE
+from haul.census.background import FIND, BackgroundProgram, StreamWaiter
+from haul.census.launcher import DONE
 
 # A call that takes longer is ended.
 MOST_SECONDS = 60.0

@@ -27,7 +27,7 @@ from haul.formats.haul import NUMBER_LIMIT, Haul
 from haul.formats.haul_reader import read_one_haul
 from haul.hauls.join import Joining
 from haul.plurals import write_count
-from haul.search.background import BackgroundTake, StreamWaiter
+from haul.census.background import BackgroundTake, StreamWaiter
 from haul.search.find_calls import FindCalls
 from haul.search.finds import Finder
 from haul.search.keeper import Keeper
@@ -285,9 +285,8 @@ class Search:
         if not self.said_what_is_left:
             self.said_what_is_left = True
             again = "again" if self.stopping.finishes else "twice"
-            self.terminal.complain(
-                f"finds are still told: {self.what_is_left() or 'the last ones'}; Ctrl-C {again} stops that"
-            )
+            left = self.what_is_left() or "the last ones"
+            self.terminal.complain(f"finds are still told: {left}; Ctrl-C {again} stops that")
 
     def what_is_left(self) -> str:
         left = (

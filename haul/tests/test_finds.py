@@ -24,7 +24,7 @@ from haul.formats.profile import STANDARD, Profile
 from haul.life.generations import read_rule
 from haul.life.parts import Separator
 from haul.names.common_parts import COMMON, LEAST
-from haul.search.background import FIND, StreamWaiter, read_launcher
+from haul.census.background import FIND, StreamWaiter, read_launcher
 from haul.search.find_calls import FindCalls
 from haul.search.finds import Find, Finder, Unread
 from haul.search.keeper import Keeper

@@ -18,7 +18,7 @@ from unittest.mock import patch
 from haul.cli.parser import parse_arguments
 from haul.formats.haul import Haul, NUMBER_LIMIT
 from haul.formats.haul_reader import read_one_haul
-from haul.search.background import (
+from haul.census.background import (
     BackgroundProgram,
     BackgroundTake,
     CENSUS as LAUNCH_CENSUS,

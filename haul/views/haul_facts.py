@@ -18,7 +18,8 @@ def describe_lettered_job(letter: str, haul: Haul) -> str:
 
 def describe_soups(letter: str, haul: Haul, by_parts: bool = False) -> str:
     soups, objects = pluralize(haul.soups, "soup"), pluralize(haul.objects(), "object")
-    line = f"{letter}: {haul.soups} {soups}, {haul.unsettled} unsettled, {haul.for_good} for good, {haul.objects()} {objects}"
+    line = f"{letter}: {haul.soups} {soups}, {haul.unsettled} unsettled"
+    line += f", {haul.for_good} for good, {haul.objects()} {objects}"
     return f"{line} by parts" if by_parts else line
 
 

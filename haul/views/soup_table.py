@@ -85,7 +85,8 @@ class SoupTable:
 
 def describe_soups(settling: Settling) -> str:
     soups = settling.soups()
-    line = f"{soups} {pluralize(soups, 'soup')}, {settling.unsettled} unsettled, {settling.for_good} for good"
+    line = f"{soups} {pluralize(soups, 'soup')}, {settling.unsettled} unsettled"
+    line += f", {settling.for_good} for good"
     return f"{line}, {settling.unmarked} unmarked" if settling.unmarked else line
 
 
@@ -95,7 +96,8 @@ def describe_settling(settling: Settling) -> str:
     if quartiles is None or mean is None:
         return "no soup has settled"
     first, median, third = quartiles
-    return f"settled at: first quartile {first}, median {median}, third quartile {third}, mean {format_figure(mean)}"
+    quarters = f"first quartile {first}, median {median}, third quartile {third}"
+    return f"settled at: {quarters}, mean {format_figure(mean)}"
 
 
 def list_csv_facts(job: Job | None, settling: Settling) -> list[str]:

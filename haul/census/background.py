@@ -31,7 +31,7 @@ PROGRESS = re.compile(rb"([0-9]{1,8}) of [0-9]{1,8} soups")
 def read_launcher() -> str:
     """Returns the text of `launcher.py`. It is read once, since an installed `haul` is one file,
     which may be replaced while this runs."""
-    return files("haul.search").joinpath("launcher.py").read_text("utf-8")
+    return files("haul.census").joinpath("launcher.py").read_text("utf-8")
 
 
 class StreamWaiter:

@@ -6,8 +6,9 @@ usage: python3 -I -S -c TEXT HOW PARENT PROGRAM [ARGUMENT ..]
 It runs in a session of its own, and PARENT is the process that started it. `HOW` is one of two:
 
     census    becomes PROGRAM, which the system kills if the thread that started it ends
-    find      runs PROGRAM with standard input and output closed, and prints `done` or what went wrong. At the end, or if `haul`
-              ends, all processes of the session are killed, so nothing that PROGRAM has started goes on.
+    find      runs PROGRAM with standard input and output closed, and prints `done` or what went
+              wrong. At the end, or if `haul` ends, all processes of the session are killed, so
+              nothing that PROGRAM has started goes on.
 """
 
 from __future__ import annotations
