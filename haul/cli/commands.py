@@ -51,7 +51,7 @@ def run_check(asked: argparse.Namespace, streams: Streams) -> int:
         choice = FileChoice(files, asked.random, asked.choice)
         streams.write_lines([choice.text()])
         streams.stdout.flush()
-        files = choice.chosen()
+        files = choice.choose()
     return find_worst_status([check_one_file(asked, streams, name) for name in files])
 
 
@@ -104,7 +104,7 @@ def run_join(asked: argparse.Namespace, streams: Streams) -> int:
     if bad is not None:
         raise Refused(bad)
     try:
-        joined = joining.joined()
+        joined = joining.result()
     except CantJoin as why:
         raise Refused(str(why)) from None
     streams.write_lines(format_haul(joined))

@@ -24,19 +24,19 @@ class Objects:
         self.separator = Separator(read_rule(haul.job.rule))
         self.known: dict[str, Separation] = {}
 
-    def separation_of(self, code: str) -> Separation:
+    def separate(self, code: str) -> Separation:
         if code not in self.known:
-            self.known[code] = self.separator.separation_of(code)
+            self.known[code] = self.separator.separate(code)
         return self.known[code]
 
-    def separations(self, codes: Iterable[str]) -> dict[str, Separation]:
+    def separate_all(self, codes: Iterable[str]) -> dict[str, Separation]:
         """Returns the separations of these objects, and says on a terminal how far it is."""
         codes = list(codes)
         for done in range(0, len(codes), OBJECTS_BETWEEN_PROGRESS):
             self.terminal.show_progress(f"{done} of {len(codes)} objects separated")
             # 2 mutants: equal because each object is separated once
             for code in codes[done : done + OBJECTS_BETWEEN_PROGRESS]:
-                self.separation_of(code)
+                self.separate(code)
         self.terminal.show_progress("")
         return {code: self.known[code] for code in codes}
 
@@ -45,7 +45,7 @@ class Objects:
         three lowest of its objects."""
         totals: defaultdict[str, int] = defaultdict(int)
         samples: defaultdict[str, set[int]] = defaultdict(set)
-        for code, separation in self.separations(self.haul.totals).items():
+        for code, separation in self.separate_all(self.haul.totals).items():
             for part in separation.parts:
                 totals[part] += self.haul.totals[code]
                 samples[part].update(self.haul.samples[code])

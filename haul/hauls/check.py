@@ -24,7 +24,7 @@ def retake(census: Census, haul: Haul, workers: int) -> Haul:
     joining = Joining()
     for ranges in split_ranges(haul.ranges):
         joining.add(take_set(census, haul.job, ranges, workers))
-    return joining.joined()
+    return joining.result()
 
 
 def take_set(census: Census, job: Job, ranges: list[Range], workers: int) -> Haul:

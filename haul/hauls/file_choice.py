@@ -27,7 +27,7 @@ class FileChoice:
             secrets.choice(string.ascii_lowercase + string.digits) for _ in range(CHOICE_LENGTH)
         )
 
-    def chosen(self) -> list[str]:
+    def choose(self) -> list[str]:
         """Returns the chosen files, in the order in which they were given."""
         places = sorted(
             range(len(self.files)), key=lambda place: (self.digest(self.files[place]), place)

@@ -78,7 +78,7 @@ class Joining:
         self.ranges.insert(place, (first, end - first))
         return True
 
-    def joined(self) -> Haul:
+    def result(self) -> Haul:
         """Returns the haul of all sets, of which there is at least one. Raises `CantJoin` if
         there is a reason."""
         assert self.job is not None

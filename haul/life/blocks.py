@@ -58,7 +58,7 @@ class Blocks:
             runs.append(run)
         return self.islands if self.is_separation(runs) else None
 
-    def separations(self) -> Iterator[list[Cells]]:
+    def list_separations(self) -> Iterator[list[Cells]]:
         """Yields the blocks of each separation that has several."""
         return self.completed([], frozenset(range(len(self.islands))))
 

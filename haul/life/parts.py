@@ -45,7 +45,7 @@ class Separator:
         # islands.
         self.runs: dict[Cells, Run] = {}
 
-    def separation_of(self, code: str) -> Separation:
+    def separate(self, code: str) -> Separation:
         recurrence = read_object(self.rule, code)
         if recurrence is None:
             return Separation((code,), is_separated=False)
@@ -60,7 +60,7 @@ class Separator:
         islands to look for it."""
         if len(blocks.islands) > MOST_ISLANDS:
             return None
-        found = [*blocks.separations(), [blocks.object]]
+        found = [*blocks.list_separations(), [blocks.object]]
         most = max(map(len, found))
         return min((parts for parts in found if len(parts) == most), key=self.codes)
 

@@ -60,7 +60,7 @@ def describe_haul(side: Side) -> dict[str, object]:
 
 def describe_object(sides: Sides, code: str) -> dict[str, object]:
     """Returns what is known of an object. Each list has a value for each haul."""
-    separation = sides.first_with(code).separation_of(code)
+    separation = sides.first_with(code).separate(code)
     of_objects = [list_counts(side.haul, code) for side in sides.all]
     of_parts = [list_counts(side.by_parts, code) for side in sides.all]
     known: dict[str, object] = {
@@ -88,7 +88,7 @@ def describe_parts(side: Side, code: str) -> object:
     whole."""
     if not side.has(code):
         return None
-    separation = side.separation_of(code)
+    separation = side.separate(code)
     if not separation.is_separated:
         return NOT_SEPARATED
     return STRICT if separation.is_strict() else list(separation.parts)

@@ -42,7 +42,7 @@ def describe_omissions(sides: Sides) -> str:
 
 
 def write_row(sides: Sides, code: str) -> str:
-    separation = sides.first_with(code).separation_of(code)
+    separation = sides.first_with(code).separate(code)
     label = mark_label(find_label(code, separation), separation)
     cells = count_cells(code)
     rule = sides.first_with(code).haul.job.rule

@@ -36,12 +36,12 @@ class Side:
         """Checks whether the haul has a code, as an object or as a part of one."""
         return code in self.haul.totals or code in self.by_parts.totals
 
-    def separation_of(self, code: str) -> Separation:
-        return self.objects.separation_of(code)
+    def separate(self, code: str) -> Separation:
+        return self.objects.separate(code)
 
     def may_be_strict(self, code: str) -> bool:
         """Checks whether the haul has an object that is strict, or that could not be separated."""
-        separation = self.separation_of(code) if self.has(code) else None
+        separation = self.separate(code) if self.has(code) else None
         return separation is not None and (separation.is_strict() or not separation.is_separated)
 
     def samples(self, code: str) -> list[int]:

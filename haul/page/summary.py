@@ -148,7 +148,7 @@ def list_tiles(side: Side) -> list[tuple[str, str, str]]:
     their values, and what they mean if that isn't plain."""
     haul, profile = side.haul, side.haul.job.profile
     others = haul.soups - haul.unsettled - haul.for_good
-    strict = sum(side.separation_of(code).is_strict() for code in haul.totals)
+    strict = sum(side.separate(code).is_strict() for code in haul.totals)
     return [
         (
             "soups",

@@ -168,4 +168,4 @@ class Finder:
         if len(self.separator.runs) > MOST_RUNS:
             self.separator.runs.clear()
             self.separator.known.clear()
-        return self.separator.separation_of(code).parts
+        return self.separator.separate(code).parts

@@ -134,7 +134,7 @@ class Search:
     def take_batches(self) -> None:
         self.batch = self.begin_batch()
         if self.batch is None and not self.keeper.is_there():
-            self.keeper.write(self.joining.joined())
+            self.keeper.write(self.joining.result())
         while self.batch is not None:
             self.wait_until(self.batch.call.is_ended)
             taken = self.haul_of(self.batch)
@@ -211,7 +211,7 @@ class Search:
         began = time.monotonic()
         self.stopping.is_writing = True
         try:
-            self.keeper.write(self.joining.joined())
+            self.keeper.write(self.joining.result())
         finally:
             self.stopping.is_writing = False
         self.kept_at = time.monotonic()

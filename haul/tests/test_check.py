@@ -126,18 +126,18 @@ class Choices(unittest.TestCase):
 
     def test_it_can_be_repeated(self) -> None:
         """In the order of the files that are given, and whatever this order is."""
-        chosen = FileChoice(self.NAMES, 20, "x").chosen()
+        chosen = FileChoice(self.NAMES, 20, "x").choose()
         self.assertEqual(len(set(chosen)), 20)
         self.assertEqual(chosen, sorted(chosen, key=self.NAMES.index))
-        self.assertEqual(set(FileChoice(self.NAMES[::-1], 20, "x").chosen()), set(chosen))
-        self.assertNotEqual(FileChoice(self.NAMES, 20, "y").chosen(), chosen)
+        self.assertEqual(set(FileChoice(self.NAMES[::-1], 20, "x").choose()), set(chosen))
+        self.assertNotEqual(FileChoice(self.NAMES, 20, "y").choose(), chosen)
         # As sha256sum has it: for n in a b c; do printf 'x %s' $n | sha256sum; done
-        self.assertEqual(FileChoice(["a", "b", "c"], 1, "x").chosen(), ["b"])
+        self.assertEqual(FileChoice(["a", "b", "c"], 1, "x").choose(), ["b"])
 
     def test_each_file_is_as_likely(self) -> None:
         counts = dict.fromkeys("abcd", 0)
         for number in range(4000):
-            for name in FileChoice(list("abcd"), 2, str(number)).chosen():
+            for name in FileChoice(list("abcd"), 2, str(number)).choose():
                 counts[name] += 1
         for count in counts.values():
             self.assertLess(abs(count - 2000), 200)
@@ -146,7 +146,7 @@ class Choices(unittest.TestCase):
         self.assertEqual(len({FileChoice(self.NAMES, 1, None).choice for _ in range(100)}), 100)
 
     def test_a_name_that_is_given_twice(self) -> None:
-        self.assertEqual(FileChoice(["a", "a"], 2, "x").chosen(), ["a", "a"])
+        self.assertEqual(FileChoice(["a", "a"], 2, "x").choose(), ["a", "a"])
 
     def test_the_chance_to_miss(self) -> None:
         """Counted over all choices, of which one in `comb` is as likely as any other."""

@@ -162,7 +162,7 @@ class Finds(unittest.TestCase):
     def test_objects_are_separated_only_if_need_be(self) -> None:
         finder = Finder(LIFE, haul_of(LIFE, TRIPOLE, "xp2_s01110szw222", BI_BLOCK))
         with patch.object(
-            finder.separator, "separation_of", wraps=finder.separator.separation_of
+            finder.separator, "separate", wraps=finder.separator.separate
         ) as separated:
             self.assertEqual(found(finder, [(TRIPOLE, 200), (BLOCK, 201)]), [])
             self.assertEqual(separated.call_count, 2)
@@ -193,7 +193,7 @@ class Finds(unittest.TestCase):
         separator = Separator(read_rule("b3s23"))
         several = 0
         for code in haul.totals:
-            parts = separator.separation_of(code).parts
+            parts = separator.separate(code).parts
             for part in parts if len(parts) > 1 else ():
                 self.assertEqual(Unread([code]).holders([part]), [{code}])
                 several += 1

@@ -17,7 +17,7 @@ def joined(hauls: list[Haul]) -> str:
     joining = Joining()
     for haul in hauls:
         joining.add(haul)
-    return text_of(joining.joined())
+    return text_of(joining.result())
 
 
 def refusal(text: str) -> str:
@@ -25,7 +25,7 @@ def refusal(text: str) -> str:
     for haul in read_hauls(io.BytesIO(text.encode())):
         joining.add(haul)
     try:
-        joining.joined()
+        joining.result()
     except CantJoin as why:
         return str(why)
     return "none"

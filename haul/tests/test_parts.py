@@ -40,7 +40,7 @@ LIGHT = "xp2_s01110szw222"
 
 
 def parts(code: str, rule: str = "b3s23") -> Separation:
-    return Separator(read_rule(rule)).separation_of(code)
+    return Separator(read_rule(rule)).separate(code)
 
 
 def strict(code: str) -> Separation:
@@ -220,7 +220,7 @@ class Parts(unittest.TestCase):
             separator, plain = Separator(read_rule(rule)), plain_parts.rule_of(rule)
             self.assertGreater(len(codes), 10)
             for code in codes:
-                found = separator.separation_of(code)
+                found = separator.separate(code)
                 self.assertEqual(
                     (list(found.parts), found.is_strict(), found.is_separated),
                     plain_parts.parts_of(plain, code),
@@ -540,10 +540,10 @@ class Once(unittest.TestCase):
         objects = Objects(example(), QUIET)
         codes = sorted(example().totals)[:20]
         with patch.object(
-            Separator, "separation_of", autospec=True, side_effect=Separator.separation_of
+            Separator, "separate", autospec=True, side_effect=Separator.separate
         ) as separated:
-            objects.separations(codes)
-            objects.separations(codes[5:])
+            objects.separate_all(codes)
+            objects.separate_all(codes[5:])
         self.assertEqual(separated.call_count, 20)
 
 

@@ -148,20 +148,20 @@ class Comparison:
             [str(cell.total), format_figure(cell.rate), format_interval(cell)] for cell in cells
         ]
         ratios = [f"{cell.ratio:.2f}" if cell.ratio is not None else "-" for cell in cells[1:]]
-        label = self.label(code) or mark_label("", self.separation_of(code)) or "-"
+        label = self.label(code) or mark_label("", self.separate(code)) or "-"
         return [code, label.replace(" ", "_"), *self.arranged(shown), *ratios]
 
     def label(self, code: str) -> str:
-        return find_label(code, self.separation_of(code))
+        return find_label(code, self.separate(code))
 
-    def separation_of(self, code: str) -> Separation:
+    def separate(self, code: str) -> Separation:
         """Returns what an object is made of under the rule of the first haul that has it."""
         objects = next(
             objects
             for objects, haul in zip(self.objects, self.hauls, strict=True)
             if code in haul.totals
         )
-        return objects.separation_of(code)
+        return objects.separate(code)
 
     def arranged(self, shown: list[list[str]]) -> Iterable[str]:
         """Arranges what each haul has in columns: haul by haul, or without intervals the totals and
@@ -220,7 +220,7 @@ class Comparison:
                 ratio,
                 "*" if cell.differs else "",
             ]
-            row.append(" ".join(objects.separation_of(code).parts) if code in haul.totals else "")
+            row.append(" ".join(objects.separate(code).parts) if code in haul.totals else "")
         return [*row, format_truth(self.by_parts)]
 
     def json(self) -> Iterator[str]:

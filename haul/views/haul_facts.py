@@ -39,7 +39,7 @@ def list_haul_facts(haul: Haul) -> dict[str, object]:
 
 def list_part_facts(objects: Objects) -> dict[str, object]:
     """Returns the parts of each object of a haul, and which objects aren't separated, for JSON."""
-    separations = objects.separations(objects.haul.totals)
+    separations = objects.separate_all(objects.haul.totals)
     return {
         "parts": {code: list(separation.parts) for code, separation in separations.items()},
         "not_separated": [

@@ -116,14 +116,14 @@ def choose_rows(haul: Haul, objects: Objects, choice: RowChoice) -> list[TableRo
     codes = sorted(haul.totals, key=lambda code: (-haul.totals[code], code))
     ranks = [(rank, code) for rank, code in enumerate(codes, 1) if choice.has(code)]
     if choice.strict:
-        separations = objects.separations(code for _, code in ranks)
+        separations = objects.separate_all(code for _, code in ranks)
         ranks = [
             (rank, code)
             for rank, code in ranks
             if separations[code].is_strict() or not separations[code].is_separated
         ]
     shown = (ranks[::-1] if choice.rare else ranks)[: choice.top]
-    separations = objects.separations(code for _, code in shown)
+    separations = objects.separate_all(code for _, code in shown)
     return [make_row(haul, rank, code, separations[code]) for rank, code in shown]
 
 
