@@ -73,7 +73,7 @@ def list_tests(suite: unittest.TestSuite | unittest.TestCase) -> Iterator[str]:
 
 def note_lines(copy: Path, names: list[str], workers: int) -> Lines:
     """Runs each test of a copy of the checkout, and returns which lines they run."""
-    from coverage import CoverageData
+    from coverage import CoverageData  # type: ignore[import]
 
     data = copy / "coverage"
     data.mkdir()
