@@ -17,7 +17,7 @@ from typing import IO
 
 from haul.census.client import check_ending
 
-# What the starter does with the program.
+# What the launcher does with the program.
 CENSUS, FIND = "census", "find"
 # mutant: equal because the size of a read doesn't change what is printed
 BYTES_AT_A_TIME = 65_536
