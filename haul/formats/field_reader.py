@@ -7,9 +7,9 @@ from typing import IO
 
 from haul.formats.syntax import DECIMAL
 
-# No line of a haul has as many bytes: the longest one is a code of 400 with three numbers. So of a
-# longer line no more is read. mutant: equal because what is longer is refused, however much of it
-# is read
+# No line of a haul has as many bytes: the longest one is a code of 400 with three numbers. The rest
+# of a longer line isn't read.
+# mutant: equal because what is longer is refused, however much of it is read
 LINE_LIMIT = 1000
 
 

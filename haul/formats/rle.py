@@ -12,9 +12,9 @@ from haul.formats.rules import format_rule, parse_rule
 
 # The longest line that is written.
 LINE_LENGTH = 70
-# A longer count is cut to as many digits. It is too large for live cells all the same, and dead
-# ones are only passed over. mutant: equal because what is longer is refused, however much of it is
-# read
+# A longer count is cut to this many digits. It is still too large for live cells, and dead ones are
+# only passed over.
+# mutant: equal because what is longer is refused, however much of it is read
 COUNT_DIGITS = 20
 
 HEADER = re.compile(

@@ -21,8 +21,9 @@ from haul.life.parts import Separator
 from haul.names.common_parts import COMMON
 from haul.names.objects import NAMES
 
-# The separator remembers what it has run. After so many runs it forgets them, since a search goes
-# on for weeks. mutant: equal because one more remembered run doesn't change what is printed
+# The separator remembers what it has run. After this many runs it forgets them, since a search goes
+# on for weeks.
+# mutant: equal because one more remembered run doesn't change what is printed
 MOST_RUNS = 20_000
 
 

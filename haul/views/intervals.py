@@ -17,7 +17,8 @@ TAIL = 0.025
 # mutant: equal because a double changes no more
 STEPS = 60
 # Up to here the terms of the sum are added up. Above it two terms of an expansion have more than
-# six digits. mutant: equal because both ways have more digits than are shown
+# six digits.
+# mutant: equal because both ways have more digits than are shown
 MOST_TERMS = 30
 # Neither end is as many standard deviations away, above that.
 # mutant: equal because the same value is found between other ends
