@@ -53,13 +53,9 @@ class SoupTable:
         rows = [["-" if cell is None else str(cell) for cell in row] for row in self.rows]
         bars = [[bar] for bar in self.bars()] if self.has_bars else [[]] * len(rows)
         shown = [row + bar for row, bar in zip(rows, bars, strict=True)]
-        yield from align_columns(
-            # mutant: equal because without a width no column is cut
-            [self.heads + [""] * self.has_bars, *shown],
-            {len(self.heads)},
-            0,
-            None,
-        )
+        heads = self.heads + [""] * self.has_bars
+        # mutant: equal because without a width no column is cut
+        yield from align_columns([heads, *shown], {len(self.heads)}, 0, None)
 
     def bars(self) -> list[str]:
         """Returns a bar for each row. The longest has `LONGEST_BAR` characters, and only that of 0
