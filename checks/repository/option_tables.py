@@ -2,13 +2,13 @@
 
 from __future__ import annotations
 
-import argparse
 import re
 from collections.abc import Iterator
 from dataclasses import dataclass, field
 
 from checks.lib.program import TOP
-from haul.options import parser
+from haul.cli.arguments import Command as HaulCommand
+from haul.cli.command_table import COMMANDS as HAUL_COMMANDS
 
 OPTIONS, COMMANDS = (
     TOP / "crates" / "arguments" / "src" / name for name in ("options.rt", "commands.rt")
@@ -125,52 +125,25 @@ def census_commands() -> list[Command]:
 
 
 def haul_commands() -> list[Command]:
-    commands = next(
-        action for action in parser()._actions if isinstance(action, argparse._SubParsersAction)
-    )
-    abouts = {action.dest: action.help or "" for action in commands._choices_actions}
     return [
-        Command(name, abouts[name], list(haul_options(command)))
-        for name, command in commands.choices.items()
+        Command(command.name, command.about, list(haul_options(command)))
+        for command in HAUL_COMMANDS
     ]
 
 
-def haul_options(command: argparse.ArgumentParser) -> Iterator[Option]:
-    for action in command._actions:
-        if isinstance(action, argparse._HelpAction):
-            continue
-        groups = [
-            group for group in command._mutually_exclusive_groups if action in group._group_actions
-        ]
-        excludes = tuple(
-            other.option_strings[0]
-            for group in groups
-            for other in group._group_actions
-            if other is not action
-        )
-        said = action.help or ""
-        default = re.search(r" \(default: ([^()]*)\)", said)
-        name = (
-            action.option_strings[0].lstrip("-")
-            if action.option_strings
-            else str(action.metavar or action.dest)
-        )
-        takes = action.nargs != 0
-        value = str(action.metavar or action.dest) if takes or not action.option_strings else ""
+def haul_options(command: HaulCommand) -> Iterator[Option]:
+    for argument, others in command.arguments():
+        default = re.search(r" \(default: ([^()]*)\)", argument.help)
+        help_ = argument.help.replace(default[0], "") if default else argument.help
+        value = "" if argument.is_flag else argument.value or argument.name
         yield Option(
-            name,
+            argument.name.lstrip("-"),
             value,
-            said.replace(default[0], "") if default else said,
+            help_,
             default[1] if default else None,
-            bool(action.option_strings),
-            tuple(map(str, action.choices or ())),
-            value in FILES or (not action.option_strings and value != "ID"),
-            action.nargs in ("*", "+"),
-            excludes,
+            argument.is_option(),
+            argument.choices,
+            value in FILES or (not argument.is_option() and value != "ID"),
+            argument.repeats in ("*", "+"),
+            tuple(other.name for other in others),
         )
-
-
-# ---- Completions
-
-
-# ---- Lists of options
