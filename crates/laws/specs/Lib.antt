@@ -1,0 +1,4 @@
+pub mod Codes
+pub mod ForGood
+pub mod Limits
+pub mod Soups

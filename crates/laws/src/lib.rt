@@ -1,0 +1,10 @@
+//! Laws that people would quote, as theorems. Each is a function with an empty body, whose contract is the law.
+//!
+//! Nothing in the program needs these laws, so only `bin/test` proves them. There is a module for each crate that the
+//! laws speak of, and the laws of a crate that the crate itself needs are beside its definitions.
+#![tactic(auto)]
+
+/// Laws of apgcodes.
+pub mod codes;
+/// Laws of soups, and of what becomes of a pattern.
+pub mod surveys;
