@@ -22,11 +22,12 @@ use Rattle.code_core.specs.Apgcodes.{code_text, ending, letter}
 use Rattle.code_core.specs.Names.{IsCode, IsImageText, IsLeastOf, kind_of, number_of}
 use Rattle.code_core.specs.Reading.{wechsler_read}
 use Rattle.code_core.specs.Texts.{text}
+use Rattle.code_core.proofs.ImageLemmas.{image-same}
 use Rattle.code_core.proofs.MovedCodes.{after-shifted, in_order-after}
 use Rattle.code_core.proofs.RoundTrip.{texts_are_read}
 use Rattle.laws.specs.Codes.{CodesAreFaithful, IsOneObject}
 use Rattle.laws.proofs.LaterCodes.{after-after}
-use Rattle.laws.proofs.TurnedCodes.{after-image, image-same, in_order-image}
+use Rattle.laws.proofs.TurnedCodes.{after-image, in_order-image}
 
 -- ---- the text in a code
 

@@ -13,11 +13,12 @@ use Rattle.code_core.specs.declared.apgcode.Kind.{Kind}
 use Rattle.code_core.specs.declared.apgcode.Kind.TheVariants.{Still, Oscillator, Ship}
 use Rattle.code_core.specs.declared.recurrence.Recurrence.{Recurrence}
 use Rattle.code_core.specs.Apgcodes.{code_text}
-use Rattle.code_core.specs.Names.{CodesLater, IsCode, IsImageText, kind_of, number_of}
+use Rattle.code_core.specs.Names.{IsCode, IsImageText, kind_of, number_of}
 use Rattle.code_core.specs.Recurrences.{Recurs}
 use Rattle.code_core.specs.Texts.{text}
 use Rattle.code_core.proofs.LeastLemmas.{least_of_same}
 use Rattle.code_core.proofs.MovedCodes.{after-shifted, after-suc, in_order-after, length-shifted, shifted-same, shifted-swap}
+use Rattle.laws.specs.Codes.{CodesLater}
 
 -- some generations after some generations
 pub after-after : (rule : Numbers) (cells : List Cell) (g h : ℕ) → after rule (after rule cells g) h ≡ after rule cells (g + h)

@@ -27,7 +27,7 @@ use Rattle.survey_core.proofs.lemmas.shapes.ObjectLemmas.{same_code}
 use Rattle.survey_core.proofs.lemmas.DeterminedLemmas.{count-head}
 use Rattle.survey_core.proofs.lemmas.rest.RestLemmas.{clusters_some}
 use Rattle.laws.specs.ForGood.{ClustersStayForGood, IsCommonPeriod, MarksAreOfClusters, MarksTellRecurrences, RecursInPlace}
-use Rattle.laws.proofs.RecurrenceLemmas.{recurs_once}
+use Rattle.code_core.proofs.CodeLaws.{recurs_once}
 
 -- ---- what a code says of the cluster that has it
 

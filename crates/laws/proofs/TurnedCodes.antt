@@ -22,24 +22,17 @@ use Rattle.code_core.specs.declared.apgcode.Kind.{Kind}
 use Rattle.code_core.specs.declared.apgcode.Kind.TheVariants.{Still, Oscillator, Ship}
 use Rattle.code_core.specs.declared.recurrence.Recurrence.{Recurrence}
 use Rattle.code_core.specs.Apgcodes.{code_text}
-use Rattle.code_core.specs.Names.{CodesTurned, IsCode, IsImageText, kind_of, number_of}
+use Rattle.code_core.specs.Names.{IsCode, IsImageText, kind_of, number_of}
 use Rattle.code_core.specs.Recurrences.{Recurs}
 use Rattle.code_core.specs.Texts.{text}
+use Rattle.code_core.proofs.ImageLemmas.{and_swap, image-same}
 use Rattle.code_core.proofs.LeastLemmas.{least_of_same}
 use Rattle.code_core.proofs.MovedCodes.{after-suc, codes_moved, in_order-after, number-same}
+use Rattle.laws.specs.Codes.{CodesTurned}
 
 pub in_order-image : (o : Orientation) (cells : List Cell) → InOrder (image o cells)
 unfolding image
 in_order-image o cells = in_order-set_of (map (turned_cell o) cells)
-
--- the image in its own orientation
-pub image-same : (cells : List Cell) → InOrder cells → image Same cells ≡ cells
-unfolding image
-image-same cells order = ap set_of (map-alone cells) ∙ set_of-in_order cells order
-  where
-    map-alone : (cells : List Cell) → map (turned_cell Same) cells ≡ cells
-    map-alone [] = refl
-    map-alone (c ∷ cs) = ap (λ (more : List Cell). c ∷ more) (map-alone cs)
 
 -- an image turned back
 image-back : (o : Orientation) (cells : List Cell) → InOrder cells → image (turning_back o).0 (image o cells) ≡ cells
@@ -131,12 +124,6 @@ still-negated a = both_ways (int_eq (neg_ℤ a) (pos 0)) (int_eq a (pos 0)) (λ 
 
     there : (a : ℤ) → a ≡ pos 0 → int_eq (neg_ℤ a) (pos 0) ≡ true
     there a is = subst (λ (b : ℤ). int_eq (neg_ℤ b) (pos 0) ≡ true) (sym is) refl
-
-pub and_swap : (a b : Bool) → (a && b) ≡ (b && a)
-and_swap true true = refl
-and_swap true false = refl
-and_swap false true = refl
-and_swap false false = refl
 
 -- a move by nothing is turned into one, and no other
 stays-turned : (o : Orientation) (x y : ℤ) → (int_eq (turned_cell o (cell_at x y)).x (pos 0) && int_eq (turned_cell o (cell_at x y)).y (pos 0)) ≡

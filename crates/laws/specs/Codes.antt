@@ -1,4 +1,4 @@
--- An apgcode with a text stands for one object.
+-- Laws of apgcodes: all forms of an object have one code, and a code with a text stands for one object.
 use Rattle.std.specs.Prelude.{◌≡◌, ℕ, List, Some}
 use Rattle.plane_core.specs.declared.plane.cell.Cell.{Cell}
 use Rattle.plane_core.specs.declared.plane.orientation.Orientation.{Orientation}
@@ -8,6 +8,16 @@ use Rattle.plane_core.specs.plane.Generations.{after}
 use Rattle.plane_core.specs.plane.Orientations.{turned}
 use Rattle.plane_core.specs.plane.Rules.{Numbers}
 use Rattle.code_core.specs.Names.{IsCode}
+
+-- a pattern that is turned or mirrored keeps its apgcode
+abbrev pub CodesTurned : Type 0
+CodesTurned = (o : Orientation) (rule : Numbers) (cells : List Cell) (limit : ℕ) (code : List ℕ)
+    → InOrder cells → IsCode rule cells limit code → IsCode rule (turned o cells) limit code
+
+-- each later generation of a pattern has the apgcode of the pattern
+abbrev pub CodesLater : Type 0
+CodesLater = (g : ℕ) (rule : Numbers) (cells : List Cell) (limit : ℕ) (code : List ℕ)
+    → InOrder cells → IsCode rule cells limit code → IsCode rule (after rule cells g) limit code
 
 -- two patterns are one object: a generation of the one, in some orientation, is the other, moved
 pub record IsOneObject (rule : Numbers) (cells others : List Cell) : Type 0 where

@@ -1,4 +1,4 @@
--- What the mark `for good` of a finding says of the clusters and of later generations.
+-- Patterns at rest, and what the mark `for good` of a finding says of the clusters and of later generations.
 use Rattle.std.specs.Prelude.{◌≡◌, ◌+◌, ◌*◌, ◌≤◌, ◌≢◌, ◌↔◌, ℕ, pos, Bool, IsTrue, true, List, [], All}
 use Rattle.plane_core.specs.declared.plane.cell.Cell.{Cell}
 use Rattle.plane_core.specs.clusters.Clusters.{AreClusters}
@@ -9,7 +9,36 @@ use Rattle.code_core.specs.Recurrences.{Recurs}
 use Rattle.survey_core.specs.declared.finding.Finding.TheVariants.{Settled}
 use Rattle.survey_core.specs.Findings.{IsFinding, IsSettled}
 use Rattle.survey_core.specs.Profiles.{Settling}
+use Rattle.survey_core.specs.rest.Rest.{IsAtRest, KeepApart, RestsAs}
 use Rattle.survey_core.specs.shapes.Objects.{AreObjectsOf, IsMultiple, StayForGood}
+
+-- the empty pattern is at rest
+abbrev pub EmptyIsAtRest : Type 0
+EmptyIsAtRest = (rule : Numbers) (profile : Settling) → IsAtRest rule profile []
+
+-- Clusters keep apart forever, not just up to the horizon, and the pattern is the same again after each `period`
+-- generations.
+pub record RestsForever (rule : Numbers) (cells : List Cell) (clusters : List (List Cell)) (period : ℕ) : Type 0 where
+  pub apart : (g : ℕ) → KeepApart rule cells clusters g
+  pub back : (g : ℕ) → after rule cells (g + period) ≡ after rule cells g
+
+-- if the objects of a pattern at rest stay for good, this holds with the least common multiple of their periods
+abbrev pub AtRestForGood : Type 0
+AtRestForGood = (rule : Numbers) (profile : Settling) (cells : List Cell) (clusters : List (List Cell)) (objects : List (List ℕ × ℕ))
+    → InOrder cells → profile.period ≤ 64 → RestsAs rule profile cells clusters → AreObjectsOf rule profile.period clusters objects
+    → (good : StayForGood profile.horizon objects) → RestsForever rule cells clusters good.multiple
+
+-- The clusters of a pattern with these objects stay for good: each recurs, and they keep apart forever.
+pub record RestsForGood (rule : Numbers) (profile : Settling) (cells : List Cell) (objects : List (List ℕ × ℕ)) : Type 0 where
+  pub clusters : List (List Cell)
+  pub rest : RestsAs rule profile cells clusters
+  pub good : StayForGood profile.horizon objects
+  pub forever : RestsForever rule cells clusters good.multiple
+
+-- if a finding says that the objects stay for good, they do
+abbrev pub FindingsForGood : Type 0
+FindingsForGood = (rule : Numbers) (profile : Settling) (cells : List Cell) (t : ℕ) (objects : List (List ℕ × ℕ)) → InOrder cells → profile.period ≤ 64
+    → IsFinding rule profile cells (Settled t objects true) → RestsForGood rule profile (after rule cells t) objects
 
 -- the pattern recurs in its place, with this period
 abbrev pub RecursInPlace : Numbers → ℕ → List Cell → ℕ → Type 0

@@ -6,5 +6,9 @@
 
 /// Laws of apgcodes.
 pub mod codes;
+/// Laws of the book, of censuses and of their texts.
+pub mod hauls;
+/// Laws of sets of soup numbers.
+pub mod sets;
 /// Laws of soups, and of what becomes of a pattern.
 pub mod surveys;

@@ -1,0 +1,45 @@
+-- A haul text tells its census.
+use Rattle.std.specs.Prelude.{◌≡◌, ◌<◌, ◌^◌, ℕ}
+use Rattle.std.specs.List.{All}
+use Rattle.plane_core.specs.plane.Rules.{IsRule}
+use Rattle.code_core.specs.Apgcodes.{HasCodeShape}
+use Rattle.survey_core.specs.Profiles.{IsProfile}
+use Rattle.survey_core.specs.Seeds.{IsSeed}
+use Rattle.survey_core.specs.declared.job.Job.{Job}
+use Rattle.ranges.specs.declared.range.Range.{Range}
+use Rattle.ranges.specs.Ranges.{AreNormal, size_of}
+use Rattle.haul_core.specs.declared.book.census.Census.{Census}
+use Rattle.haul_core.specs.declared.book.census_rows.Row.{Row}
+use Rattle.haul_core.specs.HaulTexts.{haul_text}
+
+-- a decimal has the last 64 digits of its number, so it tells numbers below 10^64 apart
+abbrev pub IsShort : ℕ → Type 0
+IsShort n = n < 10 ^ 64
+
+-- the seed, the rule and the profile are valid
+pub record IsJob (job : Job) : Type 0 where
+  pub seed : IsSeed job.seed
+  pub rule : IsRule job.rule
+  pub profile : IsProfile job.profile
+
+-- the code has the shape of an apgcode, and the numbers are short
+pub record IsShortRow (row : Row) : Type 0 where
+  pub code : HasCodeShape row.code
+  pub total : IsShort row.total
+  pub samples : All IsShort row.samples
+
+-- the job is valid, the ranges are in normal form, their size is the count, and the numbers are short
+pub record IsShortCensus (census : Census) : Type 0 where
+  pub job : IsJob census.job
+  pub normal : AreNormal census.ranges
+  pub ranges : All (λ r. IsShort r.first × IsShort r.count) census.ranges
+  pub size : census.count ≡ size_of census.ranges
+  pub soups : IsShort census.soups
+  pub unsettled : IsShort census.unsettled
+  pub for_good : IsShort census.for_good
+  pub objects : IsShort census.objects
+  pub rows : All IsShortRow census.rows
+
+-- such censuses with the same text are equal
+abbrev pub HaulTextsAreFaithful : Type 0
+HaulTextsAreFaithful = (one other : Census) → IsShortCensus one → IsShortCensus other → haul_text one ≡ haul_text other → one ≡ other
