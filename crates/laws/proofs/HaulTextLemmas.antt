@@ -1,5 +1,5 @@
 -- A haul text is cut into its lines, and each line tells its part of the census.
-use Rattle.std.proofs.Common.{◌≡◌, ◌∙◌, ap, sym, refl, subst, ℕ, ◌<◌, ◌≤◌, ◌^◌, ◌==◌, Bool, true, false, not, List, [], ◌∷◌, ◌++◌, Ok, codes, decimal, get_or, length, map, flat_map, arith}
+use Rattle.std.proofs.Common.{◌≡◌, ◌∙◌, ap, sym, refl, subst, ℕ, ◌<◌, ◌≤◌, ◌^◌, ◌==◌, Bool, true, false, List, [], ◌∷◌, ◌++◌, Ok, codes, decimal, get_or, length, map, flat_map, arith}
 use Rattle.std.specs.List.{All, AllByRecursion, list_all}
 use Rattle.std.proofs.lemmas.Bool.{and_from}
 use Rattle.std.proofs.lemmas.List.{append_cancel_left}
@@ -180,24 +180,25 @@ number_once name n m h low less e = ap (λ (ns : List ℕ). get_or ns 0 0) (line
 -- ---- the parts of a haul text
 
 -- a line of a range, by its second byte: `R` (82) and not `N`
-is_range_line : List ℕ → Bool
+abbrev is_range_line : List ℕ → Bool
 is_range_line line = get_or line 1 0 == 82
 
 are_range_lines : (ranges : List Range) → list_all is_range_line (range_lines ranges) ≡ true
-unfolding line_of is_range_line
+unfolding line_of
 are_range_lines [] = refl
 are_range_lines (r ∷ more) = go (r ∷ more)
   where
-    go : (ranges : List Range) → list_all (λ line. get_or line 1 0 == 82) (map range_line ranges) ≡ true
+    go : (ranges : List Range) → list_all is_range_line (map range_line ranges) ≡ true
     go [] = refl
     go (r ∷ more) = go more
 
 -- a line of a row isn't empty
-is_filled : List ℕ → Bool
-is_filled line = not (length line == 0)
+abbrev is_filled : List ℕ → Bool
+is_filled [] = false
+is_filled (b ∷ bs) = true
 
 totals_filled : (rows : List Row) → AllByRecursion IsShortRow rows → list_all is_filled (map total_line rows) ≡ true
-unfolding line_of is_filled
+unfolding line_of
 totals_filled [] h = refl
 totals_filled (row ∷ rows) h = go row.code h.0.code.some (totals_filled rows h.1)
   where
@@ -209,7 +210,7 @@ totals_filled (row ∷ rows) h = go row.code h.0.code.some (totals_filled rows h
 -- the tables
 tables_once : (rows others : List Row) → AllByRecursion IsShortRow rows → AllByRecursion IsShortRow others
     → total_lines rows ++ sample_lines rows ≡ total_lines others ++ sample_lines others → rows ≡ others
-unfolding total_lines sample_lines is_filled
+unfolding total_lines sample_lines
 tables_once rows others h k e =
     let tables : map total_line rows ++ [] ∷ codes "@SAMPLE_SOUPIDS" ∷ map sample_line rows
         ≡ map total_line others ++ [] ∷ codes "@SAMPLE_SOUPIDS" ∷ map sample_line others = cc in
@@ -218,12 +219,12 @@ tables_once rows others h k e =
     rows_once rows others h k cut.0 samples
 
 -- what comes after the ranges
-pub record SameSums (one other : Census) : Type 0 where
-  pub soups : one.soups ≡ other.soups
-  pub unsettled : one.unsettled ≡ other.unsettled
-  pub for_good : one.for_good ≡ other.for_good
-  pub objects : one.objects ≡ other.objects
-  pub rows : one.rows ≡ other.rows
+record SameSums (one other : Census) : Type 0 where
+  soups : one.soups ≡ other.soups
+  unsettled : one.unsettled ≡ other.unsettled
+  for_good : one.for_good ≡ other.for_good
+  objects : one.objects ≡ other.objects
+  rows : one.rows ≡ other.rows
 
 sums_once : (one other : Census) → IsShortCensus one → IsShortCensus other
     → sum_lines one ++ (total_lines one.rows ++ sample_lines one.rows) ≡ sum_lines other ++ (total_lines other.rows ++ sample_lines other.rows)
@@ -248,7 +249,7 @@ job_once j k rs ss h g e =
     (λ i. record { seed = seed i; profile = profile i; rule = rule i }, cc)
 
 after_ranges : (census : Census) (more : List (List ℕ)) → Ends is_range_line (sum_lines census ++ more)
-unfolding sum_lines line_of is_range_line
+unfolding sum_lines line_of
 after_ranges census more = refl
 
 pub haul_texts_are_faithful : HaulTextsAreFaithful

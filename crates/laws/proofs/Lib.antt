@@ -2,6 +2,7 @@ mod BookLemmas
 mod CensusLemmas
 mod CodeLemmas
 mod CountLemmas
+mod FaultPlaces
 mod ForGoodLemmas
 mod HaulTextLemmas
 mod ImageLemmas
@@ -9,6 +10,7 @@ mod JoinedSums
 mod LaterCodes
 mod LimitLemmas
 mod MarkLemmas
+mod OnePlace
 mod PartLemmas
 mod PlacedFindings
 mod RowLemmas

@@ -5,4 +5,6 @@ pub mod Findings
 pub mod ForGood
 pub mod HaulTexts
 pub mod Limits
+pub mod RangeLists
+pub mod ReportLines
 pub mod Soups
