@@ -1,5 +1,5 @@
 -- What `gather` takes is what its input has correct lines for.
-use Rattle.std.proofs.Common.{◌≡◌, ◌∙◌, ap, sym, refl, subst, ℕ, suc, ◌+◌, ◌<◌, ◌≤◌, ◌^◌, ◌&&◌, ◌||◌, ◌⊎◌, inl, inr, Bool, true, false, cond, nat_eq, nat_le}
+use Rattle.std.proofs.Common.{◌≡◌, ◌∙◌, ap, sym, refl, subst, ℕ, zero, suc, ◌+◌, ◌<◌, ◌≤◌, ◌^◌, ◌&&◌, ◌||◌, ◌⊎◌, inl, inr, Bool, true, false, cond, nat_eq, nat_le}
 use Rattle.std.proofs.Common.{List, [], ◌∷◌, ◌++◌, Any, All, Result, Ok, Err, None, Some, Option, arith, append-nil, count_by, filter, length, map}
 use Rattle.std.specs.List.{list_any}
 use Rattle.std.proofs.lemmas.Bool.{and_from, and_parts, cases_Bool, eqb-true, false≢true, le-leb, leb-true, or_right}
@@ -75,7 +75,7 @@ not_faulty terms n line (BadLine p) correct (Front place long fault) =
     omega (arith, long, short)
 
 -- a report is lawful if its job is the haul's, its worker known and its number in the set
-abbrev IsLawfulFor : Terms → ℕ → Reported → Type 0
+abbrev pub IsLawfulFor : Terms → ℕ → Reported → Type 0
 IsLawfulFor terms n report = (report.number ≡ n) × (is_lawful terms report ≡ true)
 
 same_jobs : (claim : Claimed) (job : Job) (report : Reported) → IsConfirmed claim job report → same_job job report.job ≡ true
@@ -112,7 +112,7 @@ correct_line terms line report (Whole short checked) known =
 
 any-push : {X : Type 0} (P : X → Type 0) (xs ys : List X) → Any P xs → Any P (xs ++ ys)
 any-push P [] ys (k, x, low, is, h) = absurd (omega arith)
-any-push P (y ∷ xs) ys (0, x, low, is, h) = (0, x, omega arith, is, h)
+any-push P (y ∷ xs) ys (zero, x, low, is, h) = (0, x, omega arith, is, h)
 any-push P (y ∷ xs) ys (suc k, x, low, is, h) =
     let more = any-push P xs ys (k, x, omega arith, is, h) in
     (suc more.0, more.1, omega (arith, more.2), more.3, more.4)
@@ -124,9 +124,9 @@ any-last P (x ∷ xs) y h =
     (suc more.0, more.1, omega (arith, more.2), more.3, more.4)
 
 any-split : {X : Type 0} (P : X → Type 0) (xs : List X) (y : X) → Any P (xs ++ y ∷ []) → Any P xs ⊎ P y
-any-split P [] y (0, x, low, is, h) = inr (subst P (sym is) h)
+any-split P [] y (zero, x, low, is, h) = inr (subst P (sym is) h)
 any-split P [] y (suc k, x, low, is, h) = absurd (omega arith)
-any-split P (z ∷ xs) y (0, x, low, is, h) = inl (0, x, omega arith, is, h)
+any-split P (z ∷ xs) y (zero, x, low, is, h) = inl (0, x, omega arith, is, h)
 any-split P (z ∷ xs) y (suc k, x, low, is, h) = elim (any-split P xs y (k, x, omega arith, is, h)) [
   | inl more ↦ inl (suc more.0, more.1, omega (arith, more.2), more.3, more.4)
   | inr last ↦ inr last
@@ -134,10 +134,6 @@ any-split P (z ∷ xs) y (suc k, x, low, is, h) = elim (any-split P xs y (k, x, 
 
 any-weaker : {X : Type 0} (P Q : X → Type 0) → ((x : X) → P x → Q x) → (xs : List X) → Any P xs → Any Q xs
 any-weaker P Q weaker xs (k, x, low, is, h) = (k, x, low, is, weaker x h)
-
--- the reports that are offered by these arrivals, of which none is a closing
-abbrev AreOffers : List Arrival → List Reported → Type 0
-AreOffers arrivals reports = offered (arrivals ++ Closing ∷ []) ≡ reports
 
 offers-push : (arrivals : List Arrival) (reports : List Reported) (report : Reported) → arrivals ≡ map Offer reports
     → arrivals ++ Offer report ∷ [] ≡ map Offer (reports ++ report ∷ [])
@@ -152,19 +148,23 @@ offers-closed : (reports : List Reported) → offered (map Offer reports ++ Clos
 offers-closed [] = refl
 offers-closed (r ∷ reports) = ap (λ (more : List Reported). r ∷ more) (offers-closed reports)
 
+-- the line is a report that is lawful for the number
+abbrev pub IsOfLawful : Terms → ℕ → List ℕ → Type 0
+IsOfLawful terms n line = (report : Reported) × IsLookedAt terms.job line (Ok report) × IsLawfulFor terms n report
+
 -- The arrivals are offers of the reports of lines, one after another. What is offered was in some line, and each line
 -- that is correct for a number of the set makes an offer that has it.
-record AreOfLines (terms : Terms) (lines : List (List ℕ)) (arrivals : List Arrival) : Type 0 where
-  reports : List Reported
-  offers : arrivals ≡ map Offer reports
-  sound : (P : Reported → Type 0) → Any P reports → Any (λ line. (report : Reported) × IsLookedAt terms.job line (Ok report) × P report) lines
-  complete : (n : ℕ) → is_in terms.ranges n ≡ true → Any (IsCorrectFor terms n) lines → Any (IsLawfulFor terms n) reports
+pub record AreOfLines (terms : Terms) (lines : List (List ℕ)) (arrivals : List Arrival) : Type 0 where
+  pub reports : List Reported
+  pub offers : arrivals ≡ map Offer reports
+  pub sound : (n : ℕ) → Any (IsLawfulFor terms n) reports → Any (IsOfLawful terms n) lines
+  pub complete : (n : ℕ) → is_in terms.ranges n ≡ true → Any (IsCorrectFor terms n) lines → Any (IsLawfulFor terms n) reports
 
 of_none : (terms : Terms) → AreOfLines terms [] []
 of_none terms = record {
   reports = [];
   offers = refl;
-  sound = λ P any. absurd (nothing any);
+  sound = λ n any. absurd (nothing any);
   complete = λ n within any. absurd (nothing any);
 }
   where
@@ -176,7 +176,7 @@ of_more : (terms : Terms) (lines : List (List ℕ)) (before arrived : List Arriv
 of_more terms lines before arrived line fault h (Faulty why bad) = record {
   reports = h.reports;
   offers = append-nil before ∙ h.offers;
-  sound = λ P any. any-push _ lines (line ∷ []) (h.sound P any);
+  sound = λ n any. any-push (IsOfLawful terms n) lines (line ∷ []) (h.sound n any);
   complete = λ n within any. elim (any-split (IsCorrectFor terms n) lines line any) [
     | inl earlier ↦ h.complete n within earlier
     | inr here ↦ absurd (not_faulty terms n line why here bad)
@@ -185,9 +185,9 @@ of_more terms lines before arrived line fault h (Faulty why bad) = record {
 of_more terms lines before arrived line fault h (Offered report looked) = record {
   reports = h.reports ++ report ∷ [];
   offers = offers-push before h.reports report h.offers;
-  sound = λ P any. elim (any-split P h.reports report any) [
-    | inl earlier ↦ any-push _ lines (line ∷ []) (h.sound P earlier)
-    | inr here ↦ any-last (λ line. (report : Reported) × IsLookedAt terms.job line (Ok report) × P report) lines line (report, looked, here)
+  sound = λ n any. elim (any-split (IsLawfulFor terms n) h.reports report any) [
+    | inl earlier ↦ any-push (IsOfLawful terms n) lines (line ∷ []) (h.sound n earlier)
+    | inr here ↦ any-last (IsOfLawful terms n) lines line (report, looked, here)
   ];
   complete = λ n within any. elim (any-split (IsCorrectFor terms n) lines line any) [
     | inl earlier ↦ any-push (IsLawfulFor terms n) h.reports (report ∷ []) (h.complete n within earlier)
@@ -217,9 +217,9 @@ any_lawful terms n (r ∷ reports) any = go (is_lawful terms r) refl any (any_la
             → list_any (has_number n) (cond b (r ∷ filter (is_lawful terms) reports) (filter (is_lawful terms) reports)) ≡ true
         later true e = or_right (has_number n r) _ e
         later false e = e
-    go false lawful (0, s, low, is, h) more =
+    go false lawful (zero, s, low, is, h) more =
         absurd (false≢true (sym lawful ∙ ap (is_lawful terms) is ∙ h.1))
-    go true lawful (0, s, low, is, h) more =
+    go true lawful (zero, s, low, is, h) more =
         let same : r.number ≡ n = ap (λ (x : Reported). x.number) is ∙ h.0 in
         ap (λ (m : ℕ). nat_eq n m || list_any (has_number n) (filter (is_lawful terms) reports)) same
         ∙ ap (λ (b : Bool). b || list_any (has_number n) (filter (is_lawful terms) reports)) (nat_eq_equiv.refl n)
@@ -263,9 +263,9 @@ module _ (terms : Terms) (lines : List (List ℕ)) (arrivals : List Arrival) (h 
       → (is_in terms.ranges n ≡ true) × Any (IsCorrectFor terms n) lines
   taken_sound n taken =
       let any = lawful_any terms n h.reports (sym (taken_is n) ∙ taken) in
-      let there = h.sound (IsLawfulFor terms n) any in (
+      let there = h.sound n any in (
         (lawful_parts terms n any.1 any.4).1,
-        any-weaker (λ line. (report : Reported) × IsLookedAt terms.job line (Ok report) × IsLawfulFor terms n report) (IsCorrectFor terms n)
+        any-weaker (IsOfLawful terms n) (IsCorrectFor terms n)
             (λ line found. subst (λ (m : ℕ). IsCorrectFor terms m line) found.2.0
             (correct_line terms line found.0 found.1 (lawful_parts terms n found.0 found.2).0)) lines there,
       )

@@ -3,6 +3,7 @@ pub mod Censuses
 pub mod Codes
 pub mod Findings
 pub mod ForGood
+pub mod Gathering
 pub mod HaulTexts
 pub mod Limits
 pub mod RangeLists

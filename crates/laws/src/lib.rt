@@ -6,6 +6,8 @@
 
 /// Laws of apgcodes.
 pub mod codes;
+/// Laws of what `gather` and `take` print.
+pub mod gathering;
 /// Laws of the book, of censuses and of their texts.
 pub mod hauls;
 /// Laws of sets of soup numbers.
