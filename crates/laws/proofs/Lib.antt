@@ -12,11 +12,13 @@ mod LaterCodes
 mod LimitLemmas
 mod LineLemmas
 mod MarkLemmas
+mod NameLemmas
 mod OnePlace
 mod PartLemmas
 mod PlacedFindings
 mod RowLemmas
 mod ShapeLemmas
+mod ShortLemmas
 mod SortedClusters
 mod SoupLemmas
 mod SplitLemmas

@@ -10,6 +10,7 @@ use Rattle.std.proofs.lemmas.List.{get_or-map, length-map}
 use Rattle.std.proofs.lemmas.List.Elements.{All-contains}
 use Rattle.survey_core.specs.declared.job.Job.{Job}
 use Rattle.survey_core.specs.Profiles.{IsProfile, Settling}
+use Rattle.survey_core.specs.Soups.{soup}
 use Rattle.survey_core.specs.Seeds.{IsSeed, is_invisible, most_bytes, seed_read, seed_with_fault}
 use Rattle.survey_core.specs.declared.seed.SeedFault.{SeedFault}
 use Rattle.survey_core.specs.declared.seed.SeedFault.TheVariants.{TooLong as TooLongSeed}
@@ -56,7 +57,7 @@ use Rattle.laws.specs.HaulTexts.{IsJob}
 use Rattle.laws.proofs.CensusLemmas.{complete_hauls}
 use Rattle.laws.proofs.GatherLemmas.{gather_tells_correct_lines}
 use Rattle.laws.proofs.LineLemmas.{claim_one_line, lines_of_text}
-use Rattle.laws.proofs.ShapeLemmas.{finding_shape}
+use Rattle.laws.proofs.ShapeLemmas.{small_finding, soup_close}
 
 -- ---- a set has one list of ranges
 
@@ -164,7 +165,8 @@ report_claims : (job : Job) (report : Reported) → IsJob job → report.job ≡
 report_claims job report valid is found =
     let own : IsJob report.job = subst IsJob (sym is) valid in
     report_is_claim report found own.rule own.profile own.seed
-    (finding_shape report.job.rule report.job.profile report.job.seed report.number report.finding own.profile found.finding)
+    (small_finding report.job.rule report.job.profile (soup report.job.seed report.number) report.finding own.profile
+    (soup_close report.job.seed report.number) found.finding).shape
 
 lines_whole : (job : Job) (worker : ℕ) (numbers : List ℕ) (reports : List Reported) → IsJob job → AreReportsOn job worker numbers reports
     → AllByRecursion IsOneLine (map line_in reports)

@@ -6,6 +6,7 @@ pub mod ForGood
 pub mod Gathering
 pub mod HaulTexts
 pub mod Limits
+pub mod NameTexts
 pub mod RangeLists
 pub mod ReportLines
 pub mod Soups

@@ -2,7 +2,7 @@
 
 ghost use Rattle.laws.specs.Books.{FirstOffersAreTaken, WorkersAreTakenInOrder};
 ghost use Rattle.laws.specs.Censuses.{CompleteHaulsPrintTheSame, JoinedHaulsAddUp, SameSoupsPrintTheSame, SplitSetsAddUp};
-ghost use Rattle.laws.specs.HaulTexts.{HaulTextsAreFaithful};
+ghost use Rattle.laws.specs.HaulTexts.{HaulCensusesAreShort, HaulTextsAreFaithful};
 ghost use Rattle.laws.specs.ReportLines.{FaultyLinesHaveNoClaim, LinesHaveOneClaim, LinesHaveOneFault};
 
 /// The law that a number is taken if and only if some eligible offer has it, and that the worker of the first such
@@ -36,10 +36,11 @@ pub fn split_sets_add_up()
     ensures { SplitSetsAddUp }
 {}
 
-/// The law that two censuses with the same haul text are equal, if their jobs are valid, their ranges are in normal form
-/// and their numbers are below 10^64.
+/// The laws that two censuses with the same haul text are equal, if their jobs are valid, their ranges are in normal
+/// form and their numbers are below 10^64, and that the census of every haul is so.
 pub fn haul_texts_are_faithful()
-    ensures { HaulTextsAreFaithful }
+    ensures faithful { HaulTextsAreFaithful }
+    ensures hauls { HaulCensusesAreShort }
 {}
 
 /// The laws of report lines: a line is the line of at most one claim, a line with a fault is the line of none, and a

@@ -10,6 +10,8 @@ pub mod codes;
 pub mod gathering;
 /// Laws of the book, of censuses and of their texts.
 pub mod hauls;
+/// Laws of what `name` prints.
+pub mod names;
 /// Laws of sets of soup numbers.
 pub mod sets;
 /// Laws of soups, and of what becomes of a pattern.

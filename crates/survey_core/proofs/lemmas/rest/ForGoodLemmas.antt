@@ -1,17 +1,8 @@
 -- The empty pattern, patterns that recur in their places, and clusters that keep apart forever.
-use Rattle.std.proofs.Common.{◌≡◌, ◌≢◌, ◌∙◌, ap, sym, refl, subst, ℕ, ℤ, pos, ◌+ℤ◌, zero, suc, ◌+◌, ◌*◌, ◌/◌, ◌%◌, ◌<◌, ◌≤◌, ◌^◌, ◌==◌, ◌&&◌, add-one}
-use Rattle.std.proofs.Common.{add_comm, Bool, true, false, cond, List, [], ◌∷◌, map, All, count_by, drop, get_or, Some, unwrap_or, arith, if◌then◌else◌}
-use Rattle.std.specs.List.{AllZip, list_any}
-use Rattle.std.specs.Map.{lookup}
-use Rattle.std.specs.Ordering.{int_eq, is_eq, nat_cmp}
-use Rattle.std.specs.Cmp.Lexicographic.{nat_list_cmp_total, slice_cmp}
-use Rattle.std.specs.Cmp.{tied_itself}
-use Rattle.std.specs.declared.cmp.Ordering.{Ordering}
-use Rattle.std.specs.declared.cmp.Ordering.TheVariants.{Less, Equal, Greater}
-use Rattle.std.proofs.lemmas.Bool.{and_parts, false≢true}
-use Rattle.std.proofs.lemmas.Bool.Decides.{Decides-eqb, Decides-int_eq}
+use Rattle.std.proofs.Common.{◌≡◌, ◌∙◌, ap, sym, refl, subst, ℕ, ℤ, pos, ◌+ℤ◌, zero, suc, ◌+◌, ◌*◌, ◌/◌, ◌%◌, ◌≤◌, add-one}
+use Rattle.std.proofs.Common.{List, [], ◌∷◌, map, All, drop, get_or, arith}
+use Rattle.std.specs.List.{list_any}
 use Rattle.std.proofs.lemmas.Int.{ints}
-use Rattle.std.proofs.lemmas.List.Sums.{sum_by-append}
 use Rattle.std.proofs.Math.Nat.{div-add-mod, mul_comm, suc-mul, zero-mul}
 use Rattle.plane_core.specs.declared.plane.cell.Cell.{Cell}
 use Rattle.plane_core.specs.plane.Bounds.{shifted}
@@ -19,23 +10,11 @@ use Rattle.plane_core.specs.plane.Cells.{InOrder, has}
 use Rattle.plane_core.specs.clusters.Clusters.{Partition}
 use Rattle.plane_core.specs.plane.Generations.{after, next}
 use Rattle.plane_core.specs.plane.Rules.{Numbers}
-use Rattle.plane_core.proofs.lemmas.clusters.ClusterLaws.{partition_law}
 use Rattle.plane_core.proofs.lemmas.plane.GenerationLemmas.{after-none, after-more}
 use Rattle.plane_core.proofs.lemmas.plane.SetLemmas.{same_lists}
-use Rattle.code_core.specs.declared.apgcode.Kind.{Kind}
-use Rattle.code_core.specs.declared.apgcode.Kind.TheVariants.{Still, Oscillator, Ship}
-use Rattle.code_core.specs.declared.recurrence.Recurrence.{Recurrence}
-use Rattle.code_core.specs.Apgcodes.{code_text, kind_in, number_in}
-use Rattle.code_core.specs.Names.{IsCode, kind_of, number_of}
-use Rattle.code_core.proofs.ApgcodeLemmas.{kind_of_name, number_of_name}
 use Rattle.code_core.proofs.MovedCodes.{in_order-after}
-use Rattle.survey_core.specs.FindingLaws.{FindingsForGood}
-use Rattle.survey_core.specs.Findings.{IsSettled}
-use Rattle.survey_core.specs.shapes.Objects.{IsMultiple, StayForGood, count_of, is_code, period_in, period_of_kind}
 use Rattle.survey_core.specs.rest.Rest.{KeepApart}
-use Rattle.survey_core.specs.rest.RestLaws.{AtRestForGood, EmptyIsAtRest}
 use Rattle.survey_core.proofs.lemmas.FindingLemmas.{after-then}
-use Rattle.survey_core.proofs.lemmas.shapes.ObjectLemmas.{same_code}
 
 -- ---- the empty pattern
 
