@@ -37,11 +37,11 @@ get_cpu() {
     done 2>/dev/null </proc/cpuinfo
 }
 
-# Prints the digests of the sources, and of the program if it is named. Crates of tests, mutants and tests' inputs aren't built into
-# it.
+# Prints the digests of the sources, and of the program if it is named. Crates of tests, the laws, mutants and tests' inputs aren't
+# built into it.
 digests() (
     set -o pipefail
-    cd -- "$top" && find crates.txt crates "$@" \( -name out -o -path 'crates/*_tests' \) -prune -o \
+    cd -- "$top" && find crates.txt crates "$@" \( -name out -o -path 'crates/*_tests' -o -path crates/laws \) -prune -o \
         -type f \( -name '*.rt' -o -name '*.antt' -o -path crates.txt -o -path "$program" \) \
         -exec b2sum -l 256 -- {} + 2>/dev/null | LC_ALL=C sort
 )

@@ -19,4 +19,5 @@ pub mod Rows
 pub mod SampleSteps
 pub mod Samples
 pub mod Scores
+pub mod Subsequences
 pub mod Totals

@@ -4,7 +4,8 @@ use Rattle.std.proofs.Common.{ap, sym, subst, refl, inl, inr, arith, filter, map
 use Rattle.std.proofs.lemmas.Bool.{cases_Bool, eqb-true, false≢true}
 use Rattle.std.proofs.lemmas.List.Elements.{All-cons, All-filter, All-head, All-map, All-tail, All-weaker, filter_passes}
 use Rattle.haul_core.specs.declared.book.arrival.Arrival.{Arrival}
-use Rattle.laws.specs.Books.{IsSubsequence, IsTakenOf}
+use Rattle.haul_core.specs.Subsequences.{IsSubsequence}
+use Rattle.laws.specs.Books.{IsTakenOf}
 use Rattle.haul_core.specs.Books.{Terms, eligible, entry, first_of_each, has_number, is_lawful, offered, taken_of}
 use Rattle.survey_core.specs.Jobs.{same_job}
 use Rattle.haul_core.specs.Keeping.{numbers_in}

@@ -1,18 +1,14 @@
 -- Laws of the book: which offers it takes, and what it takes from a worker.
-use Rattle.std.specs.Prelude.{◌≡◌, ◌≤◌, ◌⊎◌, ℕ, All, true, List, [], ◌∷◌, count_by, filter, map, nat_eq}
+use Rattle.std.specs.Prelude.{◌≡◌, ◌≤◌, ℕ, All, true, List, count_by, filter, map, nat_eq}
 use Rattle.haul_core.specs.declared.book.arrival.Arrival.{Arrival}
 use Rattle.haul_core.specs.Books.{Terms, eligible, entry, has_number, offered, taken_of}
 use Rattle.haul_core.specs.Keeping.{numbers_in}
 use Rattle.haul_core.specs.Missing.{is_taken}
 use Rattle.haul_core.specs.Refusals.{first_worker}
 use Rattle.haul_core.specs.Replies.{worker_in}
+use Rattle.haul_core.specs.Subsequences.{IsSubsequence}
 use Rattle.std.specs.List.{list_any}
 use Rattle.ranges.specs.Ranges.{is_in}
-
--- some of the items, in their order
-abbrev pub IsSubsequence : {X : Type 0} → List X → List X → Type 0
-IsSubsequence part [] = part ≡ []
-IsSubsequence part (x ∷ xs) = IsSubsequence part xs ⊎ ((remainder : _) × (part ≡ x ∷ remainder) × IsSubsequence remainder xs)
 
 -- the entries of this worker, in a list of workers and numbers
 abbrev pub of_worker : ℕ → List (ℕ × ℕ) → List (ℕ × ℕ)

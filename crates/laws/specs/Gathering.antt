@@ -1,5 +1,5 @@
 -- What `gather` makes of its input, whatever the order of its lines.
-use Rattle.std.specs.Prelude.{◌≡◌, ◌≤◌, ◌^◌, ◌↔◌, ℕ, true, Any, Err, List, Ok, MatchResult, count_by, length, nat_eq}
+use Rattle.std.specs.Prelude.{◌≡◌, ◌≤◌, ◌^◌, ◌↔◌, ℕ, true, Any, List, Ok, MatchResult, count_by, length, nat_eq}
 use Rattle.std.specs.List.{All, Contains, list_any}
 use Rattle.survey_core.specs.declared.job.Job.{Job}
 use Rattle.ranges.specs.declared.range.Range.{Range}
@@ -13,7 +13,6 @@ use Rattle.haul_core.specs.LawfulClaims.{Claimed}
 use Rattle.haul_core.specs.Reports.{Reported}
 use Rattle.requests.specs.declared.plan.Plan.{Plan}
 use Rattle.requests.specs.declared.soup_set.SoupSet.{SoupSet}
-use Rattle.pattern_commands.specs.Answers.{Answer}
 use Rattle.pattern_commands.specs.Behaviours.{Made}
 use Rattle.pattern_commands.specs.declared.complaint.Complaint.{Complaint}
 use Rattle.pattern_commands.specs.Profiles.{AreInRange}
