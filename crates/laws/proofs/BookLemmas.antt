@@ -1,10 +1,8 @@
 -- Which offers the book takes.
 use Rattle.std.proofs.Common.{◌≡◌, ◌∙◌, ap, sym, refl, ℕ, Bool, true, false, cond, nat_eq, List, [], ◌∷◌, ◌||◌, Option, None, Some, map, option_map}
 use Rattle.std.specs.List.{find, list_any}
-use Rattle.haul_core.specs.Books.{eligible, entry, first_of_each, has_number, taken_of}
+use Rattle.haul_core.specs.Books.{eligible, entry, first_of_each, has_number}
 use Rattle.haul_core.specs.Keeping.{numbers_in}
-use Rattle.haul_core.specs.Refusals.{first_worker}
-use Rattle.haul_core.specs.Replies.{worker_in}
 use Rattle.haul_core.specs.Reports.{Reported}
 use Rattle.haul_core.proofs.BookLemmas.{find_first, worker_found}
 use Rattle.laws.specs.Books.{FirstOffersAreTaken}

@@ -1,6 +1,6 @@
 -- Patterns with the same apgcode are one object.
 use Rattle.std.proofs.Common.{◌≡◌, ◌∙◌, sym, ap, refl, subst, ℕ, zero, suc, ◌+◌, ◌-◌, ◌/◌, ◌%◌, ◌<◌, ◌==◌, Bool, true, false, not, cond, List, [], ◌∷◌, ◌++◌}
-use Rattle.std.proofs.Common.{Option, None, Some, Ok, decimal, get_or, arith, codes, neg_ℤ, append_assoc}
+use Rattle.std.proofs.Common.{Option, None, Some, Ok, decimal, get_or, arith, neg_ℤ}
 use Rattle.std.specs.Fmt.{digit_glyph, digits, digits_onto}
 use Rattle.std.specs.List.{list_all}
 use Rattle.std.proofs.lemmas.Bool.{and_from, and_parts}
@@ -18,14 +18,14 @@ use Rattle.plane_core.proofs.lemmas.plane.TransformLemmas.{in_order-shifted}
 use Rattle.plane_core.proofs.lemmas.plane.OrientationLemmas.{at_corner-shifted, same_is_identity, turned-turned, turning_back, turning_moved}
 use Rattle.code_core.specs.declared.apgcode.Kind.{Kind}
 use Rattle.code_core.specs.declared.apgcode.Kind.TheVariants.{Still, Oscillator, Ship}
-use Rattle.code_core.specs.Apgcodes.{code_text, ending, letter}
-use Rattle.code_core.specs.Names.{IsCode, IsImageText, IsLeastOf, kind_of, number_of}
+use Rattle.code_core.specs.Apgcodes.{code_text}
+use Rattle.code_core.specs.Names.{IsImageText, IsLeastOf, kind_of, number_of}
 use Rattle.code_core.specs.Reading.{wechsler_read}
 use Rattle.code_core.specs.Texts.{text}
 use Rattle.code_core.proofs.ImageLemmas.{image-same}
 use Rattle.code_core.proofs.MovedCodes.{after-shifted, in_order-after}
 use Rattle.code_core.proofs.RoundTrip.{texts_are_read}
-use Rattle.laws.specs.Codes.{CodesAreFaithful, IsOneObject}
+use Rattle.laws.specs.Codes.{CodesAreFaithful}
 use Rattle.laws.proofs.LaterCodes.{after-after}
 use Rattle.laws.proofs.TurnedCodes.{after-image, in_order-image}
 

@@ -1,11 +1,10 @@
 -- Patterns at rest: the empty pattern, and patterns whose objects stay for good.
-use Rattle.std.proofs.Common.{◌≡◌, ◌≢◌, ◌∙◌, ap, sym, refl, subst, ℕ, zero, suc, ◌+◌, ◌*◌, ◌≤◌, List, [], All, arith, add_comm, get_or, true}
+use Rattle.std.proofs.Common.{◌≡◌, ◌≢◌, ◌∙◌, ap, sym, refl, subst, ℕ, ◌+◌, ◌*◌, ◌≤◌, List, [], All, arith, add_comm, get_or, true}
 use Rattle.std.proofs.lemmas.Bool.{false≢true}
 use Rattle.std.proofs.Math.Nat.{mul-mod_left}
 use Rattle.plane_core.specs.declared.plane.cell.Cell.{Cell}
 use Rattle.plane_core.specs.clusters.Clusters.{Partition}
 use Rattle.plane_core.specs.plane.Bounds.{shifted}
-use Rattle.plane_core.specs.plane.Cells.{InOrder}
 use Rattle.plane_core.specs.plane.Generations.{after}
 use Rattle.plane_core.specs.plane.Rules.{Numbers}
 use Rattle.plane_core.proofs.lemmas.clusters.ClusterLaws.{partition_law}

@@ -1,14 +1,10 @@
 -- What `gather` takes is what its input has correct lines for.
-use Rattle.std.proofs.Common.{◌≡◌, ◌∙◌, ap, sym, refl, subst, ℕ, zero, suc, ◌+◌, ◌<◌, ◌≤◌, ◌^◌, ◌&&◌, ◌||◌, ◌⊎◌, inl, inr, Bool, true, false, cond, nat_eq, nat_le}
-use Rattle.std.proofs.Common.{List, [], ◌∷◌, ◌++◌, Any, All, Result, Ok, Err, None, Some, Option, arith, append-nil, count_by, filter, length, map}
+use Rattle.std.proofs.Common.{◌≡◌, ◌∙◌, ap, sym, refl, subst, ℕ, zero, suc, ◌+◌, ◌≤◌, ◌^◌, ◌&&◌, ◌||◌, ◌⊎◌, inl, inr, Bool, true, false, cond, nat_eq, nat_le}
+use Rattle.std.proofs.Common.{List, [], ◌∷◌, ◌++◌, Any, Result, Ok, Err, Option, arith, append-nil, count_by, filter, length, map}
 use Rattle.std.specs.List.{list_any}
 use Rattle.std.proofs.lemmas.Bool.{and_from, and_parts, cases_Bool, eqb-true, false≢true, le-leb, leb-true, or_right}
-use Rattle.std.proofs.lemmas.List.Folds.{Any-from_list_any, list_any-append, list_any-from_Any}
-use Rattle.survey_core.specs.declared.finding.Finding.{Finding}
 use Rattle.survey_core.specs.declared.job.Job.{Job}
-use Rattle.survey_core.specs.Findings.{IsFinding}
 use Rattle.survey_core.specs.Jobs.{same_job}
-use Rattle.survey_core.specs.Soups.{soup}
 use Rattle.survey_core.proofs.lemmas.JobLemmas.{jobs_decide}
 use Rattle.std.specs.Cmp.{nat_eq_equiv}
 use Rattle.std.specs.Prelude.{IsOkAnd}
@@ -18,9 +14,9 @@ use Rattle.haul_core.specs.declared.book.arrival.Arrival.TheVariants.{Closing, O
 use Rattle.haul_core.specs.Books.{Terms, eligible, has_number, is_lawful, offered, taken_of}
 use Rattle.haul_core.specs.ClaimChecks.{Agrees, IsConfirmed, IsFoundFor}
 use Rattle.haul_core.specs.Keeping.{numbers_in}
-use Rattle.haul_core.specs.LawfulClaims.{Claimed, IsClaim}
-use Rattle.haul_core.specs.Missing.{IsComplete, is_taken, missing_of}
-use Rattle.haul_core.specs.ReportLines.{claim_line, claim_of}
+use Rattle.haul_core.specs.LawfulClaims.{Claimed}
+use Rattle.haul_core.specs.Missing.{is_taken}
+use Rattle.haul_core.specs.ReportLines.{claim_of}
 use Rattle.haul_core.specs.Reports.{Reported}
 use Rattle.haul_core.proofs.MissingLemmas.{complete_from, none_missing}
 use Rattle.haul_core.proofs.OneClaim.{one_claim}
@@ -28,13 +24,13 @@ use Rattle.haul_core.proofs.SpaceLemmas.{no_claim}
 use Rattle.commands.specs.declared.line_fault.LineFault.{LineFault}
 use Rattle.commands.specs.declared.line_fault.LineFault.TheVariants.{BadLine, Disagrees, Double, OtherJob, OutOfRange, UnknownWorker}
 use Rattle.commands.specs.GatheredLines.{Claims, ComesOf, Faulty, Front, Gathered, IsChecked, IsLookedAt, Next, Offered, Start, Whole}
-use Rattle.commands.specs.Gathering.{IsGathered, IsGathering, IsHaulOver, gather_opens}
+use Rattle.commands.specs.Gathering.{IsGathered, IsHaulOver, gather_opens}
 use Rattle.commands.specs.SoupSets.{job_named}
 use Rattle.requests.specs.declared.plan.Plan.{Plan}
 use Rattle.pattern_commands.specs.declared.complaint.Complaint.{Complaint}
 use Rattle.commands.specs.Lines.{input_lines}
 use Rattle.pattern_commands.specs.Behaviours.{Made}
-use Rattle.laws.specs.Gathering.{GatherTellsCorrectLines, HasCorrectLine, IsCorrectFor, TellsCorrectLines}
+use Rattle.laws.specs.Gathering.{GatherTellsCorrectLines, IsCorrectFor, TellsCorrectLines}
 use Rattle.laws.proofs.BookLemmas.{first_offers_are_taken}
 use Rattle.laws.proofs.PartLemmas.{taken_once}
 

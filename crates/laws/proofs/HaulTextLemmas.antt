@@ -1,7 +1,6 @@
 -- A haul text is cut into its lines, and each line tells its part of the census.
-use Rattle.std.proofs.Common.{◌≡◌, ◌∙◌, ap, sym, refl, subst, ℕ, ◌<◌, ◌≤◌, ◌^◌, ◌==◌, Bool, true, false, List, [], ◌∷◌, ◌++◌, Ok, codes, decimal, get_or, length, map, flat_map, arith}
-use Rattle.std.specs.List.{All, AllByRecursion, list_all}
-use Rattle.std.proofs.lemmas.Bool.{and_from}
+use Rattle.std.proofs.Common.{◌≡◌, ◌∙◌, ap, sym, refl, ℕ, ◌≤◌, ◌==◌, Bool, true, false, List, [], ◌∷◌, ◌++◌, codes, decimal, get_or, length, map, flat_map, arith}
+use Rattle.std.specs.List.{AllByRecursion, list_all}
 use Rattle.std.proofs.lemmas.List.{append_cancel_left}
 use Rattle.std.proofs.lemmas.List.Elements.{recursion_from_All}
 use Rattle.plane_core.specs.plane.Rules.{rule_text}
@@ -213,7 +212,7 @@ tables_once : (rows others : List Row) → AllByRecursion IsShortRow rows → Al
 unfolding total_lines sample_lines
 tables_once rows others h k e =
     let tables : map total_line rows ++ [] ∷ codes "@SAMPLE_SOUPIDS" ∷ map sample_line rows
-        ≡ map total_line others ++ [] ∷ codes "@SAMPLE_SOUPIDS" ∷ map sample_line others = cc in
+    ≡ map total_line others ++ [] ∷ codes "@SAMPLE_SOUPIDS" ∷ map sample_line others = cc in
     let cut = lines_once is_filled (map total_line rows) (map total_line others) _ _ (totals_filled rows h) (totals_filled others k) refl refl tables in
     let samples : map sample_line rows ≡ map sample_line others = (let t = cut.1 in cc) in
     rows_once rows others h k cut.0 samples

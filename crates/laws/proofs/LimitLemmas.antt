@@ -1,5 +1,5 @@
 -- Rest and checkpoints under another limit.
-use Rattle.std.proofs.Common.{ℕ, ◌<◌, ◌≤◌, List, arith}
+use Rattle.std.proofs.Common.{ℕ, ◌≤◌, List, arith}
 use Rattle.std.proofs.lemmas.Bool.{cases_lt}
 use Rattle.std.proofs.Common.{inl, inr}
 use Rattle.plane_core.specs.declared.plane.cell.Cell.{Cell}
@@ -41,5 +41,5 @@ pub unsettled_settle_later : UnsettledSettleLater
 unsettled_settle_later rule profile limit cells t objects good never finding = elim (cases_lt profile.limit t) [
   | inl later ↦ later
   | inr low ↦ absurd (never t (checkpoint_over profile limit t low finding.0)
-    (rest_over rule profile limit _ (finding.2.clusters, finding.2.rest)))
+      (rest_over rule profile limit _ (finding.2.clusters, finding.2.rest)))
 ]

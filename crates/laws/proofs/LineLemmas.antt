@@ -1,5 +1,5 @@
 -- The line of a lawful claim has no line feed, and a text of such lines has these lines.
-use Rattle.std.proofs.Common.{ℕ, zero, suc, ◌≡◌, ◌≢◌, ◌∙◌, ap, refl, ◌≤◌, ◌==◌, append_assoc, cond, ◌++◌, ◌∷◌, List, [], Bool, true, false, Option, None, Some, arith, codes, decimal, flat_map, map, nat_le}
+use Rattle.std.proofs.Common.{ℕ, zero, suc, ◌≡◌, ◌∙◌, ap, refl, ◌≤◌, append_assoc, cond, ◌++◌, ◌∷◌, List, [], Bool, true, false, Option, None, Some, arith, codes, decimal, flat_map, map}
 use Rattle.std.specs.List.{AllByRecursion, list_all}
 use Rattle.std.proofs.lemmas.Bool.{and_parts, leb-true, ne_eqb}
 use Rattle.std.proofs.lemmas.List.Elements.{recursion_from_All}

@@ -1,7 +1,6 @@
 -- What the code of a cluster says of its recurrence, and that codes and clusters agree on what stays for good.
-use Rattle.std.proofs.Common.{◌≡◌, ◌≢◌, ◌∙◌, ap, sym, refl, subst, ℕ, ℤ, pos, zero, suc, ◌+◌, ◌<◌, ◌≤◌, ◌^◌, ◌==◌, ◌&&◌, Bool, true, false, cond}
-use Rattle.std.proofs.Common.{List, [], ◌∷◌, All, Some, unwrap_or, count_by, arith, if◌then◌else◌, get_or}
-use Rattle.std.specs.Prelude.{◌↔◌}
+use Rattle.std.proofs.Common.{◌≡◌, ◌≢◌, ◌∙◌, ap, sym, refl, subst, ℕ, pos, zero, suc, ◌+◌, ◌≤◌, ◌==◌, ◌&&◌, Bool, true, false, cond}
+use Rattle.std.proofs.Common.{List, [], ◌∷◌, All, Some, unwrap_or, count_by, arith, get_or}
 use Rattle.std.specs.List.{AllZip}
 use Rattle.std.specs.Map.{lookup}
 use Rattle.std.specs.Ordering.{int_eq, is_eq, nat_cmp}
@@ -204,9 +203,11 @@ module _ (rule : Numbers) (limit : ℕ) (clusters : List (List Cell)) (objects :
         let found = of_clusters rule limit clusters objects counted (λ code. kind_in code ≢ Ship) none k d there in
         let r = found.1.recurrence in
         let still = stays_in_place found.1.recurrence
-        (λ ship. found.2 (code_kind rule (get_or clusters k d) limit found.0 found.1 ∙ ship)) in
-        (found.1.recurrence.period, subst (Recurs rule (get_or clusters k d) limit)
-        (λ i. record { period = found.1.recurrence.period; dx = still.0 i; dy = still.1 i }) found.1.recurs)
+        (λ ship. found.2 (code_kind rule (get_or clusters k d) limit found.0 found.1 ∙ ship)) in (
+          found.1.recurrence.period,
+          subst (Recurs rule (get_or clusters k d) limit)
+              (λ i. record { period = found.1.recurrence.period; dx = still.0 i; dy = still.1 i }) found.1.recurs,
+        )
 
     stay_there : (horizon : ℕ) → StayForGood horizon objects → ClustersStayForGood rule limit horizon clusters
     stay_there horizon good = record {

@@ -1,25 +1,20 @@
 -- The lines of `name` are cut into a checkpoint, codes and counts.
-use Rattle.std.proofs.Common.{◌≡◌, ◌∙◌, ap, sym, refl, subst, ℕ, suc, ◌+◌, ◌<◌, ◌≤◌, ◌^◌, ◌++◌, Bool, true, false, List, [], ◌∷◌, All, append_assoc, arith, codes, decimal, flat_map, get_or, length, sum}
+use Rattle.std.proofs.Common.{◌≡◌, ◌∙◌, ap, sym, refl, subst, ℕ, suc, ◌+◌, ◌<◌, ◌≤◌, ◌^◌, ◌++◌, List, [], ◌∷◌, All, append_assoc, arith, codes, decimal, flat_map, get_or, sum}
 use Rattle.std.specs.Cmp.{both_ways as both_true}
 use Rattle.std.specs.List.{AllByRecursion}
 use Rattle.std.specs.Map.{values_of}
 use Rattle.std.proofs.lemmas.List.{append_cancel_left}
 use Rattle.std.proofs.lemmas.List.Sums.{sum_by-cons}
-use Rattle.plane_core.specs.declared.plane.cell.Cell.{Cell}
-use Rattle.plane_core.specs.plane.Generations.{after, lies_within}
-use Rattle.plane_core.specs.plane.Rules.{Numbers}
+use Rattle.plane_core.specs.plane.Generations.{after}
 use Rattle.code_core.specs.Apgcodes.{HasCodeShape}
-use Rattle.survey_core.specs.declared.finding.Finding.{Finding}
 use Rattle.survey_core.specs.declared.finding.Finding.TheVariants.{Settled, Unsettled}
 use Rattle.survey_core.specs.Findings.{IsSettled}
-use Rattle.survey_core.specs.Profiles.{IsProfile, Settling}
-use Rattle.haul_core.specs.ClaimChecks.{HaveShape}
 use Rattle.haul_core.specs.FieldSteps.{Lacks}
 use Rattle.haul_core.proofs.SpaceLemmas.{cut_once}
 use Rattle.pattern_commands.specs.Name.{object_line}
 use Rattle.laws.specs.HaulTexts.{IsShort}
 use Rattle.laws.specs.NameTexts.{NameTextsAreFaithful}
-use Rattle.laws.proofs.ShapeLemmas.{IsSmallFinding, small_finding}
+use Rattle.laws.proofs.ShapeLemmas.{small_finding}
 use Rattle.laws.proofs.TextLemmas.{all_lack, code_visible, decimal_lack, decimal_once}
 
 -- an object whose code has its shape, and whose count is short

@@ -1,5 +1,5 @@
 -- Findings are small: their clusters are few and have few cells, so their codes have the shape of apgcodes.
-use Rattle.std.proofs.Common.{◌≡◌, ◌≢◌, ap, sym, refl, subst, ℕ, zero, suc, ℤ, pos, ◌+ℤ◌, ◌+◌, ◌*◌, ◌<◌, ◌≤◌, ◌^◌, ◌++◌, true, List, [], ◌∷◌, All, AllPairs, arith, decimal, get_or, length, nat_le, unsigned_abs}
+use Rattle.std.proofs.Common.{◌≡◌, ◌≢◌, ap, sym, refl, subst, ℕ, suc, ℤ, pos, ◌+ℤ◌, ◌+◌, ◌*◌, ◌<◌, ◌≤◌, ◌^◌, ◌++◌, true, List, [], ◌∷◌, All, AllPairs, arith, decimal, get_or, length, nat_le, unsigned_abs}
 use Rattle.std.specs.List.{list_all}
 use Rattle.std.specs.Ordering.{int_cmp, ordering_then}
 use Rattle.std.specs.declared.cmp.Ordering.{Ordering}
@@ -126,8 +126,11 @@ few_clusters_after one (other ∷ clusters) some order within =
 few_clusters : (cells : List Cell) (clusters : List (List Cell)) → AreClusters cells clusters → lies_within 101000 cells ≡ true → length clusters < 2 ^ 64
 few_clusters cells [] are within = omega arith
 few_clusters cells (one ∷ clusters) are within =
-    omega (arith, few_clusters_after one clusters (clusters_some cells (one ∷ clusters) are) are.in_order
-    (clusters_near 101000 cells (one ∷ clusters) are within))
+    omega (
+      arith,
+      few_clusters_after one clusters (clusters_some cells (one ∷ clusters) are) are.in_order
+          (clusters_near 101000 cells (one ∷ clusters) are within),
+    )
 
 -- ---- findings
 

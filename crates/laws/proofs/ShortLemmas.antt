@@ -1,6 +1,6 @@
 -- The census of a haul is short: its numbers are far below 10^64.
-use Rattle.std.proofs.Common.{◌≡◌, ◌∙◌, ap, sym, refl, subst, ℕ, zero, suc, ◌+◌, ◌*◌, ◌<◌, ◌≤◌, ◌^◌, ◌++◌, Bool, true, false, ◌||◌, cond, nat_eq, nat_le, nat_lt, inl, inr}
-use Rattle.std.proofs.Common.{List, [], ◌∷◌, All, arith, count_by, filter, get_or, length, map, sum_by}
+use Rattle.std.proofs.Common.{◌≡◌, ◌∙◌, ap, sym, refl, subst, ℕ, zero, suc, ◌+◌, ◌<◌, ◌≤◌, ◌^◌, ◌++◌, Bool, true, false, ◌||◌, cond, nat_eq, nat_le, nat_lt, inl, inr}
+use Rattle.std.proofs.Common.{List, [], ◌∷◌, All, arith, filter, get_or, length, map, sum_by}
 use Rattle.std.specs.List.{IsDistinct, list_any}
 use Rattle.std.specs.Cmp.{nat_eq_equiv}
 use Rattle.std.proofs.lemmas.Bool.{and_parts, cases_Bool, cases_lt, eqb-true, false≢true, ltb-true, or_right}
@@ -15,19 +15,16 @@ use Rattle.survey_core.specs.Soups.{soup}
 use Rattle.code_core.specs.Apgcodes.{HasCodeShape}
 use Rattle.ranges.specs.declared.range.Range.{Range}
 use Rattle.ranges.specs.Ranges.{AreBelow, AreNormal, end_of, is_in, is_in_range, number_bound, size_of}
-use Rattle.haul_core.specs.declared.book.census.Census.{Census}
 use Rattle.haul_core.specs.declared.book.census_rows.Row.{Row}
-use Rattle.haul_core.specs.Censuses.{IsCensus}
 use Rattle.haul_core.specs.ClaimChecks.{HaveShape}
 use Rattle.haul_core.specs.Keeping.{numbers_in}
-use Rattle.haul_core.specs.Rows.{AreRowsOf, IsRowOf}
 use Rattle.haul_core.specs.Samples.{AreLeastThree}
 use Rattle.haul_core.specs.Totals.{AreSurveys, Survey, count_in, has_object, is_for_good, is_unsettled, numbers_with, total}
 use Rattle.haul_core.proofs.JoinLemmas.{size_below}
-use Rattle.haul_core.proofs.MissingLemmas.{count_yes, missing_counted}
+use Rattle.haul_core.proofs.MissingLemmas.{missing_counted}
 use Rattle.haul_core.proofs.NumberLemmas.{any_counted}
 use Rattle.haul_core.proofs.SumLemmas.{sum_small}
-use Rattle.laws.specs.HaulTexts.{AreTakenOf, HaulCensusesAreShort, IsJob, IsShort, IsShortCensus, IsShortRow}
+use Rattle.laws.specs.HaulTexts.{AreTakenOf, HaulCensusesAreShort, IsJob, IsShort}
 use Rattle.laws.proofs.MarkLemmas.{listed_code}
 use Rattle.laws.proofs.ShapeLemmas.{IsSmallFinding, small_finding, soup_close}
 

@@ -1,5 +1,5 @@
 -- A soup has each bit of its digest.
-use Rattle.std.proofs.Common.{◌≡◌, ◌∙◌, ap, sym, subst₂, ℕ, zero, suc, ◌+◌, ◌-◌, ◌*◌, ◌/◌, ◌%◌, ◌^◌, ◌<◌, ◌==◌, Bool, true, List, []}
+use Rattle.std.proofs.Common.{◌≡◌, ◌∙◌, ap, sym, subst₂, ℕ, zero, suc, ◌+◌, ◌-◌, ◌*◌, ◌/◌, ◌%◌, ◌^◌, ◌<◌, ◌==◌, List}
 use Rattle.std.proofs.Common.{All, length, get_or, decimal, ◌++◌, pos, arith, slice_index}
 use Rattle.std.specs.Int.{byte_at, bytes_high_first, to_be_bytes, w32}
 use Rattle.std.proofs.lemmas.Bool.Decides.{nat_tests}

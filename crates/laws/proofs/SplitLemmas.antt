@@ -1,7 +1,6 @@
 -- If each soup of a set is worked on, `gather` makes what `take` prints for the set.
-use Rattle.std.proofs.Common.{◌≡◌, ◌∙◌, ap, sym, refl, subst, ℕ, zero, suc, ◌+◌, ◌<◌, ◌≤◌, ◌^◌, ◌≢◌, ◌==◌, Bool, true, false, cond, if◌then◌else◌, nat_eq, nat_le, List, [], ◌∷◌, ◌++◌}
-use Rattle.std.proofs.Common.{◌||◌, inl, inr, All, Result, Ok, Err, Option, None, Some, nat_lt, arith, count_by, flat_map, get_or, length, map, append_assoc}
-use Rattle.std.specs.Cmp.{nat_eq_equiv}
+use Rattle.std.proofs.Common.{◌≡◌, ◌∙◌, ap, sym, refl, subst, ℕ, suc, ◌+◌, ◌<◌, ◌≤◌, ◌^◌, ◌≢◌, Bool, true, false, cond, nat_eq, nat_le, List, [], ◌∷◌, ◌++◌}
+use Rattle.std.proofs.Common.{◌||◌, inl, inr, Result, Ok, Err, Option, None, Some, nat_lt, arith, count_by, flat_map, length, map}
 use Rattle.std.specs.List.{AllByRecursion, Contains, list_any, position}
 use Rattle.std.specs.Result.{result_map_both}
 use Rattle.std.specs.Prelude.{IsOkAnd, MatchResult}
@@ -16,19 +15,19 @@ use Rattle.survey_core.specs.declared.seed.SeedFault.{SeedFault}
 use Rattle.survey_core.specs.declared.seed.SeedFault.TheVariants.{TooLong as TooLongSeed}
 use Rattle.survey_core.proofs.lemmas.SeedLemmas.{all_visible}
 use Rattle.survey_core.proofs.lemmas.DeterminedLemmas.{findings_determined}
-use Rattle.plane_core.specs.plane.Rules.{IsRule, Numbers, rule_read}
+use Rattle.plane_core.specs.plane.Rules.{Numbers, rule_read}
 use Rattle.plane_core.specs.declared.plane.rule.RuleFault.{RuleFault}
 use Rattle.plane_core.proofs.lemmas.plane.RuleReading.{reads_rule}
 use Rattle.plane_core.proofs.lemmas.plane.PartLemmas.{false_unless}
 use Rattle.ranges.specs.declared.range.Range.{Range}
-use Rattle.ranges.specs.Ranges.{AreNormal, AreSmall, Overlap, is_in}
+use Rattle.ranges.specs.Ranges.{AreSmall, Overlap, is_in}
 use Rattle.ranges.proofs.ListLemmas.{one_list}
 use Rattle.haul_core.specs.Books.{Terms}
 use Rattle.haul_core.specs.Censuses.{IsCensus}
 use Rattle.haul_core.specs.HaulTexts.{text_of}
 use Rattle.haul_core.specs.ClaimChecks.{IsConfirmed}
-use Rattle.haul_core.specs.LawfulClaims.{Claimed, IsClaim}
-use Rattle.haul_core.specs.Missing.{AreAll, numbers_of}
+use Rattle.haul_core.specs.LawfulClaims.{IsClaim}
+use Rattle.haul_core.specs.Missing.{numbers_of}
 use Rattle.haul_core.specs.ReportLines.{claim_line, claim_of, report_text}
 use Rattle.haul_core.specs.Reports.{IsReport, Reported}
 use Rattle.haul_core.proofs.CheckLemmas.{report_is_claim, report_is_confirmed}
@@ -36,8 +35,7 @@ use Rattle.haul_core.proofs.MissingLemmas.{counted_numbers}
 use Rattle.haul_core.proofs.NumberLemmas.{any_counted}
 use Rattle.requests.specs.declared.plan.Plan.{Plan}
 use Rattle.requests.specs.declared.soup_set.SoupSet.{SoupSet}
-use Rattle.pattern_commands.specs.Answers.{Answer, IsRightGiven, Right, given}
-use Rattle.pattern_commands.specs.Behaviours.{Made}
+use Rattle.pattern_commands.specs.Answers.{IsRightGiven, given}
 use Rattle.pattern_commands.specs.declared.complaint.Complaint.{Complaint}
 use Rattle.pattern_commands.specs.declared.complaint.Complaint.TheVariants.{Memory, ReadFailed, Refused, TooLong, WriteFailed}
 use Rattle.pattern_commands.specs.declared.refusal.Refusal.{Refusal}
@@ -45,14 +43,13 @@ use Rattle.pattern_commands.specs.declared.refusal.Refusal.TheVariants.{HorizonB
 use Rattle.requests.specs.declared.profile_numbers.ProfileNumbers.{ProfileNumbers}
 use Rattle.pattern_commands.specs.Profiles.{AreInRange, profile_named, settling}
 use Rattle.pattern_commands.specs.Inputs.{rule_complaint, rule_named}
-use Rattle.pattern_commands.specs.Soup.{seed_complaint, seed_named}
-use Rattle.commands.specs.GatheredLines.{Claims}
-use Rattle.commands.specs.Gathering.{IsGathering, IsHaulOver, gather_right}
+use Rattle.pattern_commands.specs.Soup.{seed_complaint}
+use Rattle.commands.specs.Gathering.{IsHaulOver}
 use Rattle.commands.specs.Lines.{IsOneLine, input_lines}
 use Rattle.commands.specs.SoupSets.{AreRangesOf, Bad_list, IsRefused, IsRightForSet, IsTextOf, Overlapping, Too_large, job_named}
 use Rattle.commands.specs.Take.{TellsAll, take_right}
-use Rattle.commands.specs.Work.{AreReportsOn, IsReportOn, TellsReports, work_right}
-use Rattle.laws.specs.Gathering.{HasCorrectLine, IsAccepted, IsCorrectFor, IsInSet, IsOfCorrectLines, IsWorkedOn, OneRightText, SplitWorkIsWhole, TellsCorrectLines}
+use Rattle.commands.specs.Work.{AreReportsOn, IsReportOn, TellsReports}
+use Rattle.laws.specs.Gathering.{HasCorrectLine, IsAccepted, IsOfCorrectLines, IsWorkedOn, OneRightText, SplitWorkIsWhole, TellsCorrectLines}
 use Rattle.laws.specs.HaulTexts.{IsJob}
 use Rattle.laws.proofs.CensusLemmas.{complete_hauls}
 use Rattle.laws.proofs.GatherLemmas.{gather_tells_correct_lines}

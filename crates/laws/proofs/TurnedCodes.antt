@@ -1,5 +1,5 @@
 -- A pattern that is turned keeps its name.
-use Rattle.std.proofs.Common.{◌≡◌, ◌∙◌, sym, ap, refl, subst, ℕ, zero, suc, ℤ, pos, neg_ℤ, ◌≤◌, Bool, true, false, ◌&&◌, ◌==◌, List, [], ◌∷◌, length}
+use Rattle.std.proofs.Common.{◌≡◌, ◌∙◌, sym, ap, refl, subst, ℕ, zero, suc, ℤ, pos, neg_ℤ, ◌≤◌, Bool, true, ◌&&◌, ◌==◌, List, [], ◌∷◌, length}
 use Rattle.std.proofs.Common.{map, arith, cond, int_eq, Ordering, Less, Equal, Greater}
 use Rattle.std.proofs.lemmas.Int.{ints}
 use Rattle.plane_core.proofs.lemmas.plane.NeighbourhoodLemmas.{int_eq-true}
@@ -14,7 +14,7 @@ use Rattle.plane_core.specs.plane.Generations.{after, next}
 use Rattle.plane_core.specs.plane.Orientations.{image, turned, turned_cell}
 use Rattle.plane_core.specs.plane.OrientationLaws.{product}
 use Rattle.plane_core.specs.plane.Rules.{Numbers}
-use Rattle.plane_core.proofs.lemmas.plane.CommuteLemmas.{next-image, set_of-in_order}
+use Rattle.plane_core.proofs.lemmas.plane.CommuteLemmas.{next-image}
 use Rattle.plane_core.proofs.lemmas.plane.GenerationLemmas.{after-none}
 use Rattle.plane_core.proofs.lemmas.plane.OrientationLemmas.{image-image, image-shifted, turning_back}
 use Rattle.plane_core.proofs.lemmas.plane.SetLemmas.{in_order-set_of}
