@@ -13,7 +13,7 @@ use Rattle.haul_core.specs.declared.book.census_rows.Row.{Row}
 use Rattle.haul_core.specs.FieldSteps.{Lacks}
 use Rattle.haul_core.specs.HaulTexts.{haul_lines, head_lines, line_of, line_of_numbers, profile_line, range_line, range_lines, sample_line, sample_lines, spaced, sum_lines, total_line, total_lines}
 use Rattle.haul_core.proofs.OneClaim.{one_rule}
-use Rattle.laws.specs.HaulTexts.{HaulTextsAreFaithful, IsJob, IsShort, IsShortCensus, IsShortRow}
+use Rattle.laws.specs.HaulTexts.{HaulTextsAreFaithful, IsJob, IsWrittenWhole, IsShortCensus, IsShortRow}
 use Rattle.laws.proofs.TextLemmas.{Ends, all-append, all_lack, code_visible, decimal_visible, is_printed, line_once, lines_once, printed_lack, rule_visible, text_once, visible_printed}
 
 -- ---- no line has a line feed
@@ -114,7 +114,7 @@ profile_once p q h k e =
       limit = ap (λ (ns : List ℕ). get_or ns 3 0) same i;
     }
   where
-    short : (p : Settling) → IsProfile p → AllByRecursion IsShort (p.period ∷ p.horizon ∷ p.stride ∷ p.limit ∷ [])
+    short : (p : Settling) → IsProfile p → AllByRecursion IsWrittenWhole (p.period ∷ p.horizon ∷ p.stride ∷ p.limit ∷ [])
     short p h =
         let a = h.period in
         let b = h.horizon in
@@ -123,7 +123,7 @@ profile_once p q h k e =
         (omega arith, (omega arith, (omega arith, (omega arith, tt))))
 
 abbrev IsShortRange : Range → Type 0
-IsShortRange r = IsShort r.first × IsShort r.count
+IsShortRange r = IsWrittenWhole r.first × IsWrittenWhole r.count
 
 range_once : (r s : Range) → IsShortRange r → IsShortRange s → range_line r ≡ range_line s → r ≡ s
 range_once r s h k e =
@@ -160,7 +160,7 @@ row_once : (row other : Row) → IsShortRow row → IsShortRow other → total_l
 row_once row other h k e f =
     let total = line_once row.code other.code (row.total ∷ []) (other.total ∷ []) (code_lack row h) (code_lack other k) (h.total, tt) (k.total, tt) e in
     let samples = line_once row.code other.code row.samples other.samples (code_lack row h) (code_lack other k)
-    (recursion_from_All IsShort row.samples h.samples) (recursion_from_All IsShort other.samples k.samples) f in
+    (recursion_from_All IsWrittenWhole row.samples h.samples) (recursion_from_All IsWrittenWhole other.samples k.samples) f in
     λ i. record { code = total.0 i; total = ap (λ (ns : List ℕ). get_or ns 0 0) total.1 i; samples = samples.1 i }
 
 rows_once : (rows others : List Row) → AllByRecursion IsShortRow rows → AllByRecursion IsShortRow others → map total_line rows ≡ map total_line others
@@ -173,7 +173,7 @@ rows_once (r ∷ rs) (o ∷ os) h k e f =
     let more : rs ≡ os = rows_once rs os h.1 k.1 (cc) (cc) in
     λ i. first i ∷ more i
 
-number_once : (name : List ℕ) (n m : ℕ) → Lacks 32 name → IsShort n → IsShort m → line_of_numbers name (n ∷ []) ≡ line_of_numbers name (m ∷ []) → n ≡ m
+number_once : (name : List ℕ) (n m : ℕ) → Lacks 32 name → IsWrittenWhole n → IsWrittenWhole m → line_of_numbers name (n ∷ []) ≡ line_of_numbers name (m ∷ []) → n ≡ m
 number_once name n m h low less e = ap (λ (ns : List ℕ). get_or ns 0 0) (line_once name name (n ∷ []) (m ∷ []) h h (low, tt) (less, tt) e).1
 
 -- ---- the parts of a haul text

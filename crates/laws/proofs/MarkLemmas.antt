@@ -1,4 +1,4 @@
--- What the code of a cluster says of its recurrence, and that codes and clusters agree on what stays for good.
+-- What the code of a cluster says about its recurrence, and that codes and clusters agree on what stays for good.
 use Rattle.std.proofs.Common.{◌≡◌, ◌≢◌, ◌∙◌, ap, sym, refl, subst, ℕ, pos, zero, suc, ◌+◌, ◌≤◌, ◌==◌, ◌&&◌, Bool, true, false, cond}
 use Rattle.std.proofs.Common.{List, [], ◌∷◌, All, Some, unwrap_or, count_by, arith, get_or}
 use Rattle.std.specs.List.{AllZip}
@@ -28,7 +28,7 @@ use Rattle.survey_core.proofs.lemmas.rest.RestLemmas.{clusters_some}
 use Rattle.laws.specs.ForGood.{ClustersStayForGood, IsCommonPeriod, MarksAreOfClusters, MarksTellRecurrences, RecursInPlace}
 use Rattle.code_core.proofs.CodeLaws.{recurs_once}
 
--- ---- what a code says of the cluster that has it
+-- ---- what a code says about the cluster that has it
 
 pub code_kind : (rule : Numbers) (cells : List Cell) (limit : ℕ) (code : List ℕ) (named : IsCode rule cells limit code)
     → kind_in code ≡ kind_of named.recurrence

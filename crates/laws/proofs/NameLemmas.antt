@@ -12,7 +12,7 @@ use Rattle.survey_core.specs.Findings.{IsSettled}
 use Rattle.haul_core.specs.FieldSteps.{Lacks}
 use Rattle.haul_core.proofs.SpaceLemmas.{cut_once}
 use Rattle.pattern_commands.specs.Name.{object_line}
-use Rattle.laws.specs.HaulTexts.{IsShort}
+use Rattle.laws.specs.HaulTexts.{IsWrittenWhole}
 use Rattle.laws.specs.NameTexts.{NameTextsAreFaithful}
 use Rattle.laws.proofs.ShapeLemmas.{small_finding}
 use Rattle.laws.proofs.TextLemmas.{all_lack, code_visible, decimal_lack, decimal_once}
@@ -20,7 +20,7 @@ use Rattle.laws.proofs.TextLemmas.{all_lack, code_visible, decimal_lack, decimal
 -- an object whose code has its shape, and whose count is short
 record IsShortObject (object : List ℕ × ℕ) : Type 0 where
   code : HasCodeShape object.0
-  count : IsShort object.1
+  count : IsWrittenWhole object.1
 
 lacks_space : (object : List ℕ × ℕ) → IsShortObject object → Lacks 32 object.0
 lacks_space object h = all_lack _ 32 refl object.0 (code_visible object.0 h.code.bytes)

@@ -24,7 +24,7 @@ use Rattle.haul_core.proofs.JoinLemmas.{size_below}
 use Rattle.haul_core.proofs.MissingLemmas.{missing_counted}
 use Rattle.haul_core.proofs.NumberLemmas.{any_counted}
 use Rattle.haul_core.proofs.SumLemmas.{sum_small}
-use Rattle.laws.specs.HaulTexts.{AreTakenOf, HaulCensusesAreShort, IsJob, IsShort}
+use Rattle.laws.specs.HaulTexts.{AreTakenOf, HaulCensusesAreShort, IsJob, IsWrittenWhole}
 use Rattle.laws.proofs.MarkLemmas.{listed_code}
 use Rattle.laws.proofs.ShapeLemmas.{IsSmallFinding, small_finding, soup_close}
 
@@ -137,7 +137,7 @@ pub haul_censuses_are_short : HaulCensusesAreShort
 haul_censuses_are_short job ranges numbers census valid normal below taken h = record {
   job = subst IsJob (sym h.job_is) valid;
   normal = subst AreNormal (sym h.set) normal;
-  ranges = subst (λ (rs : List Range). All (λ r. IsShort r.first × IsShort r.count) rs) (sym h.set)
+  ranges = subst (λ (rs : List Range). All (λ r. IsWrittenWhole r.first × IsWrittenWhole r.count) rs) (sym h.set)
       (λ k d low. let end : end_of (get_or ranges k d) ≤ 2 ^ 40 = below k d low in (omega (arith, end), omega (arith, end)));
   size = h.size ∙ ap size_of (sym h.set);
   soups = let same = h.soups_are in omega (arith, same, few);

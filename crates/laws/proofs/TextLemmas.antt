@@ -15,7 +15,7 @@ use Rattle.survey_core.specs.Seeds.{is_visible}
 use Rattle.haul_core.specs.FieldSteps.{Lacks}
 use Rattle.haul_core.specs.HaulTexts.{line_of_numbers, text_of}
 use Rattle.haul_core.proofs.SpaceLemmas.{AreSpaceless, cut_once, line_of-lined, one_cut}
-use Rattle.laws.specs.HaulTexts.{IsShort}
+use Rattle.laws.specs.HaulTexts.{IsWrittenWhole}
 
 -- ---- a test of all bytes
 
@@ -66,7 +66,7 @@ pub decimal_lack : (byte n : ℕ) → is_digit byte ≡ false → Lacks byte (de
 decimal_lack byte n other = all_lack is_digit byte other (decimal n) (decimal_all is_digit digit_digit n)
 
 -- decimals of short numbers tell them apart
-pub decimal_once : (m n : ℕ) → IsShort m → IsShort n → decimal m ≡ decimal n → m ≡ n
+pub decimal_once : (m n : ℕ) → IsWrittenWhole m → IsWrittenWhole n → decimal m ≡ decimal n → m ≡ n
 decimal_once m n low less same =
     sym (decimal_is_IsNumeral_wide m low).1 ∙ ap (digits_value 10) same ∙ (decimal_is_IsNumeral_wide n less).1
 
@@ -122,7 +122,7 @@ spaceless_numbers : (ns : List ℕ) → AreSpaceless (map decimal ns)
 spaceless_numbers [] = tt
 spaceless_numbers (n ∷ ns) = (decimal_lack 32 n refl, spaceless_numbers ns)
 
-numbers_once : (ns ms : List ℕ) → AllByRecursion IsShort ns → AllByRecursion IsShort ms → map decimal ns ≡ map decimal ms → ns ≡ ms
+numbers_once : (ns ms : List ℕ) → AllByRecursion IsWrittenWhole ns → AllByRecursion IsWrittenWhole ms → map decimal ns ≡ map decimal ms → ns ≡ ms
 numbers_once [] [] h k e = refl
 numbers_once [] (m ∷ ms) h k e = absurd (cc)
 numbers_once (n ∷ ns) [] h k e = absurd (cc)
@@ -132,7 +132,7 @@ numbers_once (n ∷ ns) (m ∷ ms) h k e =
     λ i. first i ∷ more i
 
 -- a line of a name and numbers tells them
-pub line_once : (name other : List ℕ) (ns ms : List ℕ) → Lacks 32 name → Lacks 32 other → AllByRecursion IsShort ns → AllByRecursion IsShort ms
+pub line_once : (name other : List ℕ) (ns ms : List ℕ) → Lacks 32 name → Lacks 32 other → AllByRecursion IsWrittenWhole ns → AllByRecursion IsWrittenWhole ms
     → line_of_numbers name ns ≡ line_of_numbers other ms → (name ≡ other) × (ns ≡ ms)
 line_once name other ns ms one two h k e =
     let fields : name ∷ map decimal ns ≡ other ∷ map decimal ms =

@@ -1,4 +1,4 @@
--- Patterns at rest, and what the mark `for good` of a finding says of the clusters and of later generations.
+-- Patterns at rest, and what the mark `for good` of a finding says about the clusters and about later generations.
 use Rattle.std.specs.Prelude.{◌≡◌, ◌+◌, ◌*◌, ◌≤◌, ◌≢◌, ◌↔◌, ℕ, pos, Bool, IsTrue, true, List, [], All}
 use Rattle.plane_core.specs.declared.plane.cell.Cell.{Cell}
 use Rattle.plane_core.specs.clusters.Clusters.{AreClusters}
@@ -58,7 +58,7 @@ pub record ClustersStayForGood (rule : Numbers) (limit horizon : ℕ) (clusters 
   pub least : (m : ℕ) → IsCommonPeriod rule limit clusters m → multiple ≤ m
   pub within : multiple ≤ horizon
 
--- the kinds and numbers in the codes say of objects what the recurrences say of their clusters
+-- the kinds and numbers in the codes say about objects what the recurrences say about their clusters
 abbrev pub MarksTellRecurrences : Type 0
 MarksTellRecurrences = (rule : Numbers) (limit horizon : ℕ) (clusters : List (List Cell)) (objects : List (List ℕ × ℕ))
     → limit ≤ 64 → All (λ cluster. cluster ≢ []) clusters → AreObjectsOf rule limit clusters objects

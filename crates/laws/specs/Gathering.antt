@@ -90,14 +90,14 @@ pub record IsWorkedOn (job : Job) (workers : ℕ) (bytes : List ℕ) (n : ℕ) :
   pub short : All (λ line. length line ≤ 2 ^ 24) (input_lines text)
 
 -- the text is what `take` prints for the plan, and nothing is missing
-abbrev pub IsWhole : Plan → Result Made Complaint → Type 0
-IsWhole plan answer = MatchResult answer (λ made. take_right plan (Ok made.text) × (made.missing ≡ 0)) (λ complaint. ⊥)
+abbrev pub IsWholeHaul : Plan → Result Made Complaint → Type 0
+IsWholeHaul plan answer = MatchResult answer (λ made. take_right plan (Ok made.text) × (made.missing ≡ 0)) (λ complaint. ⊥)
 
 -- if each soup of a set is worked on, in parts that may overlap, `gather` makes what `take` prints for the set
 abbrev pub SplitWorkIsWhole : Type 0
 SplitWorkIsWhole = (plan : Plan) (job : Job) (workers : ℕ) (bytes : List ℕ) (answer : Result Made Complaint) → IsAccepted plan job
     → length bytes ≤ 2 ^ 32 → ((n : ℕ) → IsInSet plan.set n → IsWorkedOn job workers bytes n) → gather_right plan workers bytes answer
-    → IsWhole plan answer
+    → IsWholeHaul plan answer
 
 -- at most one text is right for `take`
 abbrev pub OneRightText : Type 0

@@ -13,9 +13,9 @@ use Rattle.haul_core.specs.declared.book.census.Census.{Census}
 use Rattle.haul_core.specs.declared.book.census_rows.Row.{Row}
 use Rattle.haul_core.specs.HaulTexts.{haul_text}
 
--- a decimal has the last 64 digits of its number, so it tells numbers below 10^64 apart
-abbrev pub IsShort : ℕ → Type 0
-IsShort n = n < 10 ^ 64
+-- the decimal has all digits of the number: of larger ones it has only the last 64
+abbrev pub IsWrittenWhole : ℕ → Type 0
+IsWrittenWhole n = n < 10 ^ 64
 
 -- the seed, the rule and the profile are valid
 pub record IsJob (job : Job) : Type 0 where
@@ -26,19 +26,19 @@ pub record IsJob (job : Job) : Type 0 where
 -- the code has the shape of an apgcode, and the numbers are short
 pub record IsShortRow (row : Row) : Type 0 where
   pub code : HasCodeShape row.code
-  pub total : IsShort row.total
-  pub samples : All IsShort row.samples
+  pub total : IsWrittenWhole row.total
+  pub samples : All IsWrittenWhole row.samples
 
 -- the job is valid, the ranges are in normal form, their size is the count, and the numbers are short
 pub record IsShortCensus (census : Census) : Type 0 where
   pub job : IsJob census.job
   pub normal : AreNormal census.ranges
-  pub ranges : All (λ r. IsShort r.first × IsShort r.count) census.ranges
+  pub ranges : All (λ r. IsWrittenWhole r.first × IsWrittenWhole r.count) census.ranges
   pub size : census.count ≡ size_of census.ranges
-  pub soups : IsShort census.soups
-  pub unsettled : IsShort census.unsettled
-  pub for_good : IsShort census.for_good
-  pub objects : IsShort census.objects
+  pub soups : IsWrittenWhole census.soups
+  pub unsettled : IsWrittenWhole census.unsettled
+  pub for_good : IsWrittenWhole census.for_good
+  pub objects : IsWrittenWhole census.objects
   pub rows : All IsShortRow census.rows
 
 -- such censuses with the same text are equal
