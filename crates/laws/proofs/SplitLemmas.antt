@@ -49,7 +49,8 @@ use Rattle.commands.specs.Lines.{IsOneLine, input_lines}
 use Rattle.commands.specs.SoupSets.{AreRangesOf, Bad_list, IsRefused, IsRightForSet, IsTextOf, Overlapping, Too_large, job_named}
 use Rattle.commands.specs.Take.{TellsAll, take_right}
 use Rattle.commands.specs.Work.{AreReportsOn, IsReportOn, TellsReports}
-use Rattle.laws.specs.Gathering.{HasCorrectLine, IsAccepted, IsOfCorrectLines, IsWorkedOn, OneRightText, SplitWorkIsWhole, TellsCorrectLines}
+use Rattle.laws.specs.Gathering.{HasCorrectLine, IsOfCorrectLines, TellsCorrectLines}
+use Rattle.laws.specs.SplitWork.{IsAccepted, IsWorkedOn, OneRightText, SplitWorkIsWhole}
 use Rattle.laws.specs.HaulTexts.{IsJob}
 use Rattle.laws.proofs.CensusLemmas.{complete_hauls}
 use Rattle.laws.proofs.GatherLemmas.{gather_tells_correct_lines}

@@ -10,3 +10,4 @@ pub mod NameTexts
 pub mod RangeLists
 pub mod ReportLines
 pub mod Soups
+pub mod SplitWork

@@ -1,6 +1,7 @@
 //! Laws of what `gather` and `take` print.
 
-ghost use Rattle.laws.specs.Gathering.{GatherTellsCorrectLines, OneRightText, SplitWorkIsWhole};
+ghost use Rattle.laws.specs.Gathering.{GatherTellsCorrectLines};
+ghost use Rattle.laws.specs.SplitWork.{OneRightText, SplitWorkIsWhole};
 
 /// The law that `gather` prints the haul text over the numbers of its set for which some line of the input is correct,
 /// each once, whatever the other lines are, and that nothing is missing if and only if each number has one.
