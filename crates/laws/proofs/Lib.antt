@@ -2,6 +2,7 @@ mod BookLemmas
 mod CensusLemmas
 mod CodeLemmas
 mod CountLemmas
+mod EndLemmas
 mod FaultPlaces
 mod ForGoodLemmas
 mod GatherLemmas

@@ -1,5 +1,5 @@
 -- What `gather` makes of its input, whatever the order of its lines.
-use Rattle.std.specs.Prelude.{◌≡◌, ◌≤◌, ◌^◌, ◌↔◌, ℕ, true, Any, List, Ok, count_by, length, nat_eq}
+use Rattle.std.specs.Prelude.{Option, ◌≡◌, ◌≤◌, ◌^◌, ◌↔◌, ℕ, true, Any, List, Ok, count_by, length, nat_eq}
 use Rattle.std.specs.List.{list_any}
 use Rattle.ranges.specs.Ranges.{is_in}
 use Rattle.haul_core.specs.declared.book.census.Census.{Census}
@@ -11,6 +11,12 @@ use Rattle.haul_core.specs.LawfulClaims.{Claimed}
 use Rattle.haul_core.specs.Reports.{Reported}
 use Rattle.requests.specs.declared.plan.Plan.{Plan}
 use Rattle.pattern_commands.specs.Behaviours.{Made}
+use Rattle.pattern_commands.specs.Ends.{Ends}
+use Rattle.pattern_commands.specs.Status.{has_printed}
+use Rattle.pattern_commands.specs.Streams.{Has, Stream}
+use Rattle.pattern_commands.specs.declared.status.Status.{Status}
+use Rattle.pattern_commands.specs.declared.status.Status.TheVariants.{Done}
+use Rattle.commands.specs.Gather.{gather_behaviour}
 use Rattle.commands.specs.Gathering.{gather_opens, gather_right}
 use Rattle.commands.specs.GatheredLines.{Claims}
 use Rattle.commands.specs.Lines.{input_lines}
@@ -51,3 +57,17 @@ pub record IsOfCorrectLines (plan : Plan) (workers : ℕ) (bytes : List ℕ) (ma
 abbrev pub GatherTellsCorrectLines : Type 0
 GatherTellsCorrectLines = (plan : Plan) (workers : ℕ) (bytes : List ℕ) (made : Made) → gather_right plan workers bytes (Ok made)
     → IsOfCorrectLines plan workers bytes made
+
+-- if `gather` prints a haul, the haul is this, and the command is done if and only if each number of the set has a
+-- correct line
+pub record PrintsCorrectLines (plan : Plan) (workers : ℕ) (bytes : List ℕ) (status : Status) (output : Stream) : Type 0 where
+  pub made : Made
+  pub is : IsOfCorrectLines plan workers bytes made
+  pub text : Has output made.text
+  pub done : (status ≡ Done) ↔ ((n : ℕ) → is_in is.terms.ranges n ≡ true → HasCorrectLine is.terms bytes n)
+
+-- so it is however `gather` ends, unless a complaint ends it
+abbrev pub GatherPrintsCorrectLines : Type 0
+GatherPrintsCorrectLines = (plan : Plan) (workers : ℕ) (reader : Option (List ℕ)) (bytes : List ℕ) (status : Status) (output errors : Stream)
+    → Ends (gather_behaviour plan workers) reader bytes status output errors → has_printed status ≡ true
+    → PrintsCorrectLines plan workers bytes status output

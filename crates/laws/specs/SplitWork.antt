@@ -1,5 +1,5 @@
 -- Work that is split is whole, and `take` has one right text.
-use Rattle.std.specs.Prelude.{◌≡◌, ◌≤◌, ◌^◌, ℕ, true, List, Ok, MatchResult, length}
+use Rattle.std.specs.Prelude.{Option, ◌≡◌, ◌≤◌, ◌^◌, ℕ, true, List, Ok, MatchResult, length}
 use Rattle.std.specs.List.{All, Contains}
 use Rattle.survey_core.specs.declared.job.Job.{Job}
 use Rattle.ranges.specs.declared.range.Range.{Range}
@@ -9,6 +9,11 @@ use Rattle.requests.specs.declared.soup_set.SoupSet.{SoupSet}
 use Rattle.pattern_commands.specs.Behaviours.{Made}
 use Rattle.pattern_commands.specs.declared.complaint.Complaint.{Complaint}
 use Rattle.pattern_commands.specs.Profiles.{AreInRange}
+use Rattle.pattern_commands.specs.Ends.{Ends}
+use Rattle.pattern_commands.specs.Streams.{Has, Stream}
+use Rattle.pattern_commands.specs.declared.status.Status.{Status}
+use Rattle.pattern_commands.specs.declared.status.Status.TheVariants.{Done, Failed, Memory}
+use Rattle.commands.specs.Gather.{gather_behaviour}
 use Rattle.commands.specs.Gathering.{gather_right}
 use Rattle.commands.specs.Lines.{input_lines}
 use Rattle.commands.specs.SoupSets.{AreRangesOf, job_named}
@@ -53,6 +58,19 @@ abbrev pub SplitWorkIsWhole : Type 0
 SplitWorkIsWhole = (plan : Plan) (job : Job) (workers : ℕ) (bytes : List ℕ) (answer : Result Made Complaint) → IsAccepted plan job
     → length bytes ≤ 2 ^ 32 → ((n : ℕ) → IsInSet plan.set n → IsWorkedOn job workers bytes n) → gather_right plan workers bytes answer
     → IsWholeHaul plan answer
+
+-- what standard output got, for each status: the text of `take`, or anything if memory ran out or a stream failed
+abbrev pub HasWholeText : Plan → Status → Stream → Type 0
+HasWholeText plan Done output = (text : List ℕ) × take_right plan (Ok text) × Has output text
+HasWholeText plan Memory output = Unit {0}
+HasWholeText plan Failed output = Unit {0}
+HasWholeText plan _ output = ⊥
+
+-- so `gather` ends with the text of `take`, unless memory runs out or a stream fails
+abbrev pub SplitWorkEnds : Type 0
+SplitWorkEnds = (plan : Plan) (job : Job) (workers : ℕ) (reader : Option (List ℕ)) (bytes : List ℕ) (status : Status) (output errors : Stream)
+    → IsAccepted plan job → length bytes ≤ 2 ^ 32 → ((n : ℕ) → IsInSet plan.set n → IsWorkedOn job workers bytes n)
+    → Ends (gather_behaviour plan workers) reader bytes status output errors → HasWholeText plan status output
 
 -- at most one text is right for `take`
 abbrev pub OneRightText : Type 0
