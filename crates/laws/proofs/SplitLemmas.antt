@@ -66,9 +66,6 @@ same_ranges set one other h k =
 
 -- ---- one right text
 
-right_for_job : (plan : Plan) (job : Job) (text : List ℕ) → job_named plan ≡ Ok job → take_right plan (Ok text) → IsTextOf plan.set (TellsAll job) text
-right_for_job plan job text is right = subst (λ (named : Result Job Complaint). IsRightGiven named (λ job. IsRightForSet plan.set (TellsAll job)) (Ok text)) is right
-
 right_again : (plan : Plan) (job : Job) (text : List ℕ) → job_named plan ≡ Ok job → IsTextOf plan.set (TellsAll job) text → take_right plan (Ok text)
 right_again plan job text is right =
     subst (λ (named : Result Job Complaint). IsRightGiven named (λ job. IsRightForSet plan.set (TellsAll job)) (Ok text)) (sym is) right
