@@ -7,11 +7,11 @@
 #
 # Each call of the program waits for `is_fresh`, so what runs there starts few processes.
 
-# Prints the digests of the sources, and of the program if it is named. Mutants, tests' inputs and crates of tests aren't built into it,
-# and what is built is in a folder `out` of each crate. Below `src/` and `specs/` a folder may have any name, and be a link.
+# Prints the digests of the sources, and of the program if it is named. Mutants, tests' inputs, crates of tests and the laws aren't
+# built into it, and what is built is in a folder `out` of each crate. Below `src/` and `specs/` a folder may have any name, and be a link.
 digests() (
     set -o pipefail
-    cd -- "$top" && find -L crates.txt crates "$@" -type d -regex 'crates/[^/]*\(_tests\|/out\)' -prune -o \
+    cd -- "$top" && find -L crates.txt crates "$@" -type d -regex 'crates/\([^/]*_tests\|laws\|[^/]*/out\)' -prune -o \
         -type f \( -name '*.rt' -o -name '*.antt' -o -path crates.txt -o -path "$program" \) \
         -exec b2sum -l 256 -- {} + 2>/dev/null | LC_ALL=C sort
 )

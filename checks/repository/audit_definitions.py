@@ -27,6 +27,7 @@ CRATES = [
     "commands",
     "arguments",
     "census",
+    "laws",
 ]
 
 

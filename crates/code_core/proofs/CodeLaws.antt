@@ -60,7 +60,7 @@ one_move (c ∷ cs) dx dy ex ey some is =
     (same_step c.x dx ex (ap (λ (d : Cell). d.x) first), same_step c.y dy ey (ap (λ (d : Cell). d.y) first))
 
 -- a pattern recurs in one way
-recurs_once : (rule : Numbers) (cells : List Cell) (limit : ℕ) (q r : Recurrence) → cells ≢ [] → Recurs rule cells limit q → Recurs rule cells limit r → q ≡ r
+pub recurs_once : (rule : Numbers) (cells : List Cell) (limit : ℕ) (q r : Recurrence) → cells ≢ [] → Recurs rule cells limit q → Recurs rule cells limit r → q ≡ r
 recurs_once rule cells limit q r some one other =
     let low : q.period ≤ r.period = not_less r.period q.period (λ less. one.least r.period r.dx r.dy other.some less other.back) in
     let high : r.period ≤ q.period = not_less q.period r.period (λ less. other.least q.period q.dx q.dy one.some less one.back) in

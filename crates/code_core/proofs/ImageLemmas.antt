@@ -1,10 +1,13 @@
--- A pattern at the corner is at its corner.
-use Rattle.std.proofs.Common.{◌≡◌, ◌∙◌, sym, ap, refl, ℤ, pos, ◌+ℤ◌, neg_ℤ, List, [], ◌∷◌, Option, None, Some, arith}
+-- A pattern at the corner is at its corner, and a pattern in its own orientation is itself.
+use Rattle.std.proofs.Common.{◌≡◌, ◌∙◌, sym, ap, refl, ℤ, pos, ◌+ℤ◌, neg_ℤ, Bool, true, false, ◌&&◌, List, [], ◌∷◌, map, Option, None, Some, arith}
 use Rattle.std.proofs.lemmas.Int.{ints}
 use Rattle.plane_core.specs.declared.plane.cell.Cell.{Cell}
 use Rattle.plane_core.specs.declared.plane.bounds.Bounds.{Bounds}
 use Rattle.plane_core.specs.plane.Bounds.{at_corner, box_of, cornered, shifted}
-use Rattle.plane_core.specs.plane.Cells.{moved_by}
+use Rattle.plane_core.specs.plane.Cells.{InOrder, moved_by, set_of}
+use Rattle.plane_core.specs.declared.plane.orientation.Orientation.TheVariants.{Same}
+use Rattle.plane_core.specs.plane.Orientations.{image, turned_cell}
+use Rattle.plane_core.proofs.lemmas.plane.CommuteLemmas.{set_of-in_order}
 use Rattle.plane_core.proofs.lemmas.plane.OrientationLemmas.{at_corner-shifted}
 
 -- a pattern at the corner is its own image at the corner
@@ -29,3 +32,18 @@ box_at_corner cells b is = go (at_corner cells) is (at_corner-again cells)
         let whole : shifted (neg_ℤ b.left) (neg_ℤ b.top) (c ∷ cs) ≡ c ∷ cs = sym (ap (λ (o : Option Bounds). cornered o (c ∷ cs)) box) ∙ same in
         let first : moved_by (neg_ℤ b.left) (neg_ℤ b.top) c ≡ c = cc in
         (unmoved c.x b.left (ap (λ (d : Cell). d.x) first), unmoved c.y b.top (ap (λ (d : Cell). d.y) first))
+
+-- the image in its own orientation
+pub image-same : (cells : List Cell) → InOrder cells → image Same cells ≡ cells
+unfolding image
+image-same cells order = ap set_of (map-alone cells) ∙ set_of-in_order cells order
+  where
+    map-alone : (cells : List Cell) → map (turned_cell Same) cells ≡ cells
+    map-alone [] = refl
+    map-alone (c ∷ cs) = ap (λ (more : List Cell). c ∷ more) (map-alone cs)
+
+pub and_swap : (a b : Bool) → (a && b) ≡ (b && a)
+and_swap true true = refl
+and_swap true false = refl
+and_swap false true = refl
+and_swap false false = refl

@@ -24,8 +24,7 @@ use Rattle.code_core.specs.Columns.{IsBoxed}
 use Rattle.code_core.specs.Images.{image_box, image_cell}
 use Rattle.code_core.specs.Texts.{boxed_text, fits_forty_square, text, tokens_of}
 use Rattle.code_core.specs.Tokens.{spelling}
-use Rattle.code_core.proofs.ImageLemmas.{at_corner-again, box_at_corner}
-use Rattle.code_core.proofs.TurnedCodes.{and_swap, image-same}
+use Rattle.code_core.proofs.ImageLemmas.{and_swap, at_corner-again, box_at_corner, image-same}
 
 -- ---- the box of an image
 

@@ -4,7 +4,6 @@ pub mod CornerLemmas
 pub mod ImageLemmas
 pub mod ImageRows
 pub mod JoinedStrips
-pub mod LaterCodes
 pub mod LeastLemmas
 pub mod MovedCodes
 pub mod ReaderCells
@@ -17,5 +16,4 @@ pub mod TextLaw
 pub mod TextLemmas
 pub mod TokenCells
 pub mod TokenReading
-pub mod TurnedCodes
 pub mod WholeGaps

@@ -70,16 +70,6 @@ abbrev pub CodesMoved : Type 0
 CodesMoved = (dx dy : ℤ) (rule : Numbers) (cells : List Cell) (limit : ℕ) (code : List ℕ)
     → InOrder cells → IsCode rule cells limit code → IsCode rule (shifted dx dy cells) limit code
 
--- a pattern that is turned or mirrored keeps its apgcode
-abbrev pub CodesTurned : Type 0
-CodesTurned = (o : Orientation) (rule : Numbers) (cells : List Cell) (limit : ℕ) (code : List ℕ)
-    → InOrder cells → IsCode rule cells limit code → IsCode rule (turned o cells) limit code
-
--- each later generation of a pattern has the apgcode of the pattern
-abbrev pub CodesLater : Type 0
-CodesLater = (g : ℕ) (rule : Numbers) (cells : List Cell) (limit : ℕ) (code : List ℕ)
-    → InOrder cells → IsCode rule cells limit code → IsCode rule (after rule cells g) limit code
-
 -- an apgcode has 1 to 400 bytes, each one of `a` to `z`, `0` to `9` and `_`, if its numbers fit in 64 bits
 abbrev pub CodesHaveTheirShape : Type 0
 CodesHaveTheirShape = (rule : Numbers) (cells : List Cell) (limit : ℕ) (code : List ℕ)

@@ -17,7 +17,7 @@ ghost use Rattle.std.specs.Prelude.{Option, ℕ, ◌≡◌, ◌≢◌, ◌<◌, 
 ghost use Rattle.std.specs.Prelude.{string_bytes, IfOk};
 ghost use Rattle.std.specs.Cmp.{IsTotalOrder};
 ghost use Rattle.plane_core.specs.plane.Rules.{Numbers};
-ghost use Rattle.code_core.specs.Names.{CodesAreDetermined, CodesHaveTheirShape, CodesLater, CodesMoved, CodesTurned};
+ghost use Rattle.code_core.specs.Names.{CodesAreDetermined, CodesHaveTheirShape};
 ghost use Rattle.code_core.specs.Names.{IsCode, OnlyEqualTextsTie, IsLeastOf, kind_of, number_of, text_cmp};
 ghost use Rattle.code_core.specs.Least.{Among, IsImageAt, IsImageOf, IsNameBy, earlier_text};
 ghost use Rattle.code_core.specs.Recurrences.{IsCycle, SearchEnds};
@@ -85,14 +85,6 @@ pub fn codes_are_determined()
 /// limit fit in 64 bits.
 pub fn codes_have_their_shape()
     ensures { CodesHaveTheirShape }
-{}
-
-/// The laws that a pattern keeps its apgcode when it is moved, when it is turned or mirrored, and in each later
-/// generation.
-pub fn codes_are_of_objects()
-    ensures moved { CodesMoved }
-    ensures turned { CodesTurned }
-    ensures later { CodesLater }
 {}
 
 /// Returns the apgcode of a pattern whose phases are known. It is the one that [`name`] finds.

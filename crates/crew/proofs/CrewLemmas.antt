@@ -21,7 +21,7 @@ use Rattle.haul_core.specs.declared.book.refused.OfferError.TheVariants.{Closed,
 use Rattle.memory.specs.Witness.{out_of_memory}
 use Rattle.ranges.specs.Ranges.{is_in}
 use Rattle.survey_core.specs.Jobs.{same_job}
-use Rattle.haul_core.specs.BookLaws.{IsSubsequence}
+use Rattle.haul_core.specs.Subsequences.{IsSubsequence}
 use Rattle.haul_core.specs.Reports.{Reported}
 use Rattle.haul_core.specs.declared.book.arrival.Arrival.{Arrival}
 use Rattle.haul_core.specs.declared.book.arrival.Arrival.TheVariants.{Offer}

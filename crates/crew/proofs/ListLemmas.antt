@@ -11,7 +11,7 @@ use Rattle.std.proofs.lemmas.List.Sums.{sum_by-append, sum_by-cons}
 use Rattle.std.proofs.lemmas.Map.Keys.{IsDistinct-tail}
 use mathlib.Core.Logic.{dite}
 use native.Mathlib.Decide.{ℕ_discrete}
-use Rattle.haul_core.specs.BookLaws.{IsSubsequence}
+use Rattle.haul_core.specs.Subsequences.{IsSubsequence}
 
 -- ---- parts of a list
 

@@ -3,7 +3,7 @@ use Rattle.std.specs.Prelude.{◌≡◌, ◌<◌, ◌≤◌, ◌+◌, ◌++◌, 
 use Rattle.haul_core.specs.Books.{Held, StandsFor, entry, is_lawful}
 use Rattle.haul_core.specs.Missing.{is_taken}
 use Rattle.haul_core.specs.Refusals.{refusal_of}
-use Rattle.haul_core.specs.BookLaws.{IsSubsequence}
+use Rattle.haul_core.specs.Subsequences.{IsSubsequence}
 use Rattle.haul_core.specs.Reports.{Reported}
 use Rattle.haul_core.specs.declared.book.arrival.Arrival.{Arrival}
 use Rattle.haul_core.specs.declared.book.arrival.Arrival.TheVariants.{Offer}

@@ -230,7 +230,7 @@ taken_more terms arrivals r e =
 
 -- ---- the book and the haul
 
-worker_found : (n : ℕ) (rs : List Reported) → worker_in n (map entry rs) ≡ first_worker n rs
+pub worker_found : (n : ℕ) (rs : List Reported) → worker_in n (map entry rs) ≡ first_worker n rs
 worker_found n [] = refl
 worker_found n (r ∷ rs) = go (has_number n r) (worker_found n rs)
   where

@@ -1,30 +1,25 @@
-mod BookLemmas
-mod CensusLemmas
-mod CheckLemmas
-mod CountLemmas
-mod CountedLemmas
-mod FaultyLines
-mod FieldLemmas
-mod HeadLemmas
-mod JoinLemmas
-mod JoinedSamples
-mod JoinedScores
-mod JoinedSums
-mod KeepLemmas
-mod LawLemmas
-mod LeastLemmas
-mod MissingLemmas
-mod NumberLemmas
-mod OneClaim
-mod OnePlace
-mod OrderLemmas
-mod PartLemmas
-mod ReportLemmas
-mod RowLemmas
-mod SampleLemmas
-mod ScoreLemmas
-mod SpaceLemmas
-mod StandLemmas
-mod StateLemmas
-mod SumLemmas
-mod TextLemmas
+pub mod BookLemmas
+pub mod CensusLemmas
+pub mod CheckLemmas
+pub mod CountLemmas
+pub mod CountedLemmas
+pub mod FaultyLines
+pub mod FieldLemmas
+pub mod HeadLemmas
+pub mod JoinLemmas
+pub mod JoinedSamples
+pub mod JoinedScores
+pub mod KeepLemmas
+pub mod LeastLemmas
+pub mod MissingLemmas
+pub mod NumberLemmas
+pub mod OneClaim
+pub mod OrderLemmas
+pub mod ReportLemmas
+pub mod SampleLemmas
+pub mod ScoreLemmas
+pub mod SpaceLemmas
+pub mod StandLemmas
+pub mod StateLemmas
+pub mod SumLemmas
+pub mod TextLemmas

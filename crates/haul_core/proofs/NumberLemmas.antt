@@ -5,7 +5,7 @@ use Rattle.std.specs.Cmp.{nat_eq_equiv}
 use Rattle.std.specs.List.{AllByRecursion, list_any}
 use Rattle.std.proofs.lemmas.Bool.{cases_lt, cases_order, le-leb, ne_eqb}
 use Rattle.std.proofs.lemmas.List.Sums.{sum_by-cons}
-use Rattle.haul_core.specs.HaulLaws.{AreSameNumbers}
+use Rattle.haul_core.specs.Samples.{AreSameNumbers}
 use Rattle.haul_core.specs.SampleSteps.{ascending, least_three, with_number}
 use Rattle.haul_core.proofs.MissingLemmas.{count_no, count_yes, counted, counted_filter}
 use Rattle.haul_core.proofs.SampleLemmas.{with_greater, with_least}
@@ -130,7 +130,7 @@ same_least q xs ys same =
     ap (take 3) (same_ascending (filter q xs) (filter q ys)
     (λ n. counted_filter q n xs ∙ ap (λ (m : ℕ). cond {A = ℕ} (q n) m 0) (same n) ∙ sym (counted_filter q n ys)))
 
-any_counted : (n : ℕ) (xs : List ℕ) → list_any (nat_eq n) xs ≡ nat_le 1 (counted n xs)
+pub any_counted : (n : ℕ) (xs : List ℕ) → list_any (nat_eq n) xs ≡ nat_le 1 (counted n xs)
 any_counted n [] = refl
 any_counted n (x ∷ xs) = go (nat_eq n x) refl (any_counted n xs)
   where

@@ -16,7 +16,7 @@ use Rattle.haul_core.proofs.CountedLemmas.{one_count}
 use Rattle.haul_core.proofs.SpaceLemmas.{claim_line-lined, fields_lack, one_cut}
 use Rattle.haul_core.proofs.StateLemmas.{at_other, same_version}
 
-one_rule : (r s : Numbers) → IsRule r → IsRule s → rule_text r ≡ rule_text s → r ≡ s
+pub one_rule : (r s : Numbers) → IsRule r → IsRule s → rule_text r ≡ rule_text s → r ≡ s
 one_rule r s h k e = let told : Ok r ≡ Ok s = sym (rule_read-rule_text r h) ∙ ap rule_read e ∙ rule_read-rule_text s k in cc
 
 one_profile : (p q : Settling) → IsProfile p → IsProfile q → profile_field p ≡ profile_field q → p ≡ q

@@ -52,15 +52,3 @@ pub record LacksField (line : List ℕ) (place : ℕ) : Type 0 where
 -- the leftmost fault of a line
 abbrev pub IsFirstFaultOf : List ℕ → ℕ → Type 0
 IsFirstFaultOf line place = IsBadField line place ⊎ LacksField line place
-
--- a line is the line of at most one claim
-abbrev pub LinesHaveOneClaim : Type 0
-LinesHaveOneClaim = (one other : Claimed) → IsClaim one → IsClaim other → claim_line one ≡ claim_line other → one ≡ other
-
--- a line with a fault is the line of no lawful claim
-abbrev pub FaultyLinesHaveNoClaim : Type 0
-FaultyLinesHaveNoClaim = (line : List ℕ) (place : ℕ) → IsFirstFaultOf line place → ¬ IsClaimLine line
-
--- a line has its first fault at one place
-abbrev pub LinesHaveOneFault : Type 0
-LinesHaveOneFault = (line : List ℕ) (one other : ℕ) → IsFirstFaultOf line one → IsFirstFaultOf line other → one ≡ other

@@ -1,11 +1,9 @@
-pub mod BookLaws
 pub mod Books
 pub mod Censuses
 pub mod ClaimChecks
 pub mod ClaimSteps
 pub mod Claims
 pub mod FieldSteps
-pub mod HaulLaws
 pub mod HaulTexts
 pub mod Joins
 pub mod Keeping
@@ -21,4 +19,5 @@ pub mod Rows
 pub mod SampleSteps
 pub mod Samples
 pub mod Scores
+pub mod Subsequences
 pub mod Totals

@@ -7,6 +7,10 @@ IsAscending [] = Unit {0}
 IsAscending (x ∷ []) = Unit {0}
 IsAscending (x ∷ y ∷ more) = (x ≤ y) × IsAscending (y ∷ more)
 
+-- the same numbers, each as often, in any order
+abbrev pub AreSameNumbers : List ℕ → List ℕ → Type 0
+AreSameNumbers numbers others = (n : ℕ) → count_by (nat_eq n) numbers ≡ count_by (nat_eq n) others
+
 -- `least` has the three lowest of the numbers, ascending, or all if there are fewer. Together with `others`, none of
 -- which is lower, they are the numbers.
 pub record AreLeastThree (numbers least : List ℕ) : Type 0 where

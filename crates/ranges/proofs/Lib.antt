@@ -2,7 +2,6 @@ mod BisectionLemmas
 pub mod CutLemmas
 pub mod DecimalLemmas
 pub mod FaultLemmas
-mod FaultPlaces
 pub mod ListLemmas
 pub mod NormalLemmas
 mod RangeLemmas

@@ -50,7 +50,3 @@ pub record IsLargeDecimal (text : List ℕ) (place : ℕ) : Type 0 where
 -- the leftmost fault is at this place: the text before it is the beginning of a list
 abbrev pub IsFirstListFault : List ℕ → ℕ → Type 0
 IsFirstListFault text place = IsBadListByte text place ⊎ IsLargeDecimal text place
-
--- a text has its first fault at one place
-abbrev pub TextsHaveOneFault : Type 0
-TextsHaveOneFault = (text : List ℕ) (one other : ℕ) → IsFirstListFault text one → IsFirstListFault text other → one ≡ other

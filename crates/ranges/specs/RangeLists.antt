@@ -35,7 +35,3 @@ pub record IsListText (text : List ℕ) : Type 0 where
   pub ranges : List Range
   pub fit : FitU64 ranges
   pub spelled : list_text ranges ≡ text
-
--- a text is that of at most one list of ranges
-abbrev pub TextsHaveOneList : Type 0
-TextsHaveOneList = (one other : List Range) → FitU64 one → FitU64 other → list_text one ≡ list_text other → one ≡ other

@@ -11,8 +11,8 @@ ghost use Rattle.std.specs.Prelude.{IfNone, IfOk, IfSome, IsErrOf, MatchResult};
 ghost use Rattle.memory.specs.Witness.{out_of_memory};
 ghost use Rattle.ranges.specs.RangeListSteps.{BeginsDecimal, BeginsNoDecimal, BeginsRange, IsNoRange, LacksComma};
 ghost use Rattle.ranges.specs.RangeListSteps.{Passes, Starts, has_digit};
-ghost use Rattle.ranges.specs.RangeLists.{FitU64, IsListText, TextsHaveOneList, list_text};
-ghost use Rattle.ranges.specs.RangeListFaults.{BeginsLargeDecimal, IsFirstListFault, TextsHaveOneFault};
+ghost use Rattle.ranges.specs.RangeLists.{FitU64, IsListText, list_text};
+ghost use Rattle.ranges.specs.RangeListFaults.{BeginsLargeDecimal, IsFirstListFault};
 ghost use Rattle.ranges.specs.declared.range.Range.{Range as Numbers};
 ghost use Rattle.ranges.specs.declared.range_list.ListError.TheVariants.{BadList, Memory};
 
@@ -85,12 +85,6 @@ impl Range {
         Ok(ranges)
     }
 }
-
-/// The laws that a text is that of at most one list of ranges, and that a text has its first fault at only one place.
-pub fn list_texts_tell_ranges()
-    ensures one { TextsHaveOneList }
-    ensures place { TextsHaveOneFault }
-{}
 
 /// Returns the place of the first fault of a text, or `None` if it is the text of a list of ranges.
 #[tactic(auto, using(crate::proofs::ListLemmas::passed_first))]

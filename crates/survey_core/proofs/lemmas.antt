@@ -1,9 +1,7 @@
 pub mod DeterminedLemmas
 pub mod FindingLemmas
-pub mod ImageLemmas
 pub mod JobLemmas
 pub mod PartitionLemmas
-pub mod PlacedFindings
 pub mod PlaneLemmas
 pub mod SeedLemmas
 pub mod SoupLemmas

@@ -1,54 +1,12 @@
--- Laws of findings.
-use Rattle.std.specs.Prelude.{◌≡◌, ◌≤◌, ℕ, ℤ, true, List, length, sum}
-use Rattle.std.specs.Map.{values_of}
+-- A law of findings.
+use Rattle.std.specs.Prelude.{◌≡◌, List}
 use Rattle.plane_core.specs.declared.plane.cell.Cell.{Cell}
-use Rattle.plane_core.specs.declared.plane.orientation.Orientation.{Orientation}
-use Rattle.plane_core.specs.plane.Bounds.{shifted}
-use Rattle.plane_core.specs.plane.Cells.{InOrder}
-use Rattle.plane_core.specs.plane.Generations.{after}
-use Rattle.plane_core.specs.plane.Orientations.{image, turned}
 use Rattle.plane_core.specs.plane.Rules.{Numbers}
 use Rattle.survey_core.specs.declared.finding.Finding.{Finding}
-use Rattle.survey_core.specs.declared.finding.Finding.TheVariants.{Settled}
 use Rattle.survey_core.specs.Findings.{IsFinding}
-use Rattle.survey_core.specs.shapes.Objects.{AreObjectsOf, StayForGood}
 use Rattle.survey_core.specs.Profiles.{Settling}
-use Rattle.survey_core.specs.rest.Rest.{RestsAs}
-use Rattle.survey_core.specs.rest.RestLaws.{RestsForever}
 
 -- a pattern has only one finding
 abbrev pub FindingsAreDetermined : Type 0
 FindingsAreDetermined = (rule : Numbers) (profile : Settling) (cells : List Cell) (one other : Finding)
     → IsFinding rule profile cells one → IsFinding rule profile cells other → one ≡ other
-
--- a pattern that is moved keeps its finding
-abbrev pub FindingsMoved : Type 0
-FindingsMoved = (dx dy : ℤ) (rule : Numbers) (profile : Settling) (cells : List Cell) (finding : Finding)
-    → InOrder cells → IsFinding rule profile cells finding → IsFinding rule profile (shifted dx dy cells) finding
-
--- a pattern that is turned or mirrored about the origin keeps its finding
-abbrev pub FindingsOfImages : Type 0
-FindingsOfImages = (o : Orientation) (rule : Numbers) (profile : Settling) (cells : List Cell) (finding : Finding)
-    → InOrder cells → IsFinding rule profile cells finding → IsFinding rule profile (image o cells) finding
-
--- and so does one that is then moved so that its bounding box begins at the origin
-abbrev pub FindingsTurned : Type 0
-FindingsTurned = (o : Orientation) (rule : Numbers) (profile : Settling) (cells : List Cell) (finding : Finding)
-    → InOrder cells → IsFinding rule profile cells finding → IsFinding rule profile (turned o cells) finding
-
--- The clusters of a pattern with these objects stay for good: each recurs, and they keep apart forever.
-pub record RestsForGood (rule : Numbers) (profile : Settling) (cells : List Cell) (objects : List (List ℕ × ℕ)) : Type 0 where
-  pub clusters : List (List Cell)
-  pub rest : RestsAs rule profile cells clusters
-  pub good : StayForGood profile.horizon objects
-  pub forever : RestsForever rule cells clusters good.multiple
-
--- if a finding says that the objects stay for good, they do
-abbrev pub FindingsForGood : Type 0
-FindingsForGood = (rule : Numbers) (profile : Settling) (cells : List Cell) (t : ℕ) (objects : List (List ℕ × ℕ)) → InOrder cells → profile.period ≤ 64
-    → IsFinding rule profile cells (Settled t objects true) → RestsForGood rule profile (after rule cells t) objects
-
--- the counts of the objects add up to the number of clusters
-abbrev pub CountsAddUp : Type 0
-CountsAddUp = (rule : Numbers) (limit : ℕ) (clusters : List (List Cell)) (objects : List (List ℕ × ℕ))
-    → AreObjectsOf rule limit clusters objects → sum (values_of objects) ≡ length clusters

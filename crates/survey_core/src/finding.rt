@@ -8,8 +8,7 @@
 //! The functions here survey one soup or pattern. For many, a [`Surveyor`] is faster.
 ghost use Rattle.std.specs.Prelude.{◌≡◌, IfOk, true};
 ghost use Rattle.plane_core.specs.plane.Generations.{lies_within};
-ghost use Rattle.survey_core.specs.FindingLaws.{CountsAddUp, FindingsAreDetermined, FindingsForGood, FindingsMoved};
-ghost use Rattle.survey_core.specs.FindingLaws.{FindingsOfImages, FindingsTurned};
+ghost use Rattle.survey_core.specs.FindingLaws.{FindingsAreDetermined};
 ghost use Rattle.survey_core.specs.Findings.{IsSurvey};
 ghost use Rattle.survey_core.specs.Soups.{soup};
 
@@ -76,22 +75,4 @@ pub fn survey_pattern(
 /// The law that a pattern has only one finding.
 pub fn findings_are_determined()
     ensures { FindingsAreDetermined }
-{}
-
-/// The law that the counts of objects add up to the number of clusters.
-pub fn counts_add_up()
-    ensures { CountsAddUp }
-{}
-
-/// The laws that a pattern keeps its finding when it is moved, and when it is turned or mirrored.
-pub fn findings_are_kept()
-    ensures moved { FindingsMoved }
-    ensures images { FindingsOfImages }
-    ensures turned { FindingsTurned }
-{}
-
-/// The law that objects that stay for good do so forever: the clusters, each run alone, keep apart and make up the
-/// whole in every later generation, and the pattern recurs after the least common multiple of their periods.
-pub fn findings_for_good()
-    ensures { FindingsForGood }
 {}

@@ -28,7 +28,7 @@ ghost use Rattle.plane_core.specs.plane.Generations.{after, lies_within, next};
 ghost use Rattle.survey_core.specs.rest.Alone.{alone_at, clusters_of, latest_of, stepped};
 ghost use Rattle.survey_core.specs.rest.Groups.{GroupKeeps, ShareNoCell, members, union_of};
 ghost use Rattle.survey_core.specs.rest.Rest.{IsAtRest, KeepApart, RestsAs};
-ghost use Rattle.survey_core.specs.rest.RestLaws.{AtRestForGood, EmptyIsAtRest, GroupsRunAlone, PartsRunAlone};
+ghost use Rattle.survey_core.specs.rest.RestLaws.{GroupsRunAlone, PartsRunAlone};
 ghost use Rattle.survey_core.specs.UnderWay.{survey_reach};
 
 /// Clusters that are run alone.
@@ -200,14 +200,6 @@ fn step_apart(alloc: Global, rule: &Rule, clusters: &mut [Alone]) -> Result<bool
     let same = are_same(together.cells(), later.cells());
     Ok(same)
 }
-
-/// The laws of patterns at rest: the empty pattern is at rest, and a pattern whose objects stay for good keeps them
-/// apart in every later generation, and recurs after the least common multiple of their periods.
-#[tactic(auto, using(crate::proofs::lemmas::rest::ForGoodLemmas::empty_is_at_rest))]
-pub fn at_rest_for_good()
-    ensures empty { EmptyIsAtRest }
-    ensures forever { AtRestForGood }
-{}
 
 /// The laws of parts: parts that stay more than two cells apart evolve in the whole as they do alone, and so do groups
 /// of parts that stay apart from each other.

@@ -6,7 +6,6 @@
 
 ghost use Rattle.std.specs.Prelude.{◌≡◌, false, map};
 ghost use Rattle.plane_core.specs.Outputs.{Writes};
-ghost use Rattle.haul_core.specs.HaulLaws.{CompleteHaulsPrintTheSame, SameSoupsPrintTheSame};
 ghost use Rattle.haul_core.specs.HaulTexts.{ended, haul_text, head_lines, line_of, profile_line, range_line};
 ghost use Rattle.haul_core.specs.HaulTexts.{range_lines, sample_lines, sum_lines, text_of, total_lines};
 
@@ -17,7 +16,6 @@ use itoa::Integer;
 use plane_core::output::{Out, WriteError};
 use ranges::range::Range;
 use std::io::Write;
-use survey_core::finding::findings_are_determined;
 use survey_core::job::Job;
 use survey_core::profile::Profile;
 
@@ -39,16 +37,6 @@ pub fn write_haul<W: Write>(census: &Census, out: &mut Out<W>) -> Result<(), Wri
     put_sums(out, census)?;
     put_totals(out, census.rows.as_slice())?;
     put_samples(out, census.rows.as_slice())
-}
-
-/// The laws that the text doesn't depend on the order in which the soups arrived: censuses of one job and set have the
-/// same text if they are over the same soups, and complete hauls of one job and set have the same text.
-pub fn complete_hauls_print_the_same()
-    ensures same { SameSoupsPrintTheSame }
-    ensures complete { CompleteHaulsPrintTheSame }
-{
-    // For the prover: soups have the same findings in both censuses.
-    findings_are_determined();
 }
 
 /// Writes the job and the profile.

@@ -1,7 +1,6 @@
 //! The book as a whole: a haul, any list of arrivals, and the replies.
 
 ghost use Rattle.std.specs.Prelude.{◌≡◌, ◌++◌, ◌∷◌, [], List, IfOk, OnErr, OnOk};
-ghost use Rattle.haul_core.specs.BookLaws.{WorkersAreTakenInOrder};
 ghost use Rattle.haul_core.specs.Books.{StandsFor};
 ghost use Rattle.haul_core.specs.Refusals.{replies_to, reply_to};
 ghost use Rattle.haul_core.specs.Replies.{IsTakenNext, StandsForPrefix};
@@ -43,12 +42,6 @@ pub fn keep_book(
     }
     Ok(replies)
 }
-
-/// The law that what the book takes from a worker is a part of what the worker offered, in its order, each number at
-/// most once and in the set.
-pub fn workers_are_taken_in_order()
-    ensures { WorkersAreTakenInOrder }
-{}
 
 /// Passes one arrival to a haul. Memory can run out only at an offer that the book takes, and then the haul is
 /// unchanged.

@@ -7,4 +7,3 @@ pub mod KnownRestlessLemmas
 pub mod RestLemmas
 pub mod RuledOutLemmas
 pub mod RunLemmas
-pub mod SortedClusters

@@ -1,4 +1,3 @@
-pub mod CountLaw
 pub mod EnvelopeLemmas
 pub mod MemoLemmas
 pub mod ObjectLemmas

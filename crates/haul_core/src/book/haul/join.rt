@@ -3,7 +3,6 @@
 ghost use Rattle.std.specs.Prelude.{◌≡◌, ◌++◌, List, IfErr, IfNone, IfOk, IfSome, OnOk, map, nat_eq};
 ghost use Rattle.std.specs.List.{IsDistinct};
 ghost use Rattle.haul_core.specs.Books.{StandsFor};
-ghost use Rattle.haul_core.specs.HaulLaws.{JoinedHaulsAddUp};
 ghost use Rattle.haul_core.specs.Joins.{CanJoin, Hinders, IsJoined, joined_arrivals};
 ghost use Rattle.haul_core.specs.Keeping.{numbers_in};
 ghost use Rattle.haul_core.specs.declared.book.arrival.Arrival.{Arrival};
@@ -13,7 +12,6 @@ use indexmap::IndexMap;
 use memory::OutOfMemory;
 use std::alloc::Global;
 use std::fmt;
-use survey_core::finding::findings_are_determined;
 use survey_core::job::is_same_job;
 use thiserror::Error;
 
@@ -82,15 +80,6 @@ impl Haul {
             Err(error) => Err((self, other, error)),
         }
     }
-}
-
-/// The law that the census of a joined haul has the sums of the two censuses: of soups, of unsettled ones, of those
-/// that stay for good, of objects, and of the total of each code. The samples of a code are the three lowest of both.
-pub fn joined_hauls_add_up()
-    ensures { JoinedHaulsAddUp }
-{
-    // For the prover: a soup has the same finding in each census.
-    findings_are_determined();
 }
 
 /// Returns the two hauls as one, or why they can't be joined.

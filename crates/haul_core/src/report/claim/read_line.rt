@@ -5,8 +5,7 @@ ghost use Rattle.std.specs.Prelude.{◌≡◌, ◌↔◌, ◌-◌, ℕ, IfNone, 
 ghost use Rattle.std.specs.Prelude.{option_map};
 ghost use Rattle.memory.specs.Witness.{out_of_memory};
 ghost use Rattle.haul_core.specs.ClaimSteps.{HasReadStart, IsAfter, MayFollow, claimed};
-ghost use Rattle.haul_core.specs.Claims.{FaultyLinesHaveNoClaim, IsClaimLine, IsFirstFaultOf, LinesHaveOneClaim};
-ghost use Rattle.haul_core.specs.Claims.{LinesHaveOneFault};
+ghost use Rattle.haul_core.specs.Claims.{IsClaimLine, IsFirstFaultOf};
 ghost use Rattle.haul_core.specs.FieldSteps.{Tells};
 ghost use Rattle.haul_core.specs.ReportLines.{claim_line, count_field};
 ghost use Rattle.haul_core.specs.LawfulClaims.{Claimed, IsClaim};
@@ -206,12 +205,3 @@ fn is_after(last: Option<&[u8]>, code: &[u8]) -> bool
         None => true,
     }
 }
-
-/// The laws of lines: a line is the line of at most one claim, a line with a fault is the line of none, and a line has
-/// its first fault at only one place.
-#[tactic(auto, using(crate::proofs::OneClaim::one_claim))]
-pub fn lines_tell_claims()
-    ensures one { LinesHaveOneClaim }
-    ensures faulty { FaultyLinesHaveNoClaim }
-    ensures place { LinesHaveOneFault }
-{}

@@ -1,0 +1,34 @@
+-- Laws of the book: which offers it takes, and what it takes from a worker.
+use Rattle.std.specs.Prelude.{◌≡◌, ◌≤◌, ℕ, All, true, List, count_by, filter, map, nat_eq}
+use Rattle.haul_core.specs.declared.book.arrival.Arrival.{Arrival}
+use Rattle.haul_core.specs.Books.{Terms, eligible, entry, has_number, offered, taken_of}
+use Rattle.haul_core.specs.Keeping.{numbers_in}
+use Rattle.haul_core.specs.Missing.{is_taken}
+use Rattle.haul_core.specs.Refusals.{first_worker}
+use Rattle.haul_core.specs.Replies.{worker_in}
+use Rattle.haul_core.specs.Subsequences.{IsSubsequence}
+use Rattle.std.specs.List.{list_any}
+use Rattle.ranges.specs.Ranges.{is_in}
+
+-- the entries of this worker, in a list of workers and numbers
+abbrev pub of_worker : ℕ → List (ℕ × ℕ) → List (ℕ × ℕ)
+of_worker worker entries = filter (λ t. nat_eq t.0 worker) entries
+
+-- what is taken from a worker is a part of what it offered before any closing, each number at most once and in the set
+pub record IsTakenOf (terms : Terms) (arrivals : List Arrival) (worker : ℕ) : Type 0 where
+  pub part : IsSubsequence (of_worker worker (taken_of terms arrivals)) (of_worker worker (map entry (offered arrivals)))
+  pub once : (n : ℕ) → count_by (nat_eq n) (numbers_in (of_worker worker (taken_of terms arrivals))) ≤ 1
+  pub within : All (λ t. is_in terms.ranges t.1 ≡ true) (of_worker worker (taken_of terms arrivals))
+
+-- this holds for all arrivals and each worker
+abbrev pub WorkersAreTakenInOrder : Type 0
+WorkersAreTakenInOrder = (terms : Terms) (arrivals : List Arrival) (worker : ℕ) → IsTakenOf terms arrivals worker
+
+-- a number is taken if and only if some eligible offer has it, and the worker of the first one is credited
+pub record IsTakenByFirst (terms : Terms) (arrivals : List Arrival) (n : ℕ) : Type 0 where
+  pub taken : is_taken (taken_of terms arrivals) n ≡ list_any (has_number n) (eligible terms arrivals)
+  pub worker : worker_in n (taken_of terms arrivals) ≡ first_worker n (eligible terms arrivals)
+
+-- this holds for all arrivals and each number
+abbrev pub FirstOffersAreTaken : Type 0
+FirstOffersAreTaken = (terms : Terms) (arrivals : List Arrival) (n : ℕ) → IsTakenByFirst terms arrivals n

@@ -1,0 +1,13 @@
+pub mod Books
+pub mod Censuses
+pub mod Codes
+pub mod Findings
+pub mod ForGood
+pub mod Gathering
+pub mod HaulTexts
+pub mod Limits
+pub mod NameTexts
+pub mod RangeLists
+pub mod ReportLines
+pub mod Soups
+pub mod SplitWork

@@ -1,0 +1,18 @@
+//! Laws that people would quote, as theorems. Each is a function with an empty body, whose contract is the law.
+//!
+//! Nothing in the program needs these laws, so only `bin/test` proves them. There is a module for each crate that the
+//! laws speak of, and the laws of a crate that the crate itself needs are beside its definitions.
+#![tactic(auto)]
+
+/// Laws of apgcodes.
+pub mod codes;
+/// Laws of what `gather` and `take` print.
+pub mod gathering;
+/// Laws of the book, of censuses and of their texts.
+pub mod hauls;
+/// Laws of what `name` prints.
+pub mod names;
+/// Laws of sets of soup numbers.
+pub mod sets;
+/// Laws of soups, and of what becomes of a pattern.
+pub mod surveys;

@@ -1,0 +1,57 @@
+//! Laws of soups, and of what becomes of a pattern.
+
+ghost use Rattle.laws.specs.Findings.{CountsAddUp, FindingsMoved, FindingsOfImages, FindingsTurned};
+ghost use Rattle.laws.specs.ForGood.{AtRestForGood, EmptyIsAtRest, FindingsForGood, ForGoodComesBack};
+ghost use Rattle.laws.specs.ForGood.{MarksAreOfClusters, MarksTellRecurrences};
+ghost use Rattle.laws.specs.Limits.{SettledStaySettled, UnsettledSettleLater};
+ghost use Rattle.laws.specs.Soups.{SoupsAreFaithful};
+
+/// The law that two soups are equal only if the digests of their messages are.
+pub fn soups_are_faithful()
+    ensures { SoupsAreFaithful }
+{}
+
+/// The laws that a pattern keeps its finding when it is moved, and when it is turned or mirrored.
+pub fn findings_are_kept()
+    ensures moved { FindingsMoved }
+    ensures images { FindingsOfImages }
+    ensures turned { FindingsTurned }
+{}
+
+/// The law that the counts of objects add up to the number of clusters.
+pub fn counts_add_up()
+    ensures { CountsAddUp }
+{}
+
+/// The laws of a higher limit. A pattern that settles under a limit settles at the same generation, with the same
+/// objects, under every higher limit. A pattern that is unsettled under a limit settles later, if at all.
+pub fn higher_limits_settle_no_less()
+    ensures settled { SettledStaySettled }
+    ensures unsettled { UnsettledSettleLater }
+{}
+
+/// The laws of patterns at rest: the empty pattern is at rest, and a pattern whose objects stay for good keeps them
+/// apart in every later generation, and recurs after the least common multiple of their periods.
+pub fn at_rest_for_good()
+    ensures empty { EmptyIsAtRest }
+    ensures forever { AtRestForGood }
+{}
+
+/// The law that objects that stay for good do so forever: the clusters, each run alone, keep apart and make up the
+/// whole in every later generation, and the pattern recurs after the least common multiple of their periods.
+pub fn findings_for_good()
+    ensures { FindingsForGood }
+{}
+
+/// The law that a pattern whose objects stay for good is the same pattern, at rest with the same objects, after each
+/// further multiple of the least common multiple of their periods.
+pub fn for_good_comes_back()
+    ensures { ForGoodComesBack }
+{}
+
+/// The laws of the mark *for good*: what the kinds and numbers in the codes say is what the recurrences of the clusters
+/// say, and the mark of a finding says it too.
+pub fn marks_tell_recurrences()
+    ensures codes { MarksTellRecurrences }
+    ensures mark { MarksAreOfClusters }
+{}
