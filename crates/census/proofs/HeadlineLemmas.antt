@@ -155,7 +155,7 @@ finding_of uses bytes text before after right grown =
         → rule_named (text_given table.rule uses) ≡ r → (c : Result (List Cell) Complaint) → pattern_of bytes ≡ c
         → IsRightGiven p (λ profile. IsRightGiven r (λ rule. IsRightGiven c (TellsFinding rule profile))) (Ok text)
         → (finding : Finding) × IsFindingOf uses bytes finding × Appends before after (finding_text finding)
-    go (Ok profile) p_is (Ok rule) r_is (Ok cells) c_is (finding, (found, told)) =
+    go (Ok profile) p_is (Ok rule) r_is (Ok cells) c_is (finding, found, told) =
         let same : finding_text finding ≡ text = cc in (
           finding,
           record {
