@@ -3,4 +3,4 @@
 `census`, which is proved, decides whether a haul is right and when a soup has settled. Everything
 else about Life comes from the small model in life.py. It is tested, not proved, like the rest. """
 
-VERSION = "0.2.0"
+VERSION = "0.3.0"

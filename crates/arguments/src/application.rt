@@ -21,7 +21,7 @@ use memory::OutOfMemory;
 use std::alloc::Global;
 
 /// The program's version, as `clap` prints it.
-const VERSION: &str = "0.2.0";
+const VERSION: &str = "0.3.0";
 
 /// What help says about the program.
 const ABOUT: &str = "Runs soups and patterns of Conway's Game of Life and other Life-like rules,\n\

@@ -172,10 +172,7 @@ fn tells_each_line_in_one_write(rt: HostRuntime) {
 fn ends_if_a_write_is_interrupted(rt: HostRuntime) {
     for (bad, told) in [(1, 0), (2, 25)] {
         let left = left_by_writes(rt.alloc(), quick_writer(rt.alloc(), bad));
-        assert!(rt;
-            left.is(Status::Failed, b"", &TOLD[..told]),
-            "write {bad}"
-        );
+        assert!(rt; left.is(Status::Failed, b"", &TOLD[..told]), "write {bad}");
     }
 }
 

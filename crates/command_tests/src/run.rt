@@ -99,12 +99,7 @@ fn tells_an_interrupted_write(rt: HostRuntime) {
 fn tells_a_refusal_in_one_write(rt: HostRuntime) {
     let alloc = rt.alloc();
     let input = reader(b"..\n.x", 0, ErrorKind::Other);
-    let left = left_by(
-        input,
-        slow_writer(alloc, 0),
-        quick_writer(alloc, 0),
-        alloc,
-    );
+    let left = left_by(input, slow_writer(alloc, 0), quick_writer(alloc, 0), alloc);
     assert!(rt;
         left.is(
             Status::Refused,

@@ -5,7 +5,7 @@ use Rattle.pattern_commands.specs.Behaviours.{Behaviour, text_behaviour}
 
 -- the program's name and version, as a line
 abbrev pub version_answer : Answer
-version_answer = Ok (codes "census 0.2.0\n")
+version_answer = Ok (codes "census 0.3.0\n")
 
 -- the behaviour of `--version`
 abbrev pub version_behaviour : Behaviour

@@ -18,8 +18,6 @@ impl ReadError {
     pub fn of_stream(error: &io::Error) -> ReadError
         requires { error_kind error.now ≢ OutOfMemory }
     {
-        ReadError {
-            kind: error.kind(),
-        }
+        ReadError { kind: error.kind() }
     }
 }

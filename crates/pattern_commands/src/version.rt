@@ -41,6 +41,6 @@ fn put_version<W: Write>(output: &mut Out<W>) -> Result<(), Complaint>
     ensures reached { ReachesText false true (only version_answer) result (stream W.contents output.old output.new) }
     ensures failed { IfErr result (λ complaint. (error : WriteError) × (complaint ≡ Complaint.WriteFailed error)) }
 {
-    output.put(b"census 0.2.0\n")?;
+    output.put(b"census 0.3.0\n")?;
     Ok(())
 }
