@@ -1,7 +1,8 @@
-"""Proves the crates and builds the program. `bin/census` and `bin/programs` call this package by bin/prove.bash.
+"""Proves the crates and builds the program. `bin/census` and `bin/programs` call this package by
+bin/prove.bash.
 
-Proved crates are kept in a folder beside the program, so that an interrupted build continues where it stopped. `checks/build` and
-`checks/launcher` test this package with stubs in place of the prover.
+Proved crates are kept in a folder beside the program, so that an interrupted build continues where
+it stopped. The checks in `checks/build/` test this package with stubs in place of the prover.
 """
 
 from __future__ import annotations
@@ -22,7 +23,9 @@ def cannot_build(why: str) -> Failed:
 
 
 def tell(text: str) -> None:
-    """Writes to standard error in a single write, since other processes share it. Ignores that nobody reads it any more."""
+    """Writes to standard error in a single write, since other processes share it. Ignores that
+    nobody reads it any more.
+    """
     try:
         os.write(2, text.encode())
     except OSError:

@@ -1,6 +1,7 @@
 """The basis of a build: the toolchain's version and the digests of the sources.
 
-bin/built.bash computes it, because `bin/census` uses the same functions in every call to test whether the program is fresh.
+bin/built.bash computes it, because `bin/census` uses the same functions in every call to test
+whether the program is fresh.
 """
 
 from __future__ import annotations
@@ -27,8 +28,14 @@ class Built:
     def _called(self, command: str, *words: str, given: str = "") -> str | None:
         """Returns what a command prints after the functions are loaded, or None if it fails."""
         script = f'. "$0" && {command}'
-        ended = subprocess.run(["bash", "-c", script, str(self.places.top / "bin" / "built.bash"), *words], input=given, text=True,
-                               stdout=subprocess.PIPE, stderr=subprocess.DEVNULL, check=False)
+        ended = subprocess.run(
+            ["bash", "-c", script, str(self.places.top / "bin" / "built.bash"), *words],
+            input=given,
+            text=True,
+            stdout=subprocess.PIPE,
+            stderr=subprocess.DEVNULL,
+            check=False,
+        )
         return ended.stdout.rstrip("\n") if ended.returncode == 0 else None
 
     def basis(self) -> str | None:
@@ -47,10 +54,15 @@ class Built:
 
 
 def part_of(basis: str, crates: Crates, name: str) -> str:
-    """Returns the lines of a basis that a proof of this crate depends on: the toolchain's version, the list of crates, and the files of
-    the crate and of all crates below it."""
+    """Returns the lines of a basis that a proof of this crate depends on: the toolchain's version,
+    the list of crates, and the files of the crate and of all crates below it.
+    """
     below = crates.below[name]
-    return "\n".join(line for line in basis.split("\n") if not (of_crate := OF_CRATE.search(line)) or of_crate[1] in below)
+    return "\n".join(
+        line
+        for line in basis.split("\n")
+        if not (of_crate := OF_CRATE.search(line)) or of_crate[1] in below
+    )
 
 
 def toolchain() -> Path:

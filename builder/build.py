@@ -43,12 +43,16 @@ class Build:
         return replace(self, kept=replace(self.kept, made=made))
 
     def build_program(self, cpu: str) -> None:
-        """Proves the crates that aren't kept, builds the program for a level of processors, and keeps them."""
+        """Proves the crates that aren't kept, builds the program for a level of processors, and
+        keeps them.
+        """
         with self.places.log.open("wb") as log:
             try:
                 Work(self, cpu, Log(log)).run()
             except Ended as ended:
-                raise Failed(f"the build failed with status {ended.status}, and what the prover said is in {self.places.log}") from None
+                raise Failed(
+                    f"the build failed with status {ended.status}, and what the prover said is in {self.places.log}"
+                ) from None
 
 
 class Work:
@@ -57,7 +61,9 @@ class Work:
     def __init__(self, build: Build, cpu: str, log: Log) -> None:
         self.build, self.cpu, self.log = build, cpu, log
         self.commands = Commands(build.lock)
-        self.prover = Prover(build.places, build.kit, build.crates, build.kept, cpu, self.commands, log)
+        self.prover = Prover(
+            build.places, build.kit, build.crates, build.kept, cpu, self.commands, log
+        )
         self.progress = Progress(self.prover.room, len(build.crates.order))
 
     def run(self) -> None:
@@ -123,5 +129,3 @@ def get_ready(places: Places, lock: int) -> Build:
         raise cannot_build(f"{places.log} can't be written") from None
     crates = Crates(uses)
     return Build(places, built, lock, kit, basis, crates, Kept(places.made, crates))
-
-

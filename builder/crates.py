@@ -16,7 +16,11 @@ KILOBYTE = 1024
 
 def uses_in(text: str) -> dict[str, list[str]]:
     """Reads which libraries each crate uses from the text of crates.txt."""
-    lines = [line.partition(":") for line in text.splitlines() if ":" in line and not line.startswith("#")]
+    lines = [
+        line.partition(":")
+        for line in text.splitlines()
+        if ":" in line and not line.startswith("#")
+    ]
     return {name: used.split() for name, _, used in lines}
 
 
@@ -37,7 +41,9 @@ class Crates:
         # Each crate with all crates below it, including itself.
         self.below: dict[str, frozenset[str]] = {}
         for name in self.order:
-            self.below[name] = frozenset({name}).union(*(self.below[used] for used in self.graph[name]))
+            self.below[name] = frozenset({name}).union(
+                *(self.below[used] for used in self.graph[name])
+            )
 
     def _add(self, name: str) -> None:
         if name not in self.graph:
@@ -50,7 +56,9 @@ class Crates:
         return [other for other in self.order if name in self.below[other]]
 
     def ways(self, weights: Mapping[str, int]) -> dict[str, int]:
-        """Returns the length of the longest path from each crate to the root: the sum of the weights on it."""
+        """Returns the length of the longest path from each crate to the root: the sum of the
+        weights on it.
+        """
         longest: dict[str, int] = {}
         for name in reversed(self.order):
             users = [other for other in self.order if name in self.graph[other]]
@@ -59,8 +67,9 @@ class Crates:
 
 
 def weights_of(folders: Mapping[str, Path], names: Iterable[str]) -> dict[str, int]:
-    """Estimates how long it takes to prove each crate: the size of its sources in kilobytes, plus one, since even an empty crate takes
-    some time."""
+    """Estimates how long it takes to prove each crate: the size of its sources in kilobytes, plus
+    one, since even an empty crate takes some time.
+    """
     return {name: 1 + bytes_in(folders[name]) // KILOBYTE for name in names}
 
 
@@ -70,5 +79,9 @@ def bytes_in(folder: Path) -> int:
     for above, folders, files in os.walk(folder):
         # This folder has what was built, and may be large.
         folders[:] = [name for name in folders if name != "out"]
-        size += sum(os.path.getsize(os.path.join(above, name)) for name in files if name.endswith((".rt", ".antt")))
+        size += sum(
+            os.path.getsize(os.path.join(above, name))
+            for name in files
+            if name.endswith((".rt", ".antt"))
+        )
     return size

@@ -1,7 +1,9 @@
-"""The crates that are kept: of each library its statements, NAME.rlib, and the program for each level of processors.
+"""The crates that are kept: of each library its statements, NAME.rlib, and the program for each
+level of processors.
 
-Beside each of them are NAME.verdict, the prover's last line, and NAME.from, the part of the basis that it was proved from. NAME.from is
-written last, so a crate that was interrupted doesn't count as proved.
+Beside each of them are NAME.verdict, the prover's last line, and NAME.from, the part of the basis
+that it was proved from. NAME.from is written last, so a crate that was interrupted doesn't count as
+proved.
 """
 
 from __future__ import annotations
@@ -37,7 +39,9 @@ class Kept:
     crates: Crates
 
     def name(self, crate: str, cpu: str) -> str:
-        """Returns the name under which a crate is kept, without a suffix. The program has one for each level of processors."""
+        """Returns the name under which a crate is kept, without a suffix. The program has one for
+        each level of processors.
+        """
         return f"{crate}-{LEVELS[cpu]}" if crate == PROGRAM else crate
 
     def result(self, crate: str, cpu: str) -> Path:
@@ -55,16 +59,23 @@ class Kept:
         """Checks whether a crate is kept that was proved from this part of a basis."""
         result = self.result(crate, cpu)
         is_there = os.access(result, os.X_OK) if crate == PROGRAM else result.is_dir()
-        return is_there and bool(text_of(self.verdict(crate, cpu))) and text_of(self.origin(crate, cpu)) == part
+        return (
+            is_there
+            and bool(text_of(self.verdict(crate, cpu)))
+            and text_of(self.origin(crate, cpu)) == part
+        )
 
     def keep(self, crate: str, cpu: str, verdict: str, part: str) -> None:
-        """Records that a crate was proved, with its verdict and the part of the basis that it was proved from."""
+        """Records that a crate was proved, with its verdict and the part of the basis that it was
+        proved from.
+        """
         write_whole(self.verdict(crate, cpu), f"{verdict}\n")
         write_whole(self.origin(crate, cpu), f"{part}\n")
 
     def forget(self, crate: str, cpu: str) -> None:
-        """Forgets a crate and all crates above it, which were proved with its earlier state. If it is the program, the programs for other
-        levels are still kept."""
+        """Forgets a crate and all crates above it, which were proved with its earlier state. If it
+        is the program, the programs for other levels are still kept.
+        """
         if crate == PROGRAM:
             self.origin(crate, cpu).unlink(missing_ok=True)
             return

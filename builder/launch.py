@@ -13,10 +13,14 @@ from builder.places import PROGRAM, Places
 
 
 def tell_what_is_done() -> None:
-    """Says that the program is being built, and that this takes long. On a terminal it also names a faster way to try the program."""
+    """Says that the program is being built, and that this takes long. On a terminal it also names a
+    faster way to try the program.
+    """
     meanwhile = " (bin/unproved runs it in a minute, without proof)" if is_terminal() else ""
-    say("building the program, which is proved first: that takes some 10 minutes the first time with four processors"
-        f"{meanwhile}. Ctrl-C keeps the crates that are proved, and the next call goes on from there")
+    say(
+        "building the program, which is proved first: that takes some 10 minutes the first time with four processors"
+        f"{meanwhile}. Ctrl-C keeps the crates that are proved, and the next call goes on from there"
+    )
 
 
 def build_for_this_machine(places: Places) -> None:
@@ -42,4 +46,6 @@ def build_for_this_machine(places: Places) -> None:
     except OSError:
         raise Failed(f"{places.program} can't be written") from None
     if not built.write_stamp(build.basis, cpu):
-        raise Failed(f"a source or the toolchain changed during the build, or {places.stamp} can't be written; the prover's log is {places.log}")
+        raise Failed(
+            f"a source or the toolchain changed during the build, or {places.stamp} can't be written; the prover's log is {places.log}"
+        )

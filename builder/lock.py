@@ -1,4 +1,6 @@
-"""The lock for builds in a checkout. If several calls need a build, one of them builds and the others wait."""
+"""The lock for builds in a checkout. If several calls need a build, one of them builds and the
+others wait.
+"""
 
 from __future__ import annotations
 
@@ -10,7 +12,9 @@ from builder.places import Places
 
 
 def take_lock(places: Places) -> int:
-    """Waits for the lock and returns it. It is released when this process and all its commands have ended."""
+    """Waits for the lock and returns it. It is released when this process and all its commands have
+    ended.
+    """
     try:
         places.out.mkdir(parents=True, exist_ok=True)
     except OSError:

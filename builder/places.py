@@ -7,8 +7,9 @@ from pathlib import Path
 
 # The crate of the program. All others are libraries.
 PROGRAM = "census"
-# The levels of processors for which the program is built, as `rattle --cpu` names them, each with the suffix of the program's name: the
-# lowest level for which the toolchain builds, and the one for which the program is about a fifth faster.
+# The levels of processors for which the program is built, as `rattle --cpu` names them, each with
+# the suffix of the program's name: the lowest level for which the toolchain builds, and the one for
+# which the program is about a fifth faster.
 LEAST = "default"
 LEVELS = {LEAST: "v2", "x86-64-v3": "v3"}
 

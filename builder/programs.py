@@ -1,4 +1,6 @@
-"""Puts the program for each level of processors into a folder, with the prover's verdict on each crate, for `bin/programs`."""
+"""Puts the program for each level of processors into a folder, with the prover's verdict on each
+crate, for `bin/programs`.
+"""
 
 from __future__ import annotations
 
@@ -41,7 +43,8 @@ def make_programs(places: Places, asked: Asked) -> None:
     if asked.ci_log is not None:
         with own_folder(build) as own:
             take_from_ci(own, asked.ci_log, asked.again)
-            # A second copy of the prover would load the libraries once more, and the rest of `rt ci` needs the processors.
+            # A second copy of the prover would load the libraries once more, and the rest of `rt
+            # ci` needs the processors.
             build_both(replace(own, copies=lambda: 1))
             fill_folder(own, asked.folder)
     elif asked.again:
@@ -79,8 +82,10 @@ def take_libraries(build: Build, own: Build) -> None:
 
 
 def take_from_ci(own: Build, log: Path, again: bool) -> None:
-    """Fills the temporary folder with what `rt ci` has proved: its libraries, its verdicts and, unless it is to be built again, its program.
-    A library with a stamp is from another run: `rt` has put it back after `rt ci` had ended."""
+    """Fills the temporary folder with what `rt ci` has proved: its libraries, its verdicts and,
+    unless it is to be built again, its program. A library with a stamp is from another run: `rt`
+    has put it back after `rt ci` had ended.
+    """
     verdicts = verdicts_in(text_of(log) or "")
     for crate in own.crates.order:
         if crate == PROGRAM and again:
@@ -102,7 +107,9 @@ def take_from_ci(own: Build, log: Path, again: bool) -> None:
 
 
 def verdicts_in(log: str) -> dict[str, str]:
-    """Finds the verdict that `rt ci` printed for each crate, or its reason for not proving the crate again."""
+    """Finds the verdict that `rt ci` printed for each crate, or its reason for not proving the
+    crate again.
+    """
     verdicts: dict[str, str] = {}
     crate = ""
     for line in log.splitlines():
@@ -127,13 +134,22 @@ def build_both(build: Build) -> None:
 
 # ---- The folder
 
+
 def fill_folder(build: Build, folder: Path) -> None:
-    """Copies programs and verdicts into a folder. The file `from` is written last, so an interrupted copy doesn't count."""
+    """Copies programs and verdicts into a folder. The file `from` is written last, so an
+    interrupted copy doesn't count.
+    """
     try:
         folder.mkdir(parents=True, exist_ok=True)
         (folder / "from").unlink(missing_ok=True)
-        results = [(crate, LEAST) for crate in build.crates.order] + [(PROGRAM, cpu) for cpu in LEVELS if cpu != LEAST]
-        (folder / "verdicts").write_text("".join(f"{build.kept.name(*it)}: {text_of(build.kept.verdict(*it))}\n" for it in results))
+        results = [(crate, LEAST) for crate in build.crates.order] + [
+            (PROGRAM, cpu) for cpu in LEVELS if cpu != LEAST
+        ]
+        (folder / "verdicts").write_text(
+            "".join(
+                f"{build.kept.name(*it)}: {text_of(build.kept.verdict(*it))}\n" for it in results
+            )
+        )
         for cpu in LEVELS:
             shutil.copy(build.kept.result(PROGRAM, cpu), folder)
         is_same = build.built.basis() == build.basis
@@ -142,17 +158,24 @@ def fill_folder(build: Build, folder: Path) -> None:
     except OSError:
         is_same = False
     if not is_same:
-        raise Failed(f"a source or the toolchain changed during the build, or {folder} can't be written")
+        raise Failed(
+            f"a source or the toolchain changed during the build, or {folder} can't be written"
+        )
 
 
 def digests_of(folder: Path) -> str:
     """Returns what `b2sum -l 256` prints for the files in a folder besides `from`."""
     there = [name for name in FILES if (folder / name).is_file()]
-    return "".join(f"{hashlib.blake2b((folder / name).read_bytes(), digest_size=DIGEST_BYTES).hexdigest()}  {name}\n" for name in there)
+    return "".join(
+        f"{hashlib.blake2b((folder / name).read_bytes(), digest_size=DIGEST_BYTES).hexdigest()}  {name}\n"
+        for name in there
+    )
 
 
 def look_at(places: Places, folder: str) -> int:
-    """Compares a folder's programs with this checkout. Returns 0 if they belong together, and otherwise names the first difference."""
+    """Compares a folder's programs with this checkout. Returns 0 if they belong together, and
+    otherwise names the first difference.
+    """
     wrong = fault_of(places, folder)
     if wrong:
         tell(f"programs: {wrong}\n")
@@ -161,18 +184,26 @@ def look_at(places: Places, folder: str) -> int:
 
 def fault_of(places: Places, folder: str) -> str:
     if shutil.which("rt") is None:
-        return f"there is no command rt on the PATH, so what is in {folder} can't be compared with it"
+        return (
+            f"there is no command rt on the PATH, so what is in {folder} can't be compared with it"
+        )
     origin = text_of(Path(folder) / "from")
     if origin is None:
         return f"{folder} has no file 'from', so nothing says what its programs were built from"
     was = origin.split("\n")
     now = f"{Built(places).basis() or ''}\n{digests_of(Path(folder))}".rstrip("\n").split("\n")
     differing = first_difference(was, now)
-    return f"what is in {folder} was built from something else than is here: {differing}" if differing else ""
+    return (
+        f"what is in {folder} was built from something else than is here: {differing}"
+        if differing
+        else ""
+    )
 
 
 def first_difference(was: list[str], now: list[str]) -> str:
     """Returns the name in the first line that only one of two lists has."""
     there, here = set(was), set(now)
-    differing = [line for line in was if line not in here] + [line for line in now if line not in there]
+    differing = [line for line in was if line not in here] + [
+        line for line in now if line not in there
+    ]
     return differing[0].rpartition("  ")[2] if differing else ""

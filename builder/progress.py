@@ -1,4 +1,6 @@
-"""The progress of a build: on a terminal one line that is rewritten, and elsewhere one line per crate."""
+"""The progress of a build: on a terminal one line that is rewritten, and elsewhere one line per
+crate.
+"""
 
 from __future__ import annotations
 
@@ -34,7 +36,11 @@ class Progress:
 
     def running(self) -> list[str]:
         """Returns a text for each crate that is being proved."""
-        return [self._place(crate) + self._functions(crate) for crate in self.places if crate not in self.proved]
+        return [
+            self._place(crate) + self._functions(crate)
+            for crate in self.places
+            if crate not in self.proved
+        ]
 
     def show(self) -> None:
         running = self.running() if is_terminal() else []
@@ -50,7 +56,11 @@ class Progress:
         return f"crate {self.places[crate]} of {self.crates}, {crate}"
 
     def _functions(self, crate: str) -> str:
-        """Returns how many functions of a crate have been started. For each function the prover first writes a file with its code, and
-        later one with what the logic sees of it."""
-        seen, coded = (len(list(self.room.glob(f"{crate}/*/Rattle-{crate}-proofs.*.{kind}.oantt"))) for kind in ("Lts", "Code"))
+        """Returns how many functions of a crate have been started. For each function the prover
+        first writes a file with its code, and later one with what the logic sees of it.
+        """
+        seen, coded = (
+            len(list(self.room.glob(f"{crate}/*/Rattle-{crate}-proofs.*.{kind}.oantt")))
+            for kind in ("Lts", "Code")
+        )
         return f": {seen} of {coded} functions" if seen else ""

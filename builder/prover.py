@@ -44,21 +44,34 @@ class Log:
 
 @dataclass
 class Commands:
-    """The commands of a build. Each runs in its own process group, so that all of them can be stopped."""
+    """The commands of a build. Each runs in its own process group, so that all of them can be
+    stopped.
+    """
 
-    # Each command inherits the lock, so that the next call waits for a prover that outlives this process.
+    # Each command inherits the lock, so that the next call waits for a prover that outlives this
+    # process.
     lock: int
     running: set[int] = field(default_factory=set)
     turn: threading.Lock = field(default_factory=threading.Lock)
     are_ended: bool = False
 
-    def run(self, words: Sequence[str], folder: Path, room: Path, log: Log, crate: str) -> list[bytes]:
+    def run(
+        self, words: Sequence[str], folder: Path, room: Path, log: Log, crate: str
+    ) -> list[bytes]:
         """Runs a command, and returns the lines that it prints."""
         with self.turn:
             if self.are_ended:
                 raise Ended(1)
-            process = subprocess.Popen(words, cwd=folder, env=os.environ | {"TMPDIR": str(room)}, stdin=subprocess.DEVNULL, stdout=subprocess.PIPE,
-                                       stderr=subprocess.STDOUT, pass_fds=[self.lock], start_new_session=True)
+            process = subprocess.Popen(
+                words,
+                cwd=folder,
+                env=os.environ | {"TMPDIR": str(room)},
+                stdin=subprocess.DEVNULL,
+                stdout=subprocess.PIPE,
+                stderr=subprocess.STDOUT,
+                pass_fds=[self.lock],
+                start_new_session=True,
+            )
             self.running.add(process.pid)
         lines = []
         with process:
@@ -102,13 +115,21 @@ class Prover:
         return self.kept.made / "room"
 
     def prove(self, crate: str, copies: int, yielding: int) -> str:
-        """Proves a crate with `copies` copies of the prover, whose niceness is `yielding`, and returns the verdict. Of a library only the
-        statements are written: crates above need no more, and load them faster than the proofs."""
+        """Proves a crate with `copies` copies of the prover, whose niceness is `yielding`, and
+        returns the verdict. Of a library only the statements are written: crates above need no
+        more, and load them faster than the proofs.
+        """
         folder, room = self.places.crate(crate), self.room / crate
         room.mkdir(parents=True, exist_ok=True)
         result = self.kept.result(crate, self.cpu)
         made = room / f"{crate}.o" if crate == PROGRAM else result
-        words = ["nice", "-n", str(yielding), str(self.kit / "bin" / "rattle"), *self._words(crate, copies)]
+        words = [
+            "nice",
+            "-n",
+            str(yielding),
+            str(self.kit / "bin" / "rattle"),
+            *self._words(crate, copies),
+        ]
         lines = self.commands.run([*words, "-o", str(made)], folder, room, self.log, crate)
         if crate == PROGRAM:
             lines += self._link(crate, made, result, room)
@@ -116,24 +137,54 @@ class Prover:
         return b"".join(line for line in lines if line.startswith(VERDICT)).decode().rstrip("\n")
 
     def _words(self, crate: str, copies: int) -> list[str]:
-        """Returns the prover's arguments for a crate: its root, the libraries that it names, and where to find what these use."""
+        """Returns the prover's arguments for a crate: its root, the libraries that it names, and
+        where to find what these use.
+        """
         kit, made = self.kit, self.kept.made
-        words = ["build", "--crate-name", crate, "src/main.rt" if crate == PROGRAM else "src/lib.rt", "--extern", f"std={kit}/rlibs/std.rlib"]
+        words = [
+            "build",
+            "--crate-name",
+            crate,
+            "src/main.rt" if crate == PROGRAM else "src/lib.rt",
+            "--extern",
+            f"std={kit}/rlibs/std.rlib",
+        ]
         for name in self.crates.uses[crate]:
             folder = made if name in self.crates.uses else kit / "rlibs"
             words += ["--extern", f"{name}={folder}/{name}.rlib"]
-        words += ["-L", f"dependency={made}", "-L", f"dependency={kit}/rlibs", "--links", f"{crate}="]
+        words += [
+            "-L",
+            f"dependency={made}",
+            "-L",
+            f"dependency={kit}/rlibs",
+            "--links",
+            f"{crate}=",
+        ]
         words += ["--antt-project", f"{kit}/rattle/logic/antt-project.json"]
         if crate == PROGRAM and self.cpu != LEAST:
             words.append(f"--cpu={self.cpu}")
         words += ["--logic-built", f"{kit}/logic_built", "--jobs", str(copies)]
-        return [*words, "--toolchain", f"{kit}/toolchain"] if crate == PROGRAM else [*words, "--statements"]
+        return (
+            [*words, "--toolchain", f"{kit}/toolchain"]
+            if crate == PROGRAM
+            else [*words, "--statements"]
+        )
 
     def _link(self, crate: str, made: Path, result: Path, room: Path) -> list[bytes]:
         """Links the program, and replaces the kept program only if that succeeds."""
         kit, linked = self.kit, room / crate
-        words = [f"{kit}/bin/rattle-link", "--target", TARGET, "--toolchain", f"{kit}/toolchain", "-o", str(linked), str(made),
-                 f"{kit}/c/libos_c.a", f"{kit}/c/liblibc_c.a"]
+        words = [
+            f"{kit}/bin/rattle-link",
+            "--target",
+            TARGET,
+            "--toolchain",
+            f"{kit}/toolchain",
+            "-o",
+            str(linked),
+            str(made),
+            f"{kit}/c/libos_c.a",
+            f"{kit}/c/liblibc_c.a",
+        ]
         lines = self.commands.run(words, self.places.crate(crate), room, self.log, crate)
         try:
             os.replace(linked, result)

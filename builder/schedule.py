@@ -1,8 +1,9 @@
-"""The order in which crates are proved: each after those that it uses, and side by side if neither is above the other.
+"""The order in which crates are proved: each after those that it uses, and side by side if neither
+is above the other.
 
-The crate with the longest path to the program starts first and gets a copy of the prover for each processor. Crates that are proved
-beside it have a higher niceness, so they use the processor time that it leaves, and one copy each, since each copy loads the same
-libraries.
+The crate with the longest path to the program starts first and gets a copy of the prover for each
+processor. Crates that are proved beside it have a higher niceness, so they use the processor time
+that it leaves, and one copy each, since each copy loads the same libraries.
 """
 
 from __future__ import annotations
@@ -31,14 +32,23 @@ MEMORY = Path("/proc/meminfo")
 def copies_for_longest() -> int:
     """Returns how many copies of the prover the crate with the longest path gets on this machine."""
     try:
-        available = next((int(line.split()[1]) for line in MEMORY.read_text().splitlines() if line.startswith("MemAvailable:")), None)
+        available = next(
+            (
+                int(line.split()[1])
+                for line in MEMORY.read_text().splitlines()
+                if line.startswith("MemAvailable:")
+            ),
+            None,
+        )
     except (OSError, ValueError, IndexError):
         available = None
     return copies_with(len(os.sched_getaffinity(0)), available)
 
 
 def copies_with(processors: int, kilobytes: int | None) -> int:
-    """Returns one copy for each processor, or fewer if there isn't enough memory for them. `None` means unknown."""
+    """Returns one copy for each processor, or fewer if there isn't enough memory for them. `None`
+    means unknown.
+    """
     copies = min(processors, MOST_COPIES)
     return copies if kilobytes is None else max(1, min(copies, kilobytes // COPY_KILOBYTES))
 
@@ -73,7 +83,9 @@ class Work(Protocol):
 class Schedule:
     """Decides when each crate is proved."""
 
-    def __init__(self, crates: Crates, weights: Mapping[str, int], copies: Callable[[], int]) -> None:
+    def __init__(
+        self, crates: Crates, weights: Mapping[str, int], copies: Callable[[], int]
+    ) -> None:
         self.crates = crates
         self.ways = crates.ways(weights)
         self.copies = copies
@@ -92,7 +104,9 @@ class Schedule:
         return -self.ways[crate], self.crates.order.index(crate)
 
     def run(self, work: Work) -> None:
-        """Proves all crates that aren't kept. If one fails, stops the others and raises its exception."""
+        """Proves all crates that aren't kept. If one fails, stops the others and raises its
+        exception.
+        """
         with ThreadPoolExecutor(max_workers=len(self.crates.order)) as pool:
             try:
                 self._run(work, pool)
@@ -124,9 +138,12 @@ class Schedule:
                 sorter.done(crate)
             work.show()
 
-    def _after_kept(self, sorter: TopologicalSorter[str], work: Work, proved: set[str]) -> list[str]:
-        """Skips the crates that are kept, and returns those that can be proved next. A crate doesn't count as kept if a crate that it uses
-        has been proved in this run."""
+    def _after_kept(
+        self, sorter: TopologicalSorter[str], work: Work, proved: set[str]
+    ) -> list[str]:
+        """Skips the crates that are kept, and returns those that can be proved next. A crate
+        doesn't count as kept if a crate that it uses has been proved in this run.
+        """
         ready: list[str] = []
         while found := sorter.get_ready():
             for crate in found:

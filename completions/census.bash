@@ -1,5 +1,5 @@
 # Completion of census for bash.
-# Made by `checks/options --write` from the tables of commands and options: don't edit it.
+# Made by `checks/repository/options --write` from the tables of commands and options: don't edit it.
 
 _census() {
     local word=${COMP_WORDS[COMP_CWORD]} before=${COMP_WORDS[COMP_CWORD - 1]} options=''

@@ -1,5 +1,5 @@
 # Completion of census for fish.
-# Made by `checks/options --write` from the tables of commands and options: don't edit it.
+# Made by `checks/repository/options --write` from the tables of commands and options: don't edit it.
 
 complete -c census -f
 complete -c census -n __fish_use_subcommand -a run -d 'Reads a pattern, runs it for N generations and prints it'

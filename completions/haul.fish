@@ -1,5 +1,5 @@
 # Completion of haul for fish.
-# Made by `checks/options --write` from the tables of commands and options: don't edit it.
+# Made by `checks/repository/options --write` from the tables of commands and options: don't edit it.
 
 complete -c haul -n __fish_use_subcommand -f
 complete -c haul -n __fish_use_subcommand -a search -d 'Run soups until it is stopped, and keep their haul in FILE'

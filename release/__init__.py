@@ -1,7 +1,9 @@
-"""Makes a release of a checkout, and compares one with what the checkout makes. `bin/release` starts it.
+"""Makes a release of a checkout, and compares one with what the checkout makes. `bin/release`
+starts it.
 
-What goes into the archive and the package beside the programs and pages of the repository is in this folder too: what starts the
-program, `uninstall`, and what Debian's tools want to know. `bin/install` packs `haul` by `zipped.py`, as a release does.
+What goes into the archive and the package beside the programs and pages of the repository is in
+this folder too: what starts the program, `uninstall`, and what Debian's tools want to know.
+`bin/install` packs `haul` by `zipped.py`, as a release does.
 """
 
 

@@ -1,4 +1,6 @@
-"""Archives by `tarfile` and `gzip`, whose bytes depend on nothing but the files in them, their date and the version of zlib."""
+"""Archives by `tarfile` and `gzip`, whose bytes depend on nothing but the files in them, their date
+and the version of zlib.
+"""
 
 from __future__ import annotations
 
@@ -24,7 +26,9 @@ def gzipped(data: bytes) -> bytes:
 
 
 def archive(tree: Tree, date: int) -> bytes:
-    """The archive of files and of the folders that they are in, all with one date and as the files of user 0."""
+    """The archive of files and of the folders that they are in, all with one date and as the files
+    of user 0.
+    """
     packed = io.BytesIO()
     with tarfile.open(fileobj=packed, mode="w", format=tarfile.USTAR_FORMAT) as file:
         for place in places_in(tree):
@@ -41,5 +45,7 @@ def archive(tree: Tree, date: int) -> bytes:
 
 def places_in(tree: Tree) -> list[str]:
     """The places of all files and folders: each folder comes before what is in it."""
-    paths = {path for place in tree for path in (PurePosixPath(place), *PurePosixPath(place).parents)}
+    paths = {
+        path for place in tree for path in (PurePosixPath(place), *PurePosixPath(place).parents)
+    }
     return [str(path) for path in sorted(paths, key=lambda path: path.parts) if path.parts]

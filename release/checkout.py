@@ -38,14 +38,26 @@ def clean_checkout(top: Path) -> Checkout:
     if not os.path.samefile(above, top):
         raise Failed(f"{top} isn't the top of a checkout")
     # Each entry is two letters and a blank before the path, and a nul after it.
-    said = git(top, "status", "--porcelain=v1", "-z", "--untracked-files=all", "--no-renames", "--ignore-submodules=none")
+    said = git(
+        top,
+        "status",
+        "--porcelain=v1",
+        "-z",
+        "--untracked-files=all",
+        "--no-renames",
+        "--ignore-submodules=none",
+    )
     changed = sorted(os.fsdecode(entry[3:]) for entry in said.split(b"\0") if entry)
     if changed:
-        raise Failed(*(f"{path} isn't as it is in commit {commit[:12]}" for path in changed),
-                     "the checkout has changes, so nothing is made of it")
+        raise Failed(
+            *(f"{path} isn't as it is in commit {commit[:12]}" for path in changed),
+            "the checkout has changes, so nothing is made of it",
+        )
     date = int(git(top, "show", "--no-patch", "--format=%ct", commit))
     files = git(top, "ls-files", "-z").split(b"\0")
-    return Checkout(top, commit, date, version_of(top), frozenset(os.fsdecode(file) for file in files if file))
+    return Checkout(
+        top, commit, date, version_of(top), frozenset(os.fsdecode(file) for file in files if file)
+    )
 
 
 def version_of(top: Path) -> str:
@@ -61,7 +73,13 @@ def git(top: Path, *words: str) -> bytes:
     environment = {name: value for name, value in os.environ.items() if not name.startswith("GIT_")}
     environment |= {"GIT_OPTIONAL_LOCKS": "0", "LC_ALL": "C"}
     try:
-        called = subprocess.run(["git", "-C", str(top), *words], stdin=subprocess.DEVNULL, capture_output=True, env=environment, check=False)
+        called = subprocess.run(
+            ["git", "-C", str(top), *words],
+            stdin=subprocess.DEVNULL,
+            capture_output=True,
+            env=environment,
+            check=False,
+        )
     except OSError:
         raise Failed("there is no git, which says what the checkout has") from None
     if called.returncode != 0:

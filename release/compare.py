@@ -1,4 +1,6 @@
-"""Compares a file of a release with the one that was made anew: byte for byte, and if they differ, file for file."""
+"""Compares a file of a release with the one that was made anew: byte for byte, and if they differ,
+file for file.
+"""
 
 from __future__ import annotations
 
@@ -12,7 +14,13 @@ from collections.abc import Iterator
 
 # What is told of a file in an archive.
 FACTS = ("bytes", "kind", "mode", "owner", "group", "date", "link")
-KINDS = {tarfile.REGTYPE: "file", tarfile.AREGTYPE: "file", tarfile.DIRTYPE: "folder", tarfile.SYMTYPE: "symbolic link", tarfile.LNKTYPE: "link"}
+KINDS = {
+    tarfile.REGTYPE: "file",
+    tarfile.AREGTYPE: "file",
+    tarfile.DIRTYPE: "folder",
+    tarfile.SYMTYPE: "symbolic link",
+    tarfile.LNKTYPE: "link",
+}
 
 Facts = dict[str, str]
 
@@ -45,7 +53,9 @@ def differing_lines(given: bytes, made: bytes) -> Iterator[str]:
         yield "its lines end otherwise"
 
 
-def differing_members(given: list[tuple[str, Facts]], made: list[tuple[str, Facts]]) -> Iterator[str]:
+def differing_members(
+    given: list[tuple[str, Facts]], made: list[tuple[str, Facts]]
+) -> Iterator[str]:
     known, wanted = dict(given), dict(made)
     for place, times in Counter(place for place, _ in given).items():
         if times > 1:
@@ -72,7 +82,15 @@ def members(name: str, data: bytes) -> list[tuple[str, Facts]]:
     parts = dict(parts_of_package(data))
     if list(parts) != ["debian-binary", "control.tar.gz", "data.tar.gz"]:
         raise Unreadable(f"a package of {', '.join(parts) or 'nothing'}")
-    version = {"kind": "file", "mode": "", "owner": "", "group": "", "date": "", "link": "", "bytes": sum_of(parts["debian-binary"])}
+    version = {
+        "kind": "file",
+        "mode": "",
+        "owner": "",
+        "group": "",
+        "date": "",
+        "link": "",
+        "bytes": sum_of(parts["debian-binary"]),
+    }
     return [
         ("debian-binary", version),
         *members_of_archive("DEBIAN/", parts["control.tar.gz"]),
@@ -90,8 +108,12 @@ def members_of_archive(front: str, data: bytes) -> Iterator[tuple[str, Facts]]:
             for member in archive:
                 read = archive.extractfile(member) if member.isreg() else None
                 yield front + member.name.removeprefix("./"), {
-                    "kind": KINDS.get(member.type, "special file"), "mode": f"{member.mode:o}", "owner": f"{member.uid} ({member.uname})",
-                    "group": f"{member.gid} ({member.gname})", "date": str(member.mtime), "link": member.linkname,
+                    "kind": KINDS.get(member.type, "special file"),
+                    "mode": f"{member.mode:o}",
+                    "owner": f"{member.uid} ({member.uname})",
+                    "group": f"{member.gid} ({member.gname})",
+                    "date": str(member.mtime),
+                    "link": member.linkname,
                     "bytes": sum_of(read.read()) if read else "",
                 }
     except (tarfile.TarError, OSError, EOFError, zlib.error) as error:
@@ -99,7 +121,9 @@ def members_of_archive(front: str, data: bytes) -> Iterator[tuple[str, Facts]]:
 
 
 def parts_of_package(data: bytes) -> Iterator[tuple[str, bytes]]:
-    """The files of an archive by `ar`: each has a head of 60 bytes, and a byte more if its length is odd."""
+    """The files of an archive by `ar`: each has a head of 60 bytes, and a byte more if its length
+    is odd.
+    """
     if not data.startswith(b"!<arch>\n"):
         raise Unreadable("it doesn't begin as a package does")
     place = 8
@@ -109,5 +133,7 @@ def parts_of_package(data: bytes) -> Iterator[tuple[str, bytes]]:
         if len(head) < 60 or head[58:] != b"`\n" or not length.isdigit():
             raise Unreadable(f"a bad head at byte {place}")
         place += 60
-        yield head[:16].decode("latin-1").strip().removesuffix("/"), data[place : place + int(length)]
+        yield head[:16].decode("latin-1").strip().removesuffix("/"), data[
+            place : place + int(length)
+        ]
         place += int(length) + int(length) % 2

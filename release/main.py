@@ -21,10 +21,22 @@ COMMIT = re.compile(r"^commit ([0-9a-f]{40}|[0-9a-f]{64})$", re.MULTILINE)
 
 def parser() -> argparse.ArgumentParser:
     words = argparse.ArgumentParser(prog="bin/release", description=DESCRIPTION)
-    words.add_argument("--built", metavar="FOLDER", type=Path, help="take the programs that bin/programs has put into this folder")
-    words.add_argument("--verify", metavar="FILE", nargs="+", type=Path,
-                       help="make the release anew and compare these files with it; PROVENANCE.txt beside each says of which commit it is")
-    words.add_argument("folder", nargs="?", type=Path, help="where the files are put (default: dist)")
+    words.add_argument(
+        "--built",
+        metavar="FOLDER",
+        type=Path,
+        help="take the programs that bin/programs has put into this folder",
+    )
+    words.add_argument(
+        "--verify",
+        metavar="FILE",
+        nargs="+",
+        type=Path,
+        help="make the release anew and compare these files with it; PROVENANCE.txt beside each says of which commit it is",
+    )
+    words.add_argument(
+        "folder", nargs="?", type=Path, help="where the files are put (default: dist)"
+    )
     return words
 
 
@@ -54,7 +66,9 @@ def look_at_commit(checkout: Checkout, file: Path) -> None:
     if found is None:
         raise Failed(f"{file}: {path} names no commit")
     if found[1] != checkout.commit:
-        raise Failed(f"{file}: it is of commit {found[1]}, and this checkout is of {checkout.commit}")
+        raise Failed(
+            f"{file}: it is of commit {found[1]}, and this checkout is of {checkout.commit}"
+        )
 
 
 def verify(built: Path | None, files: list[Path]) -> int:
@@ -87,7 +101,11 @@ def main() -> int:
     if asked.verify and asked.folder:
         parser().error("--verify takes files alone")
     try:
-        return verify(asked.built, asked.verify) if asked.verify else make(asked.built, asked.folder or TOP / "dist")
+        return (
+            verify(asked.built, asked.verify)
+            if asked.verify
+            else make(asked.built, asked.folder or TOP / "dist")
+        )
     except Failed as why:
         for line in why.args:
             print(f"release: {line}", file=sys.stderr)

@@ -24,22 +24,30 @@ def sha256(data: bytes) -> str:
 
 
 def files_of_release(checkout: Checkout, programs: Path) -> dict[str, bytes]:
-    """The files of the release of a checkout, with the programs in a folder. Where there is no dpkg-deb, it has no package."""
+    """The files of the release of a checkout, with the programs in a folder. Where there is no
+    dpkg-deb, it has no package.
+    """
     said = said_version(programs)
     if said != checkout.version:
-        raise Failed(f"the program says that it is of version {said}, and haul/__init__.py says {checkout.version}")
+        raise Failed(
+            f"the program says that it is of version {said}, and haul/__init__.py says {checkout.version}"
+        )
     made = {f"{name_of(checkout)}.tar.gz": archive(archive_tree(checkout, programs), checkout.date)}
     if has(PACKER):
         with tempfile.TemporaryDirectory() as room:
             write_tree(package_tree(checkout, programs), Path(room), checkout.date)
             made[f"gokzerd_{checkout.version}_amd64.deb"] = package(Path(room), checkout.date)
     made[PROVENANCE] = provenance(checkout, programs, list(made)).encode()
-    made[SUMS] = "".join(f"{sha256(data)}  {name}\n" for name, data in sorted(made.items())).encode()
+    made[SUMS] = "".join(
+        f"{sha256(data)}  {name}\n" for name, data in sorted(made.items())
+    ).encode()
     return made
 
 
 def write_tree(tree: Tree, folder: Path, date: int) -> None:
-    """Writes the files below a folder, whatever is masked from the modes of new files, and all with one date."""
+    """Writes the files below a folder, whatever is masked from the modes of new files, and all with
+    one date.
+    """
     for place, file in tree.items():
         path = folder / place
         path.parent.mkdir(parents=True, exist_ok=True)
@@ -55,13 +63,28 @@ def write_tree(tree: Tree, folder: Path, date: int) -> None:
 def provenance(checkout: Checkout, programs: Path, archives: list[str]) -> str:
     """From what a release was made, by what, and how anyone makes sure."""
     lines = [f"Gokzerd {checkout.version}", "", f"commit {checkout.commit}"]
-    lines.append(f"files {checkout.sum_of_files()} (the SHA-256 of what `git ls-tree -r` prints of the commit)")
+    lines.append(
+        f"files {checkout.sum_of_files()} (the SHA-256 of what `git ls-tree -r` prints of the commit)"
+    )
     lines.append(f"toolchain {rt_version(programs)}")
-    lines += [f"program {sha256((programs / f'census-{level}').read_bytes())} census-{level}" for level in LEVELS]
-    lines += ["", "What the prover said of each crate, and of the program for the processors of each level:", "", *verdicts(programs)]
+    lines += [
+        f"program {sha256((programs / f'census-{level}').read_bytes())} census-{level}"
+        for level in LEVELS
+    ]
+    lines += [
+        "",
+        "What the prover said of each crate, and of the program for the processors of each level:",
+        "",
+        *verdicts(programs),
+    ]
     lines += ["", "Packed by:", "", PACKED_BY, version_of(PACKER)]
-    lines += ["", "In a clone of the repository, with this file beside the archives, these two commands make all of it anew and compare:", "",
-              f"git checkout {checkout.commit}", f"bin/release --verify {' '.join(f'FOLDER/{name}' for name in archives)}"]
+    lines += [
+        "",
+        "In a clone of the repository, with this file beside the archives, these two commands make all of it anew and compare:",
+        "",
+        f"git checkout {checkout.commit}",
+        f"bin/release --verify {' '.join(f'FOLDER/{name}' for name in archives)}",
+    ]
     return "".join(f"{line}\n" for line in lines)
 
 

@@ -15,7 +15,12 @@ PACKER = "dpkg-deb"
 
 def environment(date: int = 0) -> dict[str, str]:
     """Nothing else of the caller's environment changes what these programs make."""
-    return {"PATH": os.environ.get("PATH", "/usr/bin:/bin"), "LC_ALL": "C", "TZ": "UTC", "SOURCE_DATE_EPOCH": str(date)}
+    return {
+        "PATH": os.environ.get("PATH", "/usr/bin:/bin"),
+        "LC_ALL": "C",
+        "TZ": "UTC",
+        "SOURCE_DATE_EPOCH": str(date),
+    }
 
 
 def has(tool: str) -> bool:
@@ -25,7 +30,14 @@ def has(tool: str) -> bool:
 def called(words: list[str], given: bytes | None = None, date: int = 0) -> bytes:
     """What a program prints, which must end well."""
     try:
-        ended = subprocess.run(words, input=given, stdout=subprocess.PIPE, stderr=subprocess.PIPE, env=environment(date), check=False)
+        ended = subprocess.run(
+            words,
+            input=given,
+            stdout=subprocess.PIPE,
+            stderr=subprocess.PIPE,
+            env=environment(date),
+            check=False,
+        )
     except OSError:
         raise Failed(f"there is no {words[0]}, by which a release is packed") from None
     if ended.returncode != 0:
@@ -45,5 +57,17 @@ def package(folder: Path, date: int) -> bytes:
     """The Debian package of a folder that has its description."""
     with tempfile.TemporaryDirectory() as room:
         made = Path(room) / "made.deb"
-        called([PACKER, "--root-owner-group", "-Zgzip", "-z9", "--uniform-compression", "--build", str(folder), str(made)], date=date)
+        called(
+            [
+                PACKER,
+                "--root-owner-group",
+                "-Zgzip",
+                "-z9",
+                "--uniform-compression",
+                "--build",
+                str(folder),
+                str(made),
+            ],
+            date=date,
+        )
         return made.read_bytes()

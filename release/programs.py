@@ -17,7 +17,9 @@ def call(top: Path, words: list[str]) -> None:
     # Ctrl-C is for that program too, which then ends the prover. Till then this one waits for it.
     before = signal.signal(signal.SIGINT, lambda _number, _frame: None)
     try:
-        status = subprocess.run([str(top / "bin" / "programs"), *words], stdin=subprocess.DEVNULL, check=False).returncode
+        status = subprocess.run(
+            [str(top / "bin" / "programs"), *words], stdin=subprocess.DEVNULL, check=False
+        ).returncode
     finally:
         signal.signal(signal.SIGINT, before)
     if status != 0:
@@ -27,7 +29,12 @@ def call(top: Path, words: list[str]) -> None:
 def said_version(programs: Path) -> str:
     """The version that a program says."""
     try:
-        said = subprocess.run([str(programs / "census-v2"), "--version"], stdin=subprocess.DEVNULL, capture_output=True, check=False).stdout
+        said = subprocess.run(
+            [str(programs / "census-v2"), "--version"],
+            stdin=subprocess.DEVNULL,
+            capture_output=True,
+            check=False,
+        ).stdout
     except OSError as error:
         raise Failed(f"{error.filename}: {error.strerror}") from None
     return said.decode("utf-8", "replace").removeprefix("census ").removesuffix("\n")

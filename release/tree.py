@@ -13,22 +13,34 @@ from release.files import PROGRAM, TEXT, File, Tree
 from release.pages import moved_page
 from release.zipped import is_packed, packed
 
-PAGES = ["README.md", "CHANGELOG.md", *(f"docs/{name}.md" for name in ("COMMANDS", "FORMATS", "PROFILE", "BOOK", "SCALE"))]
+PAGES = [
+    "README.md",
+    "CHANGELOG.md",
+    *(f"docs/{name}.md" for name in ("COMMANDS", "FORMATS", "PROFILE", "BOOK", "SCALE")),
+]
 DOC = "share/doc/gokzerd"
 LIBEXEC = "libexec/gokzerd"
 
 
 def places_of(checkout: Checkout, zsh: str) -> dict[str, str]:
-    """Where the files of the repository are below the folder that they are installed in. The completions for zsh have a folder of
-    their own on each system."""
+    """Where the files of the repository are below the folder that they are installed in. The
+    completions for zsh have a folder of their own on each system.
+    """
     places = {"release/census": "bin/census", "release/processor.sh": f"{LIBEXEC}/processor.sh"}
-    places |= {page: f"{DOC}/{page.rpartition('/')[2]}" for page in [*PAGES, "docs/page.png", "examples/100000.html"]}
+    places |= {
+        page: f"{DOC}/{page.rpartition('/')[2]}"
+        for page in [*PAGES, "docs/page.png", "examples/100000.html"]
+    }
     for name in ("census", "haul"):
         places[f"docs/man/{name}.1"] = f"share/man/man1/{name}.1"
         places[f"completions/{name}.bash"] = f"share/bash-completion/completions/{name}"
         places[f"completions/_{name}"] = f"share/zsh/{zsh}/_{name}"
         places[f"completions/{name}.fish"] = f"share/fish/vendor_completions.d/{name}.fish"
-    places |= {file: f"share/census/{file}" for file in checkout.files if file.rpartition("/")[0] == "cluster"}
+    places |= {
+        file: f"share/census/{file}"
+        for file in checkout.files
+        if file.rpartition("/")[0] == "cluster"
+    }
     lacking = sorted(set(places) - checkout.files)
     if lacking:
         raise Failed(*(f"the commit has no file {file}" for file in lacking))
@@ -39,7 +51,12 @@ def installed(checkout: Checkout, programs: Path, zsh: str) -> Tree:
     """What is below the folder that a release is installed in."""
     places = places_of(checkout, zsh)
     # Some pages link to folders, and to the page on the examples, of which one is in a release.
-    linked = {**places, "cluster": "share/census/cluster", "docs/man": "share/man/man1", "examples/README.md": f"{DOC}/100000.html"}
+    linked = {
+        **places,
+        "cluster": "share/census/cluster",
+        "docs/man": "share/man/man1",
+        "examples/README.md": f"{DOC}/100000.html",
+    }
     tree: Tree = {}
     for path, place in places.items():
         file = checkout.top / path
@@ -66,7 +83,9 @@ def name_of(checkout: Checkout) -> str:
 
 
 def package_tree(checkout: Checkout, programs: Path) -> Tree:
-    """What the package has: the same below /usr, in the form that Debian wants, and the package's own description."""
+    """What the package has: the same below /usr, in the form that Debian wants, and the package's
+    own description.
+    """
     own = checkout.top / "release"
     tree = {}
     for place, file in installed(checkout, programs, "vendor-completions").items():
@@ -75,7 +94,9 @@ def package_tree(checkout: Checkout, programs: Path) -> Tree:
         tree[f"usr/{place}"] = file
     tree[f"usr/{DOC}/copyright"] = File((own / "copyright").read_bytes(), TEXT)
     tree[f"usr/{DOC}/changelog.gz"] = File(gzipped(debian_changelog(checkout)), TEXT)
-    tree["usr/share/lintian/overrides/gokzerd"] = File((own / "lintian-overrides").read_bytes(), TEXT)
+    tree["usr/share/lintian/overrides/gokzerd"] = File(
+        (own / "lintian-overrides").read_bytes(), TEXT
+    )
     return tree | package_description(checkout, tree)
 
 
@@ -83,9 +104,16 @@ def package_description(checkout: Checkout, tree: Tree) -> Tree:
     folders = {folder for place in tree for folder in Path(place).parents}
     kilobytes = sum(-(-len(file.data) // 1024) for file in tree.values()) + len(folders)
     control = (checkout.top / "release" / "control").read_text()
-    control = control.replace("Version: VERSION", f"Version: {checkout.version}").replace("Installed-Size: SIZE", f"Installed-Size: {kilobytes}")
-    sums = "".join(f"{hashlib.md5(tree[place].data).hexdigest()}  {place}\n" for place in sorted(tree))
-    return {"DEBIAN/control": File(control.encode(), TEXT), "DEBIAN/md5sums": File(sums.encode(), TEXT)}
+    control = control.replace("Version: VERSION", f"Version: {checkout.version}").replace(
+        "Installed-Size: SIZE", f"Installed-Size: {kilobytes}"
+    )
+    sums = "".join(
+        f"{hashlib.md5(tree[place].data).hexdigest()}  {place}\n" for place in sorted(tree)
+    )
+    return {
+        "DEBIAN/control": File(control.encode(), TEXT),
+        "DEBIAN/md5sums": File(sums.encode(), TEXT),
+    }
 
 
 def maintainer(checkout: Checkout) -> str:

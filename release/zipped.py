@@ -1,10 +1,12 @@
-"""Packs the companion `haul` into one file: the lines of bin/haul for the shell, and then a zip archive, which Python runs.
+"""Packs the companion `haul` into one file: the lines of bin/haul for the shell, and then a zip
+archive, which Python runs.
 
 usage: python3 -I -S release/zipped.py > FILE
 
-The shell becomes Python before it reads any of the archive, and Python looks for an archive at the end of the file that it is to run.
-The archive has the rest of bin/haul as `__main__.py`, and the package `haul` without its tests. Nothing in it is compressed, so its
-bytes depend on no version of zlib.
+The shell becomes Python before it reads any of the archive, and Python looks for an archive at the
+end of the file that it is to run. The archive has the rest of bin/haul as `__main__.py`, and the
+package `haul` without its tests. Nothing in it is compressed, so its bytes depend on no version of
+zlib.
 """
 
 from __future__ import annotations
@@ -16,7 +18,8 @@ import zipfile
 from collections.abc import Iterable
 from pathlib import Path
 
-FOLDERS = ("haul", "haul/page")
+# The package, and the part of it that isn't packed.
+PACKAGE, TESTS = "haul/", "haul/tests/"
 ENDINGS = (".py", ".html", ".css", ".js")
 # The first date that an archive can have.
 DATE = (1980, 1, 1, 0, 0, 0)
@@ -30,8 +33,7 @@ ABOUT = "# The companion `haul` of Gokzerd: these lines for the shell, and a zip
 
 def is_packed(path: str) -> bool:
     """Checks whether the archive has a file, by its path in the repository."""
-    folder, _, name = path.rpartition("/")
-    return folder in FOLDERS and name.endswith(ENDINGS)
+    return path.startswith(PACKAGE) and not path.startswith(TESTS) and path.endswith(ENDINGS)
 
 
 def packed(top: Path, paths: Iterable[str]) -> bytes:
@@ -51,7 +53,7 @@ def packed(top: Path, paths: Iterable[str]) -> bytes:
 
 def paths_in(top: Path) -> list[str]:
     """Returns the files of a checkout that the archive has."""
-    paths = (path.relative_to(top).as_posix() for folder in FOLDERS for path in (top / folder).iterdir())
+    paths = (path.relative_to(top).as_posix() for path in (top / PACKAGE).rglob("*"))
     return sorted(filter(is_packed, paths))
 
 

@@ -4,12 +4,13 @@ from __future__ import annotations
 
 from dataclasses import dataclass, field
 
-from haul.by_parts import Objects
-from haul.compare import lettered, ranked
-from haul.ends import End, ends_of
-from haul.parts import Separation
-from haul.program import Census
-from haul.text import Haul
+from haul.census.client import Census
+from haul.census.soup_ends import End, find_ends
+from haul.formats.haul import Haul
+from haul.hauls.by_parts import Objects
+from haul.life.parts import Separation
+from haul.terminal import Terminal
+from haul.views.compare import letter_hauls, rank_codes
 
 # A page has room for so many hauls.
 MOST_SIDES = 8
@@ -23,7 +24,8 @@ class Side:
     objects: Objects
     # The same haul, with each object replaced by its parts.
     by_parts: Haul
-    # The sample soups about which `census` was asked; none for a soup that has no end that is known.
+    # The sample soups about which `census` was asked; none for a soup that has no end that is
+    # known.
     ends: dict[int, End | None] = field(default_factory=dict)
 
     @property
@@ -34,12 +36,12 @@ class Side:
         """Checks whether the haul has a code, as an object or as a part of one."""
         return code in self.haul.totals or code in self.by_parts.totals
 
-    def separation_of(self, code: str) -> Separation:
-        return self.objects.separation_of(code)
+    def separate(self, code: str) -> Separation:
+        return self.objects.separate(code)
 
-    def is_strict(self, code: str) -> bool:
+    def may_be_strict(self, code: str) -> bool:
         """Checks whether the haul has an object that is strict, or that could not be separated."""
-        separation = self.separation_of(code) if self.has(code) else None
+        separation = self.separate(code) if self.has(code) else None
         return separation is not None and (separation.is_strict() or not separation.is_separated)
 
     def samples(self, code: str) -> list[int]:
@@ -66,16 +68,18 @@ class Sides:
     known: list[str]
 
     def ask(self, census: Census) -> None:
-        """Asks when the soups of the first objects have settled. The page begins with strict objects, so these are asked about first."""
-        asked = sorted(self.codes, key=lambda code: not self.is_strict(code))[: self.play]
+        """Asks when the soups of the first objects have settled. The page begins with strict
+        objects, so these are asked about first."""
+        asked = sorted(self.codes, key=lambda code: not self.may_be_strict(code))[: self.play]
         for side in self.all:
             numbers = side.soups(asked)
-            ends = ends_of(census, side.haul.job, numbers)
+            ends = find_ends(census, side.haul.job, numbers)
             side.ends = {number: ends.get(number) for number in numbers}
 
-    def is_strict(self, code: str) -> bool:
-        """Checks whether an object is strict, or couldn't be separated, in one of the hauls that have it."""
-        return any(side.is_strict(code) for side in self.all)
+    def may_be_strict(self, code: str) -> bool:
+        """Checks whether an object is strict, or couldn't be separated, in one of the hauls that
+        have it."""
+        return any(side.may_be_strict(code) for side in self.all)
 
     def kinds(self) -> set[str]:
         """Returns the codes of all objects, with or without a place on the page."""
@@ -88,16 +92,19 @@ class Sides:
         return next(side for side in self.all if side.has(code))
 
 
-def sides_of(hauls: list[Haul], least: int, play: int) -> Sides:
+def make_sides(hauls: list[Haul], least: int, play: int, terminal: Terminal) -> Sides:
     sides: list[Side] = []
-    for letter, haul in lettered(hauls):
-        objects = Objects(haul)
+    for letter, haul in letter_hauls(hauls):
+        objects = Objects(haul, terminal)
         sides.append(Side(letter, objects, objects.by_parts()))
-    codes, parts = placed(hauls, least), placed([side.by_parts for side in sides], least)
+    codes, parts = rank_for_page(hauls, least), rank_for_page(
+        [side.by_parts for side in sides], least
+    )
     return Sides(sides, least, play, codes, list(dict.fromkeys([*codes, *parts])))
 
 
-def placed(hauls: list[Haul], least: int) -> list[str]:
-    """Returns the codes with a place on the page, by descending rate. One haul has an order even if it has objects and no soup."""
-    codes = ranked(hauls, least)
+def rank_for_page(hauls: list[Haul], least: int) -> list[str]:
+    """Returns the codes with a place on the page, by descending rate. One haul has an order even if
+    it has objects and no soup."""
+    codes = rank_codes(hauls, least)
     return sorted(codes, key=lambda code: -hauls[0].totals[code]) if len(hauls) == 1 else codes

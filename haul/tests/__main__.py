@@ -1,19 +1,22 @@
-"""Runs all tests, and says last how many passed and how many failed, and how many were skipped if any were."""
+"""Runs all tests. The last line is `N passed, M failed`, with `, K skipped` if some were."""
 
 import os
 import sys
 import tempfile
 import unittest
+from pathlib import Path
 
-from haul.tests import NAMES
+FOLDER = Path(__file__).resolve().parent
 
 with tempfile.TemporaryDirectory(ignore_cleanup_errors=True) as compiled:
-    # Where Python isn't to keep beside a module what it has compiled, each start of `haul` would compile all of it again.
+    # If Python mustn't write compiled modules beside the sources, each start of `haul` would
+    # compile all of them again.
     if os.environ.pop("PYTHONDONTWRITEBYTECODE", ""):
         os.environ["PYTHONPYCACHEPREFIX"] = compiled
-    suite = unittest.defaultTestLoader.loadTestsFromNames(NAMES)
+    suite = unittest.defaultTestLoader.discover(str(FOLDER), top_level_dir=str(FOLDER.parents[1]))
     result = unittest.TextTestRunner(stream=sys.stdout).run(suite)
 failed = len({test.id() for test, _ in result.failures + result.errors})
 skipped = len(result.skipped)
-print(f"{result.testsRun - failed - skipped} passed, {failed} failed" + (f", {skipped} skipped" if skipped else ""))
+counts = [f"{result.testsRun - failed - skipped} passed", f"{failed} failed"]
+print(*counts, *([f"{skipped} skipped"] if skipped else []), sep=", ")
 sys.exit(1 if failed or not result.testsRun else 0)

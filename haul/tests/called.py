@@ -2,55 +2,127 @@
 
 from __future__ import annotations
 
+import io
+import os
+import pty
 import signal
 import subprocess
 import sys
 import threading
-from collections.abc import Callable
+from collections.abc import Callable, Iterator
+from contextlib import contextmanager, suppress
 from functools import lru_cache
 from pathlib import Path
+from typing import BinaryIO, TextIO
+from unittest.mock import patch
 
-from haul.children import children
-from haul.main import main
+from haul.census.children import children
+from haul.census.client import Census
+from haul.cli import process
+from haul.cli.main import main
+from haul.terminal import Terminal
 from haul.tests.forked import go_on
 
 TOP = Path(__file__).resolve().parents[2]
 CENSUS = str(TOP / "crates" / "census" / "out" / "census")
 HAUL = str(TOP / "bin" / "haul")
+# The companion as if it were installed beside the built program, so that no launcher checks at each
+# call whether the program has to be built.
+INSTALLED_HAUL = str(Path(CENSUS).with_name("haul"))
+# Where nobody reads what is written.
+QUIET = Terminal(io.StringIO())
 
 
 def census(*words: str) -> bytes:
-    return subprocess.run([CENSUS, *words], stdin=subprocess.DEVNULL, stdout=subprocess.PIPE, check=True).stdout
+    """Returns what a call of the built program prints."""
+    return subprocess.run(
+        [CENSUS, *words], stdin=subprocess.DEVNULL, stdout=subprocess.PIPE, check=True
+    ).stdout
+
+
+def make_client(path: str = CENSUS) -> Census:
+    """Returns a client of the built program, or of another one."""
+    return Census(path, Terminal(sys.stderr))
 
 
 @lru_cache
 def taken(count: int) -> bytes:
-    """The haul of the first soups of the empty seed."""
+    """Returns the haul of the first soups of the empty seed."""
     return census("take", "--count", str(count))
 
 
 def run(*words: str, text: bytes = b"", cwd: str | None = None) -> tuple[int, str, str]:
-    """The status of `haul`, and what it prints on both streams. It is forked from this process, see `as_haul`."""
-    ended = subprocess.run([HAUL, *words], input=text, capture_output=True, check=False, cwd=cwd, preexec_fn=as_haul(*words))
-    return ended.returncode, ended.stdout.decode(), ended.stderr.decode()
+    """Calls `haul` in this process, and returns its status and what it prints on both streams.
+    test_ends.py and test_packed.py start it as a user does."""
+    output, errors = (
+        io.TextIOWrapper(io.BytesIO(), "utf-8", "surrogateescape", "\n") for _ in range(2)
+    )
+    with patch.dict(os.environ, COLUMNS="80"):
+        status = call(words, io.BytesIO(text), output, errors, cwd)
+    return status, read_back(output), read_back(errors)
+
+
+def read_back(stream: io.TextIOWrapper) -> str:
+    """Returns what was written to a stream over bytes."""
+    stream.seek(0)
+    return stream.read()
+
+
+def call(
+    words: tuple[str, ...],
+    stdin: BinaryIO,
+    stdout: TextIO,
+    stderr: TextIO,
+    cwd: str | None = None,
+) -> int:
+    """Calls `haul` in this process, in a folder, and returns its status."""
+    with patch.object(sys, "argv", [INSTALLED_HAUL, *words]), in_folder(cwd):
+        return main(list(words), stdin, stdout, stderr)
+
+
+@contextmanager
+def in_folder(folder: str | None) -> Iterator[None]:
+    before = os.getcwd()
+    os.chdir(folder or before)
+    try:
+        yield
+    finally:
+        os.chdir(before)
+
+
+def read_terminal(write: Callable[[TextIO], object]) -> bytes:
+    """Returns what is written to a terminal by a function that is called with it."""
+    ours, its = pty.openpty()
+    pieces: list[bytes] = []
+
+    def read() -> None:
+        with suppress(OSError):
+            while piece := os.read(ours, 65536):
+                pieces.append(piece)
+
+    reader = threading.Thread(target=read)
+    reader.start()
+    try:
+        with open(its, "w", encoding="utf-8") as terminal:
+            write(terminal)
+    finally:
+        reader.join()
+        os.close(ours)
+    return b"".join(pieces)
 
 
 def as_haul(*words: str) -> Callable[[], None]:
-    """What a process that `subprocess` forks is given as its `preexec_fn`, to be `haul` with these words.
-
-    A start of Python with all modules of `haul` takes longer than what most tests ask of it, and here they are there already. What
-    is tried is the same program, from its first line in `haul/main.py` on. It stands beside the census program, so no launcher looks
-    at each call whether that has to be built. What a user starts, with the lines of bin/haul, is tried by test_ends.py and test_packed.py.
-    """
-    # Another thread could hold a lock, which nobody would give back.
+    """Returns a `preexec_fn` with which a process that `subprocess` forks becomes `haul` with these
+    arguments. Tests of signals and of open files use this: a start of Python would take longer than
+    most of them."""
+    # Another thread could hold a lock, which nobody would release in the new process.
     assert threading.active_count() == 1 and not children.running and children.stopping is None
 
     def work() -> int:
         # As bin/haul has it.
         if signal.getsignal(signal.SIGINT) is not signal.SIG_IGN:
             signal.signal(signal.SIGINT, signal.SIG_DFL)
-        sys.argv = [str(Path(CENSUS).with_name("haul")), *words]
-        main()
-        return 1
+        sys.argv = [INSTALLED_HAUL, *words]
+        process.main()
 
     return lambda: go_on(work)

@@ -1,10 +1,13 @@
-"""Hauls that are drawn at random, the same ones in each call. What they say of soups isn't right; it only is lawful."""
+"""Hauls that are drawn at random, the same ones in each call. What they say of soups isn't right;
+it only is lawful."""
 
 from __future__ import annotations
 
 import random
 
-from haul.text import MOST_SAMPLES, Haul, Job, Range, lines_of
+from haul.formats.profile import Profile
+from haul.formats.haul import Haul, Job, MOST_SAMPLES, Range
+from haul.formats.haul_writer import format_haul
 
 ALPHABET = "0123456789abcdefghijklmnopqrstuvwxyz_"
 
@@ -14,7 +17,13 @@ def drawn_job(draw: random.Random) -> Job:
     births = "".join(str(n) for n in range(1, 9) if draw.random() < 0.3)
     survivals = "".join(str(n) for n in range(9) if draw.random() < 0.3)
     period = draw.randint(1, 64)
-    return Job(seed, f"b{births}s{survivals}", (period, draw.randint(period, 4096), draw.randint(1, 10000), draw.randint(0, 100000)))
+    return Job(
+        seed,
+        f"b{births}s{survivals}",
+        Profile(
+            period, draw.randint(period, 4096), draw.randint(1, 10000), draw.randint(0, 100000)
+        ),
+    )
 
 
 def drawn_ranges(draw: random.Random, first: int = 0) -> list[Range]:
@@ -27,14 +36,40 @@ def drawn_ranges(draw: random.Random, first: int = 0) -> list[Range]:
     return ranges
 
 
-def drawn_haul(draw: random.Random, job: Job, ranges: list[Range], is_complete: bool = False) -> Haul:
+def drawn_haul(
+    draw: random.Random, job: Job, ranges: list[Range], is_complete: bool = False
+) -> Haul:
     numbers = [first + k for first, count in ranges for k in range(count)]
     soups = len(numbers) if is_complete else draw.randint(0, len(numbers))
     unsettled = draw.randint(0, soups)
-    codes = sorted({"".join(draw.choice(ALPHABET) for _ in range(draw.randint(1, 12))) for _ in range(draw.randint(0, 12))}) if numbers else []
+    codes = (
+        sorted(
+            {
+                "".join(draw.choice(ALPHABET) for _ in range(draw.randint(1, 12)))
+                for _ in range(draw.randint(0, 12))
+            }
+        )
+        if numbers
+        else []
+    )
     totals = {code: draw.choice([1, 2, 3, draw.randint(1, 10**9)]) for code in codes}
-    samples = {code: sorted(draw.sample(numbers, min(len(numbers), draw.randint(1, min(MOST_SAMPLES, totals[code]))))) for code in codes}
-    return Haul(job, ranges, soups, unsettled, draw.randint(0, soups - unsettled), totals, samples)
+    samples = {
+        code: sorted(
+            draw.sample(
+                numbers, min(len(numbers), draw.randint(1, min(MOST_SAMPLES, totals[code])))
+            )
+        )
+        for code in codes
+    }
+    return Haul(
+        job,
+        ranges=ranges,
+        soups=soups,
+        unsettled=unsettled,
+        for_good=draw.randint(0, soups - unsettled),
+        totals=totals,
+        samples=samples,
+    )
 
 
 def any_haul(draw: random.Random) -> Haul:
@@ -42,4 +77,4 @@ def any_haul(draw: random.Random) -> Haul:
 
 
 def text_of(haul: Haul) -> str:
-    return "".join(f"{line}\n" for line in lines_of(haul))
+    return "".join(f"{line}\n" for line in format_haul(haul))

@@ -1,4 +1,5 @@
-"""A process that `subprocess` forks, and that goes on with code of this one in place of another program."""
+"""A process that `subprocess` forks, and that goes on with code of this one in place of another
+program."""
 
 from __future__ import annotations
 
@@ -10,17 +11,19 @@ import traceback
 from collections.abc import Callable
 from typing import NoReturn
 
-# Files with lower numbers are closed. `haul/tests/mutate` notes lines in one with a higher number.
+# Files with lower numbers are closed.
 FILES = 100
 
 
 def go_on(work: Callable[[], int]) -> NoReturn:
-    """Does the work as if Python had just been started for it, and ends with the status that it returns. It is called by the
-    `preexec_fn` of a call of `subprocess`, which then takes this process for the program that it has started: its streams, its folder
-    and its session are as the call asks, and what it prints, and how it ends, is seen as that of any program."""
+    """Does the work as if Python had just been started for it, and ends with the status that it
+    returns. It is called by the `preexec_fn` of a call of `subprocess`, which then takes this
+    process for the program that it has started: its streams, its folder and its session are as the
+    call asks, and what it prints, and how it ends, is seen as that of any program."""
     status = 1
     try:
-        # What is garbage now would close its files later, and their numbers would be those of others then.
+        # What is garbage now would close its files later, and their numbers would be those of
+        # others then.
         gc.freeze()
         gc.enable()
         # One of these is that by which `subprocess` waits for the start of the program.
@@ -29,7 +32,9 @@ def go_on(work: Callable[[], int]) -> NoReturn:
             signal.signal(number, signal.SIG_IGN)
         sys.stdin = open(0, encoding="utf-8", closefd=False)
         sys.stdout = open(1, "w", encoding="utf-8", closefd=False)
-        sys.stderr = open(2, "w", buffering=1, encoding="utf-8", errors="backslashreplace", closefd=False)
+        sys.stderr = open(
+            2, "w", buffering=1, encoding="utf-8", errors="backslashreplace", closefd=False
+        )
         status = work()
     except BaseException:
         traceback.print_exc()

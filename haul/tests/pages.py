@@ -1,4 +1,5 @@
-"""Pages, and what is read from them: the table for readers without scripts, and the data of the script."""
+"""Pages, and what is read from them: the table for readers without scripts, and the data of the
+script."""
 
 from __future__ import annotations
 
@@ -8,24 +9,25 @@ from dataclasses import dataclass, field
 from html.parser import HTMLParser
 from typing import Any
 
-from haul.page import page_of
-from haul.program import Census
-from haul.tests.called import CENSUS
-from haul.text import Haul
+from haul.formats.haul import Haul
+from haul.page.document import make_page
+from haul.tests.called import make_client
 
 
-def page(haul: Haul, *more: int) -> str:
-    """Returns the page of a haul. `more` is `--play`."""
-    return "".join(page_of(Census(CENSUS), [haul], 1, *more))
+def page(haul: Haul, play: int = 500) -> str:
+    """Returns the page of a haul. `play` is `--play`."""
+    return "".join(make_page(make_client(), [haul], 1, play))
 
 
 def compared(*hauls: Haul, least: int = 1, play: int = 0) -> str:
-    return "".join(page_of(Census(CENSUS), list(hauls), least, play))
+    return "".join(make_page(make_client(), list(hauls), least, play))
 
 
 def data_of(text: str) -> dict[str, Any]:
     """Reads the data of a page."""
-    found: dict[str, Any] = json.loads(re.findall('<script type="application/json" id="data">(.*?)</script>', text, re.DOTALL)[0])
+    found: dict[str, Any] = json.loads(
+        re.findall('<script type="application/json" id="data">(.*?)</script>', text, re.DOTALL)[0]
+    )
     return found
 
 
@@ -49,7 +51,8 @@ class Row:
 
 
 class Table(HTMLParser):
-    """The table of a page. What stands in a `noscript` element is for this reader as for a browser without scripts."""
+    """The table of a page. What stands in a `noscript` element is for this reader as for a browser
+    without scripts."""
 
     def __init__(self, text: str) -> None:
         super().__init__()

@@ -1,4 +1,5 @@
-"""Separation by brute force, written from the definition in docs/HAUL.md alone. It shares no code with the program."""
+"""Separation by brute force, written from the definition in docs/HAUL.md alone. It shares no code
+with the program."""
 
 from __future__ import annotations
 
@@ -13,8 +14,14 @@ Rule = tuple[frozenset[int], frozenset[int]]
 
 DIGITS = "0123456789abcdefghijklmnopqrstuvwxyz"
 ORIENTATIONS: list[Callable[[int, int], tuple[int, int]]] = [
-    lambda x, y: (x, y), lambda x, y: (-y, x), lambda x, y: (-x, -y), lambda x, y: (y, -x),
-    lambda x, y: (-x, y), lambda x, y: (x, -y), lambda x, y: (y, x), lambda x, y: (-y, -x),
+    lambda x, y: (x, y),
+    lambda x, y: (-y, x),
+    lambda x, y: (-x, -y),
+    lambda x, y: (y, -x),
+    lambda x, y: (-x, y),
+    lambda x, y: (x, -y),
+    lambda x, y: (y, x),
+    lambda x, y: (-y, -x),
 ]
 
 
@@ -71,7 +78,13 @@ def text_of(cells: Cells) -> str | None:
         strip = ""
         for value, run in groupby(columns):
             length = len(list(run))
-            strip += DIGITS[value] * length if value else "?0wx"[length] if length < 4 else "y" + DIGITS[length - 4]
+            strip += (
+                DIGITS[value] * length
+                if value
+                else "?0wx"[length]
+                if length < 4
+                else "y" + DIGITS[length - 4]
+            )
         strips.append(strip)
     return "z".join(strips)
 
@@ -95,7 +108,12 @@ def code_of(rule: Rule, cells: Cells) -> str:
     assert found is not None
     period, shift, phases = found
     kind = f"q{period}" if shift != (0, 0) else f"s{len(cells)}" if period == 1 else f"p{period}"
-    texts = [text for phase in phases for turn in ORIENTATIONS if (text := text_of(frozenset(turn(x, y) for x, y in phase))) is not None]
+    texts = [
+        text
+        for phase in phases
+        for turn in ORIENTATIONS
+        if (text := text_of(frozenset(turn(x, y) for x, y in phase))) is not None
+    ]
     return f"x{kind}_" + min(texts, key=lambda text: (len(text), text)) if texts else f"ov_{kind}"
 
 
@@ -167,14 +185,29 @@ def parts_of(rule: Rule, code: str) -> tuple[list[str], bool, bool]:
         ran = [run(block) for block in blocks]
         moved = [frozenset((x + shift[0], y + shift[1]) for x, y in one[0]) for one in ran]
         return len(blocks) == 1 or (
-            all(one[period] == there and any(map(is_cluster, one[:period])) for one, there in zip(ran, moved, strict=True))
-            and all(sum(len(one[g]) for one in ran) == len(object_[g]) and frozenset().union(*(one[g] for one in ran)) == object_[g]
-                    for g in range(period + 1)))
+            all(
+                one[period] == there and any(map(is_cluster, one[:period]))
+                for one, there in zip(ran, moved, strict=True)
+            )
+            and all(
+                sum(len(one[g]) for one in ran) == len(object_[g])
+                and frozenset().union(*(one[g] for one in ran)) == object_[g]
+                for g in range(period + 1)
+            )
+        )
 
-    tried = partitions(list(range(len(islands)))) if len(islands) <= 10 else iter([[[k] for k in range(len(islands))]])
+    tried = (
+        partitions(list(range(len(islands))))
+        if len(islands) <= 10
+        else iter([[[k] for k in range(len(islands))]])
+    )
     separations = [blocks for blocks in tried if is_separation(blocks)]
     if not separations:
         return itself
     most = max(map(len, separations))
-    best = min(sorted(code_of(rule, run(block)[0]) for block in blocks) for blocks in separations if len(blocks) == most)
+    best = min(
+        sorted(code_of(rule, run(block)[0]) for block in blocks)
+        for blocks in separations
+        if len(blocks) == most
+    )
     return best, most == 1, True

@@ -1,4 +1,5 @@
-"""What the tests of `haul search` share: a folder with a file, searches that run in it, and the processes that are left."""
+"""What the tests of `haul search` share: a folder with a file, searches that run in it, and the
+processes that are left."""
 
 from __future__ import annotations
 
@@ -13,9 +14,10 @@ import unittest
 from contextlib import suppress
 from pathlib import Path
 
+from haul.census.command_lines import list_take_arguments
+from haul.formats.haul import Haul
+from haul.formats.haul_reader import read_one_haul
 from haul.tests.called import CENSUS, HAUL, as_haul, census
-from haul.program import job_words, set_words
-from haul.text import Haul, read_one_haul
 
 # A soup of the empty seed that leaves a clock, and the code of that. 100,000 soups leave two.
 CLOCK_SOUP, CLOCK = 23473, "xp2_2a54"
@@ -25,7 +27,7 @@ QUICK = ["--period=1", "--horizon=1", "--stride=1", "--limit=0"]
 
 def of_take(haul: Haul) -> bytes:
     """What `census take` prints over the soups of a haul."""
-    return census("take", *job_words(haul.job), *set_words(haul.ranges), "--workers=4")
+    return census(*list_take_arguments(haul.job, haul.ranges, 4, False))
 
 
 class Searches(unittest.TestCase):
@@ -40,14 +42,22 @@ class Searches(unittest.TestCase):
     # Whether SIGHUP is ignored in the searches.
     has_nohup = False
 
-    def start(self, *words: str, program: str = CENSUS, file: str = "mine.haul", most_bytes: int | None = None,
-              is_forked: bool = False) -> subprocess.Popen[bytes]:
-        """Starts a search in a process group of its own, in which no file may be longer than `most_bytes`. It may be forked."""
+    def start(
+        self,
+        *words: str,
+        program: str = CENSUS,
+        file: str = "mine.haul",
+        most_bytes: int | None = None,
+        is_forked: bool = False,
+    ) -> subprocess.Popen[bytes]:
+        """Starts a search in a process group of its own, in which no file may be longer than
+        `most_bytes`. It may be forked."""
         words = ("search", *words, "--census", program, file)
         become = as_haul(*words)
 
         def prepare() -> None:
-            # Tests that run in the background, or under `nohup`, ignore signals, and so would the program.
+            # Tests that run in the background, or under `nohup`, ignore signals, and so would the
+            # program.
             signal.signal(signal.SIGINT, signal.SIG_DFL)
             signal.signal(signal.SIGHUP, signal.SIG_IGN if self.has_nohup else signal.SIG_DFL)
             if most_bytes is not None:
@@ -55,13 +65,27 @@ class Searches(unittest.TestCase):
             if is_forked:
                 become()
 
-        return subprocess.Popen([sys.executable, HAUL, *words], cwd=self.folder, stdin=subprocess.DEVNULL,
-                                stdout=subprocess.PIPE, stderr=subprocess.PIPE, start_new_session=True,
-                                preexec_fn=prepare)
+        return subprocess.Popen(
+            [sys.executable, HAUL, *words],
+            cwd=self.folder,
+            stdin=subprocess.DEVNULL,
+            stdout=subprocess.PIPE,
+            stderr=subprocess.PIPE,
+            start_new_session=True,
+            preexec_fn=prepare,
+        )
 
-    def search(self, *words: str, program: str = CENSUS, file: str = "mine.haul", most_bytes: int | None = None) -> tuple[int, str, str]:
+    def search(
+        self,
+        *words: str,
+        program: str = CENSUS,
+        file: str = "mine.haul",
+        most_bytes: int | None = None,
+    ) -> tuple[int, str, str]:
         """The status of a search, and what it prints on both streams."""
-        with self.start(*words, program=program, file=file, most_bytes=most_bytes, is_forked=most_bytes is None) as running:
+        with self.start(
+            *words, program=program, file=file, most_bytes=most_bytes, is_forked=most_bytes is None
+        ) as running:
             output, errors = running.communicate(timeout=120)
         return running.returncode, output.decode(), errors.decode()
 

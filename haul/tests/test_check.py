@@ -13,8 +13,8 @@ from contextlib import redirect_stderr
 from itertools import combinations
 from pathlib import Path
 
-from haul.options import parsed
-from haul.random_choice import RandomChoice, chance_to_miss, wrong_files
+from haul.cli.parser import parse_arguments
+from haul.hauls.file_choice import FileChoice, compute_chance_to_miss, count_wrong_files
 from haul.tests.called import HAUL, census, run
 from haul.tests.searching import QUICK
 
@@ -28,11 +28,15 @@ class Several(unittest.TestCase):
         self.addCleanup(os.chdir, os.getcwd())
         os.chdir(folder.name)
         for first in range(4):
-            Path(f"{first}.haul").write_bytes(census("take", "--first", str(5 * first), "--count", "5", *QUICK))
+            Path(f"{first}.haul").write_bytes(
+                census("take", "--first", str(5 * first), "--count", "5", *QUICK)
+            )
         text = Path("3.haul").read_text()
         Path("wrong.haul").write_text(text.replace("UNSETTLED 5", "UNSETTLED 4"))
         Path("bad.haul").write_text(text[:20])
-        Path("few.haul").write_text(text.replace("SOUPS 5", "SOUPS 4").replace("UNSETTLED 5", "UNSETTLED 4"))
+        Path("few.haul").write_text(
+            text.replace("SOUPS 5", "SOUPS 4").replace("UNSETTLED 5", "UNSETTLED 4")
+        )
 
     def test_lines_begin_with_the_name(self) -> None:
         wrong = "wrong.haul: line 8: is @NUM_UNSETTLED 4, should be @NUM_UNSETTLED 5\n"
@@ -45,43 +49,76 @@ class Several(unittest.TestCase):
             ("wrong bad", 7, wrong, "haul: bad.haul: bad haul at line 2 column 7\n"),
         ):
             with self.subTest(names=names):
-                self.assertEqual(run("check", *(f"{name}.haul" for name in names.split())), (status, output, errors))
+                self.assertEqual(
+                    run("check", *(f"{name}.haul" for name in names.split())),
+                    (status, output, errors),
+                )
 
     def test_one_file_has_no_name(self) -> None:
         self.assertEqual(run("check", "0.haul"), (0, "right\n", ""))
         self.assertEqual(run("check", "few.haul"), (3, "", "haul: haul with missing soups\n"))
 
     def test_standard_input_is_one_of_them(self) -> None:
-        self.assertEqual(run("check", "-", "1.haul", text=Path("0.haul").read_bytes()), (0, "-: right\n1.haul: right\n", ""))
-        self.assertEqual(run("check", "-", "1.haul", text=b"x"), (3, "1.haul: right\n", "haul: bad haul at line 1 column 1\n"))
+        self.assertEqual(
+            run("check", "-", "1.haul", text=Path("0.haul").read_bytes()),
+            (0, "-: right\n1.haul: right\n", ""),
+        )
+        self.assertEqual(
+            run("check", "-", "1.haul", text=b"x"),
+            (3, "1.haul: right\n", "haul: bad haul at line 1 column 1\n"),
+        )
 
     def test_a_file_that_cant_be_read(self) -> None:
-        self.assertEqual(run("check", "0.haul", "none", "1.haul"), (5, "0.haul: right\n", "haul: none: No such file or directory\n"))
+        self.assertEqual(
+            run("check", "0.haul", "none", "1.haul"),
+            (5, "0.haul: right\n", "haul: none: No such file or directory\n"),
+        )
 
     def test_a_name_that_isnt_utf_8(self) -> None:
         name = b"\xff.haul"
         Path(os.fsdecode(name)).write_bytes(Path("0.haul").read_bytes())
         none: list[str] = []
         for words in (none, ["--random=2", "--choice=x"]):
-            ended = subprocess.run([sys.executable, HAUL, "check", *words, "1.haul", name], capture_output=True, check=False)
-            self.assertEqual((ended.returncode, ended.stdout.splitlines()[len(words) // 2:], ended.stderr), (0, [b"1.haul: right", name + b": right"], b""))
+            ended = subprocess.run(
+                [sys.executable, HAUL, "check", *words, "1.haul", name],
+                capture_output=True,
+                check=False,
+            )
+            self.assertEqual(
+                (ended.returncode, ended.stdout.splitlines()[len(words) // 2 :], ended.stderr),
+                (0, [b"1.haul: right", name + b": right"], b""),
+            )
 
     def test_samples(self) -> None:
-        self.assertEqual(run("check", "--samples", "0.haul", "few.haul"), (0, "0.haul: right\nfew.haul: right\n", ""))
+        self.assertEqual(
+            run("check", "--samples", "0.haul", "few.haul"),
+            (0, "0.haul: right\nfew.haul: right\n", ""),
+        )
 
     def test_some_that_are_drawn(self) -> None:
         names = [f"{number}.haul" for number in range(4)]
         status, output, errors = run("check", "--random", "2", *names)
         first, *lines = output.splitlines()
-        found = re.fullmatch(r"choice ([a-z0-9]{12}): 2 of 4 files; if 1 was wrong, a choice like this would miss it with probability 0\.5000", first)
+        found = re.fullmatch(
+            r"choice ([a-z0-9]{12}): 2 of 4 files; if 1 was wrong, a choice like this would miss it with probability 0\.5000",
+            first,
+        )
         assert found
         self.assertEqual((status, errors, len(lines)), (0, "", 2))
         for order in (names, names[::-1]):
             again = run("check", "--random", "2", "--choice", found[1], *order)
-            self.assertEqual((again[0], sorted(again[1].splitlines())), (0, sorted(output.splitlines())))
-        self.assertEqual(run("check", "--random", "1", "--choice", "x", "wrong.haul"), (
-            7, "choice x: 1 of 1 file; if 1 was wrong, a choice like this would miss it with probability 0.0000\n"
-            "wrong.haul: line 8: is @NUM_UNSETTLED 4, should be @NUM_UNSETTLED 5\n", ""))
+            self.assertEqual(
+                (again[0], sorted(again[1].splitlines())), (0, sorted(output.splitlines()))
+            )
+        self.assertEqual(
+            run("check", "--random", "1", "--choice", "x", "wrong.haul"),
+            (
+                7,
+                "choice x: 1 of 1 file; if 1 was wrong, a choice like this would miss it with probability 0.0000\n"
+                "wrong.haul: line 8: is @NUM_UNSETTLED 4, should be @NUM_UNSETTLED 5\n",
+                "",
+            ),
+        )
 
 
 class Choices(unittest.TestCase):
@@ -89,43 +126,55 @@ class Choices(unittest.TestCase):
 
     def test_it_can_be_repeated(self) -> None:
         """In the order of the files that are given, and whatever this order is."""
-        chosen = RandomChoice(self.NAMES, 20, "x").chosen()
+        chosen = FileChoice(self.NAMES, 20, "x").choose()
         self.assertEqual(len(set(chosen)), 20)
         self.assertEqual(chosen, sorted(chosen, key=self.NAMES.index))
-        self.assertEqual(set(RandomChoice(self.NAMES[::-1], 20, "x").chosen()), set(chosen))
-        self.assertNotEqual(RandomChoice(self.NAMES, 20, "y").chosen(), chosen)
+        self.assertEqual(set(FileChoice(self.NAMES[::-1], 20, "x").choose()), set(chosen))
+        self.assertNotEqual(FileChoice(self.NAMES, 20, "y").choose(), chosen)
         # As sha256sum has it: for n in a b c; do printf 'x %s' $n | sha256sum; done
-        self.assertEqual(RandomChoice(["a", "b", "c"], 1, "x").chosen(), ["b"])
+        self.assertEqual(FileChoice(["a", "b", "c"], 1, "x").choose(), ["b"])
 
     def test_each_file_is_as_likely(self) -> None:
         counts = dict.fromkeys("abcd", 0)
         for number in range(4000):
-            for name in RandomChoice(list("abcd"), 2, str(number)).chosen():
+            for name in FileChoice(list("abcd"), 2, str(number)).choose():
                 counts[name] += 1
         for count in counts.values():
             self.assertLess(abs(count - 2000), 200)
 
     def test_choices_differ(self) -> None:
-        self.assertEqual(len({RandomChoice(self.NAMES, 1, None).choice for _ in range(100)}), 100)
+        self.assertEqual(len({FileChoice(self.NAMES, 1, None).choice for _ in range(100)}), 100)
 
     def test_a_name_that_is_given_twice(self) -> None:
-        self.assertEqual(RandomChoice(["a", "a"], 2, "x").chosen(), ["a", "a"])
+        self.assertEqual(FileChoice(["a", "a"], 2, "x").choose(), ["a", "a"])
 
     def test_the_chance_to_miss(self) -> None:
         """Counted over all choices, of which one in `comb` is as likely as any other."""
-        self.assertEqual([wrong_files(files) for files in (1, 99, 100, 101, 1000)], [1, 1, 1, 2, 10])
+        self.assertEqual(
+            [count_wrong_files(files) for files in (1, 99, 100, 101, 1000)], [1, 1, 1, 2, 10]
+        )
         for files, number in ((1, 0), (1, 1), (5, 2), (101, 2), (150, 2)):
             choices = list(combinations(range(files), number))
-            missed = sum(all(file >= wrong_files(files) for file in choice) for choice in choices)
-            self.assertAlmostEqual(chance_to_miss(files, number), missed / len(choices))
-        self.assertEqual(f"{chance_to_miss(1000, 300):.4f}", "0.0277")
-        self.assertIn("if 3 were wrong, a choice like this would miss them all with probability 0.7", RandomChoice(self.NAMES, 20, "x").text())
+            missed = sum(
+                all(file >= count_wrong_files(files) for file in choice) for choice in choices
+            )
+            self.assertAlmostEqual(compute_chance_to_miss(files, number), missed / len(choices))
+        self.assertEqual(f"{compute_chance_to_miss(1000, 300):.4f}", "0.0277")
+        self.assertIn(
+            "if 3 were wrong, a choice like this would miss them all with probability 0.7",
+            FileChoice(self.NAMES, 20, "x").text(),
+        )
 
     def test_words(self) -> None:
-        for words, line in ((["--random=3", "a", "b"], "--random 3 is more than there are files"), (["--random=1"], "--random 1 is more"),
-                            (["--choice=x", "a"], "--choice needs --random"), (["--random=1", "--choice=", "a"], "no choice"), (["--random=x", "a"], "x is no number")):
+        for words, line in (
+            (["--random=3", "a", "b"], "--random 3 is more than there are files"),
+            (["--random=1"], "--random 1 is more"),
+            (["--choice=x", "a"], "--choice needs --random"),
+            (["--random=1", "--choice=", "a"], "no choice"),
+            (["--random=x", "a"], "x is no number"),
+        ):
             with redirect_stderr(io.StringIO()) as said, self.assertRaises(SystemExit) as ended:
-                parsed(["check", *words])
+                parse_arguments(["check", *words])
             self.assertEqual(ended.exception.code, 2)
             self.assertIn(line, said.getvalue())
 

@@ -1,10 +1,10 @@
-"""How `haul` ends: its statuses and lines where a stream, the census program or the user lets it down, and what it leaves running."""
+"""How `haul` ends: its statuses and lines where a stream, the census program or the user lets it
+down, and what it leaves running."""
 
 from __future__ import annotations
 
 import io
 import os
-import pty
 import shutil
 import signal
 import subprocess
@@ -12,27 +12,43 @@ import sys
 import tempfile
 import time
 import unittest
-from contextlib import redirect_stderr, suppress
+from contextlib import suppress
 from pathlib import Path
 from unittest.mock import patch
 
-from haul import main
-from haul.children import NoThread
-from haul.tests.called import CENSUS, HAUL, TOP, as_haul, census, run, taken
+from haul.formats.profile import Profile
+from haul.census.children import NoThread
+from haul.formats.haul import Haul, Job
+from haul.formats.haul_reader import read_one_haul
+from haul.tests.called import CENSUS, HAUL, TOP, call, census, read_terminal, run, taken
 from haul.tests.drawn import text_of
 from haul.tests.test_text import SMALL
-from haul.text import Haul, Job, read_one_haul
 
 # A wrong haul with enough soups that its census takes hours.
-LONG = SMALL.replace("@RANGE 0 4", f"@RANGE 0 {2**24}").replace("SOUPS 2", f"SOUPS {2**24}").replace("@PROFILE 1 1 1 0", "@PROFILE 64 512 101 30300")
+LONG = (
+    SMALL.replace("@RANGE 0 4", f"@RANGE 0 {2**24}")
+    .replace("SOUPS 2", f"SOUPS {2**24}")
+    .replace("@PROFILE 1 1 1 0", "@PROFILE 64 512 101 30300")
+)
 
 # A haul of so many sample soups that several calls run them. It isn't right.
 CODES = [f"xs4_{number}" for number in range(1000, 1600)]
-MANY = text_of(Haul(Job("", "b3s23", (1, 1, 1, 0)), [(0, 600)], 600, 0, 0, {code: 1 for code in CODES}, {code: [k] for k, code in enumerate(CODES)}))
+MANY = text_of(
+    Haul(
+        Job("", "b3s23", Profile(1, 1, 1, 0)),
+        ranges=[(0, 600)],
+        soups=600,
+        unsettled=0,
+        for_good=0,
+        totals={code: 1 for code in CODES},
+        samples={code: [k] for k, code in enumerate(CODES)},
+    )
+)
 
 
 def fill(folder: str, script: str) -> None:
-    """Writes `small`, a haul of two soups, `three`, one of three, and `other`, a program with this script."""
+    """Writes `small`, a haul of two soups, `three`, one of three, and `other`, a program with this
+    script."""
     Path(folder, "small").write_bytes(taken(2))
     Path(folder, "three").write_bytes(taken(3))
     Path(folder, "other").write_text(f"#!/bin/sh\n{script}\n")
@@ -40,20 +56,31 @@ def fill(folder: str, script: str) -> None:
 
 
 def in_shell(command: str, script: str = "", few: str = "") -> tuple[int, str, str]:
-    """The status and both outputs of a shell's command in a folder that `fill` has filled, in which `haul` is the companion, and
-    `$few` a text of Python."""
+    """The status and both outputs of a shell's command in a folder that `fill` has filled, in which
+    `haul` is the companion, and `$few` a text of Python."""
     with tempfile.TemporaryDirectory() as folder:
         fill(folder, script)
         shell = f'haul() {{ "{sys.executable}" "{HAUL}" "$@"; }}; {command}'
-        ended = subprocess.run(["bash", "-c", shell], cwd=folder, stdin=subprocess.DEVNULL, capture_output=True, check=False,
-                               env=os.environ | {"few": few})
+        ended = subprocess.run(
+            ["bash", "-c", shell],
+            cwd=folder,
+            stdin=subprocess.DEVNULL,
+            capture_output=True,
+            check=False,
+            env=os.environ | {"few": few},
+        )
     return ended.returncode, ended.stdout.decode(), ended.stderr.decode()
 
 
 class Streams(unittest.TestCase):
     def test_closed_pipe(self) -> None:
         text = taken(40)
-        with subprocess.Popen([sys.executable, HAUL, "join"], stdin=subprocess.PIPE, stdout=subprocess.PIPE, stderr=subprocess.PIPE) as program:
+        with subprocess.Popen(
+            [sys.executable, HAUL, "join"],
+            stdin=subprocess.PIPE,
+            stdout=subprocess.PIPE,
+            stderr=subprocess.PIPE,
+        ) as program:
             assert program.stdin and program.stdout and program.stderr
             program.stdout.close()
             program.stdin.write(text)
@@ -62,9 +89,19 @@ class Streams(unittest.TestCase):
         self.assertEqual(program.returncode, 5)
 
     def test_full_device(self) -> None:
-        for words in ("join small", "compare small small", "check small", "page small", "--version", "--help"):
+        for words in (
+            "join small",
+            "compare small small",
+            "check small",
+            "page small",
+            "--version",
+            "--help",
+        ):
             with self.subTest(words=words):
-                self.assertEqual(in_shell(f"haul {words} > /dev/full"), (5, "", "haul: No space left on device\n"))
+                self.assertEqual(
+                    in_shell(f"haul {words} > /dev/full"),
+                    (5, "", "haul: No space left on device\n"),
+                )
 
     def test_closed_input(self) -> None:
         bad = "haul: Bad file descriptor\n"
@@ -77,11 +114,20 @@ class Streams(unittest.TestCase):
 
     def test_closed_output(self) -> None:
         bad = "haul: Bad file descriptor\n"
-        for words in ("join small", "check small", "page small", "compare small small", "--version"):
+        for words in (
+            "join small",
+            "check small",
+            "page small",
+            "compare small small",
+            "--version",
+        ):
             with self.subTest(words=words):
                 self.assertEqual(in_shell(f"haul {words} >&-"), (5, "", bad))
         # The files that are read don't get the number of the output.
-        self.assertEqual(in_shell("haul join small nowhere >&-"), (5, "", "haul: nowhere: No such file or directory\n"))
+        self.assertEqual(
+            in_shell("haul join small nowhere >&-"),
+            (5, "", "haul: nowhere: No such file or directory\n"),
+        )
 
     def test_closed_errors(self) -> None:
         self.assertEqual(in_shell("haul check small 2>&-"), (0, "right\n", ""))
@@ -92,7 +138,9 @@ class Streams(unittest.TestCase):
         self.assertEqual(in_shell("haul join small <&- >&- 2>&-"), (5, "", ""))
 
     def test_an_input_without_end(self) -> None:
-        self.assertEqual(in_shell("haul join < /dev/zero"), (3, "", "haul: bad haul at line 1 column 1\n"))
+        self.assertEqual(
+            in_shell("haul join < /dev/zero"), (3, "", "haul: bad haul at line 1 column 1\n")
+        )
 
     def test_unbuffered(self) -> None:
         self.assertEqual(in_shell("PYTHONUNBUFFERED=1 haul --version > /dev/full")[0], 5)
@@ -114,38 +162,76 @@ class Progress(unittest.TestCase):
 
     def written(self, *words: str, text: bytes) -> bytes:
         """What is written to a terminal as standard error."""
-        ours, its = pty.openpty()
-        with tempfile.TemporaryFile() as given:
-            given.write(text)
-            given.seek(0)
-            with subprocess.Popen([HAUL, *words], stdin=given, stdout=subprocess.DEVNULL, stderr=its, preexec_fn=as_haul(*words)):
-                os.close(its)
-                said = b""
-                with suppress(OSError):
-                    while piece := os.read(ours, 65536):
-                        said += piece
-        os.close(ours)
-        return said
+        return read_terminal(lambda stderr: call(words, io.BytesIO(text), io.StringIO(), stderr))
 
     def test_objects_that_are_separated(self) -> None:
         """After each five hundred."""
         codes = [f"xs4_{number}" for number in range(1000, 1600)]
-        text = text_of(Haul(Job("", "b3s23", (1, 1, 1, 0)), [(0, 1)], 1, 0, 0, {code: 1 for code in codes}, {code: [0] for code in codes}))
+        text = text_of(
+            Haul(
+                Job("", "b3s23", Profile(1, 1, 1, 0)),
+                ranges=[(0, 1)],
+                soups=1,
+                unsettled=0,
+                for_good=0,
+                totals={code: 1 for code in codes},
+                samples={code: [0] for code in codes},
+            )
+        )
         for words in (["table"], ["table", "--parts"], ["page", "--play", "0"]):
-            self.assertEqual(self.told(*words, text=text.encode())[:2], ["0 of 600 objects separated", "500 of 600 objects separated"])
+            self.assertEqual(
+                self.told(*words, text=text.encode())[:2],
+                ["0 of 600 objects separated", "500 of 600 objects separated"],
+            )
 
     def test_soups_that_are_run(self) -> None:
         """A hundred by one call."""
         codes = [f"xs4_{number}" for number in range(1000, 1150)]
-        text = text_of(Haul(Job("", "b3s23", (1, 1, 1, 0)), [(0, 150)], 150, 0, 0, {code: 1 for code in codes}, {code: [k] for k, code in enumerate(codes)}))
-        self.assertEqual(self.told("page", text=text.encode())[-2:], ["100 of 150 soups run", "150 of 150 soups run"])
+        text = text_of(
+            Haul(
+                Job("", "b3s23", Profile(1, 1, 1, 0)),
+                ranges=[(0, 150)],
+                soups=150,
+                unsettled=0,
+                for_good=0,
+                totals={code: 1 for code in codes},
+                samples={code: [k] for k, code in enumerate(codes)},
+            )
+        )
+        self.assertEqual(
+            self.told("page", text=text.encode())[-2:],
+            ["100 of 150 soups run", "150 of 150 soups run"],
+        )
 
     def test_samples(self) -> None:
-        text = text_of(Haul(Job("", "b3s23", (1, 1, 1, 0)), [(0, 900)], 900, 900, 0, {}, {}))
+        text = text_of(
+            Haul(
+                Job("", "b3s23", Profile(1, 1, 1, 0)),
+                ranges=[(0, 900)],
+                soups=900,
+                unsettled=900,
+                for_good=0,
+                totals={},
+                samples={},
+            )
+        )
         self.assertEqual(self.told("check", "--samples", text=text.encode()), [])
         codes = [f"xs4_{number}" for number in range(1000, 1600)]
-        text = text_of(Haul(Job("", "b3s23", (1, 1, 1, 0)), [(0, 900)], 900, 0, 0, {code: 1 for code in codes}, {code: [k] for k, code in enumerate(codes)}))
-        self.assertEqual(self.told("check", "--samples", text=text.encode()), ["500 of 600 soups run", "600 of 600 soups run"])
+        text = text_of(
+            Haul(
+                Job("", "b3s23", Profile(1, 1, 1, 0)),
+                ranges=[(0, 900)],
+                soups=900,
+                unsettled=0,
+                for_good=0,
+                totals={code: 1 for code in codes},
+                samples={code: [k] for k, code in enumerate(codes)},
+            )
+        )
+        self.assertEqual(
+            self.told("check", "--samples", text=text.encode()),
+            ["500 of 600 soups run", "600 of 600 soups run"],
+        )
 
     def test_a_census(self) -> None:
         """That of the program is passed on, as docs/COMMANDS.md has it, and wiped."""
@@ -155,8 +241,13 @@ class Progress(unittest.TestCase):
     def test_files(self) -> None:
         with tempfile.TemporaryDirectory() as folder:
             for name in "abc":
-                Path(folder, name).write_bytes(census("take", "--count", "1", "--first", str(ord(name))))
-            self.assertEqual(self.told("join", *(f"{folder}/{name}" for name in "abc"), text=b""), ["1 of 3 files", "2 of 3 files", "3 of 3 files"])
+                Path(folder, name).write_bytes(
+                    census("take", "--count", "1", "--first", str(ord(name)))
+                )
+            self.assertEqual(
+                self.told("join", *(f"{folder}/{name}" for name in "abc"), text=b""),
+                ["1 of 3 files", "2 of 3 files", "3 of 3 files"],
+            )
         self.assertEqual(self.told("join", text=census("take", "--count", "1")), ["1 of 1 files"])
 
 
@@ -164,15 +255,24 @@ class Usage(unittest.TestCase):
     def test_usage(self) -> None:
         self.assertEqual(run("check", "--workers", "17")[0], 2)
         self.assertEqual(run()[0], 2)
-        self.assertEqual(run("--version"), (0, census("--version").decode().replace("census", "haul"), ""))
+        self.assertEqual(
+            run("--version"), (0, census("--version").decode().replace("census", "haul"), "")
+        )
         self.assertEqual(run("--help")[0], 0)
 
     def test_values(self) -> None:
         """What isn't one is told, whatever else it is."""
-        for words, told in ((["check", "--workers=0"], "0 is not in 1 to 16"), (["check", "--workers=17"], "17 is not in 1 to 16"),
-                            (["check", "--workers=x"], "x is not in 1 to 16"), (["check", "--workers=\u0663"], "\u0663 is not in 1 to 16"),
-                            (["page", "--least=x"], "x is no number"), (["table", "--top=-1"], "-1 is no number"), (["table", "--top=\u0663"], "\u0663 is no number"),
-                            (["check", "--census="], "an empty path"), (["rle", "--rule=b3/s23"], "b3/s23 is no rule, as b3s23 is one")):
+        for words, told in (
+            (["check", "--workers=0"], "0 is not in 1 to 16"),
+            (["check", "--workers=17"], "17 is not in 1 to 16"),
+            (["check", "--workers=x"], "x is not in 1 to 16"),
+            (["check", "--workers=\u0663"], "\u0663 is not in 1 to 16"),
+            (["page", "--least=x"], "x is no number"),
+            (["table", "--top=-1"], "-1 is no number"),
+            (["table", "--top=\u0663"], "\u0663 is no number"),
+            (["check", "--census="], "an empty path"),
+            (["rle", "--rule=b3/s23"], "b3/s23 is no rule, as b3s23 is one"),
+        ):
             status, output, errors = run(*words)
             self.assertEqual((status, output), (2, ""))
             self.assertIn(told, errors)
@@ -180,13 +280,24 @@ class Usage(unittest.TestCase):
     def test_help(self) -> None:
         """Each command says what it does, in the list of all and by itself."""
         listed = " ".join(run("--help")[1].split())
-        for command, does in (("search", "run soups until it is stopped, and keep their haul in FILE"), ("check", "take the census of a haul again, and compare"),
-                              ("join", "add up hauls of one job whose sets of soups don't overlap"),
-                              ("compare", "set hauls side by side"), ("table", "print the table of a haul, with how often each object occurs"),
-                              ("page", "make a page of a haul, or of several, with pictures of its objects and soups"),
-                              ("soup", "print the soup of a sample on Catagolue"), ("soups", "list what report lines say about their soups"),
-                              ("cells", "print a pattern in RLE as plaintext, which `census run` and `census name` read"),
-                              ("rle", "print a plaintext pattern as RLE, which Golly and LifeWiki read")):
+        for command, does in (
+            ("search", "run soups until it is stopped, and keep their haul in FILE"),
+            ("check", "take the census of a haul again, and compare"),
+            ("join", "add up hauls of one job whose sets of soups don't overlap"),
+            ("compare", "set hauls side by side"),
+            ("table", "print the table of a haul, with how often each object occurs"),
+            (
+                "page",
+                "make a page of a haul, or of several, with pictures of its objects and soups",
+            ),
+            ("soup", "print the soup of a sample on Catagolue"),
+            ("soups", "list what report lines say about their soups"),
+            (
+                "cells",
+                "print a pattern in RLE as plaintext, which `census run` and `census name` read",
+            ),
+            ("rle", "print a plaintext pattern as RLE, which Golly and LifeWiki read"),
+        ):
             self.assertIn(f" {command} {does} ", listed)
             status, said, errors = run(command, "--help")
             self.assertEqual((status, errors), (0, ""))
@@ -196,21 +307,33 @@ class Usage(unittest.TestCase):
     def test_an_older_python(self) -> None:
         older = f"import runpy, sys; sys.version_info = (3, 9, 2); runpy.run_path({HAUL!r}, run_name='__main__')"
         ended = subprocess.run([sys.executable, "-c", older], capture_output=True, check=False)
-        self.assertEqual((ended.returncode, ended.stdout, ended.stderr), (2, b"", b"haul: Python 3.10 or later is needed, and this is 3.9\n"))
+        self.assertEqual(
+            (ended.returncode, ended.stdout, ended.stderr),
+            (2, b"", b"haul: Python 3.10 or later is needed, and this is 3.9\n"),
+        )
 
 
 class Starter(unittest.TestCase):
     """What Python itself would say before this program begins."""
 
     def test_a_folder_as_input(self) -> None:
-        ended = subprocess.run(["bash", "-c", 'exec "$0" join < /', HAUL], capture_output=True, check=False)
-        self.assertEqual((ended.returncode, ended.stdout, ended.stderr), (5, b"", b"haul: Is a directory\n"))
+        ended = subprocess.run(
+            ["bash", "-c", 'exec "$0" join < /', HAUL], capture_output=True, check=False
+        )
+        self.assertEqual(
+            (ended.returncode, ended.stdout, ended.stderr), (5, b"", b"haul: Is a directory\n")
+        )
 
     def test_an_interrupt_while_python_starts(self) -> None:
         """It ends without a word, whenever it comes; a shell says 130 then."""
         for moment in range(30):
-            with subprocess.Popen([HAUL, "join"], stdin=subprocess.PIPE, stdout=subprocess.PIPE, stderr=subprocess.PIPE,
-                                  preexec_fn=lambda: signal.signal(signal.SIGINT, signal.SIG_DFL)) as program:
+            with subprocess.Popen(
+                [HAUL, "join"],
+                stdin=subprocess.PIPE,
+                stdout=subprocess.PIPE,
+                stderr=subprocess.PIPE,
+                preexec_fn=lambda: signal.signal(signal.SIGINT, signal.SIG_DFL),
+            ) as program:
                 time.sleep(moment * 0.003)
                 program.send_signal(signal.SIGINT)
                 # Its input stays open until then, since an empty haul would be a fault to tell of.
@@ -223,51 +346,77 @@ class NoThreads(unittest.TestCase):
     """The system starts no more threads, of which the first one is that in which all is done."""
 
     def test_each_is_told(self) -> None:
-        for least, words in ((0, "--version"), (1, "page three"), (1, "check three"), (1, "check --samples three")):
+        for least, words in (
+            (0, "--version"),
+            (1, "page three"),
+            (1, "check three"),
+            (1, "check --samples three"),
+        ):
             with self.subTest(words=words):
-                few = (f"import runpy, sys, threading; start, left = threading.Thread.start, [0] * {least}\n"
-                       "def start_few(thread):\n    if not left: raise RuntimeError('no thread')\n    left.pop(); start(thread)\n"
-                       f"threading.Thread.start = start_few; sys.argv[0] = {HAUL!r}; runpy.run_path({HAUL!r}, run_name='__main__')")
-                self.assertEqual(in_shell(f'"{sys.executable}" -c "$few" {words}', few=few), (4, "", "haul: no thread\n"))
+                few = (
+                    f"import runpy, sys, threading; start, left = threading.Thread.start, [0] * {least}\n"
+                    "def start_few(thread):\n    if not left: raise RuntimeError('no thread')\n    left.pop(); start(thread)\n"
+                    f"threading.Thread.start = start_few; sys.argv[0] = {HAUL!r}; runpy.run_path({HAUL!r}, run_name='__main__')"
+                )
+                self.assertEqual(
+                    in_shell(f'"{sys.executable}" -c "$few" {words}', few=few),
+                    (4, "", "haul: no thread\n"),
+                )
 
 
 class Unforeseen(unittest.TestCase):
     def test_a_fault_of_this_program(self) -> None:
         """It has a status of its own."""
-        script = f"import os, sys; sys.path.insert(0, {str(TOP)!r}); from haul.children import status_of; os._exit(status_of(lambda: 1 // 0))"
+        script = f"import os, sys; sys.path.insert(0, {str(TOP)!r}); from haul.cli.process import run_heeding_signals; os._exit(run_heeding_signals(lambda: 1 // 0))"
         ended = subprocess.run([sys.executable, "-c", script], capture_output=True, check=False)
         self.assertEqual(ended.returncode, 1)
 
-
     def test_another_error_is_not_one_of_memory(self) -> None:
         """A `RuntimeError` that no thread has to do with is a fault of this program."""
-        with patch("haul.main.do_command", side_effect=RuntimeError("other")), self.assertRaisesRegex(RuntimeError, "^other$"):
-            main.run()
+        with patch(
+            "haul.cli.main.run_command", side_effect=RuntimeError("other")
+        ), self.assertRaisesRegex(RuntimeError, "^other$"):
+            run()
 
     def test_no_memory(self) -> None:
-        for error, line in ((MemoryError(), "out of memory"), (NoThread("can't start new thread"), "can't start new thread")):
-            with patch("haul.main.do_command", side_effect=error), redirect_stderr(io.StringIO()) as said:
-                self.assertEqual((main.run(), said.getvalue()), (4, f"haul: {line}\n"))
+        for error, line in (
+            (MemoryError(), "out of memory"),
+            (NoThread("can't start new thread"), "can't start new thread"),
+        ):
+            with patch("haul.cli.main.run_command", side_effect=error):
+                self.assertEqual(run(), (4, "", f"haul: {line}\n"))
 
 
 class OtherPrograms(unittest.TestCase):
     """What stands at the path isn't the census program."""
 
-    # A program that ends well, and answers nothing, its words, bytes that are no text, a haul that wasn't asked for, a line of
-    # another job, and something like a pattern.
-    ANSWERS = ["true", 'echo "$@"', r"printf '\377\376\n'", "cat small", "echo report 2 rule=b3s23 profile=1,1,1,0 seed= worker=1 soup=0 unsettled",
-               "echo OxO", "echo", r"printf '0 unsettled\n1 unsettled\n2 unsettled\n'"]
+    # A program that ends well, and answers nothing, its words, bytes that are no text, a haul that
+    # wasn't asked for, a line of another job, and something like a pattern.
+    ANSWERS = [
+        "true",
+        'echo "$@"',
+        r"printf '\377\376\n'",
+        "cat small",
+        "echo report 2 rule=b3s23 profile=1,1,1,0 seed= worker=1 soup=0 unsettled",
+        "echo OxO",
+        "echo",
+        r"printf '0 unsettled\n1 unsettled\n2 unsettled\n'",
+    ]
     COMMANDS = ["check", "check --samples", "page"]
 
     def answer(self, script: str, command: str, program: str = "./other") -> tuple[int, str, str]:
-        """What `haul` says of a haul of three soups, if this shell script, or another program, is the one that it asks."""
+        """What `haul` says of a haul of three soups, if this shell script, or another program, is
+        the one that it asks."""
         with tempfile.TemporaryDirectory() as folder:
             fill(folder, script)
             return run(*command.split(), "--census", program, "three", cwd=folder)
 
     def test_none(self) -> None:
         for command in self.COMMANDS:
-            self.assertEqual(self.answer("", command, "/nowhere/census"), (2, "", "haul: no census at /nowhere/census\n"))
+            self.assertEqual(
+                self.answer("", command, "/nowhere/census"),
+                (2, "", "haul: no census at /nowhere/census\n"),
+            )
 
     def test_an_empty_path(self) -> None:
         """It names no program, so no other is asked in its place."""
@@ -279,7 +428,9 @@ class OtherPrograms(unittest.TestCase):
     def test_too_few_descriptors(self) -> None:
         """There is a program, and it can't be started: that isn't said to be no program."""
         for most in (6, 7, 8, 9, 10, 11, 12):
-            status, output, errors = in_shell(f"ulimit -n {most}; exec '{sys.executable}' '{HAUL}' check --census ./other small")
+            status, output, errors = in_shell(
+                f"ulimit -n {most}; exec '{sys.executable}' '{HAUL}' check --census ./other small"
+            )
             self.assertEqual((status, output), (5, ""))
             self.assertTrue(errors.endswith("Too many open files\n"), errors)
 
@@ -287,34 +438,52 @@ class OtherPrograms(unittest.TestCase):
         for script in self.ANSWERS:
             for command in self.COMMANDS:
                 with self.subTest(script=script, command=command):
-                    self.assertEqual(self.answer(script, command), (2, "", "haul: no census at ./other\n"))
+                    self.assertEqual(
+                        self.answer(script, command), (2, "", "haul: no census at ./other\n")
+                    )
 
     def test_a_program_that_is_none(self) -> None:
-        self.assertEqual(in_shell("printf x > other; haul check --census ./other small"), (2, "", "haul: no census at ./other\n"))
+        self.assertEqual(
+            in_shell("printf x > other; haul check --census ./other small"),
+            (2, "", "haul: no census at ./other\n"),
+        )
 
     def test_statuses(self) -> None:
         for command in self.COMMANDS:
             for status in (1, 6, 7, 70, 255):
                 with self.subTest(status=status, command=command):
-                    self.assertEqual(self.answer(f"exit {status}", command), (5, "", f"haul: census ended with status {status}\n"))
+                    self.assertEqual(
+                        self.answer(f"exit {status}", command),
+                        (5, "", f"haul: census ended with status {status}\n"),
+                    )
             for status in (2, 4, 5):
                 with self.subTest(status=status, command=command):
-                    self.assertEqual(self.answer(f"echo census: because >&2; exit {status}", command), (status, "", "haul: because\n"))
-            self.assertEqual(self.answer("kill -9 $$", command), (5, "", "haul: census was ended by signal 9\n"))
+                    self.assertEqual(
+                        self.answer(f"echo census: because >&2; exit {status}", command),
+                        (status, "", "haul: because\n"),
+                    )
+            self.assertEqual(
+                self.answer("kill -9 $$", command), (5, "", "haul: census was ended by signal 9\n")
+            )
         self.assertEqual(self.answer("exit 3", "check")[0], 3)
 
     def test_a_line_of_progress_that_was_not_asked_for(self) -> None:
-        self.assertEqual(self.answer(r"printf '1 of 2 soups\r  \rcensus: because\n' >&2; exit 4", "check"), (4, "", "haul: because\n"))
+        self.assertEqual(
+            self.answer(r"printf '1 of 2 soups\r  \rcensus: because\n' >&2; exit 4", "check"),
+            (4, "", "haul: because\n"),
+        )
 
 
 class Calls(unittest.TestCase):
-    """What a page, a check and the other commands ask of the census program. In these scripts `real` is the program."""
+    """What a page, a check and the other commands ask of the census program. In these scripts
+    `real` is the program."""
 
     # Notes the words of the call, and answers as the program does.
     NOTES = f'echo "$*" >> calls; real() {{ "{CENSUS}" "$@"; }}; '
 
     def ended(self, command: str, script: str) -> tuple[int, str, str, list[str]]:
-        """What a command ends with and prints over a haul of forty soups, if this script is the program, and the calls that it made."""
+        """What a command ends with and prints over a haul of forty soups, if this script is the
+        program, and the calls that it made."""
         with tempfile.TemporaryDirectory() as folder:
             fill(folder, self.NOTES + script)
             Path(folder, "forty").write_bytes(taken(40))
@@ -327,18 +496,29 @@ class Calls(unittest.TestCase):
         first, *others = sorted({number for numbers in haul.samples.values() for number in numbers})
         status, page, errors, calls = self.ended("page --census ./other", 'real "$@"')
         self.assertEqual((status, errors, page), (0, "", run("page", text=taken(40))[1]))
-        self.assertEqual(calls, [
-            f"work --worker=1 --seed= --rule=b3s23 --period=64 --horizon=512 --stride=101 --limit=30300 --first={first} --count=1 --also="
-            + ",".join(f"{number}+1" for number in others)])
+        self.assertEqual(
+            calls,
+            [
+                f"work --worker=1 --seed= --rule=b3s23 --period=64 --horizon=512 --stride=101 --limit=30300 --first={first} --count=1 --also="
+                + ",".join(f"{number}+1" for number in others)
+            ],
+        )
         self.assertEqual(self.ended("page --play 0 --census ./other", 'real "$@"')[3], [])
 
     def test_a_call_that_fails(self) -> None:
         """What it said is told, and nothing of the page is printed."""
-        for failing, status, line in (("echo census: because >&2; exit 4", 4, "because"), ("exit 70", 5, "census ended with status 70"),
-                                      ("kill -15 $$", 5, "census was ended by signal 15"), ("echo O.x", 2, "no census at ./other"),
-                                      ("echo 0", 2, "no census at ./other")):
+        for failing, status, line in (
+            ("echo census: because >&2; exit 4", 4, "because"),
+            ("exit 70", 5, "census ended with status 70"),
+            ("kill -15 $$", 5, "census was ended by signal 15"),
+            ("echo O.x", 2, "no census at ./other"),
+            ("echo 0", 2, "no census at ./other"),
+        ):
             with self.subTest(failing=failing):
-                self.assertEqual(self.ended("page --census ./other", failing)[:3], (status, "", f"haul: {line}\n"))
+                self.assertEqual(
+                    self.ended("page --census ./other", failing)[:3],
+                    (status, "", f"haul: {line}\n"),
+                )
 
     def test_the_others_ask_nothing(self) -> None:
         """Not even if there is no program."""
@@ -347,9 +527,20 @@ class Calls(unittest.TestCase):
             Path(folder, "bin").mkdir()
             shutil.copy(HAUL, Path(folder, "bin", "haul"))
             Path(folder, "a").write_bytes(taken(40))
-            for words in (["table"], ["table", "--parts", "--json"], ["compare", "--parts", "a"], ["join"], ["soup", "C1/a0"]):
-                ended = subprocess.run([sys.executable, "bin/haul", *words, *(["a"] if words[0] != "soup" else [])], cwd=folder, capture_output=True, check=False,
-                                       env={**os.environ, "PATH": "/nowhere"})
+            for words in (
+                ["table"],
+                ["table", "--parts", "--json"],
+                ["compare", "--parts", "a"],
+                ["join"],
+                ["soup", "C1/a0"],
+            ):
+                ended = subprocess.run(
+                    [sys.executable, "bin/haul", *words, *(["a"] if words[0] != "soup" else [])],
+                    cwd=folder,
+                    capture_output=True,
+                    check=False,
+                    env={**os.environ, "PATH": "/nowhere"},
+                )
                 self.assertEqual((ended.returncode, ended.stderr), (0, b""))
 
 
@@ -357,7 +548,8 @@ class Signals(unittest.TestCase):
     """A signal that ends `haul` ends the programs that it has started."""
 
     def running(self) -> dict[int, tuple[str, int]]:
-        """The processes that run, each with its name and its parent; none that is dead and only not yet waited for."""
+        """The processes that run, each with its name and its parent; none that is dead and only not
+        yet waited for."""
         found: dict[int, tuple[str, int]] = {}
         for folder in Path("/proc").glob("[0-9]*"):
             with suppress(OSError):
@@ -379,23 +571,32 @@ class Signals(unittest.TestCase):
         return found
 
     def ended_by(self, number: int, words: list[str], least: int) -> None:
-        """A signal ends `haul`, and so many calls of the program at least that run then, with all that was started for them."""
+        """A signal ends `haul`, and so many calls of the program at least that run then, with all
+        that was started for them."""
         with tempfile.TemporaryDirectory() as folder:
             Path(folder, "long").write_text(LONG)
             Path(folder, "many").write_text(MANY)
             # A program that would go on for long, and answers nothing.
             Path(folder, "sleeps").write_text("#!/bin/sh\nexec sleep 1000\n")
             Path(folder, "sleeps").chmod(0o755)
-            # Who runs tests in the background takes no notice of SIGINT, and neither would the program.
-            program = subprocess.Popen([sys.executable, HAUL, *words], cwd=folder, stdout=subprocess.DEVNULL, stderr=subprocess.PIPE,
-                                       preexec_fn=lambda: signal.signal(number, signal.SIG_DFL))
+            # Who runs tests in the background takes no notice of SIGINT, and neither would the
+            # program.
+            program = subprocess.Popen(
+                [sys.executable, HAUL, *words],
+                cwd=folder,
+                stdout=subprocess.DEVNULL,
+                stderr=subprocess.PIPE,
+                preexec_fn=lambda: signal.signal(number, signal.SIG_DFL),
+            )
             started: dict[int, str] = {}
             for _ in range(200):
                 started = self.below(program.pid)
                 if sum(name in ("census", "sleep") for name in started.values()) >= least:
                     break
                 time.sleep(0.05)
-            self.assertGreaterEqual(sum(name in ("census", "sleep") for name in started.values()), least)
+            self.assertGreaterEqual(
+                sum(name in ("census", "sleep") for name in started.values()), least
+            )
             program.send_signal(number)
             errors = program.communicate(timeout=20)[1]
             self.assertEqual((program.returncode, errors), (-number, b""))
@@ -422,8 +623,14 @@ class Signals(unittest.TestCase):
         with tempfile.TemporaryDirectory() as folder:
             Path(folder, "slow").write_text("#!/bin/sh\nkill -HUP $PPID\nexit 4\n")
             Path(folder, "slow").chmod(0o755)
-            ended = subprocess.run([sys.executable, HAUL, "check", "--census", "./slow"], cwd=folder, input=census("take", "--count", "1"),
-                                   capture_output=True, check=False, preexec_fn=lambda: signal.signal(signal.SIGHUP, signal.SIG_IGN))
+            ended = subprocess.run(
+                [sys.executable, HAUL, "check", "--census", "./slow"],
+                cwd=folder,
+                input=census("take", "--count", "1"),
+                capture_output=True,
+                check=False,
+                preexec_fn=lambda: signal.signal(signal.SIGHUP, signal.SIG_IGN),
+            )
         self.assertEqual(ended.returncode, 4)
 
 

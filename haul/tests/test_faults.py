@@ -7,8 +7,11 @@ import random
 import unittest
 from collections.abc import Iterator
 
+from haul.formats.field_reader import BadHaul
+from haul.formats.haul import Haul
+from haul.formats.haul_reader import read_one_haul
+from haul.formats.haul_writer import format_haul
 from haul.tests.drawn import any_haul
-from haul.text import BadHaul, Haul, lines_of, read_one_haul
 
 # A line and a column, both from 1.
 Place = tuple[int, int]
@@ -20,7 +23,7 @@ class Fields:
     """The lines of a haul, each cut into its fields, and where its parts begin."""
 
     def __init__(self, haul: Haul) -> None:
-        self.lines = [line.split(" ") if line else [] for line in lines_of(haul)]
+        self.lines = [line.split(" ") if line else [] for line in format_haul(haul)]
         self.soups = 5 + max(1, len(haul.ranges))
         self.totals = self.soups + 6
         self.samples = self.totals + len(haul.totals) + 2
@@ -32,10 +35,14 @@ class Fields:
         return line + 1, sum(len(word) + 1 for word in self.lines[line][:field]) + 1
 
     def with_line(self, line: int, fields: list[str]) -> str:
-        return "".join(" ".join(fields if k == line else it) + "\n" for k, it in enumerate(self.lines))
+        return "".join(
+            " ".join(fields if k == line else it) + "\n" for k, it in enumerate(self.lines)
+        )
 
     def with_field(self, line: int, field: int, word: str) -> str:
-        return self.with_line(line, [word if k == field else it for k, it in enumerate(self.lines[line])])
+        return self.with_line(
+            line, [word if k == field else it for k, it in enumerate(self.lines[line])]
+        )
 
 
 def wrong_fields(haul: Haul, at: Fields) -> Iterator[tuple[str, Place]]:
@@ -44,7 +51,10 @@ def wrong_fields(haul: Haul, at: Fields) -> Iterator[tuple[str, Place]]:
         for field in range(len(fields)):
             for word in NO_FIELDS:
                 yield at.with_field(line, field, word), at.place(line, field)
-        yield at.with_line(line, [*fields, "*"]), (line + 1, len(" ".join(fields)) + (2 if fields else 1))
+        yield at.with_line(line, [*fields, "*"]), (
+            line + 1,
+            len(" ".join(fields)) + (2 if fields else 1),
+        )
         if len(fields) > 2 and line < at.samples or len(fields) == 2:
             yield at.with_line(line, fields[:-1]), (line + 1, len(" ".join(fields[:-1])) + 1)
 
@@ -52,8 +62,20 @@ def wrong_fields(haul: Haul, at: Fields) -> Iterator[tuple[str, Place]]:
 def wrong_numbers(haul: Haul, at: Fields) -> Iterator[tuple[int, int, int]]:
     """Lines and fields with numbers out of their ranges."""
     period = haul.job.profile[0]
-    yield from ((4, 1, 0), (4, 1, 65), (4, 2, period - 1), (4, 2, 4097), (4, 3, 0), (4, 3, 10001), (4, 4, 100001))
-    yield from ((at.soups, 1, haul.size() + 1), (at.soups + 1, 1, haul.soups + 1), (at.soups + 2, 1, haul.soups - haul.unsettled + 1))
+    yield from (
+        (4, 1, 0),
+        (4, 1, 65),
+        (4, 2, period - 1),
+        (4, 2, 4097),
+        (4, 3, 0),
+        (4, 3, 10001),
+        (4, 4, 100001),
+    )
+    yield from (
+        (at.soups, 1, haul.size() + 1),
+        (at.soups + 1, 1, haul.soups + 1),
+        (at.soups + 2, 1, haul.soups - haul.unsettled + 1),
+    )
     yield from ((at.soups + 3, 1, haul.objects() + 1), (at.soups + 3, 1, 2**64))
     for line, (first, count) in enumerate(haul.ranges, 5):
         yield from ((line, 1, 2**40), (line, 2, 0), (line, 2, 2**40 - first + 1))
@@ -79,7 +101,8 @@ def wrong_writing(haul: Haul, at: Fields) -> Iterator[tuple[str, Place]]:
 
 
 def wrong_lines(haul: Haul, at: Fields) -> Iterator[tuple[str, Place]]:
-    """A line that is left out or stands twice, two that have changed places, and a sample too many."""
+    """A line that is left out or stands twice, two that have changed places, and a sample too
+    many."""
     lines = at.text().splitlines(True)
     is_row = range(at.totals, at.totals + len(haul.totals))
     for line in range(len(lines)):
@@ -90,9 +113,15 @@ def wrong_lines(haul: Haul, at: Fields) -> Iterator[tuple[str, Place]]:
         is_range = bool(haul.ranges) and at.lines[line][:1] == ["@RANGE"]
         yield "".join(lines[: line + 1] + lines[line:]), (line + 2, 8 if is_range else 1)
     for line in is_row[:-1]:
-        yield "".join(lines[:line] + [lines[line + 1], lines[line]] + lines[line + 2 :]), (line + 2, 1)
+        yield "".join(lines[:line] + [lines[line + 1], lines[line]] + lines[line + 2 :]), (
+            line + 2,
+            1,
+        )
     for line in range(at.samples, len(lines) - 1):
-        yield "".join(lines[:line] + [lines[line + 1], lines[line]] + lines[line + 2 :]), (line + 1, 1)
+        yield "".join(lines[:line] + [lines[line + 1], lines[line]] + lines[line + 2 :]), (
+            line + 1,
+            1,
+        )
     for line, (code, numbers) in enumerate(haul.samples.items(), at.samples):
         if len(numbers) == min(3, haul.totals[code]):
             more = [*at.lines[line], str(sum(haul.ranges[-1]) - 1)]
@@ -100,7 +129,8 @@ def wrong_lines(haul: Haul, at: Fields) -> Iterator[tuple[str, Place]]:
 
 
 def cut(haul: Haul, at: Fields) -> Iterator[tuple[str, Place]]:
-    """An input that ends before a field, or after a line's last one: bad at its end. In a word that is no field: where that begins."""
+    """An input that ends before a field, or after a line's last one: bad at its end. In a word that
+    is no field: where that begins."""
     text = ""
     for line, fields in enumerate(at.lines):
         for field, word in enumerate(fields):

@@ -10,34 +10,50 @@ import subprocess
 import sys
 import time
 import unittest
-from contextlib import redirect_stderr, redirect_stdout, suppress
+from contextlib import redirect_stderr, suppress
 from fcntl import ioctl
 from struct import pack
 from termios import TIOCSWINSZ
 from unittest.mock import Mock, patch
 
-from haul.common import COMMON, LEAST
-from haul.find_calls import FindCalls
-from haul.finds import Find, Finder, Unread, command_of
-from haul.keeper import Keeper
-from haul.life import rule_of
-from haul.parts import Separator
-from haul.program import Census
-from haul.running import FIND, Waiter, starter
-from haul.search import Batch, Dropped, Plan, Search
-from haul.status_line import Status, StatusLine, duration, short
-from haul.stopping import Stopping
-from haul.tests.called import CENSUS, HAUL, TOP, census, run
+from haul.census.command_lines import format_find_command
+from haul.census.client import Census
+from haul.formats.haul import Haul, Job
+from haul.formats.haul_reader import read_one_haul
+from haul.formats.profile import STANDARD, Profile
+from haul.life.generations import read_rule
+from haul.life.parts import Separator
+from haul.names.common_parts import COMMON, LEAST
+from haul.census.background import FIND, StreamWaiter, read_launcher
+from haul.search.find_calls import FindCalls
+from haul.search.finds import Find, Finder, Unread
+from haul.search.keeper import Keeper
+from haul.search.search import Batch, Dropped, Plan, Search
+from haul.search.status_line import Status, StatusLine, format_duration, format_short
+from haul.search.stopping import Stopping
+from haul.tests.called import CENSUS, HAUL, TOP, census, make_client, run
+from haul.terminal import Terminal
 from haul.tests.searching import CLOCK, CLOCK_SOUP, Searches
-from haul.text import STANDARD, Haul, Job, read_one_haul
 
-LIFE, OTHER_RULE, OTHER_PROFILE = Job("a", "b3s23", STANDARD), Job("a", "b36s23", STANDARD), Job("a", "b3s23", (4, 8, 10, 30))
+LIFE, OTHER_RULE, OTHER_PROFILE = (
+    Job("a", "b3s23", STANDARD),
+    Job("a", "b36s23", STANDARD),
+    Job("a", "b3s23", Profile(4, 8, 10, 30)),
+)
 # The last of them is two blocks. The tripole isn't common under Life, and the others are.
 TRIPOLE, BLINKER, BLOCK, BI_BLOCK = "xp2_31ago", "xp2_7", "xs4_33", "xs8_rr"
 
 
 def haul_of(job: Job, *codes: str) -> Haul:
-    return Haul(job, [(0, 100)] if codes else [], 100 if codes else 0, 0, 0, {code: 1 for code in sorted(codes)}, {code: [0] for code in sorted(codes)})
+    return Haul(
+        job,
+        ranges=[(0, 100)] if codes else [],
+        soups=100 if codes else 0,
+        unsettled=0,
+        for_good=0,
+        totals={code: 1 for code in sorted(codes)},
+        samples={code: [0] for code in sorted(codes)},
+    )
 
 
 def found(finder: Finder, *batches: list[tuple[str, int]]) -> list[Find]:
@@ -53,7 +69,9 @@ def found(finder: Finder, *batches: list[tuple[str, int]]) -> list[Find]:
 class Common(unittest.TestCase):
     def test_the_list(self) -> None:
         """It is made of the haul in examples/."""
-        rows = run("table", "--parts", "--csv", str(TOP / "examples" / "100000.haul"))[1].splitlines()[1:]
+        rows = run("table", "--parts", "--csv", str(TOP / "examples" / "100000.haul"))[
+            1
+        ].splitlines()[1:]
         totals = {code: int(total) for _, code, total, *_ in (row.split(",") for row in rows)}
         self.assertEqual(COMMON, {code for code, total in totals.items() if total >= LEAST})
         self.assertEqual(LEAST, 3)
@@ -61,20 +79,35 @@ class Common(unittest.TestCase):
 
 class Finds(unittest.TestCase):
     def test_what_is_common(self) -> None:
-        self.assertEqual(found(Finder(LIFE, haul_of(LIFE)), [(BLOCK, 5), (TRIPOLE, 6), (BI_BLOCK, 1)]), [Find(TRIPOLE, 6)])
+        self.assertEqual(
+            found(Finder(LIFE, haul_of(LIFE)), [(BLOCK, 5), (TRIPOLE, 6), (BI_BLOCK, 1)]),
+            [Find(TRIPOLE, 6)],
+        )
 
     def test_it_is_told_once(self) -> None:
-        self.assertEqual(found(Finder(LIFE, haul_of(LIFE)), [(TRIPOLE, 9), (BLOCK, 3)], [], [(TRIPOLE, 10)]), [Find(TRIPOLE, 9)])
+        self.assertEqual(
+            found(Finder(LIFE, haul_of(LIFE)), [(TRIPOLE, 9), (BLOCK, 3)], [], [(TRIPOLE, 10)]),
+            [Find(TRIPOLE, 9)],
+        )
 
     def test_in_the_order_of_soups(self) -> None:
-        self.assertEqual(found(Finder(OTHER_RULE, haul_of(OTHER_RULE, BI_BLOCK)), [(BLINKER, 9), ("xs6_696", 3), (BLOCK, 1)]),
-                         [Find("xs6_696", 3), Find(BLINKER, 9)])
+        self.assertEqual(
+            found(
+                Finder(OTHER_RULE, haul_of(OTHER_RULE, BI_BLOCK)),
+                [(BLINKER, 9), ("xs6_696", 3), (BLOCK, 1)],
+            ),
+            [Find("xs6_696", 3), Find(BLINKER, 9)],
+        )
 
     def test_parts_of_objects_that_were_there(self) -> None:
-        """A blinker that was there as a part of a traffic light is known, and so is one that was an object."""
+        """A blinker that was there as a part of a traffic light is known, and so is one that was an
+        object."""
         for there in ("xp2_s01110szw222", BLINKER):
             finder = Finder(OTHER_RULE, haul_of(OTHER_RULE, BLOCK, there))
-            self.assertEqual(found(finder, [(BLINKER, 9), ("xs6_696", 10)], [(BLINKER, 11)]), [Find("xs6_696", 10)])
+            self.assertEqual(
+                found(finder, [(BLINKER, 9), ("xs6_696", 10)], [(BLINKER, 11)]),
+                [Find("xs6_696", 10)],
+            )
 
     def test_a_new_object_of_known_parts(self) -> None:
         self.assertEqual(found(Finder(OTHER_RULE, haul_of(OTHER_RULE, BLOCK)), [(BI_BLOCK, 9)]), [])
@@ -82,28 +115,59 @@ class Finds(unittest.TestCase):
     def test_parts_of_a_new_object(self) -> None:
         """The soup is the lowest of those that left the part."""
         finder = Finder(OTHER_RULE, haul_of(OTHER_RULE, "xs6_696"))
-        self.assertEqual(found(finder, [(BI_BLOCK, 9), (BLOCK, 20)], [(BLOCK, 30)]), [Find(BLOCK, 9)])
+        self.assertEqual(
+            found(finder, [(BI_BLOCK, 9), (BLOCK, 20)], [(BLOCK, 30)]), [Find(BLOCK, 9)]
+        )
 
     def test_the_part_that_begins_a_haul(self) -> None:
         """Under another rule or profile it tells nothing, and what it had is known."""
         for job, finds in ((LIFE, [Find(TRIPOLE, 5)]), (OTHER_RULE, []), (OTHER_PROFILE, [])):
             finder = Finder(job, haul_of(job))
             self.assertEqual(found(finder, [(TRIPOLE, 5)]), finds)
-            self.assertEqual(found(finder, [(TRIPOLE, 9), ("xp3_695qc8zx33", 11)]), [Find("xp3_695qc8zx33", 11)])
+            self.assertEqual(
+                found(finder, [(TRIPOLE, 9), ("xp3_695qc8zx33", 11)]), [Find("xp3_695qc8zx33", 11)]
+            )
 
     def test_a_haul_without_objects(self) -> None:
-        """Its soups have begun the file, though they left nothing, so that later batches tell finds."""
-        self.assertEqual(found(Finder(OTHER_PROFILE, Haul(OTHER_PROFILE, [(0, 9)], 9, 9, 0, {}, {})), [(TRIPOLE, 9)]), [Find(TRIPOLE, 9)])
+        """Its soups have begun the file, though they left nothing, so that later batches tell
+        finds."""
+        self.assertEqual(
+            found(
+                Finder(
+                    OTHER_PROFILE,
+                    Haul(
+                        OTHER_PROFILE,
+                        ranges=[(0, 9)],
+                        soups=9,
+                        unsettled=9,
+                        for_good=0,
+                        totals={},
+                        samples={},
+                    ),
+                ),
+                [(TRIPOLE, 9)],
+            ),
+            [Find(TRIPOLE, 9)],
+        )
 
     def test_what_is_common_under_another_profile(self) -> None:
-        self.assertEqual(found(Finder(OTHER_PROFILE, haul_of(OTHER_PROFILE, TRIPOLE)), [(BLOCK, 100), (BI_BLOCK, 101)]), [])
+        self.assertEqual(
+            found(
+                Finder(OTHER_PROFILE, haul_of(OTHER_PROFILE, TRIPOLE)),
+                [(BLOCK, 100), (BI_BLOCK, 101)],
+            ),
+            [],
+        )
 
     def test_objects_are_separated_only_if_need_be(self) -> None:
         finder = Finder(LIFE, haul_of(LIFE, TRIPOLE, "xp2_s01110szw222", BI_BLOCK))
-        with patch.object(finder.separator, "separation_of", wraps=finder.separator.separation_of) as separated:
+        with patch.object(
+            finder.separator, "separate", wraps=finder.separator.separate
+        ) as separated:
             self.assertEqual(found(finder, [(TRIPOLE, 200), (BLOCK, 201)]), [])
             self.assertEqual(separated.call_count, 2)
-            # An oscillator of period 3 is in none of the three, and a still life of seven cells may be in each of them.
+            # An oscillator of period 3 is in none of the three, and a still life of seven cells may
+            # be in each of them.
             self.assertEqual(found(finder, [("xp3_695qc8zx33", 11)]), [Find("xp3_695qc8zx33", 11)])
             self.assertEqual(separated.call_count, 3)
             finder.add([("xs7_2552", 11)])
@@ -126,25 +190,54 @@ class Finds(unittest.TestCase):
         """All objects with several parts in 100,000 soups, and some more kinds."""
         with open(TOP / "examples" / "100000.haul", "rb") as file:
             haul = read_one_haul(file)
-        separator = Separator(rule_of("b3s23"))
+        separator = Separator(read_rule("b3s23"))
         several = 0
         for code in haul.totals:
-            parts = separator.separation_of(code).parts
+            parts = separator.separate(code).parts
             for part in parts if len(parts) > 1 else ():
                 self.assertEqual(Unread([code]).holders([part]), [{code}])
                 several += 1
         self.assertGreater(several, 4000)
-        for whole, part, can in (("xs8_0", "xs7_0", True), ("xs8_0", "xs8_1", False), ("xs8_0", "xp2_0", False), ("xp4_0", "xs99_0", True), ("xp4_0", "xp2_0", True),
-                                 ("xp4_0", "xp4_1", True), ("xp4_0", "xp3_0", False), ("xp4_0", "xq4_0", False), ("xq4_0", "xq4_1", True), ("xq8_0", "xq4_0", True),
-                                 ("xq4_0", "xs4_0", False), ("xq4_0", "xp2_0", False), ("what", "xs4_0", False), ("xs4_0", "what", False)):
+        for whole, part, can in (
+            ("xs8_0", "xs7_0", True),
+            ("xs8_0", "xs8_1", False),
+            ("xs8_0", "xp2_0", False),
+            ("xp4_0", "xs99_0", True),
+            ("xp4_0", "xp2_0", True),
+            ("xp4_0", "xp4_1", True),
+            ("xp4_0", "xp3_0", False),
+            ("xp4_0", "xq4_0", False),
+            ("xq4_0", "xq4_1", True),
+            ("xq8_0", "xq4_0", True),
+            ("xq4_0", "xs4_0", False),
+            ("xq4_0", "xp2_0", False),
+            ("what", "xs4_0", False),
+            ("xs4_0", "what", False),
+        ):
             self.assertEqual(Unread([whole]).holding([part]), int(can), (whole, part))
         unread = Unread(["xs4_33", "what"])
-        self.assertTrue("xs4_33" in unread and "what" in unread and "xs4_0" not in unread and "xp2_7" not in unread)
+        self.assertTrue(
+            "xs4_33" in unread
+            and "what" in unread
+            and "xs4_0" not in unread
+            and "xp2_7" not in unread
+        )
 
     def test_what_is_remembered_is_bounded(self) -> None:
-        with patch("haul.finds.MOST_RUNS", 3):
+        with patch("haul.search.finds.MOST_RUNS", 3):
             finder = Finder(LIFE, haul_of(LIFE))
-            self.assertEqual(len(found(finder, [(code, 1) for code in (TRIPOLE, "xp3_695qc8zx33", "xs8_rr", "xs6_696", "xp2_318c")])), 2)
+            self.assertEqual(
+                len(
+                    found(
+                        finder,
+                        [
+                            (code, 1)
+                            for code in (TRIPOLE, "xp3_695qc8zx33", "xs8_rr", "xs6_696", "xp2_318c")
+                        ],
+                    )
+                ),
+                2,
+            )
             self.assertLessEqual(len(finder.separator.runs), 5)
 
 
@@ -152,25 +245,65 @@ class Fields(Searches):
     def test_fields(self) -> None:
         time_, *fields = Find(TRIPOLE, 17).fields(LIFE)
         self.assertRegex(time_, r"^\d{4}-\d\d-\d\dT\d\d:\d\d:\d\dZ$")
-        self.assertEqual(fields, [TRIPOLE, "tripole", "17", "census soup --seed a 17 | census name --rule b3s23"])
+        self.assertEqual(
+            fields, [TRIPOLE, "tripole", "17", "census soup --seed a 17 | census name --rule b3s23"]
+        )
         self.assertEqual(Find("xs99_0", 1).fields(LIFE)[2], "-")
 
     def test_commands_are_for_a_shell(self) -> None:
         """Each shows what the soup leaves."""
         (self.folder / "census").symlink_to(CENSUS)
-        for seed in ("", "a", "-a", "a'b", "$(x)", "`x`;\"\\"):
-            for job, words in ((Job(seed, "b3s23", STANDARD), ""), (Job(seed, "b36s23", (4, 8, 10, 300)), "--rule=b36s23 --period=4 --horizon=8 --stride=10 --limit=300")):
-                shown = subprocess.run(["bash", "-c", command_of(job, 7)], env=os.environ | {"PATH": f"{self.folder}:{os.environ['PATH']}"}, capture_output=True, check=True)
+        for seed in ("", "a", "-a", "a'b", "$(x)", '`x`;"\\'):
+            for job, words in (
+                (Job(seed, "b3s23", STANDARD), ""),
+                (
+                    Job(seed, "b36s23", Profile(4, 8, 10, 300)),
+                    "--rule=b36s23 --period=4 --horizon=8 --stride=10 --limit=300",
+                ),
+            ):
+                shown = subprocess.run(
+                    ["bash", "-c", format_find_command(job, 7)],
+                    env=os.environ | {"PATH": f"{self.folder}:{os.environ['PATH']}"},
+                    capture_output=True,
+                    check=True,
+                )
                 soup = census("soup", f"--seed={seed}", "7")
-                self.assertEqual(shown.stdout, subprocess.run([CENSUS, "name", *words.split()], input=soup, capture_output=True, check=True).stdout)
+                self.assertEqual(
+                    shown.stdout,
+                    subprocess.run(
+                        [CENSUS, "name", *words.split()],
+                        input=soup,
+                        capture_output=True,
+                        check=True,
+                    ).stdout,
+                )
 
     def test_a_search_tells_them(self) -> None:
         words = ["--seed=", "--first", str(CLOCK_SOUP - 20), "--part", "10"]
         self.assertEqual(self.search(*words, "--until", "20"), (0, "", ""))
         status, output, errors = self.search("--until", "40", "--part", "10")
         time_, *fields = output.removesuffix("\n").split("\t")
-        self.assertEqual((status, errors, fields), (0, "", [CLOCK, "clock", str(CLOCK_SOUP), f"census soup --seed '' {CLOCK_SOUP} | census name --rule b3s23"]))
-        self.assertLess(abs(time.time() - time.mktime(time.strptime(time_, "%Y-%m-%dT%H:%M:%SZ")) + time.timezone), 60)
+        self.assertEqual(
+            (status, errors, fields),
+            (
+                0,
+                "",
+                [
+                    CLOCK,
+                    "clock",
+                    str(CLOCK_SOUP),
+                    f"census soup --seed '' {CLOCK_SOUP} | census name --rule b3s23",
+                ],
+            ),
+        )
+        self.assertLess(
+            abs(
+                time.time()
+                - time.mktime(time.strptime(time_, "%Y-%m-%dT%H:%M:%SZ"))
+                + time.timezone
+            ),
+            60,
+        )
 
     def test_it_is_told_after_it_is_in_the_file(self) -> None:
         with self.start("--seed=", "--first", str(CLOCK_SOUP), "--until", "1") as program:
@@ -179,10 +312,11 @@ class Fields(Searches):
             self.assertIn(CLOCK, self.haul().totals)
             program.communicate(timeout=60)
 
-
     def test_it_is_not_told_if_it_is_not_in_the_file(self) -> None:
         words = ["--seed=", "--first", str(CLOCK_SOUP), "--until", "1"]
-        self.assertEqual(self.search(*words, most_bytes=100), (5, "", "haul: mine.haul.new: File too large\n"))
+        self.assertEqual(
+            self.search(*words, most_bytes=100), (5, "", "haul: mine.haul.new: File too large\n")
+        )
         self.assert_left("mine.haul.lock")
 
 
@@ -195,11 +329,15 @@ class Calls(Searches):
         program = self.stub('for word; do echo "$word" >> said; done')
         status, output, errors = self.search(*self.ONE, "--finds", program)
         self.assertEqual((status, errors), (0, ""))
-        self.assertEqual((self.folder / "said").read_text().splitlines(), output.strip("\n").split("\t"))
+        self.assertEqual(
+            (self.folder / "said").read_text().splitlines(), output.strip("\n").split("\t")
+        )
 
     def test_it_is_called_for_each(self) -> None:
         """Under another rule there are many, and the calls come one after another."""
-        program = self.stub('[[ ! -e runs ]] || echo two >> said; touch runs; sleep 0.05; rm runs; echo "$2" >> said')
+        program = self.stub(
+            '[[ ! -e runs ]] || echo two >> said; touch runs; sleep 0.05; rm runs; echo "$2" >> said'
+        )
         self.search("--seed=a", "--rule=b36s23", "--until", "10", "--part", "10")
         status, output, _ = self.search("--until", "60", "--finds", program)
         self.assertEqual(status, 0)
@@ -208,50 +346,74 @@ class Calls(Searches):
         self.assertEqual((self.folder / "said").read_text().splitlines(), codes)
 
     def test_its_streams_are_closed(self) -> None:
-        program = self.stub("ls /proc/self/fd > /dev/null; [[ ! -e /proc/$$/fd/0 && ! -e /proc/$$/fd/1 ]] && touch closed; echo told >&2")
+        program = self.stub(
+            "ls /proc/self/fd > /dev/null; [[ ! -e /proc/$$/fd/0 && ! -e /proc/$$/fd/1 ]] && touch closed; echo told >&2"
+        )
         status, output, errors = self.search(*self.ONE, "--finds", program)
         self.assertEqual((status, len(output.splitlines()), errors), (0, 1, "told\n"))
         self.assertTrue((self.folder / "closed").exists())
 
     def test_it_fails(self) -> None:
         """A line says so, and that is all."""
-        for name, line in ((self.stub("exit 1"), "ended with status 1"), (self.stub("kill -9 $$", "dies"), "was ended by signal 9"),
-                           ("./nowhere", "No such file or directory"), (str(self.folder), "Permission denied")):
+        for name, line in (
+            (self.stub("exit 1"), "ended with status 1"),
+            (self.stub("kill -9 $$", "dies"), "was ended by signal 9"),
+            ("./nowhere", "No such file or directory"),
+            (str(self.folder), "Permission denied"),
+        ):
             self.file.unlink(missing_ok=True)
             status, output, errors = self.search(*self.ONE, "--finds", name)
-            self.assertEqual((status, len(output.splitlines()), errors), (0, 1, f"haul: {name}: {line}\n"))
+            self.assertEqual(
+                (status, len(output.splitlines()), errors), (0, 1, f"haul: {name}: {line}\n")
+            )
             self.assert_right()
 
     def test_it_cant_be_started(self) -> None:
         """The reason of the system is told, if there is one, and the next one is called."""
         said: list[str] = []
-        calls = FindCalls(Waiter(), "program", said.append)
+        calls = FindCalls(StreamWaiter(), "program", said.append)
         calls.add(["a"])
         calls.add(["b"])
-        with patch("haul.find_calls.Running", side_effect=[OSError(24, "Too many open files"), OSError()]):
+        with patch(
+            "haul.search.find_calls.BackgroundProgram",
+            side_effect=[OSError(24, "Too many open files"), OSError()],
+        ):
             calls.step()
             calls.step()
-        self.assertEqual((said, calls.is_done()), (["program: Too many open files", "program: can't be started"], True))
+        self.assertEqual(
+            (said, calls.is_done()),
+            (["program: Too many open files", "program: can't be started"], True),
+        )
 
     def test_what_is_left_is_told(self) -> None:
         """If that takes over five seconds."""
         program = self.stub("sleep 5.5; touch done")
-        self.assertEqual(self.search(*self.ONE, "--finds", program)[::2],
-                         (0, f"haul: finds are still told: 1 call of {program}; Ctrl-C twice stops that\n"))
+        self.assertEqual(
+            self.search(*self.ONE, "--finds", program)[::2],
+            (0, f"haul: finds are still told: 1 call of {program}; Ctrl-C twice stops that\n"),
+        )
         self.assertTrue((self.folder / "done").exists())
 
     def test_what_it_leaves_running(self) -> None:
         """It is killed, even if it takes no notice of signals."""
-        self.search(*self.ONE, "--finds", self.stub("trap '' HUP INT USR1 TERM; sleep 1000 & exit 0"))
+        self.search(
+            *self.ONE, "--finds", self.stub("trap '' HUP INT USR1 TERM; sleep 1000 & exit 0")
+        )
         self.assert_nothing_runs()
 
     def test_it_takes_long(self) -> None:
         """It is ended, and the next one is called."""
         said: list[str] = []
-        calls = FindCalls(Waiter(), self.stub(f"cd {self.folder}; echo $1 >> said; [[ $1 == b ]] || {{ sleep 1000 & sleep 1000; }}"), said.append)
+        calls = FindCalls(
+            StreamWaiter(),
+            self.stub(
+                f"cd {self.folder}; echo $1 >> said; [[ $1 == b ]] || {{ sleep 1000 & sleep 1000; }}"
+            ),
+            said.append,
+        )
         for word in "ab":
             calls.add([word])
-        with patch("haul.find_calls.MOST_SECONDS", 4.0):
+        with patch("haul.search.find_calls.MOST_SECONDS", 4.0):
             began = time.monotonic()
             while not calls.is_done():
                 calls.step()
@@ -262,28 +424,54 @@ class Calls(Searches):
         self.assert_nothing_runs()
 
     def test_an_interrupt_before_it_has_its_session(self) -> None:
-        """A Ctrl-C for `haul` that comes then is dropped, and later the program is ended by that signal as usual."""
+        """A Ctrl-C for `haul` that comes then is dropped, and later the program is ended by that
+        signal as usual."""
+
         def interrupted() -> None:
             signal.signal(signal.SIGINT, signal.SIG_DFL)
             signal.pthread_sigmask(signal.SIG_BLOCK, {signal.SIGINT})
             os.kill(os.getpid(), signal.SIGINT)
 
         program = self.stub("echo $1 >> said; kill -INT $$; echo late >> said")
-        ended = subprocess.run([sys.executable, "-I", "-S", "-c", starter(), FIND, str(os.getpid()), program, "once"], cwd=self.folder,
-                               stdout=subprocess.PIPE, check=False, start_new_session=True, preexec_fn=interrupted)
-        self.assertEqual((ended.stdout, (self.folder / "said").read_text()), (b"was ended by signal 2\n", "once\n"))
+        ended = subprocess.run(
+            [
+                sys.executable,
+                "-I",
+                "-S",
+                "-c",
+                read_launcher(),
+                FIND,
+                str(os.getpid()),
+                program,
+                "once",
+            ],
+            cwd=self.folder,
+            stdout=subprocess.PIPE,
+            check=False,
+            start_new_session=True,
+            preexec_fn=interrupted,
+        )
+        self.assertEqual(
+            (ended.stdout, (self.folder / "said").read_text()),
+            (b"was ended by signal 2\n", "once\n"),
+        )
 
     def test_how_long_it_may_take(self) -> None:
         """A minute, by a clock that the test sets."""
         said: list[str] = []
-        calls = FindCalls(Waiter(), self.stub("sleep 1000"), said.append)
+        calls = FindCalls(StreamWaiter(), self.stub("sleep 1000"), said.append)
         calls.add([])
-        with patch("haul.find_calls.time", Mock(monotonic=Mock(side_effect=[1000.0, 1059.9, 1060.0]))):
+        with patch(
+            "haul.search.find_calls.time",
+            Mock(monotonic=Mock(side_effect=[1000.0, 1059.9, 1060.0])),
+        ):
             calls.step()
             calls.step()
             self.assertEqual((said, calls.is_done()), ([], False))
             calls.step()
-        self.assertEqual((said, calls.is_done()), ([f"{calls.program}: ended after 60 seconds"], True))
+        self.assertEqual(
+            (said, calls.is_done()), ([f"{calls.program}: ended after 60 seconds"], True)
+        )
         self.assert_nothing_runs()
 
     def test_signals_while_it_runs(self) -> None:
@@ -301,9 +489,14 @@ class Calls(Searches):
                     time.sleep(0.3)
                 errors = search.communicate(timeout=60)[1].decode()
             self.assertEqual(search.returncode, -numbers[-1])
-            self.assertEqual(errors, {
-                signal.SIGINT: f"haul: finds are still told: 1 call of {program}; Ctrl-C again stops that\nhaul: not all finds are told: 1 call of {program}\n",
-                signal.SIGTERM: f"haul: not all finds are told: 1 call of {program}\n", signal.SIGKILL: ""}[numbers[-1]])
+            self.assertEqual(
+                errors,
+                {
+                    signal.SIGINT: f"haul: finds are still told: 1 call of {program}; Ctrl-C again stops that\nhaul: not all finds are told: 1 call of {program}\n",
+                    signal.SIGTERM: f"haul: not all finds are told: 1 call of {program}\n",
+                    signal.SIGKILL: "",
+                }[numbers[-1]],
+            )
             self.assert_nothing_runs()
             self.assert_right()
 
@@ -314,17 +507,43 @@ class Telling(Searches):
     STATUS = Status(1234567, 20000, 30, 4, 1, 10.0, 40000)
 
     def test_text(self) -> None:
-        self.assertEqual(self.STATUS.text(), "1,234,567 soups, 2,000 per second, 30 objects, 4 codes, 1 find, running for 0:00:10, 0:00:20 left")
-        self.assertEqual(Status(1, 0, 1, 1, 0, 0.0, 5).text(), "1 soup, 0 per second, 1 object, 1 code, 0 finds, running for 0:00:00, ? left")
-        self.assertEqual(Status(10, 10, 1, 1, 0, 10.0, 5).text(), "10 soups, 1 per second, 1 object, 1 code, 0 finds, running for 0:00:10, 0:00:05 left")
+        self.assertEqual(
+            self.STATUS.text(),
+            "1,234,567 soups, 2,000 per second, 30 objects, 4 codes, 1 find, running for 0:00:10, 0:00:20 left",
+        )
+        self.assertEqual(
+            Status(1, 0, 1, 1, 0, 0.0, 5).text(),
+            "1 soup, 0 per second, 1 object, 1 code, 0 finds, running for 0:00:00, ? left",
+        )
+        self.assertEqual(
+            Status(10, 10, 1, 1, 0, 10.0, 5).text(),
+            "10 soups, 1 per second, 1 object, 1 code, 0 finds, running for 0:00:10, 0:00:05 left",
+        )
         self.assertTrue(Status(1, 0, 1, 1, 0, 0.0, None).text().endswith("running for 0:00:00"))
 
     def test_a_search_that_goes_on(self) -> None:
         """Its rate is that of the soups which this call has run."""
         with patch("time.monotonic", return_value=1000.0) as now:
             keeper = Keeper(str(self.file))
-            search = Search(Plan(100, 200, 30, 1, None), haul_of(LIFE, BLOCK, TRIPOLE), keeper, Census(CENSUS), Stopping())
-            search.add(Haul(LIFE, [(100, 30)], 30, 0, 0, {BLINKER: 7, BLOCK: 1}, {BLINKER: [100], BLOCK: [101]}))
+            search = Search(
+                Plan(100, 200, 30, 1, None),
+                haul_of(LIFE, BLOCK, TRIPOLE),
+                keeper,
+                make_client(),
+                Stopping(),
+                sys.stdout,
+            )
+            search.add(
+                Haul(
+                    LIFE,
+                    ranges=[(100, 30)],
+                    soups=30,
+                    unsettled=0,
+                    for_good=0,
+                    totals={BLINKER: 7, BLOCK: 1},
+                    samples={BLINKER: [100], BLOCK: [101]},
+                )
+            )
             search.batch = Batch(130, 30, Mock(**{"soups.return_value": 10}))
             now.return_value = 1010.0
             self.assertEqual(search.status(), Status(140, 40, 10, 3, 0, 10.0, 60))
@@ -334,36 +553,76 @@ class Telling(Searches):
 
     def test_a_search_with_more_than_is_asked_for(self) -> None:
         keeper = Keeper(str(self.file))
-        search = Search(Plan(100, 50, 30, 1, None), haul_of(LIFE, BLOCK), keeper, Census(CENSUS), Stopping())
+        search = Search(
+            Plan(100, 50, 30, 1, None),
+            haul_of(LIFE, BLOCK),
+            keeper,
+            make_client(),
+            Stopping(),
+            sys.stdout,
+        )
         self.assertEqual(search.status().left, 0)
         os.close(keeper.lock)
 
     def test_when_the_batch_ends(self) -> None:
         """By the rate so far, if there is one."""
+        said = io.StringIO()
         with patch("time.monotonic", return_value=1000.0) as now:
             keeper = Keeper(str(self.file))
-            search = Search(Plan(0, None, 30, 1, None), haul_of(LIFE), keeper, Census(CENSUS), Stopping())
+            search = Search(
+                Plan(0, None, 30, 1, None),
+                haul_of(LIFE),
+                keeper,
+                Census(CENSUS, Terminal(said)),
+                Stopping(),
+                sys.stdout,
+            )
             now.return_value = 1010.0
             for soups, when in ((0, ""), (1, ", in about 0:04:50"), (10, ", in about 0:00:20")):
                 search.batch = Batch(0, 30, Mock(**{"soups.return_value": soups}))
-                with redirect_stderr(io.StringIO()) as said:
-                    search.say_that_it_finishes()
-                self.assertEqual(said.getvalue(), f"haul: stops after this batch{when}; Ctrl-C again drops the batch\n")
+                said.truncate(0)
+                said.seek(0)
+                search.say_that_it_finishes()
+                self.assertEqual(
+                    said.getvalue(),
+                    f"haul: stops after this batch{when}; Ctrl-C again drops the batch\n",
+                )
         os.close(keeper.lock)
 
     def test_durations(self) -> None:
-        for seconds, text in ((0.9, "0:00:00"), (59, "0:00:59"), (3600 + 62, "1:01:02"), (86400, "24:00:00"), (10**6, "277:46:40")):
-            self.assertEqual(duration(seconds), text)
+        for seconds, text in (
+            (0.9, "0:00:00"),
+            (59, "0:00:59"),
+            (3600 + 62, "1:01:02"),
+            (86400, "24:00:00"),
+            (10**6, "277:46:40"),
+        ):
+            self.assertEqual(format_duration(seconds), text)
 
     def test_short_numbers(self) -> None:
-        for number, text in ((0, "0"), (999, "999"), (1000, "1k"), (12345, "12.3k"), (999499, "999k"), (999500, "1M"), (10**6, "1M"), (12345678901, "12.3G"), (2**63, "9.22E")):
-            self.assertEqual(short(number), text)
+        for number, text in (
+            (0, "0"),
+            (999, "999"),
+            (1000, "1k"),
+            (12345, "12.3k"),
+            (999499, "999k"),
+            (999500, "1M"),
+            (10**6, "1M"),
+            (12345678901, "12.3G"),
+            (2**63, "9.22E"),
+        ):
+            self.assertEqual(format_short(number), text)
         week = Status(12345678901, 12000000000, 250123456789, 1234567, 123, 626400.0, 10**9)
-        self.assertEqual(week.short_text(), "12.3G soups 19.2k/s 250G objects 1.23M codes 123 finds 174:00:00 14:30:00 left")
+        self.assertEqual(
+            week.short_text(),
+            "12.3G soups 19.2k/s 250G objects 1.23M codes 123 finds 174:00:00 14:30:00 left",
+        )
 
     def test_a_line_per_minute(self) -> None:
-        with patch("time.monotonic", return_value=100.0) as now, redirect_stderr(io.StringIO()) as said:
-            line = StatusLine()
+        with patch("time.monotonic", return_value=100.0) as now, redirect_stderr(
+            io.StringIO()
+        ) as said:
+            line = StatusLine(Terminal(sys.stderr))
             self.assertEqual((line.is_due(), line.seconds_left()), (False, 60.0))
             now.return_value = 160.0
             self.assertTrue(line.is_due())
@@ -375,8 +634,8 @@ class Telling(Searches):
         """What is shown on a terminal of so many columns; 0 if it doesn't say."""
         ours, its = pty.openpty()
         ioctl(its, TIOCSWINSZ, pack("HHHH", 0, columns, 0, 0))
-        with open(its, "w") as errors, patch("sys.stderr", errors):
-            StatusLine().show(status)
+        with open(its, "w") as errors:
+            StatusLine(Terminal(errors)).show(status)
             said = os.read(ours, 65536).decode()
         os.close(ours)
         self.assertTrue(said.startswith("\r\x1b[K"))
@@ -384,7 +643,14 @@ class Telling(Searches):
 
     def test_where_a_line_is_short(self) -> None:
         """It is if the other one is as wide as the terminal, and a short one is cut then."""
-        by_length = {len(status.text()): status for status in (Status(10**size, 0, 10**other, 1, 0, 0.0, None) for size in range(9) for other in range(9))}
+        by_length = {
+            len(status.text()): status
+            for status in (
+                Status(10**size, 0, 10**other, 1, 0, 0.0, None)
+                for size in range(9)
+                for other in range(9)
+            )
+        }
         # A terminal that doesn't say how wide it is has 80 columns.
         for columns in (0, 80):
             self.assertEqual(self.shown(by_length[79], columns), by_length[79].text())
@@ -397,9 +663,16 @@ class Telling(Searches):
     def test_a_line_per_second(self) -> None:
         """On a terminal."""
         ours, its = pty.openpty()
-        with open(its, "w") as errors, patch("sys.stderr", errors), patch("time.monotonic", return_value=100.0) as now:
-            line = StatusLine()
-            for at, is_due, left in ((100.0, False, 1.0), (100.75, False, 0.25), (101.0, True, 0.0), (102.0, True, 0.0)):
+        with open(its, "w") as errors, patch("sys.stderr", errors), patch(
+            "time.monotonic", return_value=100.0
+        ) as now:
+            line = StatusLine(Terminal(sys.stderr))
+            for at, is_due, left in (
+                (100.0, False, 1.0),
+                (100.75, False, 0.25),
+                (101.0, True, 0.0),
+                (102.0, True, 0.0),
+            ):
                 now.return_value = at
                 self.assertEqual((line.is_due(), line.seconds_left()), (is_due, left))
             line.show(self.STATUS)
@@ -410,8 +683,25 @@ class Telling(Searches):
         """One line that is written again, no wider than the terminal, and wiped at the end."""
         ours, its = pty.openpty()
         program = self.stub('sleep 0.1; real "$@"')
-        with subprocess.Popen([sys.executable, HAUL, "search", "--seed=a", "--limit=500", "--until=150", "--part=10", "--workers=4", "--census", program,
-                               "mine.haul"], cwd=self.folder, stdin=subprocess.DEVNULL, stdout=subprocess.DEVNULL, stderr=its):
+        with subprocess.Popen(
+            [
+                sys.executable,
+                HAUL,
+                "search",
+                "--seed=a",
+                "--limit=500",
+                "--until=150",
+                "--part=10",
+                "--workers=4",
+                "--census",
+                program,
+                "mine.haul",
+            ],
+            cwd=self.folder,
+            stdin=subprocess.DEVNULL,
+            stdout=subprocess.DEVNULL,
+            stderr=its,
+        ):
             os.close(its)
             said = b""
             with suppress(OSError):
@@ -423,7 +713,10 @@ class Telling(Searches):
         self.assertGreater(len(lines), 0)
         for line in lines:
             self.assertLessEqual(len(line), 79)
-            self.assertRegex(line, r"^\d[\d.k]* soups \d[\d.k]*/s \d[\d.k]* objects \d+ codes \d+ finds? 0:00:\d\d 0:00:\d\d left$")
+            self.assertRegex(
+                line,
+                r"^\d[\d.k]* soups \d[\d.k]*/s \d[\d.k]* objects \d+ codes \d+ finds? 0:00:\d\d 0:00:\d\d left$",
+            )
 
 
 class Pace(Searches):
@@ -432,7 +725,14 @@ class Pace(Searches):
     def test_a_fiftieth_of_the_time(self) -> None:
         with patch("time.monotonic", return_value=1000.0) as now:
             keeper = Keeper(str(self.file))
-            search = Search(Plan(0, None, 10, 1, None), haul_of(LIFE), keeper, Census(CENSUS), Stopping())
+            search = Search(
+                Plan(0, None, 10, 1, None),
+                haul_of(LIFE),
+                keeper,
+                make_client(),
+                Stopping(),
+                sys.stdout,
+            )
             self.assertTrue(search.may_keep())
             search.writing, search.latest_writing = 1.0, 1.0
             for at, may in ((1099.0, False), (1100.0, True)):
@@ -451,7 +751,14 @@ class Pace(Searches):
         """All of it counts. While it goes on, no signal ends the program."""
         with patch("time.monotonic", return_value=1000.0) as now:
             keeper, stopping = Keeper(str(self.file)), Stopping()
-            search = Search(Plan(0, None, 10, 1, None), haul_of(LIFE), keeper, Census(CENSUS), stopping)
+            search = Search(
+                Plan(0, None, 10, 1, None),
+                haul_of(LIFE),
+                keeper,
+                make_client(),
+                stopping,
+                sys.stdout,
+            )
 
             def slow_write(_haul: Haul) -> None:
                 self.assertTrue(stopping.is_writing)
@@ -461,7 +768,10 @@ class Pace(Searches):
                 for writing in (2.0, 4.0):
                     search.unkept = [[]]
                     search.keep()
-                    self.assertEqual((search.writing, search.latest_writing, search.unkept, stopping.is_writing), (writing, 2.0, [], False))
+                    self.assertEqual(
+                        (search.writing, search.latest_writing, search.unkept, stopping.is_writing),
+                        (writing, 2.0, [], False),
+                    )
             for at, may in ((1299.0, False), (1300.0, True)):
                 now.return_value = at
                 self.assertEqual(search.may_keep(), may)
@@ -472,12 +782,19 @@ class Pace(Searches):
         os.close(keeper.lock)
 
     def test_how_long_it_waits(self) -> None:
-        """For streams up to half a second, or until the status is due. Where there are objects to look at, it looks at them for a
-        fiftieth of a second, and doesn't wait. After a signal it looks at them for a second."""
+        """For streams up to half a second, or until the status is due. Where there are objects to
+        look at, it looks at them for a fiftieth of a second, and doesn't wait. After a signal it
+        looks at them for a second."""
         keeper, stopping = Keeper(str(self.file)), Stopping()
+        said, told = io.StringIO(), io.StringIO()
+        client = Census(CENSUS, Terminal(said))
         with patch("time.monotonic", return_value=1000.0) as now:
-            search = Search(Plan(0, None, 10, 1, None), haul_of(LIFE), keeper, Census(CENSUS), stopping)
-            with patch.object(search, "find_for") as find_for, patch.object(search.waiter, "wait") as wait:
+            search = Search(
+                Plan(0, None, 10, 1, None), haul_of(LIFE), keeper, client, stopping, told
+            )
+            with patch.object(search, "find_for") as find_for, patch.object(
+                search.waiter, "wait"
+            ) as wait:
                 for at, seconds in ((1000.0, 0.5), (1059.75, 0.25)):
                     now.return_value = at
                     search.wait_until(Mock(side_effect=[False, True]))
@@ -486,13 +803,14 @@ class Pace(Searches):
                 search.wait_until(Mock(side_effect=[False, True]))
                 self.assertEqual((wait.call_args.args, find_for.call_args.args), ((0,), (0.02,)))
                 stopping.came(signal.SIGTERM)
-                with redirect_stderr(io.StringIO()) as said:
-                    search.tell_rest()
-                self.assertEqual((find_for.call_args.args, said.getvalue()), ((1.0,), "haul: not all finds are told: 1 object to look at\n"))
-            with redirect_stdout(io.StringIO()) as told:
-                search.find_for(0.0)
-                self.assertEqual(told.getvalue(), "")
-                search.find_for(0.001)
+                search.report_rest()
+                self.assertEqual(
+                    (find_for.call_args.args, said.getvalue()),
+                    ((1.0,), "haul: not all finds are told: 1 object to look at\n"),
+                )
+            search.find_for(0.0)
+            self.assertEqual(told.getvalue(), "")
+            search.find_for(0.001)
             self.assertIn(TRIPOLE, told.getvalue())
             self.assertEqual(search.status().finds, 1)
         os.close(keeper.lock)
@@ -500,8 +818,17 @@ class Pace(Searches):
     def test_when_it_says_what_is_left(self) -> None:
         """After five seconds, once."""
         keeper = Keeper(str(self.file))
-        with patch("time.monotonic", return_value=1000.0) as now, redirect_stderr(io.StringIO()) as said:
-            search = Search(Plan(0, None, 10, 1, None), haul_of(LIFE), keeper, Census(CENSUS), Stopping())
+        with patch("time.monotonic", return_value=1000.0) as now, redirect_stderr(
+            io.StringIO()
+        ) as said:
+            search = Search(
+                Plan(0, None, 10, 1, None),
+                haul_of(LIFE),
+                keeper,
+                make_client(),
+                Stopping(),
+                sys.stdout,
+            )
             search.finder.add([(TRIPOLE, 1), (CLOCK, 2)])
             looked: list[tuple[float, int]] = []
 
@@ -512,15 +839,20 @@ class Pace(Searches):
                     search.finder.queue.clear()
 
             with patch.object(search, "find_for", find_for):
-                search.tell_rest()
+                search.report_rest()
         self.assertEqual(looked[:4], [(1000.0, 0), (1002.5, 0), (1005.0, 1), (1007.5, 1)])
-        self.assertEqual(said.getvalue(), "haul: finds are still told: 2 objects to look at; Ctrl-C twice stops that\n")
+        self.assertEqual(
+            said.getvalue(),
+            "haul: finds are still told: 2 objects to look at; Ctrl-C twice stops that\n",
+        )
         os.close(keeper.lock)
 
     def test_a_signal_while_batches_wait(self) -> None:
         """They are written, and the batch that runs isn't."""
         keeper, stopping = Keeper(str(self.file)), Stopping()
-        search = Search(Plan(0, None, 10, 1, None), haul_of(LIFE), keeper, Census(CENSUS), stopping)
+        search = Search(
+            Plan(0, None, 10, 1, None), haul_of(LIFE), keeper, make_client(), stopping, sys.stdout
+        )
         begin_batch = search.begin_batch
 
         def begin_the_last() -> Batch | None:
@@ -528,7 +860,9 @@ class Pace(Searches):
                 stopping.came(signal.SIGTERM)
             return begin_batch()
 
-        with patch.object(search, "may_keep", return_value=False), patch.object(search, "begin_batch", begin_the_last), self.assertRaises(Dropped):
+        with patch.object(search, "may_keep", return_value=False), patch.object(
+            search, "begin_batch", begin_the_last
+        ), self.assertRaises(Dropped):
             search.run()
         self.assertEqual(self.soups(), 30)
         self.assert_right()
@@ -538,7 +872,9 @@ class Pace(Searches):
     def test_batches_that_wait_in_memory(self) -> None:
         """They are written together, at the end at the latest."""
         keeper = Keeper(str(self.file))
-        search = Search(Plan(0, 60, 10, 2, None), haul_of(LIFE), keeper, Census(CENSUS), Stopping())
+        search = Search(
+            Plan(0, 60, 10, 2, None), haul_of(LIFE), keeper, make_client(), Stopping(), sys.stdout
+        )
         written: list[int] = []
         write = keeper.write
 

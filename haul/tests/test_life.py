@@ -8,13 +8,15 @@ import unittest
 from collections import Counter
 from functools import lru_cache
 
-from haul.life import (
-    MOST_PERIOD, SIDE, Cells, code_of, cornered, fits, images_of, is_cluster, islands_of, moved, next_generation, read_wechsler, recurrence_of,
-    rows_of, rule_of, shift_between, soup_of, wechsler_of,
-)
-from haul.plaintext import trimmed
+from haul.formats.haul import Haul
+from haul.formats.haul_reader import read_one_haul
+from haul.formats.plaintext import SIDE, trim_rows
+from haul.life.apgcodes import find_code, list_orientations, read_wechsler, write_wechsler
+from haul.life.cells import Cells, draw_rows, fits_in, move, move_to_corner
+from haul.life.clusters import find_islands, is_cluster
+from haul.life.generations import MOST_PERIOD, advance, find_recurrence, find_shift, read_rule
+from haul.life.soups import make_soup
 from haul.tests.called import CENSUS, TOP
-from haul.text import Haul, read_one_haul
 
 # Where all cells stay and none is born, each cluster is a still life.
 STILL = "bs012345678"
@@ -22,26 +24,44 @@ RULES = ["b3s23", "b36s23", "b3678s34678", "b37s0123", STILL]
 
 
 def asked(calls: list[tuple[list[str], str]]) -> list[str]:
-    """What `census` prints for these calls, some of which read a text. A shell makes them, one after another."""
-    script = "".join(f"\"$0\" {' '.join(words)}" + (f" << 'END'\n{read}\nEND" if read else "") + "\necho =$?\n" for words, read in calls)
-    printed = subprocess.run(["sh", "-c", "eval \"$(cat)\"", CENSUS], input=script.encode(), stdout=subprocess.PIPE, check=True).stdout.decode()
+    """What `census` prints for these calls, some of which read a text. A shell makes them, one
+    after another."""
+    script = "".join(
+        f"\"$0\" {' '.join(words)}" + (f" << 'END'\n{read}\nEND" if read else "") + "\necho =$?\n"
+        for words, read in calls
+    )
+    printed = subprocess.run(
+        ["sh", "-c", 'eval "$(cat)"', CENSUS],
+        input=script.encode(),
+        stdout=subprocess.PIPE,
+        check=True,
+    ).stdout.decode()
     answers = printed.split("=0\n")
     assert len(answers) == len(calls) + 1 and answers[-1] == "", printed[-200:]
     return answers[:-1]
 
 
 def drawn_cells(rows: str) -> Cells:
-    return frozenset((x, y) for y, row in enumerate(rows.splitlines()) for x, cell in enumerate(row) if cell == "O")
+    return frozenset(
+        (x, y)
+        for y, row in enumerate(rows.splitlines())
+        for x, cell in enumerate(row)
+        if cell == "O"
+    )
 
 
 def plaintext(cells: Cells) -> str:
-    return "\n".join(rows_of(cells, cells)) if cells else ""
+    return "\n".join(draw_rows(cells, cells)) if cells else ""
 
 
 def found(text: str) -> Counter[str]:
     """The objects that `census name` found."""
     settled, *lines = text.splitlines()
-    return Counter({code: int(count) for code, count in map(str.split, lines)}) if settled == "settled 0" else Counter()
+    return (
+        Counter({code: int(count) for code, count in map(str.split, lines)})
+        if settled == "settled 0"
+        else Counter()
+    )
 
 
 @lru_cache
@@ -56,33 +76,53 @@ def patterns() -> tuple[Cells, ...]:
     draw = random.Random("patterns")
     found: list[Cells] = []
     while len(found) < 1000:
-        width, height, density = draw.randint(1, 10), draw.randint(1, 10), draw.choice([0.15, 0.4, 0.8])
-        cells = frozenset((x, y) for x in range(width) for y in range(height) if draw.random() < density)
+        width, height, density = (
+            draw.randint(1, 10),
+            draw.randint(1, 10),
+            draw.choice([0.15, 0.4, 0.8]),
+        )
+        cells = frozenset(
+            (x, y) for x in range(width) for y in range(height) if draw.random() < density
+        )
         found += [cells] if cells else []
     return tuple(found)
 
 
 class Drawings(unittest.TestCase):
     def test_each_code_of_the_example(self) -> None:
-        """It is drawn as `census show` draws it, and its phases have the code that `census` gave them."""
-        codes, rule = list(example().totals), rule_of("b3s23")
+        """It is drawn as `census show` draws it, and its phases have the code that `census` gave
+        them."""
+        codes, rule = list(example().totals), read_rule("b3s23")
         for code, shown in zip(codes, asked([(["show", code], "") for code in codes]), strict=True):
             cells = read_wechsler(code.partition("_")[2])
             assert cells is not None
-            self.assertEqual(cornered(cells), cornered(drawn_cells(shown)))
-            recurrence = recurrence_of(rule, cells)
+            self.assertEqual(move_to_corner(cells), move_to_corner(drawn_cells(shown)))
+            recurrence = find_recurrence(rule, cells)
             assert recurrence is not None
-            self.assertEqual((code_of(recurrence), recurrence.phases[0]), (code, cells))
+            self.assertEqual((find_code(recurrence), recurrence.phases[0]), (code, cells))
 
     def test_texts(self) -> None:
-        """What is written is read again, by `census show` too, and nothing shorter could be written."""
-        written = [text for cells in patterns() if (text := wechsler_of(cells)) is not None]
-        for cells, text, shown in zip(patterns(), written, asked([(["show", text], "") for text in written]), strict=True):
-            self.assertEqual((read_wechsler(text), drawn_cells(shown)), (cornered(cells), cornered(cells)))
+        """What is written is read again, by `census show` too, and nothing shorter could be
+        written."""
+        written = [text for cells in patterns() if (text := write_wechsler(cells)) is not None]
+        for cells, text, shown in zip(
+            patterns(), written, asked([(["show", text], "") for text in written]), strict=True
+        ):
+            self.assertEqual(
+                (read_wechsler(text), drawn_cells(shown)),
+                (move_to_corner(cells), move_to_corner(cells)),
+            )
         wide = frozenset([(0, 0), (39, 0), (0, 39)])
-        self.assertEqual((wechsler_of(wide), wechsler_of(wide | {(40, 0)}), wechsler_of(wide | {(0, 40)})), ("1yy1zzzzzzzg", None, None))
+        self.assertEqual(
+            (
+                write_wechsler(wide),
+                write_wechsler(wide | {(40, 0)}),
+                write_wechsler(wide | {(0, 40)}),
+            ),
+            ("1yy1zzzzzzzg", None, None),
+        )
         for runs, text in ((1, "101"), (2, "1w1"), (3, "1x1"), (4, "1y01"), (38, "1yy1")):
-            self.assertEqual(wechsler_of(frozenset([(0, 0), (runs + 1, 0)])), text)
+            self.assertEqual(write_wechsler(frozenset([(0, 0), (runs + 1, 0)])), text)
 
     def test_texts_that_draw_nothing(self) -> None:
         """`census show` refuses them, or they are larger than what `census run` reads."""
@@ -99,32 +139,46 @@ class Drawings(unittest.TestCase):
 
 class Generations(unittest.TestCase):
     def test_drawn_patterns(self) -> None:
-        """One, two and three generations later they are as `census run` has them; each in its place, beside a far cell that stays."""
+        """One, two and three generations later they are as `census run` has them; each in its
+        place, beside a far cell that stays."""
         calls, wanted = [], []
         for place, cells in enumerate(patterns()):
             name, later = RULES[place % len(RULES)], cells
             for _ in range(1 + place % 3):
-                later = next_generation(rule_of(name), later)
+                later = advance(read_rule(name), later)
             calls.append((["run", f"--rule={name}", str(1 + place % 3)], plaintext(cells)))
             wanted.append(later)
         for printed, later in zip(asked(calls), wanted, strict=True):
-            self.assertEqual(drawn_cells(printed), cornered(later) if later else frozenset())
+            self.assertEqual(drawn_cells(printed), move_to_corner(later) if later else frozenset())
 
     def test_a_generation_stays_in_its_place(self) -> None:
         """By the definition: the middle of a blinker, and the cells beside it."""
-        self.assertEqual(next_generation(rule_of("b3s23"), frozenset([(-1, 7), (0, 7), (1, 7)])), {(0, 6), (0, 7), (0, 8)})
-        self.assertEqual(next_generation(rule_of("b1s0"), frozenset([(5, 5)])), {(x, y) for x in (4, 5, 6) for y in (4, 5, 6)})
-        self.assertEqual(next_generation(rule_of("bs"), frozenset([(5, 5)])), frozenset())
+        self.assertEqual(
+            advance(read_rule("b3s23"), frozenset([(-1, 7), (0, 7), (1, 7)])),
+            {(0, 6), (0, 7), (0, 8)},
+        )
+        self.assertEqual(
+            advance(read_rule("b1s0"), frozenset([(5, 5)])),
+            {(x, y) for x in (4, 5, 6) for y in (4, 5, 6)},
+        )
+        self.assertEqual(advance(read_rule("bs"), frozenset([(5, 5)])), frozenset())
 
     def test_how_patterns_recur(self) -> None:
-        """A single cluster that recurs within eight generations has the code that `census name` gives it; of anything else it names no
-        single object."""
+        """A single cluster that recurs within eight generations has the code that `census name`
+        gives it; of anything else it names no single object."""
         most = ["--period=8", "--horizon=8"]
-        calls = [(["name", "--limit=0", *most, f"--rule={RULES[place % len(RULES)]}"], plaintext(cells)) for place, cells in enumerate(patterns())]
+        calls = [
+            (["name", "--limit=0", *most, f"--rule={RULES[place % len(RULES)]}"], plaintext(cells))
+            for place, cells in enumerate(patterns())
+        ]
         recurring = 0
         for place, (cells, text) in enumerate(zip(patterns(), asked(calls), strict=True)):
-            recurrence = recurrence_of(rule_of(RULES[place % len(RULES)]), cells, 8) if is_cluster(cells) else None
-            known = {code_of(recurrence): 1} if recurrence is not None else None
+            recurrence = (
+                find_recurrence(read_rule(RULES[place % len(RULES)]), cells, 8)
+                if is_cluster(cells)
+                else None
+            )
+            known = {find_code(recurrence): 1} if recurrence is not None else None
             objects = found(text)
             self.assertEqual(known, dict(objects) if objects.total() == 1 else None)
             recurring += known is not None
@@ -132,94 +186,159 @@ class Generations(unittest.TestCase):
 
     def test_kinds(self) -> None:
         """A block, a blinker and a glider, where they are after a period."""
-        for code, kind, period, shift in (("33", "s", 1, (0, 0)), ("7", "p", 2, (0, 0)), ("153", "q", 4, (1, -1))):
+        for code, kind, period, shift in (
+            ("33", "s", 1, (0, 0)),
+            ("7", "p", 2, (0, 0)),
+            ("153", "q", 4, (1, -1)),
+        ):
             cells = read_wechsler(code)
             assert cells is not None
-            recurrence = recurrence_of(rule_of("b3s23"), cells)
+            recurrence = find_recurrence(read_rule("b3s23"), cells)
             assert recurrence is not None
-            self.assertEqual((recurrence.kind(), recurrence.period, len(recurrence.phases)), (kind, period, period))
+            self.assertEqual(
+                (recurrence.kind(), recurrence.period, len(recurrence.phases)),
+                (kind, period, period),
+            )
             later = cells
             for phase in recurrence.phases:
                 self.assertEqual(phase, later)
-                later = next_generation(rule_of("b3s23"), later)
-            self.assertEqual((later, sorted(abs(way) for way in recurrence.shift)), (moved(cells, recurrence.shift), sorted(abs(way) for way in shift)))
+                later = advance(read_rule("b3s23"), later)
+            self.assertEqual(
+                (later, sorted(abs(way) for way in recurrence.shift)),
+                (move(cells, recurrence.shift), sorted(abs(way) for way in shift)),
+            )
 
     def test_the_longest_period(self) -> None:
-        """A census looks for 64 generations, and a pulsar takes three; what dies or becomes another pattern never recurs."""
+        """A census looks for 64 generations, and a pulsar takes three; what dies or becomes another
+        pattern never recurs."""
         self.assertEqual(MOST_PERIOD, 64)
         pulsar = read_wechsler("co9nas0san9oczgoldlo0oldlogz1047210127401")
         assert pulsar is not None
-        self.assertEqual([recurrence_of(rule_of("b3s23"), pulsar, most) is not None for most in (1, 2, 3, 4, 64)], [False, False, True, True, True])
-        self.assertIsNone(recurrence_of(rule_of("b3s23"), drawn_cells("OO\nO.")))
-        self.assertIsNone(recurrence_of(rule_of("b3s23"), frozenset([(0, 0)])))
-        self.assertIsNone(recurrence_of(rule_of("b3s23"), frozenset()))
+        self.assertEqual(
+            [
+                find_recurrence(read_rule("b3s23"), pulsar, most) is not None
+                for most in (1, 2, 3, 4, 64)
+            ],
+            [False, False, True, True, True],
+        )
+        self.assertIsNone(find_recurrence(read_rule("b3s23"), drawn_cells("OO\nO.")))
+        self.assertIsNone(find_recurrence(read_rule("b3s23"), frozenset([(0, 0)])))
+        self.assertIsNone(find_recurrence(read_rule("b3s23"), frozenset()))
 
     def test_what_outgrows_the_plane(self) -> None:
         """No pattern is larger than 1,000 by 1,000, in any phase."""
         row = frozenset((x, 0) for x in range(0, SIDE))
-        self.assertTrue(fits(row, SIDE) and not fits(row, SIDE - 1) and not fits(row | {(SIDE, 0)}, SIDE))
-        self.assertIsNone(recurrence_of(rule_of(STILL), row | {(SIDE, 0)}))
-        self.assertIsNotNone(recurrence_of(rule_of(STILL), row))
+        self.assertTrue(
+            fits_in(row, SIDE)
+            and not fits_in(row, SIDE - 1)
+            and not fits_in(row | {(SIDE, 0)}, SIDE)
+        )
+        self.assertIsNone(find_recurrence(read_rule(STILL), row | {(SIDE, 0)}))
+        self.assertIsNotNone(find_recurrence(read_rule(STILL), row))
 
 
 class Clusters(unittest.TestCase):
     def test_clusters_and_islands(self) -> None:
-        """Where all cells stay, `census` counts the clusters. Stretched by two, cells that touch are two steps apart, and cells two
-        steps apart are four: so the clusters are the islands."""
+        """Where all cells stay, `census` counts the clusters. Stretched by two, cells that touch
+        are two steps apart, and cells two steps apart are four: so the clusters are the islands."""
         stretched = [frozenset((2 * x, 2 * y) for x, y in cells) for cells in patterns()]
         # A longer horizon shows nothing where all cells stay.
         short = ["--period=1", "--horizon=1"]
-        clusters = asked([(["name", "--limit=0", *short, f"--rule={STILL}"], plaintext(cells)) for cells in patterns()])
-        islands = asked([(["name", "--limit=0", *short, f"--rule={STILL}"], plaintext(cells)) for cells in stretched])
+        clusters = asked(
+            [
+                (["name", "--limit=0", *short, f"--rule={STILL}"], plaintext(cells))
+                for cells in patterns()
+            ]
+        )
+        islands = asked(
+            [
+                (["name", "--limit=0", *short, f"--rule={STILL}"], plaintext(cells))
+                for cells in stretched
+            ]
+        )
         for cells, one, other in zip(patterns(), clusters, islands, strict=True):
             self.assertEqual(is_cluster(cells), found(one).total() == 1)
-            known = [recurrence_of(rule_of(STILL), frozenset((2 * x, 2 * y) for x, y in island)) for island in islands_of([cells])]
-            self.assertEqual(Counter(code_of(one) for one in known if one), found(other))
+            known = [
+                find_recurrence(read_rule(STILL), frozenset((2 * x, 2 * y) for x, y in island))
+                for island in find_islands([cells])
+            ]
+            self.assertEqual(Counter(find_code(one) for one in known if one), found(other))
         self.assertFalse(is_cluster(frozenset()))
 
     def test_islands_of_several_phases(self) -> None:
-        """Cells that touch in a later phase belong together; a place that lives in two phases is one cell; a cell beside a place that
-        lives only in another phase does not touch it; and what has no cell in phase 0 is no island."""
+        """Cells that touch in a later phase belong together; a place that lives in two phases is
+        one cell; a cell beside a place that lives only in another phase does not touch it; and what
+        has no cell in phase 0 is no island."""
         a, b, far, between = (0, 0), (3, 0), (9, 9), frozenset([(1, 0), (2, 0)])
-        self.assertEqual(islands_of([frozenset([b, a, far])]), [{a}, {b}, {far}])
-        self.assertEqual(islands_of([frozenset([a, b, far]), between | {a, b}]), [{a, b}, {far}])
-        self.assertEqual(islands_of([frozenset([a, b]), between]), [{a}, {b}])
-        self.assertEqual(islands_of([frozenset([a, b]), frozenset([a, (1, 0)]), frozenset([(1, 0), (2, 0), b])]), [{a, b}])
-        self.assertEqual(islands_of([frozenset([a]), frozenset([a, far])]), [{a}])
+        self.assertEqual(find_islands([frozenset([b, a, far])]), [{a}, {b}, {far}])
+        self.assertEqual(find_islands([frozenset([a, b, far]), between | {a, b}]), [{a, b}, {far}])
+        self.assertEqual(find_islands([frozenset([a, b]), between]), [{a}, {b}])
+        self.assertEqual(
+            find_islands(
+                [frozenset([a, b]), frozenset([a, (1, 0)]), frozenset([(1, 0), (2, 0), b])]
+            ),
+            [{a, b}],
+        )
+        self.assertEqual(find_islands([frozenset([a]), frozenset([a, far])]), [{a}])
 
 
 class Shapes(unittest.TestCase):
     def test_images(self) -> None:
         """The eight of docs/FORMATS.md, moved to the corner."""
-        wanted = ["OOO\nO..", "OO\n.O\n.O", "..O\nOOO", "O.\nO.\nOO", "OOO\n..O", "O..\nOOO", "OO\nO.\nO.", ".O\n.O\nOO"]
-        images = [cornered(image) for image in images_of(drawn_cells("OOO\nO.."))]
+        wanted = [
+            "OOO\nO..",
+            "OO\n.O\n.O",
+            "..O\nOOO",
+            "O.\nO.\nOO",
+            "OOO\n..O",
+            "O..\nOOO",
+            "OO\nO.\nO.",
+            ".O\n.O\nOO",
+        ]
+        images = [move_to_corner(image) for image in list_orientations(drawn_cells("OOO\nO.."))]
         self.assertEqual((set(images), len(images)), (set(map(drawn_cells, wanted)), 8))
 
     def test_shifts(self) -> None:
         one = frozenset([(2, 5), (3, 7), (6, 6)])
-        self.assertEqual([shift_between(one, moved(one, shift)) for shift in ((0, 0), (3, -2), (-7, 0))], [(0, 0), (3, -2), (-7, 0)])
-        self.assertIsNone(shift_between(one, moved(one, (1, 1)) | {(9, 9)}))
-        self.assertIsNone(shift_between(one, frozenset([(2, 5), (3, 7), (6, 7)])))
+        self.assertEqual(
+            [find_shift(one, move(one, shift)) for shift in ((0, 0), (3, -2), (-7, 0))],
+            [(0, 0), (3, -2), (-7, 0)],
+        )
+        self.assertIsNone(find_shift(one, move(one, (1, 1)) | {(9, 9)}))
+        self.assertIsNone(find_shift(one, frozenset([(2, 5), (3, 7), (6, 7)])))
 
     def test_no_text(self) -> None:
         """What has no phase of at most 40 by 40 is named by its number alone."""
         large = frozenset((x, 0) for x in range(41))
-        recurrence = recurrence_of(rule_of(STILL), large)
+        recurrence = find_recurrence(read_rule(STILL), large)
         assert recurrence is not None
-        self.assertEqual(code_of(recurrence), "ov_s41")
+        self.assertEqual(find_code(recurrence), "ov_s41")
 
 
 class Soups(unittest.TestCase):
     def test_a_thousand(self) -> None:
         """Under several seeds, and numbers of one to thirteen digits."""
         draw = random.Random("soups")
-        asks = [(draw.choice(["", "a", "k_abcdefghijkl", "7"]), draw.randrange(10 ** draw.randint(1, 12))) for _ in range(1000)]
+        asks = [
+            (
+                draw.choice(["", "a", "k_abcdefghijkl", "7"]),
+                draw.randrange(10 ** draw.randint(1, 12)),
+            )
+            for _ in range(1000)
+        ]
         calls = [(["soup", f"--seed={seed}", str(number)], "") for seed, number in asks]
         for (seed, number), printed in zip(asks, asked(calls), strict=True):
-            self.assertEqual(trimmed(soup_of(f"{seed}{number}")), printed.splitlines())
+            self.assertEqual(trim_rows(make_soup(f"{seed}{number}")), printed.splitlines())
 
     def test_trimmed(self) -> None:
-        self.assertEqual((trimmed(["....", "..O.", "....", ".OO.", "...."]), trimmed(["...", "..."]), trimmed([])), ([".O", "..", "OO"], [], []))
+        self.assertEqual(
+            (
+                trim_rows(["....", "..O.", "....", ".OO.", "...."]),
+                trim_rows(["...", "..."]),
+                trim_rows([]),
+            ),
+            ([".O", "..", "OO"], [], []),
+        )
 
 
 if __name__ == "__main__":

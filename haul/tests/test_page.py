@@ -13,20 +13,20 @@ from pathlib import Path
 from unittest.mock import patch
 
 from haul import VERSION
-from haul.ends import End, end_of, populations_of
-from haul.life import rule_of
-from haul.main import do_page
-from haul.options import parser
-from haul.page.shell import unsettled_command
-from haul.page.top import profile_words
-from haul.poisson import interval
+from haul.formats.profile import STANDARD, Profile
+from haul.census.command_lines import format_unsettled_command
+from haul.census.soup_ends import End, list_populations, read_end
+from haul.cli.streams import Streams
+from haul.formats.haul import Haul, Job, Range
+from haul.formats.haul_reader import read_one_haul
+from haul.life.generations import read_rule
+from haul.page.summary import describe_profile
 from haul.tests.called import CENSUS, TOP, census, run
 from haul.tests.drawn import text_of
 from haul.tests.pages import before_table, compared, data_of, objects_of, page, table_of
 from haul.tests.test_whole import cells_of, drawn, made
-from haul.text import Haul, Job, Range, read_one_haul
+from haul.views.intervals import find_interval
 
-STANDARD = (64, 512, 101, 30300)
 PULSAR = "xp3_co9nas0san9oczgoldlo0oldlogz1047210127401"
 
 
@@ -37,16 +37,29 @@ def tiles(text: str) -> list[tuple[str, str]]:
 
 def folds(text: str) -> dict[str, str]:
     """Returns what opens at the top of a page, by what it is called."""
-    return dict(re.findall("<details><summary>(.*?)</summary>\n(.*?)</details>", before_table(text), re.DOTALL))
+    return dict(
+        re.findall(
+            "<details><summary>(.*?)</summary>\n(.*?)</details>", before_table(text), re.DOTALL
+        )
+    )
 
 
 class Top(unittest.TestCase):
-    HAUL = Haul(Job("a", "b36s23", STANDARD), [(5, 7), (2048, 1)], 8, 1, 2, {"xp2_7": 10, "xs4_33": 100, "xs4_y": 1, "xs8_rr": 2},
-                {"xp2_7": [6], "xs4_33": [5, 2048], "xs4_y": [11], "xs8_rr": [5, 6]})
+    HAUL = Haul(
+        Job("a", "b36s23", STANDARD),
+        ranges=[(5, 7), (2048, 1)],
+        soups=8,
+        unsettled=1,
+        for_good=2,
+        totals={"xp2_7": 10, "xs4_33": 100, "xs4_y": 1, "xs8_rr": 2},
+        samples={"xp2_7": [6], "xs4_33": [5, 2048], "xs4_y": [11], "xs8_rr": [5, 6]},
+    )
 
     def test_each_word(self) -> None:
         """The whole top of a small page."""
-        self.assertTrue(before_table(page(self.HAUL, 0)).startswith("""
+        self.assertTrue(
+            before_table(page(self.HAUL, 0)).startswith(
+                """
 <a class="skip" href="#objects" hidden>Skip to the objects</a>
 <main>
 <header>
@@ -62,13 +75,22 @@ until they had settled, and the formally verified program <code>census</code> co
 and <code>haul check --samples all.haul</code> runs only the sample soups.</p>
 </details>
 <details><summary>1 unsettled soup</summary>
-"""), before_table(page(self.HAUL, 0)))
+"""
+            ),
+            before_table(page(self.HAUL, 0)),
+        )
 
     def test_the_foot(self) -> None:
         """What made the page, and what its commands need, also without scripts."""
-        for text, hauls in ((page(self.HAUL, 0), "a haul"), (compared(self.HAUL, self.HAUL), "2 hauls")):
+        for text, hauls in (
+            (page(self.HAUL, 0), "a haul"),
+            (compared(self.HAUL, self.HAUL), "2 hauls"),
+        ):
             foot = text.partition("<footer>")[2].partition("</footer>")[0]
-            self.assertIn(f"<code>haul page</code> of Gokzerd {VERSION} from {hauls}. A <em>haul</em> is", foot)
+            self.assertIn(
+                f"<code>haul page</code> of Gokzerd {VERSION} from {hauls}. A <em>haul</em> is",
+                foot,
+            )
             self.assertIn("commands on this page need both programs", foot)
 
     def test_all_objects_count(self) -> None:
@@ -76,7 +98,18 @@ and <code>haul check --samples all.haul</code> runs only the sample soups.</p>
         self.assertEqual(tiles(compared(self.HAUL, least=50)), tiles(page(self.HAUL, 0)))
 
     def test_no_soup(self) -> None:
-        text = page(Haul(Job("", "b3s23", (1, 1, 1, 0)), [], 0, 0, 0, {}, {}), 0)
+        text = page(
+            Haul(
+                Job("", "b3s23", Profile(1, 1, 1, 0)),
+                ranges=[],
+                soups=0,
+                unsettled=0,
+                for_good=0,
+                totals={},
+                samples={},
+            ),
+            0,
+        )
         self.assertEqual(dict(tiles(text))["objects per soup"], "–")
         self.assertIn("(numbers none of the empty seed)", text)
         self.assertNotIn("Soups are missing", text)
@@ -84,65 +117,133 @@ and <code>haul check --samples all.haul</code> runs only the sample soups.</p>
 
     def test_missing_soups(self) -> None:
         """They can't be run again, since a haul doesn't say which ones they are."""
-        some = Haul(Job("", "b3s23", (1, 1, 1, 0)), [(0, 2000)], 1999, 0, 0, {}, {})
+        some = Haul(
+            Job("", "b3s23", Profile(1, 1, 1, 0)),
+            ranges=[(0, 2000)],
+            soups=1999,
+            unsettled=0,
+            for_good=0,
+            totals={},
+            samples={},
+        )
         self.assertEqual(tiles(page(some, 0))[0], ("soups", "1,999 <small>of 2,000</small>"))
         said = "Soups are missing from this haul, so only <code>haul check --samples all.haul</code> works there."
         self.assertIn(said, folds(page(some, 0))["How to verify it"])
-        whole = Haul(Job("", "b3s23", (1, 1, 1, 0)), [(0, 2)], 2, 0, 0, {}, {})
+        whole = Haul(
+            Job("", "b3s23", Profile(1, 1, 1, 0)),
+            ranges=[(0, 2)],
+            soups=2,
+            unsettled=0,
+            for_good=0,
+            totals={},
+            samples={},
+        )
         self.assertIn("Soups are missing from the haul B, so only", compared(whole, some))
         self.assertIn("Soups are missing from the hauls A, C, so only", compared(some, whole, some))
 
     def test_ranges(self) -> None:
         """More than twelve are counted, and a range of one number has no end."""
+
         def numbers(ranges: list[Range]) -> str:
-            return "".join(re.findall(r"\(numbers (.*?) of the", page(made({"xs4_33": 1}, ranges), 0)))
+            return "".join(
+                re.findall(r"\(numbers (.*?) of the", page(made({"xs4_33": 1}, ranges), 0))
+            )
 
         self.assertEqual(numbers([(5, 2), (9, 1), (11, 3)]), "5 to 6, 9, 11 to 13")
         for count, last in ((12, "33"), (13, "33, 1 more range"), (14, "33, 2 more ranges")):
-            self.assertEqual(numbers([(3 * k, 1) for k in range(count)]), f"0, 3, 6, 9, 12, 15, 18, 21, 24, 27, 30, {last}")
+            self.assertEqual(
+                numbers([(3 * k, 1) for k in range(count)]),
+                f"0, 3, 6, 9, 12, 15, 18, 21, 24, 27, 30, {last}",
+            )
 
     def test_checkpoints(self) -> None:
-        for profile, said in (((1, 2, 1, 0), "the only one, at generation 0"), ((1, 2, 1, 1), "one every generation, up to generation 1"),
-                              ((1, 2, 2, 2), "one every 2 generations, up to generation 2"), ((1, 2, 3, 2), "the only one, at generation 0"),
-                              ((1, 2, 3, 1234), "one every 3 generations, up to generation 1,234")):
-            words = profile_words(profile)
+        for profile, said in (
+            (Profile(1, 2, 1, 0), "the only one, at generation 0"),
+            (Profile(1, 2, 1, 1), "one every generation, up to generation 1"),
+            (Profile(1, 2, 2, 2), "one every 2 generations, up to generation 2"),
+            (Profile(1, 2, 3, 2), "the only one, at generation 0"),
+            (Profile(1, 2, 3, 1234), "one every 3 generations, up to generation 1,234"),
+        ):
+            words = describe_profile(profile)
             self.assertIn(f"first checkpoint ({said}) at", words)
             self.assertIn("within 1 generation, and for 2 generations no object", words)
-            self.assertIn(words, folds(page(made({"xs4_33": 1}, [(5, 1)], profile), 0))["How objects are counted"])
+            self.assertIn(
+                words,
+                folds(page(made({"xs4_33": 1}, [(5, 1)], profile), 0))["How objects are counted"],
+            )
 
     def test_profiles_of_several_hauls(self) -> None:
         """Which hauls a profile is of is said only if there are several profiles."""
-        one, other = (made({"xs4_33": 1}, [(5, 1)], profile) for profile in ((64, 512, 101, 30300), (4, 8, 10, 30)))
-        self.assertEqual(folds(compared(one, one))["How objects are counted"], folds(page(one, 0))["How objects are counted"])
-        self.assertEqual(re.findall("<p>([A-Z, ]+): ", folds(compared(one, other, one))["How objects are counted"]), ["A, C", "B"])
+        one, other = (
+            made({"xs4_33": 1}, [(5, 1)], profile)
+            for profile in (Profile(64, 512, 101, 30300), Profile(4, 8, 10, 30))
+        )
+        self.assertEqual(
+            folds(compared(one, one))["How objects are counted"],
+            folds(page(one, 0))["How objects are counted"],
+        )
+        self.assertEqual(
+            re.findall(
+                "<p>([A-Z, ]+): ", folds(compared(one, other, one))["How objects are counted"]
+            ),
+            ["A, C", "B"],
+        )
 
 
 class Unsettled(unittest.TestCase):
     """The command that lists unsettled soups."""
 
     def haul(self, ranges: list[Range], seed: str = "", rule: str = "b3s23") -> Haul:
-        return Haul(Job(seed, rule, STANDARD), ranges, sum(count for _, count in ranges), 1, 0, {}, {})
+        return Haul(
+            Job(seed, rule, STANDARD),
+            ranges=ranges,
+            soups=sum(count for _, count in ranges),
+            unsettled=1,
+            for_good=0,
+            totals={},
+            samples={},
+        )
 
     def test_one_call_for_each_range(self) -> None:
-        self.assertEqual(unsettled_command(self.haul([(3, 4)])), "census work --first=3 --count=4 --worker=1 | haul soups --unsettled")
-        self.assertEqual(unsettled_command(self.haul([(3, 4), (9, 1)], "a b'", "b36s23")),
-                         "{ census work --seed='a b'\"'\"'' --rule=b36s23 --first=3 --count=4 --worker=1; "
-                         "census work --seed='a b'\"'\"'' --rule=b36s23 --first=9 --count=1 --worker=1; } | haul soups --unsettled")
+        self.assertEqual(
+            format_unsettled_command(self.haul([(3, 4)])),
+            "census work --first=3 --count=4 --worker=1 | haul soups --unsettled",
+        )
+        self.assertEqual(
+            format_unsettled_command(self.haul([(3, 4), (9, 1)], "a b'", "b36s23")),
+            "{ census work --seed='a b'\"'\"'' --rule=b36s23 --first=3 --count=4 --worker=1; "
+            "census work --seed='a b'\"'\"'' --rule=b36s23 --first=9 --count=1 --worker=1; } | haul soups --unsettled",
+        )
 
     def test_long_sets(self) -> None:
         """No call takes more than 2^24 numbers, and more than twelve calls aren't written."""
-        self.assertEqual(unsettled_command(self.haul([(0, 2**24 + 1)])).count("--count=16777216 --worker=1; census work --first=16777216 --count=1 "), 1)
+        self.assertEqual(
+            format_unsettled_command(self.haul([(0, 2**24 + 1)])).count(
+                "--count=16777216 --worker=1; census work --first=16777216 --count=1 "
+            ),
+            1,
+        )
         for count in (12, 13):
-            command = unsettled_command(self.haul([(3 * k, 1) for k in range(count)]))
-            self.assertEqual((command.count("census work"), "; ..; }" in command), (12, count == 13))
+            command = format_unsettled_command(self.haul([(3 * k, 1) for k in range(count)]))
+            self.assertEqual(
+                (command.count("census work"), "; ..; }" in command), (12, count == 13)
+            )
 
     def test_it_lists_them(self) -> None:
         """Run by a shell, it lists as many soups as the page says."""
         words = ["--first=600", "--count=40", "--limit=7070"]
         text = page(read_one_haul(io.BytesIO(census("take", *words))), 0)
-        found = re.findall("<summary>2 unsettled soups</summary>.*?<pre><code>(.*?)</code>", text, re.DOTALL)
-        command = unescape(found[0]).replace("census work", f"{CENSUS} work").replace("haul soups", f"{TOP / 'bin' / 'haul'} soups --census {CENSUS}")
-        said = subprocess.run(["bash", "-c", command], stdout=subprocess.PIPE, check=True).stdout.decode()
+        found = re.findall(
+            "<summary>2 unsettled soups</summary>.*?<pre><code>(.*?)</code>", text, re.DOTALL
+        )
+        command = (
+            unescape(found[0])
+            .replace("census work", f"{CENSUS} work")
+            .replace("haul soups", f"{TOP / 'bin' / 'haul'} soups --census {CENSUS}")
+        )
+        said = subprocess.run(
+            ["bash", "-c", command], stdout=subprocess.PIPE, check=True
+        ).stdout.decode()
         self.assertEqual([line.split()[0] for line in said.splitlines()[3:]], ["603", "636"])
 
 
@@ -150,80 +251,295 @@ class Rows(unittest.TestCase):
     """The table for readers without scripts."""
 
     def test_each_cell(self) -> None:
-        haul = made({"xs4_33": 1200, "xp15_4r4z4r4": 40, "xq4_153": 3, "xp2_1110s": 2, "ov_p123": 1, "ov_s4000": 1, "zz_1": 1}, [(5, 7)],
-                    samples={"xs4_33": [5, 6, 11], "xp15_4r4z4r4": [7], "xq4_153": [8], "xp2_1110s": [9], "ov_p123": [10], "ov_s4000": [10], "zz_1": [11]})
+        haul = made(
+            {
+                "xs4_33": 1200,
+                "xp15_4r4z4r4": 40,
+                "xq4_153": 3,
+                "xp2_1110s": 2,
+                "ov_p123": 1,
+                "ov_s4000": 1,
+                "zz_1": 1,
+            },
+            [(5, 7)],
+            samples={
+                "xs4_33": [5, 6, 11],
+                "xp15_4r4z4r4": [7],
+                "xq4_153": [8],
+                "xp2_1110s": [9],
+                "ov_p123": [10],
+                "ov_s4000": [10],
+                "zz_1": [11],
+            },
+        )
         table = table_of(page(haul, 0))
-        self.assertEqual(table.heads, ["Picture", "Name and code", "What it is", "Cells", "Total", "How often", "Sample soups"])
-        self.assertEqual([row.cells for row in table.rows], [
-            ["block: 2 by 2, 4 cells", "block xs4_33", "still life", "4", "1,200", "171 per soup", "5 6 11"],
-            ["pentadecathlon: 3 by 10, 12 cells", "pentadecathlon xp15_4r4z4r4", "oscillator of period 15", "12", "40", "5.71 per soup", "7"],
-            ["glider: 3 by 3, 5 cells", "glider xq4_153", "spaceship of period 4", "5", "3", "≤ 1 in 2 soups", "8"],
-            ["xp2_1110s: 5 by 5, 6 cells", "2 blinkers xp2_1110s", "oscillator of period 2", "6", "2", "≤ 1 in 3 soups", "9"],
-            ["too large to draw", "not separated ov_p123", "oscillator of period 123", "", "1", "≤ 1 in 7 soups", "10"],
-            ["too large to draw", "not separated ov_s4000", "still life", "4000", "1", "≤ 1 in 7 soups", "10"],
-            ["can't be drawn", "not separated zz_1", "an object", "", "1", "≤ 1 in 7 soups", "11"]])
-        self.assertEqual(table.rows[0].links, ["https://catagolue.hatsya.com/object/xs4_33/b3s23", *(
-            f"https://catagolue.hatsya.com/hashsoup/C1/a{number}/b3s23" for number in (5, 6, 11))])
-        self.assertEqual(table.rows[4].links, ["https://catagolue.hatsya.com/hashsoup/C1/a10/b3s23"])
+        self.assertEqual(
+            table.heads,
+            [
+                "Picture",
+                "Name and code",
+                "What it is",
+                "Cells",
+                "Total",
+                "How often",
+                "Sample soups",
+            ],
+        )
+        self.assertEqual(
+            [row.cells for row in table.rows],
+            [
+                [
+                    "block: 2 by 2, 4 cells",
+                    "block xs4_33",
+                    "still life",
+                    "4",
+                    "1,200",
+                    "171 per soup",
+                    "5 6 11",
+                ],
+                [
+                    "pentadecathlon: 3 by 10, 12 cells",
+                    "pentadecathlon xp15_4r4z4r4",
+                    "oscillator of period 15",
+                    "12",
+                    "40",
+                    "5.71 per soup",
+                    "7",
+                ],
+                [
+                    "glider: 3 by 3, 5 cells",
+                    "glider xq4_153",
+                    "spaceship of period 4",
+                    "5",
+                    "3",
+                    "≤ 1 in 2 soups",
+                    "8",
+                ],
+                [
+                    "xp2_1110s: 5 by 5, 6 cells",
+                    "2 blinkers xp2_1110s",
+                    "oscillator of period 2",
+                    "6",
+                    "2",
+                    "≤ 1 in 3 soups",
+                    "9",
+                ],
+                [
+                    "too large to draw",
+                    "not separated ov_p123",
+                    "oscillator of period 123",
+                    "",
+                    "1",
+                    "≤ 1 in 7 soups",
+                    "10",
+                ],
+                [
+                    "too large to draw",
+                    "not separated ov_s4000",
+                    "still life",
+                    "4000",
+                    "1",
+                    "≤ 1 in 7 soups",
+                    "10",
+                ],
+                [
+                    "can't be drawn",
+                    "not separated zz_1",
+                    "an object",
+                    "",
+                    "1",
+                    "≤ 1 in 7 soups",
+                    "11",
+                ],
+            ],
+        )
+        self.assertEqual(
+            table.rows[0].links,
+            [
+                "https://catagolue.hatsya.com/object/xs4_33/b3s23",
+                *(
+                    f"https://catagolue.hatsya.com/hashsoup/C1/a{number}/b3s23"
+                    for number in (5, 6, 11)
+                ),
+            ],
+        )
+        self.assertEqual(
+            table.rows[4].links, ["https://catagolue.hatsya.com/hashsoup/C1/a10/b3s23"]
+        )
 
     def test_pictures(self) -> None:
-        """Objects of more than ten rows, too, cell for cell, with a margin of one cell. A cell has twelve points if there are under ten."""
-        for code, scale in (("xs28_g88m952g8gz1218kid221", 4), (PULSAR, 4), ("xs4_1zzzz1zz1", 12), ("xs9_31ego", 12), ("xs10_178kk8", 4)):
+        """Objects of more than ten rows, too, cell for cell, with a margin of one cell. A cell has
+        twelve points if there are under ten."""
+        for code, scale in (
+            ("xs28_g88m952g8gz1218kid221", 4),
+            (PULSAR, 4),
+            ("xs4_1zzzz1zz1", 12),
+            ("xs9_31ego", 12),
+            ("xs10_178kk8", 4),
+        ):
             text = page(made({code: 1}, [(9, 1)]), 0)
             (path,) = table_of(text).rows[0].paths
             wanted = cells_of(census("show", "--", code).decode())
             self.assertEqual(drawn(path), wanted)
             width, height = (max(side) + 1 for side in zip(*wanted))
-            self.assertIn(f'<svg class="cells-{scale}" width="{(width + 2) * scale}" height="{(height + 2) * scale}" viewBox="-1 -1 {width + 2} {height + 2}"', text)
+            self.assertIn(
+                f'<svg class="cells-{scale}" width="{(width + 2) * scale}" height="{(height + 2) * scale}" viewBox="-1 -1 {width + 2} {height + 2}"',
+                text,
+            )
 
     def test_addresses_of_soups(self) -> None:
         """A seed may have any sign."""
-        haul = Haul(Job("a/b?#%", "b36s23", STANDARD), [(5, 1)], 1, 0, 0, {"xs4_33": 1}, {"xs4_33": [5]})
-        self.assertEqual(table_of(page(haul, 0)).rows[0].links[1], "https://catagolue.hatsya.com/hashsoup/C1/a%2Fb%3F%23%255/b36s23")
+        haul = Haul(
+            Job("a/b?#%", "b36s23", STANDARD),
+            ranges=[(5, 1)],
+            soups=1,
+            unsettled=0,
+            for_good=0,
+            totals={"xs4_33": 1},
+            samples={"xs4_33": [5]},
+        )
+        self.assertEqual(
+            table_of(page(haul, 0)).rows[0].links[1],
+            "https://catagolue.hatsya.com/hashsoup/C1/a%2Fb%3F%23%255/b36s23",
+        )
 
     def test_what_is_left_out(self) -> None:
         haul = made({"xs4_33": 3, "xp2_7": 2, "xs5_253": 2}, [(0, 9)])
-        for least, said in ((2, "3 of 3 distinct objects, the most frequent first.<"), (3, "1 of 3 distinct objects, the most frequent first. Of the others there are fewer than 3.<")):
+        for least, said in (
+            (2, "3 of 3 distinct objects, the most frequent first.<"),
+            (
+                3,
+                "1 of 3 distinct objects, the most frequent first. Of the others there are fewer than 3.<",
+            ),
+        ):
             self.assertIn(f"<p>{said}", compared(haul, least=least))
 
 
 class Data(unittest.TestCase):
     """What the script of the page reads."""
 
-    HAUL = made({"xp2_1110s": 7, "xs10_25520oo": 3, "xs4_33": 2, "xs8_rr": 1, "ov_p3": 1}, [(0, 9)], samples={
-        "xp2_1110s": [4, 5], "xs10_25520oo": [1, 8], "xs4_33": [2], "xs8_rr": [7], "ov_p3": [0]})
+    HAUL = made(
+        {"xp2_1110s": 7, "xs10_25520oo": 3, "xs4_33": 2, "xs8_rr": 1, "ov_p3": 1},
+        [(0, 9)],
+        samples={
+            "xp2_1110s": [4, 5],
+            "xs10_25520oo": [1, 8],
+            "xs4_33": [2],
+            "xs8_rr": [7],
+            "ov_p3": [0],
+        },
+    )
 
     def test_each_object(self) -> None:
         """14 blinkers, of which no object is one alone; 3 + 2 + 2 blocks; 3 beehives."""
-        self.assertEqual(data_of(page(self.HAUL, 0))["objects"], [
-            {"code": "xp2_1110s", "label": "2 blinkers", "made": [["xp2_7", "xp2_7"]], "objects": [[7, 4, 5]], "cells": 6},
-            {"code": "xs10_25520oo", "label": "block and beehive", "made": [["xs4_33", "xs6_696"]], "objects": [[3, 1, 8]], "cells": 10},
-            {"code": "xs4_33", "label": "block", "named": 1, "made": ["strict"], "objects": [[2, 2]], "parts": [[7, 1, 2, 7]], "cells": 4},
-            {"code": "ov_p3", "label": "", "made": ["not separated"], "objects": [[1, 0]], "parts": [[1, 0]]},
-            {"code": "xs8_rr", "label": "bi-block", "named": 1, "made": [["xs4_33", "xs4_33"]], "objects": [[1, 7]], "cells": 8},
-            {"code": "xp2_7", "label": "blinker", "named": 1, "made": ["strict"], "parts": [[14, 4, 5]], "cells": 3},
-            {"code": "xs6_696", "label": "beehive", "named": 1, "made": ["strict"], "parts": [[3, 1, 8]], "cells": 6}])
+        self.assertEqual(
+            data_of(page(self.HAUL, 0))["objects"],
+            [
+                {
+                    "code": "xp2_1110s",
+                    "label": "2 blinkers",
+                    "made": [["xp2_7", "xp2_7"]],
+                    "objects": [[7, 4, 5]],
+                    "cells": 6,
+                },
+                {
+                    "code": "xs10_25520oo",
+                    "label": "block and beehive",
+                    "made": [["xs4_33", "xs6_696"]],
+                    "objects": [[3, 1, 8]],
+                    "cells": 10,
+                },
+                {
+                    "code": "xs4_33",
+                    "label": "block",
+                    "named": 1,
+                    "made": ["strict"],
+                    "objects": [[2, 2]],
+                    "parts": [[7, 1, 2, 7]],
+                    "cells": 4,
+                },
+                {
+                    "code": "ov_p3",
+                    "label": "",
+                    "made": ["not separated"],
+                    "objects": [[1, 0]],
+                    "parts": [[1, 0]],
+                },
+                {
+                    "code": "xs8_rr",
+                    "label": "bi-block",
+                    "named": 1,
+                    "made": [["xs4_33", "xs4_33"]],
+                    "objects": [[1, 7]],
+                    "cells": 8,
+                },
+                {
+                    "code": "xp2_7",
+                    "label": "blinker",
+                    "named": 1,
+                    "made": ["strict"],
+                    "parts": [[14, 4, 5]],
+                    "cells": 3,
+                },
+                {
+                    "code": "xs6_696",
+                    "label": "beehive",
+                    "named": 1,
+                    "made": ["strict"],
+                    "parts": [[3, 1, 8]],
+                    "cells": 6,
+                },
+            ],
+        )
 
     def test_the_haul(self) -> None:
         data = data_of(page(self.HAUL, 3))
-        self.assertEqual({name: data[name] for name in ("least", "play", "kinds", "kindsOfParts", "intervals")}, {
-            "least": 1, "play": 3, "kinds": 5, "kindsOfParts": 4, "intervals": {}})
-        self.assertEqual(data["hauls"], [{
-            "letter": "A", "option": "b3s23", "rule": "B3/S23", "seed": "a", "soups": 9, "objects": 14, "parts": 25,
-            "commands": ["census soup --seed=a ", " | census name"]}])
+        self.assertEqual(
+            {name: data[name] for name in ("least", "play", "kinds", "kindsOfParts", "intervals")},
+            {"least": 1, "play": 3, "kinds": 5, "kindsOfParts": 4, "intervals": {}},
+        )
+        self.assertEqual(
+            data["hauls"],
+            [
+                {
+                    "letter": "A",
+                    "option": "b3s23",
+                    "rule": "B3/S23",
+                    "seed": "a",
+                    "soups": 9,
+                    "objects": 14,
+                    "parts": 25,
+                    "commands": ["census soup --seed=a ", " | census name"],
+                }
+            ],
+        )
 
     def test_least(self) -> None:
-        """An object has a place if there are as many of it, and a part if there are as many by parts. What is left out counts as parts."""
+        """An object has a place if there are as many of it, and a part if there are as many by
+        parts. What is left out counts as parts."""
         text = compared(self.HAUL, least=3)
-        self.assertEqual([(code, one.get("objects"), one.get("parts")) for code, one in objects_of(text).items()], [
-            ("xp2_1110s", [[7, 4, 5]], None), ("xs10_25520oo", [[3, 1, 8]], None), ("xp2_7", None, [[14, 4, 5]]), ("xs4_33", [[2, 2]], [[7, 1, 2, 7]]),
-            ("xs6_696", None, [[3, 1, 8]])])
+        self.assertEqual(
+            [
+                (code, one.get("objects"), one.get("parts"))
+                for code, one in objects_of(text).items()
+            ],
+            [
+                ("xp2_1110s", [[7, 4, 5]], None),
+                ("xs10_25520oo", [[3, 1, 8]], None),
+                ("xp2_7", None, [[14, 4, 5]]),
+                ("xs4_33", [[2, 2]], [[7, 1, 2, 7]]),
+                ("xs6_696", None, [[3, 1, 8]]),
+            ],
+        )
         self.assertEqual((data_of(text)["kinds"], data_of(text)["hauls"][0]["objects"]), (5, 14))
 
     def test_large_totals(self) -> None:
         """JavaScript loses digits of a number over 2^53, so that is a text."""
         objects = objects_of(page(made({"xs4_33": 2**53, "xs5_253": 2**53 + 1}, [(0, 9)]), 0))
-        self.assertEqual([objects[code]["objects"][0][0] for code in ("xs4_33", "xs5_253")], [2**53, str(2**53 + 1)])
+        self.assertEqual(
+            [objects[code]["objects"][0][0] for code in ("xs4_33", "xs5_253")],
+            [2**53, str(2**53 + 1)],
+        )
 
     def test_soups(self) -> None:
         """Cell for cell as `census soup` draws them, of objects and of parts."""
@@ -231,11 +547,25 @@ class Data(unittest.TestCase):
         self.assertEqual(sorted(map(int, soups)), [0, 1, 2, 4, 5, 7, 8])
         for number, (cells,) in soups.items():
             bits = "".join(format(byte, "08b") for byte in base64.b64decode(cells + "="))
-            self.assertEqual({(k % 16, k // 16) for k, bit in enumerate(bits) if bit == "1"}, cells_of(census("soup", "--seed=a", number).decode()))
+            self.assertEqual(
+                {(k % 16, k // 16) for k, bit in enumerate(bits) if bit == "1"},
+                cells_of(census("soup", "--seed=a", number).decode()),
+            )
 
     def test_nothing_ends_the_script(self) -> None:
         seed = "</script><!--"
-        text = page(Haul(Job(seed, "b3s23", STANDARD), [(0, 1)], 1, 0, 0, {"xs4_33": 1}, {"xs4_33": [0]}), 0)
+        text = page(
+            Haul(
+                Job(seed, "b3s23", STANDARD),
+                ranges=[(0, 1)],
+                soups=1,
+                unsettled=0,
+                for_good=0,
+                totals={"xs4_33": 1},
+                samples={"xs4_33": [0]},
+            ),
+            0,
+        )
         self.assertEqual(data_of(text)["hauls"][0]["seed"], seed)
         self.assertEqual((text.count("</script>"), text.count("<!--")), (2, 0))
 
@@ -246,57 +576,159 @@ class Data(unittest.TestCase):
         self.assertGreater(len(files), 8)
         for file in files:
             self.assertEqual(text.count(file.read_text()), 1, file)
-        self.assertEqual(re.findall("<(?:link|img|iframe|script) [^>]*(?:src|href)=|@import|url\\(|fetch\\(", text), [])
+        self.assertEqual(
+            re.findall(
+                "<(?:link|img|iframe|script) [^>]*(?:src|href)=|@import|url\\(|fetch\\(", text
+            ),
+            [],
+        )
 
 
 class Comparing(unittest.TestCase):
     LIFE = made({"xs4_33": 1000, "xp2_7": 10, "xs12_raar": 4}, [(0, 100)])
-    OTHER = Haul(Job("b", "bs123", STANDARD), [(7, 50)], 50, 3, 4, {"xs12_raar": 4, "xs4_33": 5}, {"xs12_raar": [7], "xs4_33": [8, 9]})
+    OTHER = Haul(
+        Job("b", "bs123", STANDARD),
+        ranges=[(7, 50)],
+        soups=50,
+        unsettled=3,
+        for_good=4,
+        totals={"xs12_raar": 4, "xs4_33": 5},
+        samples={"xs12_raar": [7], "xs4_33": [8, 9]},
+    )
 
     def test_title(self) -> None:
-        for hauls, title in (([self.LIFE, self.OTHER], "Censuses under B3/S23 and B/S123, compared"), ([self.LIFE, self.LIFE], "2 censuses under B3/S23, compared"),
-                             ([self.LIFE], "A census of 100 soups in Conway&#x27;s Game of Life"), ([self.OTHER], "A census of 50 soups under B/S123")):
+        for hauls, title in (
+            ([self.LIFE, self.OTHER], "Censuses under B3/S23 and B/S123, compared"),
+            ([self.LIFE, self.LIFE], "2 censuses under B3/S23, compared"),
+            ([self.LIFE], "A census of 100 soups in Conway&#x27;s Game of Life"),
+            ([self.OTHER], "A census of 50 soups under B/S123"),
+        ):
             self.assertIn(f"<title>{title}</title>", compared(*hauls))
 
     def test_facts(self) -> None:
         """A row for each haul."""
-        rows = re.findall('<tr><th scope="row">(.*?)</th>(.*?)</tr>', before_table(compared(self.LIFE, self.OTHER)))
-        self.assertEqual([[re.sub("<.*?>", "", head), *re.findall("<td>(.*?)</td>", cells)] for head, cells in rows], [
-            ["A B3/S23", "100", "1,014", "10.14", "3", "3", "0", "0", '<code class="seed">a</code>', "0 to 99"],
-            ["B B/S123", "50", "9", "0.18", "2", "1", "3", "4", '<code class="seed">b</code>', "7 to 56"]])
+        rows = re.findall(
+            '<tr><th scope="row">(.*?)</th>(.*?)</tr>',
+            before_table(compared(self.LIFE, self.OTHER)),
+        )
+        self.assertEqual(
+            [
+                [re.sub("<.*?>", "", head), *re.findall("<td>(.*?)</td>", cells)]
+                for head, cells in rows
+            ],
+            [
+                [
+                    "A B3/S23",
+                    "100",
+                    "1,014",
+                    "10.14",
+                    "3",
+                    "3",
+                    "0",
+                    "0",
+                    '<code class="seed">a</code>',
+                    "0 to 99",
+                ],
+                [
+                    "B B/S123",
+                    "50",
+                    "9",
+                    "0.18",
+                    "2",
+                    "1",
+                    "3",
+                    "4",
+                    '<code class="seed">b</code>',
+                    "7 to 56",
+                ],
+            ],
+        )
 
     def test_each_under_its_rule(self) -> None:
-        """A table on table falls apart under the rule of B alone, and each value has a place for each haul."""
+        """A table on table falls apart under the rule of B alone, and each value has a place for
+        each haul."""
         objects = objects_of(compared(self.LIFE, self.OTHER))
-        self.assertEqual(objects["xs12_raar"], {"code": "xs12_raar", "label": "table on table", "named": 1, "made": ["strict", ["xs6_9f"] * 2], "objects": [[4, 0], [4, 7]],
-                                                "parts": [[4, 0], 0], "cells": 12})
-        self.assertEqual(objects["xs6_9f"], {"code": "xs6_9f", "label": "", "made": [None, "strict"], "parts": [0, [8, 7]], "cells": 6})
+        self.assertEqual(
+            objects["xs12_raar"],
+            {
+                "code": "xs12_raar",
+                "label": "table on table",
+                "named": 1,
+                "made": ["strict", ["xs6_9f"] * 2],
+                "objects": [[4, 0], [4, 7]],
+                "parts": [[4, 0], 0],
+                "cells": 12,
+            },
+        )
+        self.assertEqual(
+            objects["xs6_9f"],
+            {
+                "code": "xs6_9f",
+                "label": "",
+                "made": [None, "strict"],
+                "parts": [0, [8, 7]],
+                "cells": 6,
+            },
+        )
         self.assertEqual(objects["xp2_7"]["objects"], [[10, 0], 0])
         self.assertEqual(list(objects), ["xs4_33", "xp2_7", "xs12_raar", "xs6_9f"])
 
     def test_intervals(self) -> None:
         """Those of each total on the page, and of 0."""
         found = data_of(compared(self.LIFE, self.OTHER))["intervals"]
-        self.assertEqual({int(total): tuple(ends) for total, ends in found.items()}, {total: interval(total) for total in (0, 4, 5, 8, 10, 1000)})
+        self.assertEqual(
+            {int(total): tuple(ends) for total, ends in found.items()},
+            {total: find_interval(total) for total in (0, 4, 5, 8, 10, 1000)},
+        )
 
     def test_the_table(self) -> None:
         table = table_of(compared(self.LIFE, self.OTHER))
-        self.assertEqual(table.heads[4:], ["Total in A", "How often in A", "Sample soups in A", "Total in B", "How often in B", "Sample soups in B"])
-        self.assertEqual([row.cells[4:] for row in table.rows], [
-            ["1,000", "10 per soup", "0", "5", "≤ 1 in 10 soups", "8 9"], ["10", "≤ 1 in 10 soups", "0", "0", "", ""],
-            ["4", "≤ 1 in 25 soups", "0", "4", "≤ 1 in 12 soups", "7"]])
+        self.assertEqual(
+            table.heads[4:],
+            [
+                "Total in A",
+                "How often in A",
+                "Sample soups in A",
+                "Total in B",
+                "How often in B",
+                "Sample soups in B",
+            ],
+        )
+        self.assertEqual(
+            [row.cells[4:] for row in table.rows],
+            [
+                ["1,000", "10 per soup", "0", "5", "≤ 1 in 10 soups", "8 9"],
+                ["10", "≤ 1 in 10 soups", "0", "0", "", ""],
+                ["4", "≤ 1 in 25 soups", "0", "4", "≤ 1 in 12 soups", "7"],
+            ],
+        )
 
     def test_least_in_one_of_them(self) -> None:
-        self.assertEqual([row.cells[4] for row in table_of(compared(self.LIFE, self.OTHER, least=10)).rows], ["1,000", "10"])
+        self.assertEqual(
+            [row.cells[4] for row in table_of(compared(self.LIFE, self.OTHER, least=10)).rows],
+            ["1,000", "10"],
+        )
 
     def test_ends_of_each(self) -> None:
         """Soup 0 of A and soup 0 of B are different soups under different rules."""
-        words = [["--seed=x", "--count=3"], ["--seed=y", "--count=3", "--rule=b36s23", "--stride=50"]]
-        soups = data_of(compared(*(read_one_haul(io.BytesIO(census("take", *some))) for some in words), play=500))["soups"]
+        words = [
+            ["--seed=x", "--count=3"],
+            ["--seed=y", "--count=3", "--rule=b36s23", "--stride=50"],
+        ]
+        soups = data_of(
+            compared(
+                *(read_one_haul(io.BytesIO(census("take", *some))) for some in words), play=500
+            )
+        )["soups"]
         for known, options in zip(soups, (["--seed=x"], ["--seed=y"]), strict=True):
             rule = [] if options == ["--seed=x"] else ["--rule=b36s23", "--stride=50"]
             for number, (_, *end) in known.items():
-                named = subprocess.run([CENSUS, "name", *rule], input=census("soup", *options, number), stdout=subprocess.PIPE, check=True).stdout.decode()
+                named = subprocess.run(
+                    [CENSUS, "name", *rule],
+                    input=census("soup", *options, number),
+                    stdout=subprocess.PIPE,
+                    check=True,
+                ).stdout.decode()
                 self.assertEqual(named.split()[1], str(end[0]))
             self.assertEqual(len(known), 3)
 
@@ -311,7 +743,10 @@ class Comparing(unittest.TestCase):
             status, text, errors = run("page", "--play=0", *[name] * 9)
             self.assertEqual((status, text), (2, ""))
             self.assertIn("more than 8 hauls", errors)
-            self.assertEqual(run("page", name, "/dev/null"), (3, "", "haul: /dev/null: bad haul at line 1 column 1\n"))
+            self.assertEqual(
+                run("page", name, "/dev/null"),
+                (3, "", "haul: /dev/null: bad haul at line 1 column 1\n"),
+            )
 
 
 class Ends(unittest.TestCase):
@@ -319,47 +754,87 @@ class Ends(unittest.TestCase):
         """As `census name` says, and `census run` up to then."""
         haul, exact = read_one_haul(io.BytesIO(census("take", "--count", "12"))), 0
         soups = data_of(page(haul))["soups"][0]
-        self.assertEqual({int(number) for number in soups}, {number for numbers in haul.samples.values() for number in numbers})
+        self.assertEqual(
+            {int(number) for number in soups},
+            {number for numbers in haul.samples.values() for number in numbers},
+        )
         for number, (_, settled, least, most) in soups.items():
             soup = census("soup", number)
-            named = subprocess.run([CENSUS, "name"], input=soup, stdout=subprocess.PIPE, check=True).stdout.decode()
+            named = subprocess.run(
+                [CENSUS, "name"], input=soup, stdout=subprocess.PIPE, check=True
+            ).stdout.decode()
             self.assertEqual(named.split()[1], str(settled))
-            then = subprocess.run([CENSUS, "run", str(settled)], input=soup, stdout=subprocess.PIPE, check=True).stdout.decode()
+            then = subprocess.run(
+                [CENSUS, "run", str(settled)], input=soup, stdout=subprocess.PIPE, check=True
+            ).stdout.decode()
             self.assertTrue(least <= then.count("O") <= most)
             exact += least == most
         self.assertGreater(exact, 5)
 
     def test_how_many_cells_there_are_then(self) -> None:
-        """A pulsar has 48, 56 or 72 cells, a glider always five. What can't be drawn is known only if it is a still life."""
-        life = rule_of("b3s23")
-        for code, sizes in ((PULSAR, {48, 56, 72}), ("xq4_153", {5}), ("xp2_318c", {6, 8}), ("ov_s123", {123}), ("ov_p123", set()), ("xp3_33", set())):
-            self.assertEqual(populations_of(life, code), sizes)
-        for fields, end in ((["unsettled"], None), (["at=101", "good=yes"], End(101, 0, 0)),
-                            (["at=0", "good=no", f"{PULSAR}*2", "xq4_153*3", "ov_s123*1"], End(0, 96 + 15 + 123, 144 + 15 + 123)),
-                            (["at=0", "good=no", "ov_p123*1", "xq4_153*3"], None)):
-            self.assertEqual(end_of(life, fields), end)
+        """A pulsar has 48, 56 or 72 cells, a glider always five. What can't be drawn is known only
+        if it is a still life."""
+        life = read_rule("b3s23")
+        for code, sizes in (
+            (PULSAR, {48, 56, 72}),
+            ("xq4_153", {5}),
+            ("xp2_318c", {6, 8}),
+            ("ov_s123", {123}),
+            ("ov_p123", set()),
+            ("xp3_33", set()),
+        ):
+            self.assertEqual(list_populations(life, code), sizes)
+        for fields, end in (
+            (["unsettled"], None),
+            (["at=101", "good=yes"], End(101, 0, 0)),
+            (
+                ["at=0", "good=no", f"{PULSAR}*2", "xq4_153*3", "ov_s123*1"],
+                End(0, 96 + 15 + 123, 144 + 15 + 123),
+            ),
+            (["at=0", "good=no", "ov_p123*1", "xq4_153*3"], None),
+        ):
+            self.assertEqual(read_end(life, fields), end)
 
     def test_which_have_one(self) -> None:
-        """Those of the first objects. Strict ones come first, and objects that couldn't be separated count as strict."""
-        haul = made({"xp2_1110s": 9, "xs4_33": 8, "ov_p3": 7}, [(0, 9)], samples={"xp2_1110s": [0, 1], "xs4_33": [1, 2], "ov_p3": [3]})
-        def known(play: int) -> list[int]:
-            return sorted(int(number) for number, (_, *end) in data_of(page(haul, play))["soups"][0].items() if end)
+        """Those of the first objects. Strict ones come first, and objects that couldn't be
+        separated count as strict."""
+        haul = made(
+            {"xp2_1110s": 9, "xs4_33": 8, "ov_p3": 7},
+            [(0, 9)],
+            samples={"xp2_1110s": [0, 1], "xs4_33": [1, 2], "ov_p3": [3]},
+        )
 
-        self.assertEqual([known(play) for play in (0, 1, 2, 3, 500)], [[], [1, 2], [1, 2, 3], [0, 1, 2, 3], [0, 1, 2, 3]])
+        def known(play: int) -> list[int]:
+            return sorted(
+                int(number)
+                for number, (_, *end) in data_of(page(haul, play))["soups"][0].items()
+                if end
+            )
+
+        self.assertEqual(
+            [known(play) for play in (0, 1, 2, 3, 500)],
+            [[], [1, 2], [1, 2, 3], [0, 1, 2, 3], [0, 1, 2, 3]],
+        )
 
     def test_a_soup_without_end(self) -> None:
         """It was asked about, and its end is 0."""
-        (end,) = data_of(page(made({"xs4_33": 8}, [(9, 1)], (1, 1, 1, 0))))["soups"][0].values()
+        (end,) = data_of(page(made({"xs4_33": 8}, [(9, 1)], Profile(1, 1, 1, 0))))["soups"][
+            0
+        ].values()
         self.assertEqual(end[1:], [0])
 
     def test_which_options_are_passed_on(self) -> None:
         none: list[str] = []
         for words, wanted in ((none, (1, 500)), (["--least=7", "--play=3"], (7, 3))):
-            with patch("haul.main.page_of", return_value=[]) as made_of, patch("haul.main.the_haul") as the_haul:
-                self.assertEqual(do_page(parser().parse_args(["page", "--census", CENSUS, *words])), 0)
-                self.assertEqual(do_page(parser().parse_args(["page", "--census", CENSUS, *words, "x", "y"])), 0)
+            with patch("haul.cli.commands.make_page", return_value=[]) as made_of, patch.object(
+                Streams, "read_haul"
+            ) as the_haul:
+                for files in (none, ["x", "y"]):
+                    self.assertEqual(run("page", "--census", CENSUS, *words, *files), (0, "", ""))
             self.assertEqual([call.args[2:] for call in made_of.call_args_list], [wanted, wanted])
-            self.assertEqual([call.args for call in the_haul.call_args_list], [(None,), ("x",), ("y",)])
+            self.assertEqual(
+                [call.args for call in the_haul.call_args_list], [(None,), ("x",), ("y",)]
+            )
 
 
 if __name__ == "__main__":

@@ -12,27 +12,35 @@ import unittest
 from pathlib import Path
 from unittest.mock import patch
 
-from haul.by_parts import Objects
-from haul.labels import in_words, label_of, marked, plural
-from haul.life import is_cluster, rule_of
-from haul.names import NAMES
-from haul.parts import MOST_ISLANDS, Blocks, Run, Separation, Separator, object_of
+from haul.tests.called import QUIET
+from haul.hauls.by_parts import Objects
+from haul.life.blocks import Blocks, Run
+from haul.life.clusters import is_cluster
+from haul.life.generations import read_rule
+from haul.life.parts import MOST_ISLANDS, Separation, Separator, read_object
+from haul.names.labels import describe_parts, find_label, make_plural, mark_label
+from haul.names.objects import NAMES
 from haul.tests import plain_parts
 from haul.tests.called import CENSUS, census, run
 from haul.tests.test_life import STILL, example
 from haul.tests.test_tables import haul
 
-# Those of the twenty most frequent objects that have no name. What they are is seen from their texts: `7` is a column of three
-# cells, `111` a row of them, `33` two columns of two, `2552` and `8kk8` a ring of six.
+# Those of the twenty most frequent objects that have no name. What they are is seen from their
+# texts: `7` is a column of three cells, `111` a row of them, `33` two columns of two, `2552` and
+# `8kk8` a ring of six.
 FREQUENT = {
-    "xp2_1110s": "2 blinkers", "xp2_70ggg07": "3 blinkers", "xp2_33ws": "blinker and block", "xp2_1118kk8": "blinker and beehive",
-    "xs8_330oo": "2 blocks", "xs10_25520oo": "block and beehive",
+    "xp2_1110s": "2 blinkers",
+    "xp2_70ggg07": "3 blinkers",
+    "xp2_33ws": "blinker and block",
+    "xp2_1118kk8": "blinker and beehive",
+    "xs8_330oo": "2 blocks",
+    "xs10_25520oo": "block and beehive",
 }
 LIGHT = "xp2_s01110szw222"
 
 
 def parts(code: str, rule: str = "b3s23") -> Separation:
-    return Separator(rule_of(rule)).separation_of(code)
+    return Separator(read_rule(rule)).separate(code)
 
 
 def strict(code: str) -> Separation:
@@ -45,151 +53,264 @@ def unknown(code: str) -> Separation:
 
 class Names(unittest.TestCase):
     def test_each_is_named_so(self) -> None:
-        """What `census show` draws of a code has that code. Of some the phase that is drawn is in two pieces, so it settles later."""
+        """What `census show` draws of a code has that code. Of some the phase that is drawn is in
+        two pieces, so it settles later."""
         self.assertEqual(len(NAMES), 92)
         self.assertEqual(len(set(NAMES.values())), 92)
         for code in NAMES:
             with self.subTest(code=code):
-                named = subprocess.run([CENSUS, "name"], input=census("show", code), stdout=subprocess.PIPE, check=True).stdout
+                named = subprocess.run(
+                    [CENSUS, "name"], input=census("show", code), stdout=subprocess.PIPE, check=True
+                ).stdout
                 settled, *objects = named.decode().splitlines()
                 self.assertTrue(settled.startswith("settled "))
                 self.assertEqual(objects, [f"{code} 1"])
 
     def test_plurals(self) -> None:
-        for one, more in (("block", "blocks"), ("loaf", "loaves"), ("half-bakery", "half-bakeries"), ("block on table", "blocks on table"),
-                          ("beehive with tail", "beehives with tail"), ("moose antlers", "moose antlers"), ("eater 1", "eater 1"), ("unix", "unix"),
-                          ("Kok's galaxy", "Kok's galaxies"), ("block and dock", "block and docks")):
-            self.assertEqual(plural(one), more)
+        for one, more in (
+            ("block", "blocks"),
+            ("loaf", "loaves"),
+            ("half-bakery", "half-bakeries"),
+            ("block on table", "blocks on table"),
+            ("beehive with tail", "beehives with tail"),
+            ("moose antlers", "moose antlers"),
+            ("eater 1", "eater 1"),
+            ("unix", "unix"),
+            ("Kok's galaxy", "Kok's galaxies"),
+            ("block and dock", "block and docks"),
+        ):
+            self.assertEqual(make_plural(one), more)
 
 
 class Parts(unittest.TestCase):
     def test_pseudo_objects(self) -> None:
-        """A bi-block is two blocks, a traffic light four blinkers; a block beside a pulsar is taken off it."""
+        """A bi-block is two blocks, a traffic light four blinkers; a block beside a pulsar is taken
+        off it."""
         pulsar = "xp3_co9nas0san9oczgoldlo0oldlogz1047210127401"
-        for code, wanted in (("xs8_rr", ["xs4_33"] * 2), (LIGHT, ["xp2_7"] * 4), ("xp2_70ggg07", ["xp2_7"] * 3), ("xs10_25520oo", ["xs4_33", "xs6_696"]),
-                             ("xp3_co9nas0san9ocw33zgoldlo0oldlogz1047210127401", [pulsar, "xs4_33"])):
+        for code, wanted in (
+            ("xs8_rr", ["xs4_33"] * 2),
+            (LIGHT, ["xp2_7"] * 4),
+            ("xp2_70ggg07", ["xp2_7"] * 3),
+            ("xs10_25520oo", ["xs4_33", "xs6_696"]),
+            ("xp3_co9nas0san9ocw33zgoldlo0oldlogz1047210127401", [pulsar, "xs4_33"]),
+        ):
             self.assertEqual(parts(code), Separation(tuple(wanted)))
 
     def test_strict_objects(self) -> None:
-        """One island; two tables that are unstable alone; the four islands of a beacon, a pulsar's sixteen and a pentadecathlon."""
-        for code in ("xs4_33", "xq4_153", "xs12_raar", "xp2_318c", "xp15_4r4z4r4", "xs14_69bqic", "xp3_co9nas0san9oczgoldlo0oldlogz1047210127401"):
+        """One island; two tables that are unstable alone; the four islands of a beacon, a pulsar's
+        sixteen and a pentadecathlon."""
+        for code in (
+            "xs4_33",
+            "xq4_153",
+            "xs12_raar",
+            "xp2_318c",
+            "xp15_4r4z4r4",
+            "xs14_69bqic",
+            "xp3_co9nas0san9oczgoldlo0oldlogz1047210127401",
+        ):
             self.assertEqual(parts(code), strict(code))
 
     def test_what_is_not_separated(self) -> None:
         """What can't be drawn, doesn't recur as its prefix says, or outgrows the plane."""
-        for code in ("ov_p12", "ov_s400", "zz_1", "xs4_y", "xs5_33", "xp2_33", "xs3_7", "xp3_7", "xq4_33", "xq3_153", "xp1_33", "xs4", "xs0_0", "xp65_7",
-                     "xp2_1" + "yz" * 30 + "1", "yl12_33", "xs4_33_"):
+        for code in (
+            "ov_p12",
+            "ov_s400",
+            "zz_1",
+            "xs4_y",
+            "xs5_33",
+            "xp2_33",
+            "xs3_7",
+            "xp3_7",
+            "xq4_33",
+            "xq3_153",
+            "xp1_33",
+            "xs4",
+            "xs0_0",
+            "xp65_7",
+            "xp2_1" + "yz" * 30 + "1",
+            "yl12_33",
+            "xs4_33_",
+        ):
             self.assertEqual(parts(code), unknown(code), code)
         self.assertFalse(unknown("ov_p12").is_strict())
         self.assertTrue(strict("xs4_33").is_strict() and not parts("xs8_rr").is_strict())
 
     def test_many_islands(self) -> None:
-        """Where all cells stay, eleven cells two steps apart are eleven parts. In Life, of so many islands only that is tried."""
+        """Where all cells stay, eleven cells two steps apart are eleven parts. In Life, of so many
+        islands only that is tried."""
         for count in (MOST_ISLANDS, MOST_ISLANDS + 1, 30):
             row = "0".join("1" * count)
             self.assertEqual(parts(f"xs{count}_{row}", STILL), Separation(("xs1_1",) * count))
-        # Six bi-blocks in a row are twelve blocks; two tables on each other beside nine blocks have eleven islands, and two are no parts.
+        # Six bi-blocks in a row are twelve blocks; two tables on each other beside nine blocks have
+        # eleven islands, and two are no parts.
         self.assertEqual(parts("xs48_" + "rr0" * 6), Separation(("xs4_33",) * 12))
         for blocks, wanted in ((8, Separation(("xs12_raar", *["xs4_33"] * 8))), (9, None)):
             code = f"xs{12 + 4 * blocks}_raar" + "0rr" * (blocks // 2) + "w33" * (blocks % 2)
-            self.assertIsNotNone(object_of(rule_of("b3s23"), code))
+            self.assertIsNotNone(read_object(read_rule("b3s23"), code))
             self.assertEqual(parts(code), wanted or unknown(code))
 
     def test_a_part_that_falls_apart(self) -> None:
-        """A blocker is one cluster in two of its eight phases, and not in the one that is drawn. A block is beside it."""
-        self.assertFalse(is_cluster(object_of(rule_of("b3s23"), "xp8_g3jgz1ut").phases[0]))  # type: ignore[union-attr]
+        """A blocker is one cluster in two of its eight phases, and not in the one that is drawn. A
+        block is beside it."""
+        self.assertFalse(is_cluster(read_object(read_rule("b3s23"), "xp8_g3jgz1ut").phases[0]))  # type: ignore[union-attr]
         self.assertEqual(parts("xp8_g3jgy066z1ut"), Separation(("xp8_g3jgz1ut", "xs4_33")))
 
     def test_the_longest_period(self) -> None:
         for most, is_separated in ((2, False), (3, True)):
-            with patch("haul.parts.MOST_PERIOD", most):
-                self.assertEqual(parts("xp3_co9nas0san9oczgoldlo0oldlogz1047210127401").is_separated, is_separated)
+            with patch("haul.life.parts.MOST_PERIOD", most):
+                self.assertEqual(
+                    parts("xp3_co9nas0san9oczgoldlo0oldlogz1047210127401").is_separated,
+                    is_separated,
+                )
 
     def test_each_condition_of_a_separation(self) -> None:
         """By the cells of a bi-block, of which no run has to be that of a block."""
-        found = object_of(rule_of("b3s23"), "xs8_rr")
+        found = read_object(read_rule("b3s23"), "xs8_rr")
         assert found is not None
-        blocks = Blocks(rule_of("b3s23"), {}, found)
+        blocks = Blocks(read_rule("b3s23"), {}, found)
         left, right = blocks.islands
         self.assertEqual((len(left), len(right), left | right), (4, 4, found.phases[0]))
         one, other = [left, left], [right, right]
         self.assertTrue(blocks.is_separation([one, other]))
-        # They share a cell, though together they are the object; they have as many cells, and aren't the object; one is missing.
+        # They share a cell, though together they are the object; they have as many cells, and
+        # aren't the object; one is missing.
         shared = left | {min(right)}
         self.assertFalse(blocks.is_separation([[shared, shared], other]))
         self.assertFalse(blocks.is_separation([one, one]))
         self.assertFalse(blocks.is_separation([one]))
-        # It is in order; another block a period later; no cluster; and a cell that the object doesn't have.
-        run = Run(rule_of("b3s23"), left)
+        # It is in order; another block a period later; no cluster; and a cell that the object
+        # doesn't have.
+        run = Run(read_rule("b3s23"), left)
         self.assertEqual(blocks.checked(run, iter(one)), one)
         self.assertIsNone(blocks.checked(run, iter([left, right])))
-        self.assertIsNone(blocks.checked(Run(rule_of("b3s23"), frozenset([(0, 0), (9, 9)])), iter(one)))
+        self.assertIsNone(
+            blocks.checked(Run(read_rule("b3s23"), frozenset([(0, 0), (9, 9)])), iter(one))
+        )
         self.assertIsNone(blocks.checked(run, iter([left | {(9, 9)}] * 2)))
 
     def test_codes_that_are_not_canonical(self) -> None:
         """A part is called by its own code, whatever drawing of it stands in a haul."""
-        self.assertEqual((parts("xp2_111").parts, parts("xs6_4a4w").parts), (("xp2_7",), ("xs6_4a4w",)))
+        self.assertEqual(
+            (parts("xp2_111").parts, parts("xs6_4a4w").parts), (("xp2_7",), ("xs6_4a4w",))
+        )
 
     def test_the_object_of_a_code(self) -> None:
         """Its phases are those of its drawing, one after another."""
-        found = object_of(rule_of("b3s23"), "xp2_7")
+        found = read_object(read_rule("b3s23"), "xp2_7")
         assert found is not None
         self.assertEqual(found.phases, [{(0, 0), (0, 1), (0, 2)}, {(-1, 1), (0, 1), (1, 1)}])
 
     def test_by_brute_force(self) -> None:
-        """Drawn objects of the example, without long ones, which take too long; and those of two other rules."""
+        """Drawn objects of the example, without long ones, which take too long; and those of two
+        other rules."""
         draw = random.Random("objects")
         tried = [("b3s23", draw.sample([code for code in example().totals if len(code) < 22], 250))]
         for rule, count in (("b36s23", 800), ("b3678s34678", 3000)):
             text = census("take", "--count", str(count), "--rule", rule, "--limit", "505").decode()
-            tried.append((rule, [row.split()[0] for row in text.partition("TABLE\n")[2].partition("\n\n")[0].splitlines()]))
+            tried.append(
+                (
+                    rule,
+                    [
+                        row.split()[0]
+                        for row in text.partition("TABLE\n")[2].partition("\n\n")[0].splitlines()
+                    ],
+                )
+            )
         for rule, codes in tried:
-            separator, plain = Separator(rule_of(rule)), plain_parts.rule_of(rule)
+            separator, plain = Separator(read_rule(rule)), plain_parts.rule_of(rule)
             self.assertGreater(len(codes), 10)
             for code in codes:
-                found = separator.separation_of(code)
-                self.assertEqual((list(found.parts), found.is_strict(), found.is_separated), plain_parts.parts_of(plain, code), code)
+                found = separator.separate(code)
+                self.assertEqual(
+                    (list(found.parts), found.is_strict(), found.is_separated),
+                    plain_parts.parts_of(plain, code),
+                    code,
+                )
 
     def test_the_example(self) -> None:
         """The totals by parts of 100,000 soups, computed by brute force from the definition."""
-        objects = Objects(example())
+        objects = Objects(example(), QUIET)
         by_parts = objects.by_parts()
         self.assertEqual((len(by_parts.totals), by_parts.objects()), (82, 2_188_270))
-        self.assertEqual([by_parts.totals[code] for code in ("xs4_33", "xp2_7", "xs6_696", "xq4_153")], [674_989, 627_443, 357_895, 192_915])
+        self.assertEqual(
+            [by_parts.totals[code] for code in ("xs4_33", "xp2_7", "xs6_696", "xq4_153")],
+            [674_989, 627_443, 357_895, 192_915],
+        )
         self.assertEqual(sum(one.is_strict() for one in objects.known.values()), 79)
         self.assertTrue(all(one.is_separated for one in objects.known.values()))
-        self.assertEqual((by_parts.soups, by_parts.unsettled, by_parts.for_good, by_parts.job), (
-            example().soups, example().unsettled, example().for_good, example().job))
+        self.assertEqual(
+            (by_parts.soups, by_parts.unsettled, by_parts.for_good, by_parts.job),
+            (example().soups, example().unsettled, example().for_good, example().job),
+        )
 
 
 class Labels(unittest.TestCase):
     def test_the_most_frequent(self) -> None:
-        self.assertEqual({code: label_of(code, parts(code)) for code in FREQUENT}, FREQUENT)
+        self.assertEqual({code: find_label(code, parts(code)) for code in FREQUENT}, FREQUENT)
 
     def test_what_has_a_name_is_called_by_it(self) -> None:
-        for code, label in (("xs8_rr", "bi-block"), (LIGHT, "traffic light"), ("xs4_33", "block"), ("xs12_256o8a6", ""), ("xs4_y", "")):
-            self.assertEqual(label_of(code, parts(code)), label)
+        for code, label in (
+            ("xs8_rr", "bi-block"),
+            (LIGHT, "traffic light"),
+            ("xs4_33", "block"),
+            ("xs12_256o8a6", ""),
+            ("xs4_y", ""),
+        ):
+            self.assertEqual(find_label(code, parts(code)), label)
 
     def test_words(self) -> None:
         """Oscillators first and still lifes last, those with a lower number before others."""
-        for codes, words in ((("xs10_178kk8", "xs4_33", "xp2_7"), "blinker, block and beehive with tail"), (("xs4_33", "xs4_252", "xs4_33"), "tub and 2 blocks"),
-                             (("xs12_256o8a6",) * 3, "3 xs12_256o8a6"), (("xp15_4r4z4r4", "xp2_7", "xp2_7", "xq4_153"), "2 blinkers, pentadecathlon and glider")):
-            self.assertEqual(in_words(codes), words)
+        for codes, words in (
+            (("xs10_178kk8", "xs4_33", "xp2_7"), "blinker, block and beehive with tail"),
+            (("xs4_33", "xs4_252", "xs4_33"), "tub and 2 blocks"),
+            (("xs12_256o8a6",) * 3, "3 xs12_256o8a6"),
+            (
+                ("xp15_4r4z4r4", "xp2_7", "xp2_7", "xq4_153"),
+                "2 blinkers, pentadecathlon and glider",
+            ),
+        ):
+            self.assertEqual(describe_parts(codes), words)
 
     def test_what_is_not_separated_is_marked(self) -> None:
-        self.assertEqual([marked(label, unknown("x")) for label in ("block", "")], ["block, not separated", "not separated"])
-        self.assertEqual([marked(label, strict("x")) for label in ("block", "")], ["block", ""])
+        self.assertEqual(
+            [mark_label(label, unknown("x")) for label in ("block", "")],
+            ["block, not separated", "not separated"],
+        )
+        self.assertEqual([mark_label(label, strict("x")) for label in ("block", "")], ["block", ""])
 
 
 # An object of which nothing is known, two blocks in two ways, and strict ones.
-CODES = {"xs4_33": 50, "xs8_rr": 10, "xs8_330oo": 7, "xp2_70ggg07": 4, "xp2_7": 3, "xs12_256o8a6": 2, "ov_p12": 1}
-SAMPLED = {"xs4_33": [7, 8, 9], "xs8_rr": [3, 8], "xs8_330oo": [4, 20, 30], "xp2_70ggg07": [1], "xp2_7": [0, 1, 2], "xs12_256o8a6": [5], "ov_p12": [6]}
+CODES = {
+    "xs4_33": 50,
+    "xs8_rr": 10,
+    "xs8_330oo": 7,
+    "xp2_70ggg07": 4,
+    "xp2_7": 3,
+    "xs12_256o8a6": 2,
+    "ov_p12": 1,
+}
+SAMPLED = {
+    "xs4_33": [7, 8, 9],
+    "xs8_rr": [3, 8],
+    "xs8_330oo": [4, 20, 30],
+    "xp2_70ggg07": [1],
+    "xp2_7": [0, 1, 2],
+    "xs12_256o8a6": [5],
+    "ov_p12": [6],
+}
 
 
 def sampled(rule: str, totals: dict[str, int]) -> str:
     """The text of a haul with those samples."""
     head, _, _ = haul(rule, 100, totals).partition("@SAMPLE_SOUPIDS\n")
-    return head + "@SAMPLE_SOUPIDS\n" + "".join(f"{code} {' '.join(map(str, SAMPLED[code][: totals[code]]))}\n" for code in sorted(totals))
+    return (
+        head
+        + "@SAMPLE_SOUPIDS\n"
+        + "".join(
+            f"{code} {' '.join(map(str, SAMPLED[code][: totals[code]]))}\n"
+            for code in sorted(totals)
+        )
+    )
 
 
 class Tables(unittest.TestCase):
@@ -201,48 +322,102 @@ class Tables(unittest.TestCase):
         return [re.split("  +", row.strip()) for row in output.splitlines()[1:]]
 
     def test_labels(self) -> None:
-        self.assertEqual([(row[1], row[6]) for row in self.rows()], [
-            ("xs4_33", "block"), ("xs8_rr", "bi-block"), ("xs8_330oo", "2 blocks"), ("xp2_70ggg07", "3 blinkers"), ("xp2_7", "blinker"),
-            ("xs12_256o8a6", "-"), ("ov_p12", "not separated")])
+        self.assertEqual(
+            [(row[1], row[6]) for row in self.rows()],
+            [
+                ("xs4_33", "block"),
+                ("xs8_rr", "bi-block"),
+                ("xs8_330oo", "2 blocks"),
+                ("xp2_70ggg07", "3 blinkers"),
+                ("xp2_7", "blinker"),
+                ("xs12_256o8a6", "-"),
+                ("ov_p12", "not separated"),
+            ],
+        )
 
     def test_strict(self) -> None:
         """Objects of one part, with their ranks among all, and what isn't separated, marked so."""
-        strict = [["1", "xs4_33", "block"], ["5", "xp2_7", "blinker"], ["6", "xs12_256o8a6", "-"], ["7", "ov_p12", "not separated"]]
+        strict = [
+            ["1", "xs4_33", "block"],
+            ["5", "xp2_7", "blinker"],
+            ["6", "xs12_256o8a6", "-"],
+            ["7", "ov_p12", "not separated"],
+        ]
         self.assertEqual([[row[0], row[1], row[6]] for row in self.rows("--strict")], strict)
-        self.assertEqual([row[1] for row in self.rows("--strict", "--rare", "--top", "3")], ["ov_p12", "xs12_256o8a6", "xp2_7"])
-        self.assertEqual([row[1] for row in self.rows("--strict", "--kind", "s")], ["xs4_33", "xs12_256o8a6"])
+        self.assertEqual(
+            [row[1] for row in self.rows("--strict", "--rare", "--top", "3")],
+            ["ov_p12", "xs12_256o8a6", "xp2_7"],
+        )
+        self.assertEqual(
+            [row[1] for row in self.rows("--strict", "--kind", "s")], ["xs4_33", "xs12_256o8a6"]
+        )
 
     def test_by_parts(self) -> None:
-        """50 blocks and two in each of 17 objects; 3 blinkers and three in each of 4. The samples are the three lowest numbers."""
-        self.assertEqual(self.rows("--parts"), [
-            ["1", "xs4_33", "84", "840000.00", "1", "3,4,7", "block"], ["2", "xp2_7", "15", "150000.00", "6", "0,1,2", "blinker"],
-            ["3", "xs12_256o8a6", "2", "20000.00", "50", "5", "-"], ["4", "ov_p12", "1", "10000.00", "100", "6", "not separated"]])
-        self.assertEqual([row[1] for row in self.rows("--parts", "--rare", "--kind", "p")], ["ov_p12", "xp2_7"])
+        """50 blocks and two in each of 17 objects; 3 blinkers and three in each of 4. The samples
+        are the three lowest numbers."""
+        self.assertEqual(
+            self.rows("--parts"),
+            [
+                ["1", "xs4_33", "84", "840000.00", "1", "3,4,7", "block"],
+                ["2", "xp2_7", "15", "150000.00", "6", "0,1,2", "blinker"],
+                ["3", "xs12_256o8a6", "2", "20000.00", "50", "5", "-"],
+                ["4", "ov_p12", "1", "10000.00", "100", "6", "not separated"],
+            ],
+        )
+        self.assertEqual(
+            [row[1] for row in self.rows("--parts", "--rare", "--kind", "p")], ["ov_p12", "xp2_7"]
+        )
 
     def test_csv(self) -> None:
         heads = ("code", "label", "parts", "strict", "separated", "by_parts")
-        for words, wanted in ((["--csv"], [
-            ["xs4_33", "block", "xs4_33", "yes", "yes", "no"], ["xs8_rr", "bi-block", "xs4_33 xs4_33", "no", "yes", "no"],
-            ["xs8_330oo", "2 blocks", "xs4_33 xs4_33", "no", "yes", "no"], ["xp2_70ggg07", "3 blinkers", "xp2_7 xp2_7 xp2_7", "no", "yes", "no"],
-            ["xp2_7", "blinker", "xp2_7", "yes", "yes", "no"], ["xs12_256o8a6", "", "xs12_256o8a6", "yes", "yes", "no"],
-            ["ov_p12", "", "ov_p12", "no", "no", "no"]]),
-                (["--csv", "--parts", "--top=1"], [["xs4_33", "block", "xs4_33", "yes", "yes", "yes"]])):
+        for words, wanted in (
+            (
+                ["--csv"],
+                [
+                    ["xs4_33", "block", "xs4_33", "yes", "yes", "no"],
+                    ["xs8_rr", "bi-block", "xs4_33 xs4_33", "no", "yes", "no"],
+                    ["xs8_330oo", "2 blocks", "xs4_33 xs4_33", "no", "yes", "no"],
+                    ["xp2_70ggg07", "3 blinkers", "xp2_7 xp2_7 xp2_7", "no", "yes", "no"],
+                    ["xp2_7", "blinker", "xp2_7", "yes", "yes", "no"],
+                    ["xs12_256o8a6", "", "xs12_256o8a6", "yes", "yes", "no"],
+                    ["ov_p12", "", "ov_p12", "no", "no", "no"],
+                ],
+            ),
+            (["--csv", "--parts", "--top=1"], [["xs4_33", "block", "xs4_33", "yes", "yes", "yes"]]),
+        ):
             rows = csv.DictReader(run("table", *words, text=self.TEXT)[1].splitlines())
             self.assertEqual([[row[head] for head in heads] for row in rows], wanted)
 
     def test_json(self) -> None:
         told = json.loads(run("table", "--json", text=self.TEXT)[1])
         self.assertEqual((told["by_parts"], told["total"]), (False, 77))
-        self.assertEqual({one["code"]: (one["label"], one["parts"], one["strict"], one["separated"]) for one in told["objects"]}, {
-            "xs4_33": ("block", ["xs4_33"], True, True), "xs8_rr": ("bi-block", ["xs4_33"] * 2, False, True),
-            "xs8_330oo": ("2 blocks", ["xs4_33"] * 2, False, True), "xp2_70ggg07": ("3 blinkers", ["xp2_7"] * 3, False, True),
-            "xp2_7": ("blinker", ["xp2_7"], True, True), "xs12_256o8a6": (None, ["xs12_256o8a6"], True, True), "ov_p12": (None, ["ov_p12"], False, False)})
+        self.assertEqual(
+            {
+                one["code"]: (one["label"], one["parts"], one["strict"], one["separated"])
+                for one in told["objects"]
+            },
+            {
+                "xs4_33": ("block", ["xs4_33"], True, True),
+                "xs8_rr": ("bi-block", ["xs4_33"] * 2, False, True),
+                "xs8_330oo": ("2 blocks", ["xs4_33"] * 2, False, True),
+                "xp2_70ggg07": ("3 blinkers", ["xp2_7"] * 3, False, True),
+                "xp2_7": ("blinker", ["xp2_7"], True, True),
+                "xs12_256o8a6": (None, ["xs12_256o8a6"], True, True),
+                "ov_p12": (None, ["ov_p12"], False, False),
+            },
+        )
         told = json.loads(run("table", "--json", "--parts", text=self.TEXT)[1])
-        self.assertEqual((told["by_parts"], told["total"], told["not_separated"]), (True, 102, ["ov_p12"]))
-        self.assertEqual({code: told["parts"][code] for code in ("xs8_rr", "xp2_7", "ov_p12")}, {
-            "xs8_rr": ["xs4_33", "xs4_33"], "xp2_7": ["xp2_7"], "ov_p12": ["ov_p12"]})
-        self.assertEqual((len(told["parts"]), [(one["code"], one["total"]) for one in told["objects"]]), (7, [
-            ("xs4_33", 84), ("xp2_7", 15), ("xs12_256o8a6", 2), ("ov_p12", 1)]))
+        self.assertEqual(
+            (told["by_parts"], told["total"], told["not_separated"]), (True, 102, ["ov_p12"])
+        )
+        self.assertEqual(
+            {code: told["parts"][code] for code in ("xs8_rr", "xp2_7", "ov_p12")},
+            {"xs8_rr": ["xs4_33", "xs4_33"], "xp2_7": ["xp2_7"], "ov_p12": ["ov_p12"]},
+        )
+        self.assertEqual(
+            (len(told["parts"]), [(one["code"], one["total"]) for one in told["objects"]]),
+            (7, [("xs4_33", 84), ("xp2_7", 15), ("xs12_256o8a6", 2), ("ov_p12", 1)]),
+        )
 
     def test_not_both(self) -> None:
         status, output, errors = run("table", "--strict", "--parts", text=self.TEXT)
@@ -254,10 +429,16 @@ class Tables(unittest.TestCase):
         code = "xp2_1" + "yz" * 30 + "1"
         with tempfile.TemporaryDirectory() as folder:
             Path(folder, "a").write_text(haul("b3s23", 100, {code: 2, "xs4_33": 1}))
-            for words in (["table", "--csv"], ["table", "--csv", "--parts"], ["compare", "--csv", f"{folder}/a"]):
+            for words in (
+                ["table", "--csv"],
+                ["table", "--csv", "--parts"],
+                ["compare", "--csv", f"{folder}/a"],
+            ):
                 status, output, errors = run(*words, f"{folder}/a")
                 self.assertEqual((status, errors), (0, ""))
-                self.assertEqual([row["code"] for row in csv.DictReader(output.splitlines())], [code, "xs4_33"])
+                self.assertEqual(
+                    [row["code"] for row in csv.DictReader(output.splitlines())], [code, "xs4_33"]
+                )
             status, output, errors = run("page", "--play=0", f"{folder}/a")
         self.assertEqual((status, errors, output.count("<td>can't be drawn</td>")), (0, "", 1))
 
@@ -271,48 +452,98 @@ class SideBySide(unittest.TestCase):
         self.names = [f"{self.folder.name}/{name}" for name in "ab"]
 
     def test_each_under_its_own_rule(self) -> None:
-        rows = {row["code"]: row for row in csv.DictReader(run("compare", "--csv", *self.names)[1].splitlines())}
-        self.assertEqual([rows["xs8_rr"][head] for head in ("total_a", "parts_a", "total_b", "parts_b", "by_parts")], ["10", "xs4_33 xs4_33", "5", "xs4_33 xs4_33", "no"])
-        self.assertEqual([rows["xp2_70ggg07"][head] for head in ("parts_a", "parts_b")], ["xp2_7 xp2_7 xp2_7", ""])
+        rows = {
+            row["code"]: row
+            for row in csv.DictReader(run("compare", "--csv", *self.names)[1].splitlines())
+        }
+        self.assertEqual(
+            [
+                rows["xs8_rr"][head]
+                for head in ("total_a", "parts_a", "total_b", "parts_b", "by_parts")
+            ],
+            ["10", "xs4_33 xs4_33", "5", "xs4_33 xs4_33", "no"],
+        )
+        self.assertEqual(
+            [rows["xp2_70ggg07"][head] for head in ("parts_a", "parts_b")],
+            ["xp2_7 xp2_7 xp2_7", ""],
+        )
         told = json.loads(run("compare", "--json", *self.names)[1])
         self.assertFalse(told["by_parts"])
-        self.assertEqual([one["parts"].get("xs8_rr") for one in told["hauls"]], [["xs4_33"] * 2] * 2)
+        self.assertEqual(
+            [one["parts"].get("xs8_rr") for one in told["hauls"]], [["xs4_33"] * 2] * 2
+        )
         self.assertEqual([one["not_separated"] for one in told["hauls"]], [["ov_p12"], []])
 
     def test_other_parts_under_another_rule(self) -> None:
-        """Each table of a table on table dies in Life, and stays where nothing is born and one neighbour is enough. On its side it is
-        two columns of four cells, of which one lacks the middle."""
+        """Each table of a table on table dies in Life, and stays where nothing is born and one
+        neighbour is enough. On its side it is two columns of four cells, of which one lacks the
+        middle."""
         for name, rule in zip(self.names, ("b3s23", "bs123"), strict=True):
             Path(name).write_text(haul(rule, 100, {"xs12_raar": 4}))
         told = json.loads(run("compare", "--json", *self.names)[1])
-        self.assertEqual([one["parts"] for one in told["hauls"]], [{"xs12_raar": ["xs12_raar"]}, {"xs12_raar": ["xs6_9f"] * 2}])
+        self.assertEqual(
+            [one["parts"] for one in told["hauls"]],
+            [{"xs12_raar": ["xs12_raar"]}, {"xs12_raar": ["xs6_9f"] * 2}],
+        )
         told = json.loads(run("compare", "--json", "--parts", *self.names)[1])
-        self.assertEqual({one["code"]: one["totals"] for one in told["objects"]}, {"xs6_9f": [0, 8], "xs12_raar": [4, 0]})
+        self.assertEqual(
+            {one["code"]: one["totals"] for one in told["objects"]},
+            {"xs6_9f": [0, 8], "xs12_raar": [4, 0]},
+        )
 
     def test_by_parts(self) -> None:
         lines = run("compare", "--parts", *self.names)[1].splitlines()
         self.assertEqual(lines[1], "A: 100 soups, 1 unsettled, 2 for good, 102 objects by parts")
         self.assertEqual(lines[3], "B: 100 soups, 1 unsettled, 2 for good, 11 objects by parts")
-        self.assertEqual([line.split()[:4] for line in lines[5:-1]], [
-            ["xs4_33", "block", "84", "11"], ["xp2_7", "blinker", "15", "0"], ["xs12_256o8a6", "-", "2", "0"], ["ov_p12", "not_separated", "1", "0"]])
+        self.assertEqual(
+            [line.split()[:4] for line in lines[5:-1]],
+            [
+                ["xs4_33", "block", "84", "11"],
+                ["xp2_7", "blinker", "15", "0"],
+                ["xs12_256o8a6", "-", "2", "0"],
+                ["ov_p12", "not_separated", "1", "0"],
+            ],
+        )
         told = json.loads(run("compare", "--parts", "--json", *self.names)[1])
-        self.assertEqual((told["by_parts"], [one["total"] for one in told["hauls"]], len(told["hauls"][0]["parts"])), (True, [102, 11], 7))
+        self.assertEqual(
+            (
+                told["by_parts"],
+                [one["total"] for one in told["hauls"]],
+                len(told["hauls"][0]["parts"]),
+            ),
+            (True, [102, 11], 7),
+        )
         rows = list(csv.DictReader(run("compare", "--parts", "--csv", *self.names)[1].splitlines()))
-        self.assertEqual([(row["code"], row["total_a"], row["total_b"], row["by_parts"]) for row in rows][:2], [("xs4_33", "84", "11", "yes"), ("xp2_7", "15", "0", "yes")])
+        self.assertEqual(
+            [(row["code"], row["total_a"], row["total_b"], row["by_parts"]) for row in rows][:2],
+            [("xs4_33", "84", "11", "yes"), ("xp2_7", "15", "0", "yes")],
+        )
 
     def test_names_are_words_there(self) -> None:
         rows = [line.split()[:2] for line in run("compare", *self.names)[1].splitlines()[5:-1]]
-        self.assertEqual(rows, [["xs4_33", "block"], ["xs8_rr", "bi-block"], ["xs8_330oo", "2_blocks"], ["xp2_70ggg07", "3_blinkers"], ["xp2_7", "blinker"],
-                                ["xs12_256o8a6", "-"], ["ov_p12", "not_separated"]])
+        self.assertEqual(
+            rows,
+            [
+                ["xs4_33", "block"],
+                ["xs8_rr", "bi-block"],
+                ["xs8_330oo", "2_blocks"],
+                ["xp2_70ggg07", "3_blinkers"],
+                ["xp2_7", "blinker"],
+                ["xs12_256o8a6", "-"],
+                ["ov_p12", "not_separated"],
+            ],
+        )
 
 
 class Once(unittest.TestCase):
     def test_each_object_is_separated_once(self) -> None:
-        objects = Objects(example())
+        objects = Objects(example(), QUIET)
         codes = sorted(example().totals)[:20]
-        with patch.object(Separator, "separation_of", autospec=True, side_effect=Separator.separation_of) as separated:
-            objects.separations(codes)
-            objects.separations(codes[5:])
+        with patch.object(
+            Separator, "separate", autospec=True, side_effect=Separator.separate
+        ) as separated:
+            objects.separate_all(codes)
+            objects.separate_all(codes[5:])
         self.assertEqual(separated.call_count, 20)
 
 

@@ -1,4 +1,5 @@
-"""What holds of every haul: one wrong thing at a time is told where it is, and what a page shows is what the haul has."""
+"""What holds of every haul: one wrong thing at a time is told where it is, and what a page shows is
+what the haul has."""
 
 from __future__ import annotations
 
@@ -8,12 +9,15 @@ import re
 import unittest
 from fractions import Fraction
 
-from haul.check import differences, wrong_samples
-from haul.program import Census
+from haul.tests.called import QUIET
+from haul.formats.profile import Profile
+from haul.census.client import Census
+from haul.formats.haul import Haul, Job
+from haul.formats.haul_reader import read_one_haul
+from haul.hauls.check import find_wrong_samples, list_differences
 from haul.tests.called import CENSUS, census
 from haul.tests.drawn import any_haul
 from haul.tests.pages import compared, objects_of, page, table_of
-from haul.text import Haul, Job, read_one_haul
 
 
 def read(lines: list[str]) -> Haul:
@@ -21,7 +25,8 @@ def read(lines: list[str]) -> Haul:
 
 
 class OneWrongThing(unittest.TestCase):
-    """A right haul with one row changed, at each place. What is said is put together from its lines."""
+    """A right haul with one row changed, at each place. What is said is put together from its
+    lines."""
 
     def setUp(self) -> None:
         self.lines = census("take", "--count", "40").decode().splitlines()
@@ -31,7 +36,7 @@ class OneWrongThing(unittest.TestCase):
         self.samples = range(self.lines.index("@SAMPLE_SOUPIDS") + 1, len(self.lines))
 
     def said(self, lines: list[str]) -> list[str]:
-        return list(differences(read(lines), self.right))
+        return list(list_differences(read(lines), self.right))
 
     def with_objects(self, more: int) -> tuple[list[str], str]:
         """The lines with another number of objects, and what is said of that."""
@@ -45,7 +50,10 @@ class OneWrongThing(unittest.TestCase):
             for other in {int(total) + 1, int(total) + 7, 2**63}:
                 lines, told = self.with_objects(other - int(total))
                 lines[place] = f"{code} {other}"
-                self.assertEqual(self.said(lines), [told, f"line {place + 1}: is {code} {other}, should be {code} {total}"])
+                self.assertEqual(
+                    self.said(lines),
+                    [told, f"line {place + 1}: is {code} {other}, should be {code} {total}"],
+                )
 
     def test_codes(self) -> None:
         """One that is missing, and one that is too much, before each."""
@@ -58,21 +66,34 @@ class OneWrongThing(unittest.TestCase):
             lines.insert(row, f"{code[:-1]} 39")
             lines.insert(place, f"{code[:-1]} 5")
             if code[:-1] > self.lines[place - 1].split(" ")[0]:
-                self.assertEqual(self.said(lines), [told, f"line {place + 1}: {code[:-1]}, should not be there"])
+                self.assertEqual(
+                    self.said(lines), [told, f"line {place + 1}: {code[:-1]}, should not be there"]
+                )
 
     def test_samples(self) -> None:
         """Another number at each place, one less, and one more."""
         tried = 0
         for row in self.samples:
             code, *numbers = self.lines[row].split()
-            others = [[*numbers[:k], str(number), *numbers[k + 1 :]] for k in range(len(numbers)) for number in range(40)]
+            others = [
+                [*numbers[:k], str(number), *numbers[k + 1 :]]
+                for k in range(len(numbers))
+                for number in range(40)
+            ]
             others += [numbers[:-1], [*numbers, "39"]]
             for other in others:
-                is_lawful = other and list(map(int, other)) == sorted(set(map(int, other))) and len(other) <= min(3, self.right.totals[code])
+                is_lawful = (
+                    other
+                    and list(map(int, other)) == sorted(set(map(int, other)))
+                    and len(other) <= min(3, self.right.totals[code])
+                )
                 if is_lawful and other != numbers:
                     lines = list(self.lines)
                     lines[row] = " ".join([code, *other])
-                    self.assertEqual(self.said(lines), [f"line {row + 1}: is {lines[row]}, should be {self.lines[row]}"])
+                    self.assertEqual(
+                        self.said(lines),
+                        [f"line {row + 1}: is {lines[row]}, should be {self.lines[row]}"],
+                    )
                     tried += 1
         self.assertGreater(tried, 200)
 
@@ -83,12 +104,19 @@ class OneWrongThing(unittest.TestCase):
             for other in {0, 1, number + 1} - {number}:
                 lines = list(self.lines)
                 lines[line] = f"{name} {other}"
-                self.assertEqual(self.said(lines), [f"line {line + 1}: is {name} {other}, should be {self.lines[line]}"])
+                self.assertEqual(
+                    self.said(lines),
+                    [f"line {line + 1}: is {name} {other}, should be {self.lines[line]}"],
+                )
 
     def test_sample_soups(self) -> None:
         """A soup that doesn't leave the object, at each place, and by itself."""
-        left = {number: {field.partition("*")[0] for field in line.split()[9:]} for number, line in enumerate(
-            census("work", "--count", "40", "--worker", "1").decode().splitlines())}
+        left = {
+            number: {field.partition("*")[0] for field in line.split()[9:]}
+            for number, line in enumerate(
+                census("work", "--count", "40", "--worker", "1").decode().splitlines()
+            )
+        }
         asked = Once(left)
         tried = 0
         for row in self.samples:
@@ -100,7 +128,10 @@ class OneWrongThing(unittest.TestCase):
                         continue
                     lines = list(self.lines)
                     lines[row] = " ".join([code, *other])
-                    self.assertEqual(list(wrong_samples(asked, read(lines))), [f"line {row + 1}: soup {wrong} leaves no {code}"])
+                    self.assertEqual(
+                        list(find_wrong_samples(asked, read(lines))),
+                        [f"line {row + 1}: soup {wrong} leaves no {code}"],
+                    )
                     tried += 1
         self.assertGreater(tried, 500)
 
@@ -109,26 +140,34 @@ class Once(Census):
     """The program, of which each soup's objects are known already."""
 
     def __init__(self, left: dict[int, set[str]]) -> None:
-        super().__init__(CENSUS)
+        super().__init__(CENSUS, QUIET)
         self.left = left
 
     def reports(self, job: Job, numbers: list[int]) -> dict[int, list[str]]:
-        return {number: ["at=0", "good=no", *(f"{code}*1" for code in self.left[number])] for number in numbers}
+        return {
+            number: ["at=0", "good=no", *(f"{code}*1" for code in self.left[number])]
+            for number in numbers
+        }
 
 
 def how_often(soups: int, total: int) -> str:
-    """Returns how often an object comes: at most in one of this many soups, or, if there are more objects than half the soups, how many
-    there are per soup, with three digits."""
+    """Returns how often an object comes: at most in one of this many soups, or, if there are more
+    objects than half the soups, how many there are per soup, with three digits."""
     if soups == 0:
         return "none"
     if Fraction(total, soups) <= Fraction(1, 2):
         return f"≤ 1 in {soups // total:,} soups"
-    return f"{total / soups:,.0f} per soup" if total >= 100 * soups else f"{total / soups:.3g} per soup"
+    return (
+        f"{total / soups:,.0f} per soup"
+        if total >= 100 * soups
+        else f"{total / soups:.3g} per soup"
+    )
 
 
 class Shown(unittest.TestCase):
     def test_number_for_number(self) -> None:
-        """Each code with its numbers, the most frequent first, in the table and in the data, and all facts before the table."""
+        """Each code with its numbers, the most frequent first, in the table and in the data, and
+        all facts before the table."""
         draw = random.Random("pages")
         rows = 0
         for _ in range(200):
@@ -140,13 +179,29 @@ class Shown(unittest.TestCase):
             self.assertEqual(list(objects)[: len(codes)], codes)
             for code, row in zip(codes, shown, strict=True):
                 total, samples = haul.totals[code], haul.samples[code]
-                self.assertEqual(row.cells[4:], [f"{total:,}", how_often(haul.soups, total), " ".join(map(str, samples))])
+                self.assertEqual(
+                    row.cells[4:],
+                    [f"{total:,}", how_often(haul.soups, total), " ".join(map(str, samples))],
+                )
                 self.assertEqual(objects[code]["objects"], [[total, *samples]])
-            soups = f"{haul.soups:,}" + (f" <small>of {haul.size():,}</small>" if haul.size() > haul.soups else "")
+            soups = f"{haul.soups:,}" + (
+                f" <small>of {haul.size():,}</small>" if haul.size() > haul.soups else ""
+            )
             found = re.findall("<dt>([a-z ]*)(?:<small>.*?</small>)?</dt><dd>(.*?)</dd>", text)
-            self.assertEqual([pair for pair in found if pair[0] != "of these strict"], [
-                ("soups", soups), ("objects", f"{haul.objects():,}"), ("objects per soup", f"{haul.objects() / haul.soups:.2f}" if haul.soups else "–"),
-                ("distinct objects", f"{len(codes):,}"), ("unsettled soups", f"{haul.unsettled:,}"), ("settled for good", f"{haul.for_good:,}")])
+            self.assertEqual(
+                [pair for pair in found if pair[0] != "of these strict"],
+                [
+                    ("soups", soups),
+                    ("objects", f"{haul.objects():,}"),
+                    (
+                        "objects per soup",
+                        f"{haul.objects() / haul.soups:.2f}" if haul.soups else "–",
+                    ),
+                    ("distinct objects", f"{len(codes):,}"),
+                    ("unsettled soups", f"{haul.unsettled:,}"),
+                    ("settled for good", f"{haul.for_good:,}"),
+                ],
+            )
             rows += len(shown)
         self.assertGreater(rows, 300)
 
@@ -158,13 +213,28 @@ class Shown(unittest.TestCase):
             for least in {0, 1, *list(haul.totals.values())[:3]}:
                 text = compared(haul, least=least)
                 shown = sorted(row.cells[1].split()[-1] for row in table_of(text).rows)
-                self.assertEqual(shown, [code for code, total in haul.totals.items() if total >= least])
-                self.assertIn(f"{len(shown):,} of {len(haul.totals):,} distinct objects, the most frequent first.", text)
+                self.assertEqual(
+                    shown, [code for code, total in haul.totals.items() if total >= least]
+                )
+                self.assertIn(
+                    f"{len(shown):,} of {len(haul.totals):,} distinct objects, the most frequent first.",
+                    text,
+                )
 
     def test_four_thousand(self) -> None:
         codes = [f"xs4_{number:04}" for number in range(4000)]
-        haul = Haul(Job("", "b3s23", (1, 1, 1, 0)), [(0, 1)], 1, 0, 0, {code: 1 + k for k, code in enumerate(codes)}, {code: [0] for code in codes})
-        self.assertEqual([row.cells[1].split()[-1] for row in table_of(page(haul, 0)).rows], codes[::-1])
+        haul = Haul(
+            Job("", "b3s23", Profile(1, 1, 1, 0)),
+            ranges=[(0, 1)],
+            soups=1,
+            unsettled=0,
+            for_good=0,
+            totals={code: 1 + k for k, code in enumerate(codes)},
+            samples={code: [0] for code in codes},
+        )
+        self.assertEqual(
+            [row.cells[1].split()[-1] for row in table_of(page(haul, 0)).rows], codes[::-1]
+        )
 
 
 if __name__ == "__main__":

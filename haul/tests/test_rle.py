@@ -12,10 +12,10 @@ import time
 import unittest
 from pathlib import Path
 
-from haul.rle import BadRle, option_of, read_rle, rle_of
-from haul.rule_names import RULES, rule_named
+from haul.formats.rle import BadRle, format_rle, read_rle
+from haul.formats.rules import RULES, find_named_rule, parse_rule
+from haul.formats.syntax import RULE
 from haul.tests.called import CENSUS, HAUL, census, run
-from haul.text import RULE
 
 # The glider gun as LifeWiki has it in RLE, which is the one of examples/glider-gun.cells.
 GUN = """\
@@ -34,7 +34,9 @@ def cells(text: str) -> tuple[int, str, str]:
 
 
 def life(words: list[str], pattern: str) -> str:
-    return subprocess.run([CENSUS, *words], input=pattern.encode(), stdout=subprocess.PIPE, check=True).stdout.decode()
+    return subprocess.run(
+        [CENSUS, *words], input=pattern.encode(), stdout=subprocess.PIPE, check=True
+    ).stdout.decode()
 
 
 def boxed(rows: list[str]) -> list[str]:
@@ -47,10 +49,21 @@ def boxed(rows: list[str]) -> list[str]:
 
 def drawn_rows(draw: random.Random, most: int) -> list[str]:
     """Rows whose least box begins at the corner, at any density."""
-    width, height, density = draw.randint(1, most), draw.randint(1, most), draw.choice([0.02, 0.3, 0.9])
-    rows = ["".join("O" if draw.random() < density else "." for _ in range(width)) for _ in range(height)]
+    width, height, density = (
+        draw.randint(1, most),
+        draw.randint(1, most),
+        draw.choice([0.02, 0.3, 0.9]),
+    )
+    rows = [
+        "".join("O" if draw.random() < density else "." for _ in range(width))
+        for _ in range(height)
+    ]
     # The box is as wide and as high as this says.
-    return ["O" + "." * (width - 1), *rows[1:-1], "." * (width - 1) + "O"] if height > 1 else ["O" + rows[0][1:-1] + "O" if width > 1 else "O"]
+    return (
+        ["O" + "." * (width - 1), *rows[1:-1], "." * (width - 1) + "O"]
+        if height > 1
+        else ["O" + rows[0][1:-1] + "O" if width > 1 else "O"]
+    )
 
 
 class Reading(unittest.TestCase):
@@ -63,11 +76,24 @@ class Reading(unittest.TestCase):
         self.assertEqual((output.count("O"), life(["run", "30"], output).count("O")), (36, 41))
 
     def test_what_may_stand_there(self) -> None:
-        for text in (HEAD + "bo$2bo$3o!", HEAD + "bob$2bo$3o$!", HEAD + "bo$\n2bo$\n3o\n!\n", HEAD + "1bo1$02b1o$3o!", HEAD + "b o $ 2b\to $ 3o !",
-                     HEAD + "bo$2\nbo$3o!", "x=3,y=3\r\nbo$2bo$3o!\r\n", "x = 900000, y = 0\nbo$2bo$3o!", HEAD + "bo$2bo$3o!5Q what follows $9999o",
-                     "#N glider\n#C o!\nx = 3, y = 3, rule = B3/S23\n#C o\nbo$2bo$\n#o\n3o!", "bo$2bo$3o!", HEAD + "bo$2bo$3o99999999999b$!",
-                     HEAD + "bo$2bo$3o100000000000$!", "\n\nx = 3, y = 3\n\nbo$2bo$3o!", "  x  =  3 ,  y  =  3 , rule = 23/3 \nbo$2bo$3o!",
-                     HEAD + "bo$" + "0" * 5000 + "2bo$3o!"):
+        for text in (
+            HEAD + "bo$2bo$3o!",
+            HEAD + "bob$2bo$3o$!",
+            HEAD + "bo$\n2bo$\n3o\n!\n",
+            HEAD + "1bo1$02b1o$3o!",
+            HEAD + "b o $ 2b\to $ 3o !",
+            HEAD + "bo$2\nbo$3o!",
+            "x=3,y=3\r\nbo$2bo$3o!\r\n",
+            "x = 900000, y = 0\nbo$2bo$3o!",
+            HEAD + "bo$2bo$3o!5Q what follows $9999o",
+            "#N glider\n#C o!\nx = 3, y = 3, rule = B3/S23\n#C o\nbo$2bo$\n#o\n3o!",
+            "bo$2bo$3o!",
+            HEAD + "bo$2bo$3o99999999999b$!",
+            HEAD + "bo$2bo$3o100000000000$!",
+            "\n\nx = 3, y = 3\n\nbo$2bo$3o!",
+            "  x  =  3 ,  y  =  3 , rule = 23/3 \nbo$2bo$3o!",
+            HEAD + "bo$" + "0" * 5000 + "2bo$3o!",
+        ):
             with self.subTest(text=text[:60]):
                 self.assertEqual(cells(text), (0, GLIDER, ""))
 
@@ -78,19 +104,40 @@ class Reading(unittest.TestCase):
                 self.assertEqual((status, output.strip("\n"), errors), (0, "", ""))
 
     def test_rules(self) -> None:
-        for said, option in (("B36/S23", "b36s23"), ("b36/s23", "b36s23"), ("b63s32", "b36s23"), ("23/36", "b36s23"), ("B2/S", "b2s"), ("/2", "b2s"),
-                             ("B/S012345678", "bs012345678")):
+        for said, option in (
+            ("B36/S23", "b36s23"),
+            ("b36/s23", "b36s23"),
+            ("b63s32", "b36s23"),
+            ("23/36", "b36s23"),
+            ("B2/S", "b2s"),
+            ("/2", "b2s"),
+            ("B/S012345678", "bs012345678"),
+        ):
             with self.subTest(said=said):
                 text = f"x = 3, y = 3, rule = {said}\nbo$2bo$3o!"
-                self.assertEqual(cells(text), (0, GLIDER, f"haul: rule {said} is --rule {option}\n"))
-        for said, option in (("HighLife", "b36s23"), ("DayNight", "b3678s34678"), ("Day & Night", "b3678s34678"), ("Seeds", "b2s"), ("34 Life", "b34s34"),
-                             ("Life without Death", "b3s012345678"), ("2x2", "b36s125"), ("Live Free or Die", "b2s0"), ("Maze", "b3s12345")):
+                self.assertEqual(
+                    cells(text), (0, GLIDER, f"haul: rule {said} is --rule {option}\n")
+                )
+        for said, option in (
+            ("HighLife", "b36s23"),
+            ("DayNight", "b3678s34678"),
+            ("Day & Night", "b3678s34678"),
+            ("Seeds", "b2s"),
+            ("34 Life", "b34s34"),
+            ("Life without Death", "b3s012345678"),
+            ("2x2", "b36s125"),
+            ("Live Free or Die", "b2s0"),
+            ("Maze", "b3s12345"),
+        ):
             with self.subTest(said=said):
                 text = f"x = 3, y = 3, rule = {said}\nbo$2bo$3o!"
-                self.assertEqual((read_rle(text.encode())[1], option_of(said)), (said, option))
-        self.assertEqual(cells("x = 3, y = 3, rule = HighLife\nbo$2bo$3o!"), (0, GLIDER, "haul: rule HighLife is --rule b36s23\n"))
+                self.assertEqual((read_rle(text.encode())[1], parse_rule(said)), (said, option))
+        self.assertEqual(
+            cells("x = 3, y = 3, rule = HighLife\nbo$2bo$3o!"),
+            (0, GLIDER, "haul: rule HighLife is --rule b36s23\n"),
+        )
         for said in ("Life", "LIFE", "Conway's Life"):
-            self.assertEqual(option_of(said), "b3s23")
+            self.assertEqual(parse_rule(said), "b3s23")
         for said in ("B3/S23", "b3/s23", "B3S23", "23/3", "32/3", "B33/S23", "Life"):
             with self.subTest(said=said):
                 self.assertEqual(cells(f"x = 3, y = 3, rule = {said}\nbo$2bo$3o!"), (0, GLIDER, ""))
@@ -116,38 +163,75 @@ class NamedRules(unittest.TestCase):
         """Each is a value of `--rule`, and no birth is on zero neighbours; a name stands once."""
         for name, option in RULES.items():
             self.assertTrue(RULE.fullmatch(option.encode()), option)
-            self.assertEqual(rule_named(name.upper()), option)
-        self.assertIsNone(rule_named("LifeHistory"))
+            self.assertEqual(find_named_rule(name.upper()), option)
+        self.assertIsNone(find_named_rule("LifeHistory"))
 
 
 class Refused(unittest.TestCase):
     FAULTS = [
-        (HEAD + "bo$2bqA$3o!", 2, 6, "a third state"), (HEAD + "bo$2bA$3o!", 2, 6, "a third state"), (HEAD + "bo$\n2b?$3o!", 3, 3, "not b, o, $ or !"),
-        (HEAD + "bo$2bo$3o", 2, 10, "no ! at the end"), (HEAD + "bo$2bo$3o\n", 3, 1, "no ! at the end"), (HEAD + "bo$2", 2, 5, "no ! at the end"),
-        (HEAD + "3!", 2, 2, "not b, o, $ or !"), (HEAD + "1 2o!", 2, 3, "not b, o, $ or !"), (HEAD + "bo$0o!", 2, 4, "a count of 0"),
-        ("#C x\n" + HEAD + "1001o!", 3, 1, "a cell past the 1000th column or row"), (HEAD + "1000bo!", 2, 6, "a cell past the 1000th column or row"),
-        (HEAD + "1000$o!", 2, 6, "a cell past the 1000th column or row"), (HEAD + "100000000000o!", 2, 1, "a cell past the 1000th column or row"),
+        (HEAD + "bo$2bqA$3o!", 2, 6, "a third state"),
+        (HEAD + "bo$2bA$3o!", 2, 6, "a third state"),
+        (HEAD + "bo$\n2b?$3o!", 3, 3, "not b, o, $ or !"),
+        (HEAD + "bo$2bo$3o", 2, 10, "no ! at the end"),
+        (HEAD + "bo$2bo$3o\n", 3, 1, "no ! at the end"),
+        (HEAD + "bo$2", 2, 5, "no ! at the end"),
+        (HEAD + "3!", 2, 2, "not b, o, $ or !"),
+        (HEAD + "1 2o!", 2, 3, "not b, o, $ or !"),
+        (HEAD + "bo$0o!", 2, 4, "a count of 0"),
+        ("#C x\n" + HEAD + "1001o!", 3, 1, "a cell past the 1000th column or row"),
+        (HEAD + "1000bo!", 2, 6, "a cell past the 1000th column or row"),
+        (HEAD + "1000$o!", 2, 6, "a cell past the 1000th column or row"),
+        (HEAD + "100000000000o!", 2, 1, "a cell past the 1000th column or row"),
         (HEAD + "100000000000$100000000000o!", 2, 14, "a cell past the 1000th column or row"),
-        ("x = 3, y = 3, rule = B3/S23:T100,100\no!", 1, 28, "a bounded grid"), ("x = 3, y = 3, rule = B03/S23\no!", 1, 22, "birth on zero neighbours"),
-        ("x = 3, y = 3, rule = 23/03\no!", 1, 22, "birth on zero neighbours"), ("x = 3, y = 3, rule = WireWorld\no!", 1, 22, "a rule that is neither B/S, S/B nor a known name"),
-        ("x = 3, y = 3, rule = B2-a/S12\no!", 1, 22, "a rule that is neither B/S, S/B nor a known name"), ("x = 3\no!", 1, 1, "not a header"),
-        ("x = 3, y = 3, rule = B3/S9\no!", 1, 22, "a rule that is neither B/S, S/B nor a known name"), ("x = 3, y = 3, z = 3\no!", 1, 1, "not a header"),
-        ("hello", 1, 1, "not b, o, $ or !"), (HEAD + HEAD + "o!", 2, 1, "not b, o, $ or !"), (HEAD + "\xff!", 2, 1, "not b, o, $ or !"),
-        ("\n?", 2, 1, "not b, o, $ or !"), ("\n\nx = 3\no!", 3, 1, "not a header"),
+        ("x = 3, y = 3, rule = B3/S23:T100,100\no!", 1, 28, "a bounded grid"),
+        ("x = 3, y = 3, rule = B03/S23\no!", 1, 22, "birth on zero neighbours"),
+        ("x = 3, y = 3, rule = 23/03\no!", 1, 22, "birth on zero neighbours"),
+        (
+            "x = 3, y = 3, rule = WireWorld\no!",
+            1,
+            22,
+            "a rule that is neither B/S, S/B nor a known name",
+        ),
+        (
+            "x = 3, y = 3, rule = B2-a/S12\no!",
+            1,
+            22,
+            "a rule that is neither B/S, S/B nor a known name",
+        ),
+        ("x = 3\no!", 1, 1, "not a header"),
+        (
+            "x = 3, y = 3, rule = B3/S9\no!",
+            1,
+            22,
+            "a rule that is neither B/S, S/B nor a known name",
+        ),
+        ("x = 3, y = 3, z = 3\no!", 1, 1, "not a header"),
+        ("hello", 1, 1, "not b, o, $ or !"),
+        (HEAD + HEAD + "o!", 2, 1, "not b, o, $ or !"),
+        (HEAD + "\xff!", 2, 1, "not b, o, $ or !"),
+        ("\n?", 2, 1, "not b, o, $ or !"),
+        ("\n\nx = 3\no!", 3, 1, "not a header"),
     ]
 
     def test_each_fault(self) -> None:
         for text, line, column, why in self.FAULTS:
             with self.subTest(text=text[:60]):
-                self.assertEqual(cells(text), (3, "", f"haul: bad RLE at line {line} column {column}: {why}\n"))
+                self.assertEqual(
+                    cells(text), (3, "", f"haul: bad RLE at line {line} column {column}: {why}\n")
+                )
 
     def test_a_file_is_named(self) -> None:
         with tempfile.TemporaryDirectory() as folder:
             name = os.path.join(folder, "a.rle")
             Path(name).write_text(HEAD + "o?")
-            self.assertEqual(run("cells", name), (3, "", f"haul: {name}: bad RLE at line 2 column 2: not b, o, $ or !\n"))
+            self.assertEqual(
+                run("cells", name),
+                (3, "", f"haul: {name}: bad RLE at line 2 column 2: not b, o, $ or !\n"),
+            )
             Path(name).write_text("?")
-            self.assertEqual(run("rle", name), (3, "", f"haul: {name}: bad byte at line 1 column 1\n"))
+            self.assertEqual(
+                run("rle", name), (3, "", f"haul: {name}: bad byte at line 1 column 1\n")
+            )
 
     def test_large_counts_take_no_time(self) -> None:
         began = time.monotonic()
@@ -159,25 +243,43 @@ class Refused(unittest.TestCase):
         comment = b"!" + b"x" * (2**24 - 1)
         for command in ("cells", "rle"):
             self.assertEqual(run(command, text=comment)[0], 0)
-            self.assertEqual(run(command, text=comment + b"x"), (5, "", "haul: pattern longer than 16777216 bytes\n"))
+            self.assertEqual(
+                run(command, text=comment + b"x"),
+                (5, "", "haul: pattern longer than 16777216 bytes\n"),
+            )
         with tempfile.TemporaryDirectory() as folder:
             name = os.path.join(folder, "long")
             Path(name).write_bytes(comment + b"x")
-            self.assertEqual(run("cells", name), (5, "", f"haul: {name}: pattern longer than 16777216 bytes\n"))
-        self.assertEqual(run("cells", "-", text=comment + b"x"), (5, "", "haul: pattern longer than 16777216 bytes\n"))
+            self.assertEqual(
+                run("cells", name), (5, "", f"haul: {name}: pattern longer than 16777216 bytes\n")
+            )
+        self.assertEqual(
+            run("cells", "-", text=comment + b"x"),
+            (5, "", "haul: pattern longer than 16777216 bytes\n"),
+        )
 
     def test_an_input_without_end(self) -> None:
         with open("/dev/zero", "rb") as zeros:
             for command in ("cells", "rle"):
-                ended = subprocess.run([sys.executable, HAUL, command], stdin=zeros, capture_output=True, check=False)
-                self.assertEqual((ended.returncode, ended.stderr), (5, b"haul: pattern longer than 16777216 bytes\n"))
+                ended = subprocess.run(
+                    [sys.executable, HAUL, command], stdin=zeros, capture_output=True, check=False
+                )
+                self.assertEqual(
+                    (ended.returncode, ended.stderr),
+                    (5, b"haul: pattern longer than 16777216 bytes\n"),
+                )
 
 
 class Writing(unittest.TestCase):
     def test_a_glider(self) -> None:
         """As LifeWiki has it."""
-        self.assertEqual(run("rle", text=GLIDER.encode()), (0, "x = 3, y = 3, rule = B3/S23\nbo$2bo$3o!\n", ""))
-        self.assertEqual(run("rle", "--rule", "b36s23", text=b"!a\n.*\r\n..*.\n***\n\n"), (0, "x = 3, y = 3, rule = B36/S23\nbo$2bo$3o!\n", ""))
+        self.assertEqual(
+            run("rle", text=GLIDER.encode()), (0, "x = 3, y = 3, rule = B3/S23\nbo$2bo$3o!\n", "")
+        )
+        self.assertEqual(
+            run("rle", "--rule", "b36s23", text=b"!a\n.*\r\n..*.\n***\n\n"),
+            (0, "x = 3, y = 3, rule = B36/S23\nbo$2bo$3o!\n", ""),
+        )
 
     def test_nothing(self) -> None:
         for text in (b"", b"!a\n", b"...\n...\n"):
@@ -187,7 +289,9 @@ class Writing(unittest.TestCase):
         """Lines have at most 70 characters, and no run is cut."""
         lines = run("rle", text=cells(GUN)[1].encode())[1].splitlines()
         self.assertEqual(lines[0], "x = 36, y = 9, rule = B3/S23")
-        self.assertEqual(lines[1], "24bo$22bobo$12b2o6b2o12b2o$11bo3bo4b2o12b2o$2o8bo5bo3b2o$2o8bo3bob2o4b")
+        self.assertEqual(
+            lines[1], "24bo$22bobo$12b2o6b2o12b2o$11bo3bo4b2o12b2o$2o8bo5bo3b2o$2o8bo3bob2o4b"
+        )
         self.assertEqual(lines[2], "obo$10bo5bo7bo$11bo3bo$12b2o!")
 
     def test_rules(self) -> None:
@@ -202,12 +306,12 @@ class Writing(unittest.TestCase):
         for most in (1, 2, 3, 12, 40, 200) * 20:
             rows = drawn_rows(draw, most)
             rule = draw.choice(["b3s23", "b36s23", "bs", "b2s"])
-            lines = rle_of(rows, rule)
+            lines = format_rle(rows, rule)
             self.assertTrue(all(len(line) <= 70 for line in lines))
             again, said = read_rle("\n".join(lines).encode())
-            self.assertEqual((again, option_of(said or "")), (rows, rule))
+            self.assertEqual((again, parse_rule(said or "")), (rows, rule))
         wide = ["O" * 1000] * 999 + ["." * 999 + "O"]
-        self.assertEqual(read_rle("\n".join(rle_of(wide, "b3s23")).encode())[0], wide)
+        self.assertEqual(read_rle("\n".join(format_rle(wide, "b3s23")).encode())[0], wide)
 
 
 @unittest.skipUnless(shutil.which("bgolly"), "there is no bgolly")
@@ -217,18 +321,41 @@ class Golly(unittest.TestCase):
     def by_golly(self, rle: str, generations: int) -> str:
         with tempfile.TemporaryDirectory() as folder:
             Path(folder, "in.rle").write_text(rle, encoding="latin-1")
-            words = ["bgolly", "-a", "QuickLife", "-m", str(generations), "-i", str(max(generations, 1)), "-o", "out.rle", "in.rle"]
-            subprocess.run(words, cwd=folder, stdout=subprocess.DEVNULL, stderr=subprocess.DEVNULL, check=True)
+            words = [
+                "bgolly",
+                "-a",
+                "QuickLife",
+                "-m",
+                str(generations),
+                "-i",
+                str(max(generations, 1)),
+                "-o",
+                "out.rle",
+                "in.rle",
+            ]
+            subprocess.run(
+                words, cwd=folder, stdout=subprocess.DEVNULL, stderr=subprocess.DEVNULL, check=True
+            )
             return Path(folder, "out.rle").read_text()
 
     def test_drawn_patterns(self) -> None:
         draw = random.Random("for Golly")
         for rule in ("b3s23", "b36s23", "b3s12345", "b3s23", "b3678s34678"):
             rows = drawn_rows(draw, 60)
-            written = "\n".join(rle_of(rows, rule)) + "\n"
+            written = "\n".join(format_rle(rows, rule)) + "\n"
             status, output, errors = cells(self.by_golly(written, 12))
-            self.assertEqual((status, errors), (0, "" if rule == "b3s23" else f"haul: rule {'B' + rule[1:].replace('s', '/S')} is --rule {rule}\n"))
-            self.assertEqual(life(["run", "0"], output), life(["run", "12", "--rule", rule], "\n".join(rows)))
+            self.assertEqual(
+                (status, errors),
+                (
+                    0,
+                    ""
+                    if rule == "b3s23"
+                    else f"haul: rule {'B' + rule[1:].replace('s', '/S')} is --rule {rule}\n",
+                ),
+            )
+            self.assertEqual(
+                life(["run", "0"], output), life(["run", "12", "--rule", rule], "\n".join(rows))
+            )
 
     def test_patterns_of_golly(self) -> None:
         """One of three that fit: each is, moved to the corner, what Golly writes of it."""
@@ -243,15 +370,26 @@ class Golly(unittest.TestCase):
                 continue
             with self.subTest(file=file.name):
                 known, said = read_rle(self.by_golly(text.decode("latin-1"), 0).encode())
-                self.assertEqual((boxed(known), option_of(said or "")), (boxed(rows), option_of(rule or "b3/s23")))
+                self.assertEqual(
+                    (boxed(known), parse_rule(said or "")),
+                    (boxed(rows), parse_rule(rule or "b3/s23")),
+                )
                 tried += 1
         self.assertGreater(tried, 20)
 
     def test_objects(self) -> None:
-        for code in ("xs4_33", "xq4_153", "xp15_4r4z4r4", "xp3_co9nas0san9oczgoldlo0oldlogz1047210127401"):
+        for code in (
+            "xs4_33",
+            "xq4_153",
+            "xp15_4r4z4r4",
+            "xp3_co9nas0san9oczgoldlo0oldlogz1047210127401",
+        ):
             shown = census("show", code)
             written = run("rle", text=shown)[1]
-            self.assertEqual(life(["run", "0"], cells(self.by_golly(written, 1))[1]), life(["run", "1"], shown.decode()))
+            self.assertEqual(
+                life(["run", "0"], cells(self.by_golly(written, 1))[1]),
+                life(["run", "1"], shown.decode()),
+            )
 
 
 if __name__ == "__main__":

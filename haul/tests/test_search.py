@@ -15,15 +15,20 @@ from contextlib import redirect_stderr
 from pathlib import Path
 from unittest.mock import patch
 
-from haul.keeper import CantKeep, Keeper
-from haul.options import parsed
-from haul.running import CENSUS as CENSUS_OF_STARTER
-from haul.running import Running, RunningTake, Waiter
-from haul.search import processors
-from haul.stopping import Stopping
+from haul.cli.parser import parse_arguments
+from haul.formats.haul import Haul, NUMBER_LIMIT
+from haul.formats.haul_reader import read_one_haul
+from haul.census.background import (
+    BackgroundProgram,
+    BackgroundTake,
+    CENSUS as LAUNCH_CENSUS,
+    StreamWaiter,
+)
+from haul.search.keeper import CantKeep, Keeper
+from haul.search.search import count_processors
+from haul.search.stopping import Stopping
 from haul.tests.called import CENSUS, TOP, census, run
 from haul.tests.searching import QUICK, Searches
-from haul.text import NUMBER_LIMIT, Haul, read_one_haul
 
 
 class Soups(Searches):
@@ -45,15 +50,28 @@ class Soups(Searches):
         self.assertEqual(self.search("--seed", "", "--first", "7", "--until", "30"), (0, "", ""))
         self.assertEqual(self.file.read_bytes(), census("take", "--first", "7", "--count", "30"))
         self.file.unlink()
-        words = ["--seed=-a", "--rule=b36s23", "--period=3", "--horizon=20", "--stride=50", "--limit=500"]
-        self.assertEqual(self.search(*words, "--until", "30", "--part", "11", "--workers", "2")[0], 0)
+        words = [
+            "--seed=-a",
+            "--rule=b36s23",
+            "--period=3",
+            "--horizon=20",
+            "--stride=50",
+            "--limit=500",
+        ]
+        self.assertEqual(
+            self.search(*words, "--until", "30", "--part", "11", "--workers", "2")[0], 0
+        )
         self.assertEqual(self.file.read_bytes(), census("take", *words, "--count", "30"))
 
     def test_goes_on(self) -> None:
         """In batches of other sizes, and up to just as many soups as are asked for."""
         for until, size in ((10, 100), (50, 7), (51, 1), (200, 40)):
-            self.assertEqual(self.search("--seed=a", "--until", str(until), "--part", str(size))[0], 0)
-            self.assertEqual(self.file.read_bytes(), census("take", "--seed=a", "--count", str(until)))
+            self.assertEqual(
+                self.search("--seed=a", "--until", str(until), "--part", str(size))[0], 0
+            )
+            self.assertEqual(
+                self.file.read_bytes(), census("take", "--seed=a", "--count", str(until))
+            )
 
     def test_goes_on_without_words(self) -> None:
         words = ["--seed=b", "--rule=b36s23", "--stride=50", "--limit=500"]
@@ -64,13 +82,18 @@ class Soups(Searches):
     def test_gaps_stay(self) -> None:
         self.file.write_bytes(census("take", "--first", "3", "--count", "4", "--also", "20+5"))
         self.assertEqual(self.search("--until", "15", "--first", "3")[0], 0)
-        self.assertEqual(self.file.read_bytes(), census("take", "--first", "3", "--count", "4", "--also", "20+11"))
+        self.assertEqual(
+            self.file.read_bytes(),
+            census("take", "--first", "3", "--count", "4", "--also", "20+11"),
+        )
 
     def test_an_empty_haul(self) -> None:
         self.assertEqual(self.search("--seed=a", "--until", "0")[0], 0)
         self.assertEqual(self.file.read_bytes(), census("take", "--seed=a", "--count", "0"))
         self.assertEqual(self.search("--first", "9", "--until", "2")[0], 0)
-        self.assertEqual(self.file.read_bytes(), census("take", "--seed=a", "--first", "9", "--count", "2"))
+        self.assertEqual(
+            self.file.read_bytes(), census("take", "--seed=a", "--first", "9", "--count", "2")
+        )
 
     def test_as_many_as_there_are_or_fewer(self) -> None:
         """It ends at once, and asks no program."""
@@ -78,12 +101,25 @@ class Soups(Searches):
         before = self.file.stat()
         for until in ("20", "19", "0"):
             self.assertEqual(self.search("--until", until, program="/nowhere/census"), (0, "", ""))
-        self.assertEqual((self.file.stat().st_ino, self.file.stat().st_mtime_ns), (before.st_ino, before.st_mtime_ns))
+        self.assertEqual(
+            (self.file.stat().st_ino, self.file.stat().st_mtime_ns),
+            (before.st_ino, before.st_mtime_ns),
+        )
 
     def test_the_last_soup(self) -> None:
         for _ in range(2):
-            self.assertEqual(self.search("--seed=a", "--first", str(NUMBER_LIMIT - 25), "--part", "10", *QUICK)[0], 0)
-            self.assertEqual(self.file.read_bytes(), census("take", "--seed=a", "--first", str(NUMBER_LIMIT - 25), "--count", "25", *QUICK))
+            self.assertEqual(
+                self.search("--seed=a", "--first", str(NUMBER_LIMIT - 25), "--part", "10", *QUICK)[
+                    0
+                ],
+                0,
+            )
+            self.assertEqual(
+                self.file.read_bytes(),
+                census(
+                    "take", "--seed=a", "--first", str(NUMBER_LIMIT - 25), "--count", "25", *QUICK
+                ),
+            )
         self.file.unlink()
         self.assertEqual(self.search("--seed=a", "--first", str(NUMBER_LIMIT)), (0, "", ""))
         self.assertEqual(self.file.read_bytes(), census("take", "--seed=a", "--count", "0"))
@@ -93,12 +129,17 @@ class Soups(Searches):
         program = self.stub('echo "$@" >> calls; real "$@"')
         self.search("--seed=a", "--until", "7", "--part", "4", *QUICK, program=program)
         with patch("os.sched_getaffinity", return_value=range(100)) as asked:
-            self.assertEqual(processors(), 16)
+            self.assertEqual(count_processors(), 16)
         asked.assert_called_once_with(0)
         usual = min(16, len(os.sched_getaffinity(0)))
         job = "--seed=a --rule=b3s23 --period=1 --horizon=1 --stride=1 --limit=0"
-        self.assertEqual((self.folder / "calls").read_text().splitlines(),
-                         [f"take {job} --first={first} --count={count} --workers={usual} --progress" for first, count in ((0, 4), (4, 3))])
+        self.assertEqual(
+            (self.folder / "calls").read_text().splitlines(),
+            [
+                f"take {job} --first={first} --count={count} --workers={usual} --progress"
+                for first, count in ((0, 4), (4, 3))
+            ],
+        )
 
     def test_the_usual_batch(self) -> None:
         """Without --part, a batch has 100,000 soups. The stub fails at once, so no soup is run."""
@@ -127,24 +168,48 @@ class Refusals(Searches):
         self.assertEqual(self.file.read_bytes() if self.file.exists() else None, before)
 
     def test_no_haul(self) -> None:
-        for text, line in ((b"", "bad haul at line 1 column 1"), (b"x\n", "bad haul at line 1 column 1"),
-                           (2 * census("take", "--count", "0"), "bad haul at line 15 column 1: more than one haul")):
+        for text, line in (
+            (b"", "bad haul at line 1 column 1"),
+            (b"x\n", "bad haul at line 1 column 1"),
+            (
+                2 * census("take", "--count", "0"),
+                "bad haul at line 15 column 1: more than one haul",
+            ),
+        ):
             self.file.write_bytes(text)
             self.refused(3, f"mine.haul: {line}")
 
     def test_missing_soups(self) -> None:
         lines = census("work", "--count", "2", "--worker", "1").splitlines(True)[0]
-        self.file.write_bytes(subprocess.run([CENSUS, "gather", "--count", "2"], input=lines, capture_output=True, check=False).stdout)
+        self.file.write_bytes(
+            subprocess.run(
+                [CENSUS, "gather", "--count", "2"], input=lines, capture_output=True, check=False
+            ).stdout
+        )
         self.refused(3, "mine.haul: haul with missing soups")
 
     def test_another_job(self) -> None:
         self.file.write_bytes(census("take", "--seed=a", "--first=3", "--count=2"))
-        for word, line in (("--seed=b", "the seed is a, and not b"), ("--seed=", "the seed is a, and not "), ("--rule=b36s23", "the rule is b3s23, and not b36s23"),
-                           ("--period=4", "the period is 64, and not 4"), ("--horizon=100", "the horizon is 512, and not 100"),
-                           ("--stride=1", "the stride is 101, and not 1"), ("--limit=0", "the limit is 30300, and not 0"),
-                           ("--first=0", "the first soup is 3, and not 0")):
+        for word, line in (
+            ("--seed=b", "the seed is a, and not b"),
+            ("--seed=", "the seed is a, and not "),
+            ("--rule=b36s23", "the rule is b3s23, and not b36s23"),
+            ("--period=4", "the period is 64, and not 4"),
+            ("--horizon=100", "the horizon is 512, and not 100"),
+            ("--stride=1", "the stride is 101, and not 1"),
+            ("--limit=0", "the limit is 30300, and not 0"),
+            ("--first=0", "the first soup is 3, and not 0"),
+        ):
             self.refused(3, f"mine.haul: {line}", word)
-        same = ["--seed=a", "--rule=b3s23", "--period=64", "--horizon=512", "--stride=101", "--limit=30300", "--first=3"]
+        same = [
+            "--seed=a",
+            "--rule=b3s23",
+            "--period=64",
+            "--horizon=512",
+            "--stride=101",
+            "--limit=30300",
+            "--first=3",
+        ]
         self.assertEqual(self.search(*same, "--until", "4")[0], 0)
         self.assert_right()
 
@@ -157,14 +222,25 @@ class Refusals(Searches):
         self.assertFalse(os.path.exists("/dev/null.lock"))
 
     def test_words(self) -> None:
-        for words, line in ((["-"], "FILE is the name of a file"), ([""], "an empty path"), (["--part=0", "x"], "0 is not in 1 to 16777216"),
-                            (["--part=16777217", "x"], "16777217 is not in 1 to 16777216"), (["--workers=17", "x"], "17 is not in 1 to 16"),
-                            (["--seed=a b", "x"], "no seed"), (["--seed=" + 65 * "a", "x"], "no seed"), (["--first=1099511627777", "x"], "is not in 0 to 1099511627776"),
-                            (["--period=0", "x"], "0 is not in 1 to 64"), (["--horizon=4097", "x"], "4097 is not in 0 to 4096"),
-                            (["--horizon=63", "x"], "the horizon is below the period"), (["--stride=0", "x"], "0 is not in 1 to 10000"),
-                            (["--limit=100001", "x"], "100001 is not in 0 to 100000"), (["--until=x", "x"], "x is no number"), (["--until=1"], "required: FILE")):
+        for words, line in (
+            (["-"], "FILE is the name of a file"),
+            ([""], "an empty path"),
+            (["--part=0", "x"], "0 is not in 1 to 16777216"),
+            (["--part=16777217", "x"], "16777217 is not in 1 to 16777216"),
+            (["--workers=17", "x"], "17 is not in 1 to 16"),
+            (["--seed=a b", "x"], "no seed"),
+            (["--seed=" + 65 * "a", "x"], "no seed"),
+            (["--first=1099511627777", "x"], "is not in 0 to 1099511627776"),
+            (["--period=0", "x"], "0 is not in 1 to 64"),
+            (["--horizon=4097", "x"], "4097 is not in 0 to 4096"),
+            (["--horizon=63", "x"], "the horizon is below the period"),
+            (["--stride=0", "x"], "0 is not in 1 to 10000"),
+            (["--limit=100001", "x"], "100001 is not in 0 to 100000"),
+            (["--until=x", "x"], "x is no number"),
+            (["--until=1"], "required: FILE"),
+        ):
             with redirect_stderr(io.StringIO()) as said, self.assertRaises(SystemExit) as ended:
-                parsed(["search", *words])
+                parse_arguments(["search", *words])
             self.assertEqual(ended.exception.code, 2)
             self.assertIn(line, said.getvalue())
         self.assertEqual(run("search", "-")[0], 2)
@@ -176,7 +252,10 @@ class Refusals(Searches):
             for name in ("mine.haul", "link"):
                 with self.start(file=name) as second:
                     errors = second.communicate(timeout=60)[1]
-                self.assertEqual((second.returncode, errors.decode()), (3, f"haul: {name}: another search keeps this file\n"))
+                self.assertEqual(
+                    (second.returncode, errors.decode()),
+                    (3, f"haul: {name}: another search keeps this file\n"),
+                )
             first.send_signal(signal.SIGINT)
             self.assertEqual(first.wait(60), 0)
         self.assert_right()
@@ -184,9 +263,16 @@ class Refusals(Searches):
         self.assertEqual(self.search("--until", "1")[0], 0)
 
     def test_no_program(self) -> None:
-        for program, line in (("/nowhere/census", "no census at /nowhere/census"), (str(self.folder), f"no census at {self.folder}"),
-                              ("/bin/true", "no census at /bin/true"), (self.stub("echo x"), f"no census at {self.folder}/stub"),
-                              (self.stub("exec 1>&- 2>&-; sleep 0.2", "closes"), f"no census at {self.folder}/closes")):
+        for program, line in (
+            ("/nowhere/census", "no census at /nowhere/census"),
+            (str(self.folder), f"no census at {self.folder}"),
+            ("/bin/true", "no census at /bin/true"),
+            (self.stub("echo x"), f"no census at {self.folder}/stub"),
+            (
+                self.stub("exec 1>&- 2>&-; sleep 0.2", "closes"),
+                f"no census at {self.folder}/closes",
+            ),
+        ):
             self.assertEqual(self.search("--seed=a", program=program), (2, "", f"haul: {line}\n"))
         self.assertFalse(self.file.exists())
 
@@ -196,8 +282,13 @@ class Refusals(Searches):
         text.write_text("x\n")
         text.chmod(0o755)
         loop.symlink_to("loop")
-        self.assertEqual(self.search("--seed=a", program=str(text)), (2, "", f"haul: no census at {text}\n"))
-        self.assertEqual(self.search("--seed=a", program=str(loop)), (5, "", f"haul: {loop}: Too many levels of symbolic links\n"))
+        self.assertEqual(
+            self.search("--seed=a", program=str(text)), (2, "", f"haul: no census at {text}\n")
+        )
+        self.assertEqual(
+            self.search("--seed=a", program=str(loop)),
+            (5, "", f"haul: {loop}: Too many levels of symbolic links\n"),
+        )
         self.assertFalse(self.file.exists())
 
 
@@ -206,28 +297,48 @@ class Faults(Searches):
 
     def test_a_program_that_fails(self) -> None:
         """Its status and its line are passed on, and the batches before are in the file."""
-        for how, status, line in (("echo census: because >&2; exit 4", 4, "because"), ("exit 70", 5, "census ended with status 70"),
-                                  ("kill -9 $$", 5, "census was ended by signal 9"),
-                                  ("printf '\\r3 of 9 soups, 5 a second' >&2; kill -9 $$", 5, "census was ended by signal 9"), ("printf '\\r3 of 9 soups\\rcensus: why\\n' >&2; exit 5", 5, "why")):
+        for how, status, line in (
+            ("echo census: because >&2; exit 4", 4, "because"),
+            ("exit 70", 5, "census ended with status 70"),
+            ("kill -9 $$", 5, "census was ended by signal 9"),
+            (
+                "printf '\\r3 of 9 soups, 5 a second' >&2; kill -9 $$",
+                5,
+                "census was ended by signal 9",
+            ),
+            ("printf '\\r3 of 9 soups\\rcensus: why\\n' >&2; exit 5", 5, "why"),
+        ):
             self.file.unlink(missing_ok=True)
             program = self.stub(f'case "$*" in *--first=40*) {how} ;; *) real "$@" ;; esac')
-            self.assertEqual(self.search("--seed=a", "--part", "20", program=program), (status, "", f"haul: {line}\n"))
+            self.assertEqual(
+                self.search("--seed=a", "--part", "20", program=program),
+                (status, "", f"haul: {line}\n"),
+            )
             self.assertEqual(self.soups(), 40)
             self.assert_right()
             self.assert_nothing_runs()
 
     def test_a_wrong_answer(self) -> None:
         """Another haul than the one that was asked for isn't added."""
-        for answer in ('real take --count 20 --seed a', 'real take --count 20 --seed b --first 20', 'real take --count 19 --seed a --first 20'):
+        for answer in (
+            "real take --count 20 --seed a",
+            "real take --count 20 --seed b --first 20",
+            "real take --count 19 --seed a --first 20",
+        ):
             self.file.unlink(missing_ok=True)
             program = self.stub(f'case "$*" in *--first=20*) {answer} ;; *) real "$@" ;; esac')
-            self.assertEqual(self.search("--seed=a", "--part", "20", program=program), (2, "", f"haul: no census at {program}\n"))
+            self.assertEqual(
+                self.search("--seed=a", "--part", "20", program=program),
+                (2, "", f"haul: no census at {program}\n"),
+            )
             self.assertEqual(self.soups(), 20)
             self.assert_right()
 
     def test_what_the_program_leaves_running(self) -> None:
         program = self.stub(f'sleep 1000 & "{CENSUS}" "$@"')
-        self.assertEqual(self.search("--seed=a", "--until", "40", "--part", "20", program=program)[0], 0)
+        self.assertEqual(
+            self.search("--seed=a", "--until", "40", "--part", "20", program=program)[0], 0
+        )
         self.assert_right()
         self.assert_nothing_runs()
 
@@ -236,7 +347,10 @@ class Faults(Searches):
         self.assertEqual(self.search("--seed=a", "--until", "5")[0], 0)
         before = self.file.read_bytes()
         limit = len(before) + 1000
-        self.assertEqual(self.search("--until", "400", "--part", "395", most_bytes=limit), (5, "", "haul: mine.haul.new: File too large\n"))
+        self.assertEqual(
+            self.search("--until", "400", "--part", "395", most_bytes=limit),
+            (5, "", "haul: mine.haul.new: File too large\n"),
+        )
         self.assertEqual(self.file.read_bytes(), before)
         self.assert_left("mine.haul", "mine.haul.lock")
         # A file that an earlier search has left doesn't matter.
@@ -269,7 +383,9 @@ class Faults(Searches):
         draw = random.Random("kills")
         for _ in range(8):
             soups = self.soups()
-            with self.start("--seed=a", "--until", "100000", "--part", str(draw.choice([5, 20, 50]))) as program:
+            with self.start(
+                "--seed=a", "--until", "100000", "--part", str(draw.choice([5, 20, 50]))
+            ) as program:
                 self.wait_for(soups + 1)
                 time.sleep(draw.uniform(0, 0.1))
                 program.kill()
@@ -278,7 +394,9 @@ class Faults(Searches):
             self.assert_right()
         soups = self.soups() + 30
         self.assertEqual(self.search("--until", str(soups))[0], 0)
-        self.assertEqual(self.file.read_bytes(), census("take", "--seed=a", "--count", str(soups), "--workers=4"))
+        self.assertEqual(
+            self.file.read_bytes(), census("take", "--seed=a", "--count", str(soups), "--workers=4")
+        )
 
 
 class Signals(Searches):
@@ -302,14 +420,22 @@ class Signals(Searches):
             os.killpg(program.pid, signal.SIGINT)
             output, errors = program.communicate(timeout=60)
         self.assertEqual((program.returncode, output), (0, b""))
-        self.assertRegex(errors.decode(), r"^haul: stops after this batch, in about 0:00:\d\d; Ctrl-C again drops the batch\n$")
+        self.assertRegex(
+            errors.decode(),
+            r"^haul: stops after this batch, in about 0:00:\d\d; Ctrl-C again drops the batch\n$",
+        )
         self.assertEqual(self.soups() % 300, 0)
         self.assertGreaterEqual(self.soups(), 600)
         self.assert_right()
         self.assert_left("mine.haul", "mine.haul.lock")
 
     def test_signals_that_drop_the_batch(self) -> None:
-        for numbers in ([signal.SIGTERM], [signal.SIGHUP], [signal.SIGINT, signal.SIGINT], [signal.SIGINT, signal.SIGTERM]):
+        for numbers in (
+            [signal.SIGTERM],
+            [signal.SIGHUP],
+            [signal.SIGINT, signal.SIGINT],
+            [signal.SIGINT, signal.SIGTERM],
+        ):
             with self.subTest(numbers=numbers):
                 self.file.unlink(missing_ok=True)
                 (self.folder / "slow").unlink(missing_ok=True)
@@ -344,7 +470,9 @@ class Programs(Searches):
 
     def test_streams_that_are_closed_early(self) -> None:
         """It is waited for then, a moment at a time."""
-        running = Running(Waiter(), CENSUS_OF_STARTER, [self.stub("exec 1>&-; exec sleep 1000")], None)
+        running = BackgroundProgram(
+            StreamWaiter(), LAUNCH_CENSUS, [self.stub("exec 1>&-; exec sleep 1000")], None
+        )
         while running.open:
             running.waiter.wait(1)
         began = time.monotonic()
@@ -354,9 +482,12 @@ class Programs(Searches):
         self.assert_nothing_runs()
 
     def test_what_holds_one_stream(self) -> None:
-        """When the program has ended, what it has left running is killed, although one stream is closed by then."""
+        """When the program has ended, what it has left running is killed, although one stream is
+        closed by then."""
         for closed in ("1", "2"):
-            running = RunningTake(Waiter(), [self.stub(f"exec {closed}>&-; sleep 1000 & exit 0")])
+            running = BackgroundTake(
+                StreamWaiter(), [self.stub(f"exec {closed}>&-; sleep 1000 & exit 0")]
+            )
             until = time.monotonic() + 20
             while not running.is_ended() and time.monotonic() < until:
                 running.waiter.wait(0.1)
@@ -365,8 +496,15 @@ class Programs(Searches):
 
     def test_lines_of_progress(self) -> None:
         """The last whole one counts."""
-        take = RunningTake(Waiter(), [self.stub("exec sleep 1000")])
-        for piece, soups in ((b"", 0), (b"\r3 of 90 so", 0), (b"ups, 5 a second", 3), (b"", 3), (b"\r14 of 90 soups\r25 of 90 soups  \r26 of", 25), (b" 90 soups", 26)):
+        take = BackgroundTake(StreamWaiter(), [self.stub("exec sleep 1000")])
+        for piece, soups in (
+            (b"", 0),
+            (b"\r3 of 90 so", 0),
+            (b"ups, 5 a second", 3),
+            (b"", 3),
+            (b"\r14 of 90 soups\r25 of 90 soups  \r26 of", 25),
+            (b" 90 soups", 26),
+        ):
             take.complained += piece
             self.assertEqual(take.soups(), soups)
         take.end()
@@ -378,8 +516,13 @@ class Stops(unittest.TestCase):
 
     def test_what_is_noted(self) -> None:
         interrupt, term = signal.SIGINT, signal.SIGTERM
-        for numbers, finishes, number in (([interrupt], True, None), ([interrupt, interrupt], True, interrupt), ([term], False, term),
-                                          ([interrupt, term], True, term), ([term, interrupt, interrupt], False, term)):
+        for numbers, finishes, number in (
+            ([interrupt], True, None),
+            ([interrupt, interrupt], True, interrupt),
+            ([term], False, term),
+            ([interrupt, term], True, term),
+            ([term, interrupt, interrupt], False, term),
+        ):
             stopping = Stopping()
             self.assertEqual([stopping.came(each) for each in numbers], [True] * len(numbers))
             self.assertEqual((stopping.finishes, stopping.number), (finishes, number))
@@ -391,14 +534,20 @@ class Stops(unittest.TestCase):
         with patch("time.monotonic", return_value=100.0) as now:
             stopping = Stopping()
             stopping.came(signal.SIGTERM)
-            for at, is_writing, may_go_on in ((109.9, False, True), (110.0, True, True), (110.0, False, False)):
+            for at, is_writing, may_go_on in (
+                (109.9, False, True),
+                (110.0, True, True),
+                (110.0, False, False),
+            ):
                 now.return_value, stopping.is_writing = at, is_writing
                 self.assertEqual(stopping.came(signal.SIGTERM), may_go_on)
 
     def test_it_is_ended(self) -> None:
-        script = (f"import os, sys, time; sys.path.insert(0, {str(TOP)!r})\nfrom haul import stopping\nfrom haul.children import children, status_of\n"
-                  "stopping.SECONDS_TO_END = 0.5\n"
-                  "def work():\n    children.heed(stopping.Stopping()); print('begun', flush=True); time.sleep(1000)\nstatus_of(work)")
+        script = (
+            f"import os, sys, time; sys.path.insert(0, {str(TOP)!r})\nfrom haul.search import stopping\nfrom haul.census.children import children\nfrom haul.cli.process import run_heeding_signals\n"
+            "stopping.SECONDS_TO_END = 0.5\n"
+            "def work():\n    children.heed(stopping.Stopping()); print('begun', flush=True); time.sleep(1000)\nrun_heeding_signals(work)"
+        )
         with subprocess.Popen([sys.executable, "-c", script], stdout=subprocess.PIPE) as program:
             assert program.stdout
             program.stdout.readline()
@@ -473,10 +622,12 @@ class Keeping(Searches):
         os.close(keeper.lock)
 
     def test_a_folder_that_cant_be_synced(self) -> None:
-        """Some file systems refuse that with `EINVAL`, which is no fault. Another refusal is one."""
+        """Some file systems refuse that with `EINVAL`, which is no fault. Another refusal is
+        one."""
         keeper = Keeper(str(self.file))
         fsync = os.fsync
         for number, is_fault in ((errno.EINVAL, False), (errno.EIO, True)):
+
             def refused(of: int, number: int = number) -> None:
                 if os.path.isdir(os.readlink(f"/proc/self/fd/{of}")):
                     raise OSError(number, os.strerror(number))

@@ -14,15 +14,18 @@ import unittest
 from collections.abc import Iterator
 from contextlib import contextmanager
 from pathlib import Path
-from unittest.mock import call, patch
+from unittest.mock import Mock, call
 
-from haul.life import Cells, Rule, next_generation, rule_of, soup_of
-from haul.report_lines import Report
-from haul.reports import Reports
-from haul.settling import Settling
-from haul.soup_lists import Longest
+from haul.formats.profile import Profile
+from haul.formats.haul import Job
+from haul.formats.report_files import Reports
+from haul.formats.report_lines import Report
+from haul.life.cells import Cells
+from haul.life.generations import Rule, advance, read_rule
+from haul.life.soups import make_soup
 from haul.tests.called import CENSUS, HAUL, census, run
-from haul.text import Job
+from haul.views.settling import Settling
+from haul.views.soup_lists import Longest
 
 JOB = "rule=b3s23 profile=64,512,101,30300 seed=abc"
 JOB_LINE = "seed=abc rule=b3s23 profile=64,512,101,30300"
@@ -45,7 +48,9 @@ def text_of(lines: list[str]) -> bytes:
 
 def rows(*words: str, lines: list[str] | bytes = LINES) -> list[list[str]]:
     """The table that is printed, without its heads."""
-    status, output, errors = run("soups", "--csv", *words, text=lines if isinstance(lines, bytes) else text_of(lines))
+    status, output, errors = run(
+        "soups", "--csv", *words, text=lines if isinstance(lines, bytes) else text_of(lines)
+    )
     assert (status, errors) == (0, ""), errors
     heads, *table = csv.reader(io.StringIO(output))
     return [row[: heads.index("seed")] for row in table]
@@ -64,7 +69,11 @@ def program(script: str) -> Iterator[str]:
 class Together(unittest.TestCase):
     def test_for_a_reader(self) -> None:
         """Of five soups, the second, the third and the fourth are the quartiles."""
-        self.assertEqual(run("soups", text=text_of(LINES)), (0, f"""\
+        self.assertEqual(
+            run("soups", text=text_of(LINES)),
+            (
+                0,
+                f"""\
 {JOB_LINE}
 6 soups, 1 unsettled, 2 for good, 2 unmarked
 settled at: first quartile 499, median 500, third quartile 700, mean 579.80
@@ -72,37 +81,89 @@ from    to  settled
    0   499        2  {"#" * 50}
  500   999        2  {"#" * 50}
 1000  1499        1  {"#" * 25}
-""", ""))
+""",
+                "",
+            ),
+        )
 
     def test_csv(self) -> None:
         status, output, errors = run("soups", "--csv", text=text_of(LINES))
         self.assertEqual((status, errors), (0, ""))
         facts = 'abc,b3s23,"64,512,101,30300",6,1,2,2,499,500,700,579.8'
-        self.assertEqual(output.splitlines(), [
-            "from,to,settled,seed,rule,profile,soups,unsettled,for_good,unmarked,first_quartile,median,third_quartile,mean",
-            f"0,499,2,{facts}", f"500,999,2,{facts}", f"1000,1499,1,{facts}",
-        ])
+        self.assertEqual(
+            output.splitlines(),
+            [
+                "from,to,settled,seed,rule,profile,soups,unsettled,for_good,unmarked,first_quartile,median,third_quartile,mean",
+                f"0,499,2,{facts}",
+                f"500,999,2,{facts}",
+                f"1000,1499,1,{facts}",
+            ],
+        )
 
     def test_json(self) -> None:
         told = json.loads(run("soups", "--json", text=text_of(LINES))[1])
-        bars = [{"from": 0, "to": 499, "settled": 2}, {"from": 500, "to": 999, "settled": 2}, {"from": 1000, "to": 1499, "settled": 1}]
-        self.assertEqual(told, {"seed": "abc", "rule": "b3s23", "profile": [64, 512, 101, 30300], "soups": 6, "unsettled": 1, "for_good": 2,
-                                "unmarked": 2, "quartiles": [499, 500, 700], "mean": 579.8, "bars": bars})
+        bars = [
+            {"from": 0, "to": 499, "settled": 2},
+            {"from": 500, "to": 999, "settled": 2},
+            {"from": 1000, "to": 1499, "settled": 1},
+        ]
+        self.assertEqual(
+            told,
+            {
+                "seed": "abc",
+                "rule": "b3s23",
+                "profile": [64, 512, 101, 30300],
+                "soups": 6,
+                "unsettled": 1,
+                "for_good": 2,
+                "unmarked": 2,
+                "quartiles": [499, 500, 700],
+                "mean": 579.8,
+                "bars": bars,
+            },
+        )
 
     def test_quartiles(self) -> None:
-        """They are the smallest but so many: a quarter, a half, and three quarters of all, rounded up."""
-        for number, quartiles in ((1, [1, 1, 1]), (2, [1, 1, 2]), (3, [1, 2, 3]), (4, [1, 2, 3]), (5, [2, 3, 4]), (6, [2, 3, 5]), (7, [2, 4, 6]), (8, [2, 4, 6])):
+        """They are the smallest but so many: a quarter, a half, and three quarters of all, rounded
+        up."""
+        for number, quartiles in (
+            (1, [1, 1, 1]),
+            (2, [1, 1, 2]),
+            (3, [1, 2, 3]),
+            (4, [1, 2, 3]),
+            (5, [2, 3, 4]),
+            (6, [2, 3, 5]),
+            (7, [2, 4, 6]),
+            (8, [2, 4, 6]),
+        ):
             settling = Settling()
             for checkpoint in range(number, 0, -1):
-                settling.add(Report(Job("", "b3s23", (1, 1, 1, 0)), checkpoint, checkpoint, None, {}))
+                settling.add(
+                    Report(Job("", "b3s23", Profile(1, 1, 1, 0)), checkpoint, checkpoint, None, {})
+                )
             self.assertEqual(settling.quartiles(), quartiles, number)
 
     def test_no_soup(self) -> None:
-        self.assertEqual(run("soups"), (0, "0 soups, 0 unsettled, 0 for good\nno soup has settled\nfrom   to  settled\n   0  499        0\n", ""))
+        self.assertEqual(
+            run("soups"),
+            (
+                0,
+                "0 soups, 0 unsettled, 0 for good\nno soup has settled\nfrom   to  settled\n   0  499        0\n",
+                "",
+            ),
+        )
         told = json.loads(run("soups", "--json")[1])
-        self.assertEqual((told["seed"], told["profile"], told["quartiles"], told["mean"]), (None, None, None, None))
+        self.assertEqual(
+            (told["seed"], told["profile"], told["quartiles"], told["mean"]),
+            (None, None, None, None),
+        )
         self.assertEqual(run("soups", "--csv")[1].splitlines()[1:], ["0,499,0,,,,0,0,0,0,,,,"])
-        for words in (["--longest=3"], ["--longest=3", "--exact"], ["--unsettled"], ["--code=xp2_7"]):
+        for words in (
+            ["--longest=3"],
+            ["--longest=3", "--exact"],
+            ["--unsettled"],
+            ["--code=xp2_7"],
+        ):
             self.assertEqual(rows(*words, "--census", CENSUS, lines=[]), [])
 
     def test_one_soup(self) -> None:
@@ -111,52 +172,116 @@ from    to  settled
 
     def test_small_bars(self) -> None:
         """A bar has a character if it stands for any soup."""
-        lines = [f"report 2 {JOB} worker=1 soup={soup} at={0 if soup else 700} good=yes" for soup in range(101)]
-        self.assertTrue(run("soups", text=text_of(lines))[1].endswith(f"\n   0  499      100  {'#' * 50}\n 500  999        1  #\n"))
+        lines = [
+            f"report 2 {JOB} worker=1 soup={soup} at={0 if soup else 700} good=yes"
+            for soup in range(101)
+        ]
+        self.assertTrue(
+            run("soups", text=text_of(lines))[1].endswith(
+                f"\n   0  499      100  {'#' * 50}\n 500  999        1  #\n"
+            )
+        )
 
 
 class Lines(unittest.TestCase):
     def test_what_is_skipped(self) -> None:
-        """Bad lines and those of another job are told by file and number, and soups that come again are not."""
+        """Bad lines and those of another job are told by file and number, and soups that come again
+        are not."""
         with tempfile.TemporaryDirectory() as folder:
             one, other = os.path.join(folder, "one"), os.path.join(folder, "other")
-            Path(one).write_bytes(text_of(["report 3", LINES[0], LINES[0].replace("yes", "no"), LINES[1].replace("seed=abc", "seed=abd")]))
-            Path(other).write_bytes(text_of([LINES[1], LINES[0], "", LINES[4].replace("30300", "30301")]) + f"{LINES[2]}x".encode())
-            status, output, errors = run("soups", one, "-", other, text=text_of([LINES[4], "x"]) + LINES[3].encode())
-        self.assertEqual((status, output.splitlines()[:3]), (0, [
-            JOB_LINE, "4 soups, 0 unsettled, 2 for good, 1 unmarked", "settled at: first quartile 0, median 499, third quartile 700, mean 599.75",
-        ]))
+            Path(one).write_bytes(
+                text_of(
+                    [
+                        "report 3",
+                        LINES[0],
+                        LINES[0].replace("yes", "no"),
+                        LINES[1].replace("seed=abc", "seed=abd"),
+                    ]
+                )
+            )
+            Path(other).write_bytes(
+                text_of([LINES[1], LINES[0], "", LINES[4].replace("30300", "30301")])
+                + f"{LINES[2]}x".encode()
+            )
+            status, output, errors = run(
+                "soups", one, "-", other, text=text_of([LINES[4], "x"]) + LINES[3].encode()
+            )
+        self.assertEqual(
+            (status, output.splitlines()[:3]),
+            (
+                0,
+                [
+                    JOB_LINE,
+                    "4 soups, 0 unsettled, 2 for good, 1 unmarked",
+                    "settled at: first quartile 0, median 499, third quartile 700, mean 599.75",
+                ],
+            ),
+        )
         unsettled = len(f"report 1 {JOB} worker=2 soup=9 ")
-        self.assertEqual(errors.splitlines(), [
-            f"haul: {one}: line 1: bad line at 7", f"haul: {one}: line 4: other job", "haul: line 2: bad line at 0", f"haul: {other}: line 3: bad line at 0",
-            f"haul: {other}: line 4: other job", f"haul: {other}: line 5: bad line at {unsettled}",
-        ])
+        self.assertEqual(
+            errors.splitlines(),
+            [
+                f"haul: {one}: line 1: bad line at 7",
+                f"haul: {one}: line 4: other job",
+                "haul: line 2: bad line at 0",
+                f"haul: {other}: line 3: bad line at 0",
+                f"haul: {other}: line 4: other job",
+                f"haul: {other}: line 5: bad line at {unsettled}",
+            ],
+        )
 
     def test_each_part_of_a_job(self) -> None:
-        for right, wrong in (("seed=abc", "seed="), ("b3s23", "b36s23"), ("=64,", "=63,"), ("512", "511"), (",101", ",100"), ("30300", "30200")):
+        for right, wrong in (
+            ("seed=abc", "seed="),
+            ("b3s23", "b36s23"),
+            ("=64,", "=63,"),
+            ("512", "511"),
+            (",101", ",100"),
+            ("30300", "30200"),
+        ):
             lines = [LINES[0], LINES[1].replace(right, wrong)]
             self.assertEqual(run("soups", text=text_of(lines))[2], "haul: line 2: other job\n")
 
     def test_progress(self) -> None:
         """A line of progress is written after each ten thousand lines of all inputs together."""
-        reports, inputs = Reports(), [text_of(LINES[:1] * number) for number in (6_000, 6_000, 7_999)]
-        with patch("haul.reports.tell") as tell:
-            self.assertEqual([report.soup for lines in inputs for report in reports.read(io.BytesIO(lines), "")], [7])
-        self.assertEqual(tell.call_args_list, [call("10000 lines")])
+        terminal = Mock()
+        reports, inputs = Reports(terminal), [
+            text_of(LINES[:1] * number) for number in (6_000, 6_000, 7_999)
+        ]
+        self.assertEqual(
+            [report.soup for lines in inputs for report in reports.read(io.BytesIO(lines), "")], [7]
+        )
+        self.assertEqual(terminal.show_progress.call_args_list, [call("10000 lines")])
 
     def test_a_file_that_is_not_there(self) -> None:
-        self.assertEqual(run("soups", "/nowhere/lines"), (5, "", "haul: /nowhere/lines: No such file or directory\n"))
+        self.assertEqual(
+            run("soups", "/nowhere/lines"),
+            (5, "", "haul: /nowhere/lines: No such file or directory\n"),
+        )
 
     def test_lines_of_work(self) -> None:
         """All that a haul says of the soups, too, is told of the lines."""
         haul = census("take", "--count=300", "--seed=b").decode().splitlines()
-        told = json.loads(run("soups", "--json", text=census("work", "--count=300", "--seed=b", "--worker=2"))[1])
-        self.assertEqual([f"@NUM_SOUPS {told['soups']}", f"@NUM_UNSETTLED {told['unsettled']}", f"@NUM_FOR_GOOD {told['for_good']}"], haul[6:9])
+        told = json.loads(
+            run("soups", "--json", text=census("work", "--count=300", "--seed=b", "--worker=2"))[1]
+        )
+        self.assertEqual(
+            [
+                f"@NUM_SOUPS {told['soups']}",
+                f"@NUM_UNSETTLED {told['unsettled']}",
+                f"@NUM_FOR_GOOD {told['for_good']}",
+            ],
+            haul[6:9],
+        )
 
 
 class OfACode(unittest.TestCase):
     def test_who_left_it(self) -> None:
-        self.assertEqual(run("soups", "--code=xp2_7", text=text_of(LINES)), (0, f"""\
+        self.assertEqual(
+            run("soups", "--code=xp2_7", text=text_of(LINES)),
+            (
+                0,
+                f"""\
 {JOB_LINE}
 6 soups, 1 unsettled, 2 for good, 2 unmarked
 xp2_7 (blinker): 5 objects in 3 soups
@@ -164,19 +289,35 @@ soup  objects
    3        3
    5        1
   11        1
-""", ""))
+""",
+                "",
+            ),
+        )
         self.assertEqual(rows("--code=xp2_7"), [["3", "3"], ["5", "1"], ["11", "1"]])
-        self.assertEqual(run("soups", "--code=a", text=text_of(LINES))[1].splitlines()[2], "a: 0 objects in 0 soups")
+        self.assertEqual(
+            run("soups", "--code=a", text=text_of(LINES))[1].splitlines()[2],
+            "a: 0 objects in 0 soups",
+        )
         told = json.loads(run("soups", "--json", "--code=xq4_153", text=text_of(LINES))[1])
-        self.assertEqual((told["code"], told["objects"], told["leaving"]), ("xq4_153", 1, [{"soup": 3, "objects": 1}]))
+        self.assertEqual(
+            (told["code"], told["objects"], told["leaving"]),
+            ("xq4_153", 1, [{"soup": 3, "objects": 1}]),
+        )
 
     def test_large_counts(self) -> None:
         line = f"report 2 {JOB} worker=1 soup=0 at=0 good=yes a*{2**64 - 1}"
-        self.assertEqual(json.loads(run("soups", "--json", "--code=a", text=text_of([line]))[1])["leaving"], [{"soup": 0, "objects": str(2**64 - 1)}])
+        self.assertEqual(
+            json.loads(run("soups", "--json", "--code=a", text=text_of([line]))[1])["leaving"],
+            [{"soup": 0, "objects": str(2**64 - 1)}],
+        )
 
     def test_the_total_of_a_haul(self) -> None:
         haul = census("take", "--count=300").decode().splitlines()
-        told = json.loads(run("soups", "--json", "--code=xp2_7", text=census("work", "--count=300", "--worker=1"))[1])
+        told = json.loads(
+            run(
+                "soups", "--json", "--code=xp2_7", text=census("work", "--count=300", "--worker=1")
+            )[1]
+        )
         self.assertIn(f"xp2_7 {told['objects']}", haul)
         self.assertIn(" ".join(["xp2_7", *(str(one["soup"]) for one in told["leaving"][:3])]), haul)
 
@@ -187,42 +328,76 @@ soup  objects
 
 class TheLongest(unittest.TestCase):
     def test_by_checkpoints(self) -> None:
-        self.assertEqual(run("soups", "--longest=2", text=text_of(LINES))[1].splitlines()[2:], ["soup  checkpoint  objects", "   3        1200        5", "   5         700        1"])
-        self.assertEqual(rows("--longest=9"), [["3", "1200", "5"], ["5", "700", "1"], ["11", "500", "2"], ["7", "499", "2"], ["10", "0", "0"]])
+        self.assertEqual(
+            run("soups", "--longest=2", text=text_of(LINES))[1].splitlines()[2:],
+            ["soup  checkpoint  objects", "   3        1200        5", "   5         700        1"],
+        )
+        self.assertEqual(
+            rows("--longest=9"),
+            [
+                ["3", "1200", "5"],
+                ["5", "700", "1"],
+                ["11", "500", "2"],
+                ["7", "499", "2"],
+                ["10", "0", "0"],
+            ],
+        )
         self.assertEqual(rows("--longest=0"), [])
-        lines = [f"report 2 {JOB} worker=1 soup={soup} at={at} good=yes" for soup, at in ((4, 0), (9, 1))]
+        lines = [
+            f"report 2 {JOB} worker=1 soup={soup} at={at} good=yes" for soup, at in ((4, 0), (9, 1))
+        ]
         self.assertEqual(rows("--longest=2", lines=lines), [["9", "1", "0"], ["4", "0", "0"]])
 
     def test_equal_checkpoints(self) -> None:
         """The soup with the lower number comes first, in whatever order they are read."""
-        lines = [f"report 2 {JOB} worker=1 soup={soup} at={at} good=yes" for soup, at in ((4, 7), (9, 5), (2, 5), (6, 5), (1, 3), (8, 5))]
+        lines = [
+            f"report 2 {JOB} worker=1 soup={soup} at={at} good=yes"
+            for soup, at in ((4, 7), (9, 5), (2, 5), (6, 5), (1, 3), (8, 5))
+        ]
         for most, soups in ((1, "4"), (2, "42"), (3, "426"), (5, "42689"), (6, "426891")):
-            self.assertEqual([row[0] for row in rows(f"--longest={most}", lines=lines)], list(soups))
-            self.assertEqual([row[0] for row in rows(f"--longest={most}", lines=lines[::-1])], list(soups))
+            self.assertEqual(
+                [row[0] for row in rows(f"--longest={most}", lines=lines)], list(soups)
+            )
+            self.assertEqual(
+                [row[0] for row in rows(f"--longest={most}", lines=lines[::-1])], list(soups)
+            )
 
     def test_few_are_kept(self) -> None:
         """Of however many soups, only those that may be listed are kept."""
         longest = Longest(3, None)
         for soup in range(999):
-            longest.add(Report(Job("", "b3s23", (1, 1, 1, 0)), soup, soup // 2, None, {}))
+            longest.add(Report(Job("", "b3s23", Profile(1, 1, 1, 0)), soup, soup // 2, None, {}))
         self.assertEqual(longest.kept, {498: [(996, 0), (997, 0)], 499: [(998, 0)]})
 
     def test_exact(self) -> None:
-        """The generations are those of a census with each generation as a checkpoint; they decide between equal checkpoints."""
+        """The generations are those of a census with each generation as a checkpoint; they decide
+        between equal checkpoints."""
         lines = census("work", "--count=60", "--worker=1", "--seed=c")
-        each = {line.split()[6][5:]: int(line.split()[7][3:]) for line in census("work", "--count=60", "--worker=1", "--seed=c", "--stride=1").decode().splitlines()}
+        each = {
+            line.split()[6][5:]: int(line.split()[7][3:])
+            for line in census("work", "--count=60", "--worker=1", "--seed=c", "--stride=1")
+            .decode()
+            .splitlines()
+        }
         for most in (1, 2, 5, 60):
             table = rows(f"--longest={most}", "--exact", "--census", CENSUS, lines=lines)
             soups = sorted(each, key=lambda soup: (-each[soup], int(soup)))[:most]
-            self.assertEqual([row[:2] for row in table], [[soup, str(each[soup])] for soup in soups])
+            self.assertEqual(
+                [row[:2] for row in table], [[soup, str(each[soup])] for soup in soups]
+            )
         self.assertTrue(all(int(row[1]) <= int(row[2]) < int(row[1]) + 101 for row in table))
 
     def test_an_exact_generation_that_is_not_there(self) -> None:
         """The lines are believed, so they may say of a soup that doesn't settle that it does."""
         line = "report 2 rule=b3s23 profile=1,1,1,0 seed= worker=1 soup=0 at=0 good=yes xs4_33*1"
         output = run("soups", "--longest=1", "--exact", "--census", CENSUS, text=text_of([line]))[1]
-        self.assertEqual(output.splitlines()[2:], ["soup  generation  checkpoint  objects", "   0           -           0        1"])
-        self.assertEqual(rows("--longest=1", "--exact", "--census", CENSUS, lines=[line]), [["0", "", "0", "1"]])
+        self.assertEqual(
+            output.splitlines()[2:],
+            ["soup  generation  checkpoint  objects", "   0           -           0        1"],
+        )
+        self.assertEqual(
+            rows("--longest=1", "--exact", "--census", CENSUS, lines=[line]), [["0", "", "0", "1"]]
+        )
 
     def test_exact_alone(self) -> None:
         status, output, errors = run("soups", "--exact")
@@ -232,18 +407,26 @@ class TheLongest(unittest.TestCase):
     def test_another_answer(self) -> None:
         for answer in ("settled 01", "settled", "Settled 1", "xs4_33 1", ""):
             with program(f"echo '{answer}'") as path:
-                self.assertEqual(run("soups", "--longest=1", "--exact", "--census", path, text=text_of(LINES)), (2, "", f"haul: no census at {path}\n"))
+                self.assertEqual(
+                    run("soups", "--longest=1", "--exact", "--census", path, text=text_of(LINES)),
+                    (2, "", f"haul: no census at {path}\n"),
+                )
 
 
 def life(rule: Rule, cells: Cells, generations: int) -> Cells:
     for _ in range(generations):
-        cells = next_generation(rule, cells)
+        cells = advance(rule, cells)
     return cells
 
 
 def population(seed: str, soup: int, rule: str, generations: int) -> int:
-    cells = frozenset((x, y) for y, row in enumerate(soup_of(f"{seed}{soup}")) for x, cell in enumerate(row) if cell == "O")
-    return len(life(rule_of(rule), cells, generations))
+    cells = frozenset(
+        (x, y)
+        for y, row in enumerate(make_soup(f"{seed}{soup}"))
+        for x, cell in enumerate(row)
+        if cell == "O"
+    )
+    return len(life(read_rule(rule), cells, generations))
 
 
 class UnsettledSoups(unittest.TestCase):
@@ -251,21 +434,39 @@ class UnsettledSoups(unittest.TestCase):
         """The last checkpoint, the population there, and how much more that is than in the soup."""
         for rule in ("b3s23", "b36s23"):
             lines = census("work", "--count=12", "--worker=1", f"--rule={rule}", *SHORT)
-            soups = [int(line.split()[6][5:]) for line in lines.decode().splitlines() if line.endswith("unsettled")]
+            soups = [
+                int(line.split()[6][5:])
+                for line in lines.decode().splitlines()
+                if line.endswith("unsettled")
+            ]
             self.assertGreater(len(soups), 3)
             wanted = []
             for soup in soups:
                 before, after = population("a", soup, rule, 0), population("a", soup, rule, 20)
                 wanted.append([str(soup), "20", str(after), str(after - before)])
-            self.assertEqual(rows("--unsettled", "--census", CENSUS, lines=b"".join(reversed(lines.splitlines(True)))), wanted)
+            self.assertEqual(
+                rows(
+                    "--unsettled",
+                    "--census",
+                    CENSUS,
+                    lines=b"".join(reversed(lines.splitlines(True))),
+                ),
+                wanted,
+            )
 
     def test_a_thousand_generations(self) -> None:
-        """It is called with the last checkpoint, and a thousand generations before; the growth may be negative."""
+        """It is called with the last checkpoint, and a thousand generations before; the growth may
+        be negative."""
         line = "report 2 rule=b36s23 profile=1,1,7,1010 seed=a worker=1 soup=0 unsettled"
         script = 'case "$*" in "run --rule=b36s23 8") echo OOO.O ;; "run --rule=b36s23 1008") echo "O..O" ;; *) exit 5 ;; esac; cat > "$0.read"'
         with program(script) as path:
-            self.assertEqual(run("soups", "--unsettled", "--census", path, text=text_of([line]))[1].splitlines()[2:], ["soup  generation  population  growth", "   0        1008           2      -2"])
-            self.assertEqual(Path(f"{path}.read").read_text().splitlines(), soup_of("a0"))
+            self.assertEqual(
+                run("soups", "--unsettled", "--census", path, text=text_of([line]))[1].splitlines()[
+                    2:
+                ],
+                ["soup  generation  population  growth", "   0        1008           2      -2"],
+            )
+            self.assertEqual(Path(f"{path}.read").read_text().splitlines(), make_soup("a0"))
 
     def test_a_large_pattern(self) -> None:
         """Of what `census run` prints nothing is kept, here 300 MB."""
@@ -273,16 +474,31 @@ class UnsettledSoups(unittest.TestCase):
         with tempfile.NamedTemporaryFile() as cells, program(f"cat{f' {cells.name}' * 30}") as path:
             cells.write(b"O" * 10**7)
             cells.flush()
-            ended = subprocess.run([sys.executable, HAUL, "soups", "--unsettled", "--census", path], input=text_of([line]), capture_output=True, check=False,
-                                   preexec_fn=lambda: resource.setrlimit(resource.RLIMIT_AS, (2**28, 2**28)))
-        self.assertEqual(ended.stdout.decode().splitlines()[-1], "   0           0   300000000       0", ended.stderr)
+            ended = subprocess.run(
+                [sys.executable, HAUL, "soups", "--unsettled", "--census", path],
+                input=text_of([line]),
+                capture_output=True,
+                check=False,
+                preexec_fn=lambda: resource.setrlimit(resource.RLIMIT_AS, (2**28, 2**28)),
+            )
+        self.assertEqual(
+            ended.stdout.decode().splitlines()[-1],
+            "   0           0   300000000       0",
+            ended.stderr,
+        )
 
     def test_census_fails(self) -> None:
         with program("echo O; echo 'census: out of memory' >&2; exit 4") as path:
-            self.assertEqual(run("soups", "--unsettled", "--census", path, text=text_of(LINES)), (4, "", "haul: out of memory\n"))
+            self.assertEqual(
+                run("soups", "--unsettled", "--census", path, text=text_of(LINES)),
+                (4, "", "haul: out of memory\n"),
+            )
 
     def test_no_program(self) -> None:
-        self.assertEqual(run("soups", "--unsettled", "--census", "/nowhere", text=text_of(LINES)), (2, "", "haul: no census at /nowhere\n"))
+        self.assertEqual(
+            run("soups", "--unsettled", "--census", "/nowhere", text=text_of(LINES)),
+            (2, "", "haul: no census at /nowhere\n"),
+        )
         self.assertEqual(rows("--unsettled", "--census", "/nowhere", lines=LINES[:2]), [])
 
 

@@ -3,10 +3,9 @@
 from __future__ import annotations
 
 import csv
+import io
 import json
 import os
-import pty
-import subprocess
 import sys
 import tempfile
 import unittest
@@ -19,25 +18,50 @@ from types import FrameType
 from typing import Any
 from unittest.mock import patch
 
-from haul.columns import figure
-from haul.compare import lettered, meet
-from haul.poisson import interval
-from haul.rates import rate
-from haul.tests.called import HAUL, as_haul, run
-from haul.text import Haul, Job
+from haul.formats.profile import Profile
+from haul.formats.haul import Haul, Job
+from haul.tests.called import call, read_terminal, run
+from haul.views.compare import letter_hauls, overlap
+from haul.views.intervals import find_interval
+from haul.views.layout import format_figure
+from haul.views.rates import compute_rate
 
 # Garwood (1936): the ends of the interval of 95 %.
-GARWOOD = {0: (0, 3.689), 1: (0.0253, 5.572), 2: (0.242, 7.225), 3: (0.619, 8.767), 4: (1.090, 10.242), 5: (1.623, 11.668), 6: (2.202, 13.059),
-           8: (3.454, 15.763), 10: (4.795, 18.390), 20: (12.217, 30.888)}
+GARWOOD = {
+    0: (0, 3.689),
+    1: (0.0253, 5.572),
+    2: (0.242, 7.225),
+    3: (0.619, 8.767),
+    4: (1.090, 10.242),
+    5: (1.623, 11.668),
+    6: (2.202, 13.059),
+    8: (3.454, 15.763),
+    10: (4.795, 18.390),
+    20: (12.217, 30.888),
+}
 
 
 def haul(rule: str, soups: int, totals: dict[str, int]) -> str:
     """The text of a haul that is lawful: each code has one sample, its place in the table."""
     rows = sorted(totals.items())
-    lines = ["@VERSION 2", "@ROOT seed=x", f"@RULE {rule}", "@SYMMETRY C1", "@PROFILE 64 512 101 30300", f"@RANGE 0 {soups}", f"@NUM_SOUPS {soups}",
-             "@NUM_UNSETTLED 1", "@NUM_FOR_GOOD 2", f"@NUM_OBJECTS {sum(totals.values())}", "", "@CENSUS TABLE"]
+    lines = [
+        "@VERSION 2",
+        "@ROOT seed=x",
+        f"@RULE {rule}",
+        "@SYMMETRY C1",
+        "@PROFILE 64 512 101 30300",
+        f"@RANGE 0 {soups}",
+        f"@NUM_SOUPS {soups}",
+        "@NUM_UNSETTLED 1",
+        "@NUM_FOR_GOOD 2",
+        f"@NUM_OBJECTS {sum(totals.values())}",
+        "",
+        "@CENSUS TABLE",
+    ]
     lines += [f"{code} {total}" for code, total in rows] + ["", "@SAMPLE_SOUPIDS"]
-    return "".join(f"{line}\n" for line in lines + [f"{code} {place}" for place, (code, _) in enumerate(rows)])
+    return "".join(
+        f"{line}\n" for line in lines + [f"{code} {place}" for place, (code, _) in enumerate(rows)]
+    )
 
 
 A = haul("b3s23", 1000, {"xs4_33": 500, "xp2_7": 20, "xq4_153": 3, "xs8_rr": 1})
@@ -59,13 +83,18 @@ class Tables(unittest.TestCase):
             Path(self.folder.name, name).write_text(text)
 
     def printed(self, command: str, *words: str) -> str:
-        status, output, errors = run(command, *(os.path.join(self.folder.name, word) if word in "abc" else word for word in words))
+        status, output, errors = run(
+            command,
+            *(os.path.join(self.folder.name, word) if word in "abc" else word for word in words),
+        )
         self.assertEqual((status, errors), (0, ""))
         return output
 
 
 def exact_ends(total: int) -> tuple[float, float]:
-    """The ends of the interval of 95 %, by halving, of sums of the terms of Poisson's law as it is defined."""
+    """The ends of the interval of 95 %, by halving, of sums of the terms of Poisson's law as it is
+    defined."""
+
     def mean_at(count: int, chance: float) -> float:
         low, high = 0.0, 2.0 * count + 20
         for _ in range(60):
@@ -80,59 +109,100 @@ def exact_ends(total: int) -> tuple[float, float]:
 class Intervals(unittest.TestCase):
     def test_garwood(self) -> None:
         for total, (low, high) in GARWOOD.items():
-            for found, known in zip(interval(total), (low, high), strict=True):
-                self.assertLessEqual(abs(found - known), 0.00051 if known > 1 or known == 0 else 0.000051 if known < 0.1 else 0.00051)
+            for found, known in zip(find_interval(total), (low, high), strict=True):
+                self.assertLessEqual(
+                    abs(found - known),
+                    0.00051 if known > 1 or known == 0 else 0.000051 if known < 0.1 else 0.00051,
+                )
 
     def test_both_tails_are_as_long(self) -> None:
         """The sum of the terms of Poisson's law up to a count, as it is defined."""
+
         def up_to(count: int, mean: float) -> float:
             return fsum(exp(k * log(mean) - mean - lgamma(k + 1)) for k in range(count + 1))
 
         for total in (7, 29, 30, 31, 40, 100, 1000, 20000):
-            low, high = interval(total)
+            low, high = find_interval(total)
             self.assertAlmostEqual(1 - up_to(total - 1, low), 0.025, places=6)
             self.assertAlmostEqual(up_to(total, high), 0.025, places=6)
 
     def test_large_totals(self) -> None:
         """There Poisson's law is the normal one, of which 1.95996 deviations leave out 2.5 %."""
         for total in (2**40, 2**53, 2**64 - 1):
-            low, high = interval(total)
+            low, high = find_interval(total)
             self.assertAlmostEqual((total - low) / total**0.5, 1.95996, places=3)
             self.assertAlmostEqual((high - total) / total**0.5, 1.95996, places=3)
 
     def test_by_an_expansion(self) -> None:
-        """The quantile of the gamma law, of which these ends are some, by its expansion after Cornish and Fisher: to the last digits."""
+        """The quantile of the gamma law, of which these ends are some, by its expansion after
+        Cornish and Fisher: to the last digits."""
         deviations = 1.959963984540054
 
         def quantile(shape: int, z: float) -> float:
             root: float = shape**0.5
-            return shape + z * root + (z * z - 1) / 3 + (z**3 - 7 * z) / (36 * root) - (3 * z**4 + 7 * z * z - 16) / (810 * shape)
+            return (
+                shape
+                + z * root
+                + (z * z - 1) / 3
+                + (z**3 - 7 * z) / (36 * root)
+                - (3 * z**4 + 7 * z * z - 16) / (810 * shape)
+            )
 
-        for total in (31, 50, 1000, 20000, 10**6, 10**8, 10**9, 2**33, 2**36, 2**40, 2**46, 2**53):
-            low, high = interval(total)
+        for total in (
+            31,
+            50,
+            1000,
+            20000,
+            10**6,
+            10**8,
+            10**9,
+            2**33,
+            2**36,
+            2**40,
+            2**46,
+            2**53,
+        ):
+            low, high = find_interval(total)
             near = 0.05 / total**1.5 + 2 * ulp(total)
             self.assertAlmostEqual(low, quantile(total, -deviations), delta=near)
             self.assertAlmostEqual(high, quantile(total + 1, deviations), delta=near)
 
     def test_by_sums(self) -> None:
-        """By its terms up to 30, and from there on by an expansion that has four digits after the point."""
+        """By its terms up to 30, and from there on by an expansion that has four digits after the
+        point."""
         for total in (*range(0, 12), 29, 30, 31, 32, 40, 60):
-            for found, known in zip(interval(total), exact_ends(total), strict=True):
+            for found, known in zip(find_interval(total), exact_ends(total), strict=True):
                 self.assertAlmostEqual(found, known, delta=1e-9 if total < 30 else 2e-5)
 
     def test_figures(self) -> None:
-        for number, shown in ((0, "0.00"), (0.001234, "0.00123"), (0.5, "0.5"), (0.999, "0.999"), (1, "1.00"), (1.5, "1.50"), (2, "2.00"), (1234.5, "1234.50")):
-            self.assertEqual(figure(number), shown)
+        for number, shown in (
+            (0, "0.00"),
+            (0.001234, "0.00123"),
+            (0.5, "0.5"),
+            (0.999, "0.999"),
+            (1, "1.00"),
+            (1.5, "1.50"),
+            (2, "2.00"),
+            (1234.5, "1234.50"),
+        ):
+            self.assertEqual(format_figure(number), shown)
 
     def test_whether_two_meet(self) -> None:
         """They do if they have one number in common, and one that isn't there meets any."""
-        for one, other, wanted in (((1, 2), (2, 3), True), ((1, 2), (2.5, 3), False), ((1, 9), (2, 3), True), ((1, 2), None, True), (None, None, True)):
-            self.assertEqual((meet(one, other), meet(other, one)), (wanted, wanted))
+        for one, other, wanted in (
+            ((1, 2), (2, 3), True),
+            ((1, 2), (2.5, 3), False),
+            ((1, 9), (2, 3), True),
+            ((1, 2), None, True),
+            (None, None, True),
+        ):
+            self.assertEqual((overlap(one, other), overlap(other, one)), (wanted, wanted))
 
     def test_time(self) -> None:
-        """The lines that it runs are counted, since a clock tells what else runs on the machine as well."""
+        """The lines that it runs are counted, since a clock tells what else runs on the machine as
+        well."""
         for total in (0, 10, 28, 29, 30, 31, 1000, 2**64 - 1):
-            self.assertLess(lines_of(interval, total), 12_000)
+            self.assertLess(lines_of(find_interval, total), 12_000)
 
 
 def lines_of(function: Callable[[int], object], number: int) -> int:
@@ -154,45 +224,81 @@ def lines_of(function: Callable[[int], object], number: int) -> int:
 
 
 class Rates(unittest.TestCase):
-    """Each is the double nearest to the exact quotient, which `Fraction` rounds to, and is printed as short as it reads back."""
+    """Each is the double nearest to the exact quotient, which `Fraction` rounds to, and is printed
+    as short as it reads back."""
 
     def test_each_is_the_nearest(self) -> None:
-        self.assertEqual([rate(20_740, 20_000), rate(647, 20_000), rate(0, 5), rate(5, 0)], [1_037_000, 32_350, 0, 0])
+        self.assertEqual(
+            [
+                compute_rate(20_740, 20_000),
+                compute_rate(647, 20_000),
+                compute_rate(0, 5),
+                compute_rate(5, 0),
+            ],
+            [1_037_000, 32_350, 0, 0],
+        )
         for soups in (3, 7, 20_000, 999_983, 2**40 - 1):
             for total in (1, 2, 647, 20_740, 123_456_789, 2**53 + 1, 2**64 - 1):
-                self.assertEqual(rate(total, soups), float(Fraction(total * 1_000_000, soups)))
-                self.assertEqual(rate(total, soups, 1), float(Fraction(total, soups)))
+                self.assertEqual(
+                    compute_rate(total, soups), float(Fraction(total * 1_000_000, soups))
+                )
+                self.assertEqual(compute_rate(total, soups, 1), float(Fraction(total, soups)))
 
     def test_as_they_are_printed(self) -> None:
         with tempfile.TemporaryDirectory() as folder:
             Path(folder, "a").write_text(haul("b3s23", 20_000, {"xs4_33": 20_740, "xp2_7": 647}))
             Path(folder, "b").write_text(haul("b3s23", 3, {"xs4_33": 1, "xp2_7": 3}))
-            self.assertEqual([row["per_million"] for row in csv.DictReader(run("table", "--csv", f"{folder}/a")[1].splitlines())], ["1037000.0", "32350.0"])
+            self.assertEqual(
+                [
+                    row["per_million"]
+                    for row in csv.DictReader(run("table", "--csv", f"{folder}/a")[1].splitlines())
+                ],
+                ["1037000.0", "32350.0"],
+            )
             self.assertIn('"per_million": 32350.0,', run("table", "--json", f"{folder}/a")[1])
-            rows = {row["code"]: row for row in csv.DictReader(run("compare", "--csv", f"{folder}/a", f"{folder}/b")[1].splitlines())}
+            rows = {
+                row["code"]: row
+                for row in csv.DictReader(
+                    run("compare", "--csv", f"{folder}/a", f"{folder}/b")[1].splitlines()
+                )
+            }
         block = rows["xs4_33"]
-        self.assertEqual((block["per_million_a"], block["per_million_b"], block["ratio_b"]), ("1037000.0", repr(float(Fraction(10**6, 3))), repr(20_000 / 62_220)))
+        self.assertEqual(
+            (block["per_million_a"], block["per_million_b"], block["ratio_b"]),
+            ("1037000.0", repr(float(Fraction(10**6, 3))), repr(20_000 / 62_220)),
+        )
 
 
 class OfOne(Tables):
     def test_text(self) -> None:
-        self.assertEqual(self.printed("table", "a"), """\
+        self.assertEqual(
+            self.printed("table", "a"),
+            """\
 rank  code     total  per_million  one_in_at_most  samples  label
    1  xs4_33     500    500000.00               2  2        block
    2  xp2_7       20     20000.00              50  0        blinker
    3  xq4_153      3      3000.00             333  1        glider
    4  xs8_rr       1      1000.00            1000  3        bi-block
-""")
+""",
+        )
         # One in a soup at least, though there are more of them than soups.
-        self.assertEqual(self.printed("table", "--top", "1", "b").splitlines()[1].split(), ["1", "xs4_33", "1000", "2000000.00", "1", "2", "block"])
+        self.assertEqual(
+            self.printed("table", "--top", "1", "b").splitlines()[1].split(),
+            ["1", "xs4_33", "1000", "2000000.00", "1", "2", "block"],
+        )
 
     def test_which_lines(self) -> None:
         def codes(*words: str) -> list[list[str]]:
             return [line.split()[:2] for line in self.printed("table", *words).splitlines()[1:]]
 
-        self.assertEqual(codes("--rare", "a"), [["4", "xs8_rr"], ["3", "xq4_153"], ["2", "xp2_7"], ["1", "xs4_33"]])
+        self.assertEqual(
+            codes("--rare", "a"),
+            [["4", "xs8_rr"], ["3", "xq4_153"], ["2", "xp2_7"], ["1", "xs4_33"]],
+        )
         self.assertEqual(codes("--rare", "--top", "2", "a"), [["4", "xs8_rr"], ["3", "xq4_153"]])
-        self.assertEqual(codes("--top", "3", "a"), [["1", "xs4_33"], ["2", "xp2_7"], ["3", "xq4_153"]])
+        self.assertEqual(
+            codes("--top", "3", "a"), [["1", "xs4_33"], ["2", "xp2_7"], ["3", "xq4_153"]]
+        )
         self.assertEqual(codes("--top", "0", "a"), [])
         self.assertEqual(codes("--kind", "s", "a"), [["1", "xs4_33"], ["4", "xs8_rr"]])
         self.assertEqual(codes("--kind", "p", "c"), [["2", "xp2_7"], ["3", "ov_p123"]])
@@ -206,28 +312,77 @@ rank  code     total  per_million  one_in_at_most  samples  label
         """One that names no kind has none, and no period."""
         text = haul("b3s23", 10, {"xs4_33": 3, "zz_1": 2, "y": 1}).encode()
         none: list[str] = []
-        for words, codes in ((none, ["xs4_33", "zz_1", "y"]), (["--period=1"], ["xs4_33"]), (["--kind=s"], ["xs4_33"])):
-            self.assertEqual([line.split()[1] for line in run("table", *words, text=text)[1].splitlines()[1:]], codes)
+        for words, codes in (
+            (none, ["xs4_33", "zz_1", "y"]),
+            (["--period=1"], ["xs4_33"]),
+            (["--kind=s"], ["xs4_33"]),
+        ):
+            self.assertEqual(
+                [line.split()[1] for line in run("table", *words, text=text)[1].splitlines()[1:]],
+                codes,
+            )
 
     def test_csv(self) -> None:
         rows = list(csv.DictReader(self.printed("table", "--csv", "a").splitlines()))
-        self.assertEqual(rows[2], {"rank": "3", "code": "xq4_153", "total": "3", "per_million": "3000.0", "one_in_at_most": "333", "samples": "1",
-                                   "label": "glider", "parts": "xq4_153", "strict": "yes", "separated": "yes", "by_parts": "no"})
+        self.assertEqual(
+            rows[2],
+            {
+                "rank": "3",
+                "code": "xq4_153",
+                "total": "3",
+                "per_million": "3000.0",
+                "one_in_at_most": "333",
+                "samples": "1",
+                "label": "glider",
+                "parts": "xq4_153",
+                "strict": "yes",
+                "separated": "yes",
+                "by_parts": "no",
+            },
+        )
         self.assertEqual(len(rows), 4)
-        self.assertEqual(list(csv.DictReader(self.printed("table", "--csv", "--kind", "p", "c").splitlines()))[1]["label"], "")
+        self.assertEqual(
+            list(csv.DictReader(self.printed("table", "--csv", "--kind", "p", "c").splitlines()))[
+                1
+            ]["label"],
+            "",
+        )
 
     def test_json(self) -> None:
         told = json.loads(self.printed("table", "--json", "a"))
-        self.assertEqual((told["rule"], told["soups"], told["unsettled"], told["for_good"], told["total"]), ("b3s23", 1000, 1, 2, 524))
-        self.assertEqual(told["objects"][2], {"rank": 3, "code": "xq4_153", "total": 3, "per_million": 3000.0, "one_in_at_most": 333, "samples": [1],
-                                              "label": "glider", "parts": ["xq4_153"], "strict": True, "separated": True})
-        self.assertEqual(json.loads(self.printed("table", "--json", "--top", "0", "a"))["objects"], [])
+        self.assertEqual(
+            (told["rule"], told["soups"], told["unsettled"], told["for_good"], told["total"]),
+            ("b3s23", 1000, 1, 2, 524),
+        )
+        self.assertEqual(
+            told["objects"][2],
+            {
+                "rank": 3,
+                "code": "xq4_153",
+                "total": 3,
+                "per_million": 3000.0,
+                "one_in_at_most": 333,
+                "samples": [1],
+                "label": "glider",
+                "parts": ["xq4_153"],
+                "strict": True,
+                "separated": True,
+            },
+        )
+        self.assertEqual(
+            json.loads(self.printed("table", "--json", "--top", "0", "a"))["objects"], []
+        )
 
     def test_large_totals(self) -> None:
         """What is over 2^53 is a text in JSON."""
-        text = haul("b3s23", 2**40, {"xs4_33": 2**53, "xp2_7": 2**53 + 1, "xs8_rr": 2**63}).encode()
+        text = haul(
+            "b3s23", 2**40, {"xs4_33": 2**53, "xp2_7": 2**53 + 1, "xs8_rr": 2**63}
+        ).encode()
         told = json.loads(run("table", "--json", text=text)[1])
-        self.assertEqual([one["total"] for one in told["objects"]], ["9223372036854775808", "9007199254740993", 9007199254740992])
+        self.assertEqual(
+            [one["total"] for one in told["objects"]],
+            ["9223372036854775808", "9007199254740993", 9007199254740992],
+        )
         self.assertEqual(told["total"], "9241386435364257793")
         self.assertIn("9223372036854775808", run("table", "--csv", text=text)[1])
 
@@ -235,7 +390,10 @@ rank  code     total  per_million  one_in_at_most  samples  label
 class OfSeveral(Tables):
     def test_two(self) -> None:
         """Without a new option: no interval, and no star."""
-        self.assertEqual(self.printed("compare", "a", "b"), JOBS + """\
+        self.assertEqual(
+            self.printed("compare", "a", "b"),
+            JOBS
+            + """\
 code          name            total_a  total_b  per_million_a  per_million_b  b_to_a
 xs4_33        block               500     1000      500000.00     2000000.00    4.00
 xp2_7         blinker              20        2       20000.00        4000.00    0.20
@@ -243,20 +401,72 @@ xp15_4r4z4r4  pentadecathlon        0        4           0.00        8000.00    
 xq4_153       glider                3        0        3000.00           0.00    0.00
 xs8_rr        bi-block              1        0        1000.00           0.00    0.00
 in A alone: xq4_153 xs8_rr; in B alone: xp15_4r4z4r4
-""")
-        self.assertEqual(self.printed("compare", "--least", "4", "a", "b").splitlines()[5:], [
-            "xs4_33        block               500     1000      500000.00     2000000.00    4.00",
-            "xp2_7         blinker              20        2       20000.00        4000.00    0.20",
-            "xp15_4r4z4r4  pentadecathlon        0        4           0.00        8000.00       -",
-            "in A alone: none; in B alone: xp15_4r4z4r4"])
-        self.assertEqual(self.printed("compare", "b", "a").splitlines()[5], "xs4_33        block              1000      500     2000000.00      500000.00    0.25")
+""",
+        )
+        self.assertEqual(
+            self.printed("compare", "--least", "4", "a", "b").splitlines()[5:],
+            [
+                "xs4_33        block               500     1000      500000.00     2000000.00    4.00",
+                "xp2_7         blinker              20        2       20000.00        4000.00    0.20",
+                "xp15_4r4z4r4  pentadecathlon        0        4           0.00        8000.00       -",
+                "in A alone: none; in B alone: xp15_4r4z4r4",
+            ],
+        )
+        self.assertEqual(
+            self.printed("compare", "b", "a").splitlines()[5],
+            "xs4_33        block              1000      500     2000000.00      500000.00    0.25",
+        )
 
     def test_intervals(self) -> None:
         """Garwood's of 20, 2 and 3, in a million soups."""
-        rows = {row[0]: row for row in map(str.split, self.printed("compare", "--intervals", "a", "b").splitlines()[4:-2])}
-        self.assertEqual(rows["code"], ["code", "name", "total_a", "per_million_a", "interval_a", "total_b", "per_million_b", "interval_b", "b_to_a"])
-        self.assertEqual(rows["xp2_7"], ["xp2_7", "blinker", "20", "20000.00", "12216.52..30888.38", "2", "4000.00", "484.42..14449.38", "0.20"])
-        self.assertEqual(rows["xq4_153"], ["xq4_153", "glider", "3", "3000.00", "618.67..8767.27", "0", "0.00", "0.00..7377.76", "0.00"])
+        rows = {
+            row[0]: row
+            for row in map(
+                str.split, self.printed("compare", "--intervals", "a", "b").splitlines()[4:-2]
+            )
+        }
+        self.assertEqual(
+            rows["code"],
+            [
+                "code",
+                "name",
+                "total_a",
+                "per_million_a",
+                "interval_a",
+                "total_b",
+                "per_million_b",
+                "interval_b",
+                "b_to_a",
+            ],
+        )
+        self.assertEqual(
+            rows["xp2_7"],
+            [
+                "xp2_7",
+                "blinker",
+                "20",
+                "20000.00",
+                "12216.52..30888.38",
+                "2",
+                "4000.00",
+                "484.42..14449.38",
+                "0.20",
+            ],
+        )
+        self.assertEqual(
+            rows["xq4_153"],
+            [
+                "xq4_153",
+                "glider",
+                "3",
+                "3000.00",
+                "618.67..8767.27",
+                "0",
+                "0.00",
+                "0.00..7377.76",
+                "0.00",
+            ],
+        )
         self.assertTrue(rows["xs4_33"][7].endswith("*"))
         self.assertEqual([code for code, row in rows.items() if row[7].endswith("*")], ["xs4_33"])
 
@@ -264,17 +474,32 @@ in A alone: xq4_153 xs8_rr; in B alone: xp15_4r4z4r4
         lines = self.printed("compare", "a", "b", "c").splitlines()
         self.assertEqual(lines[5], "C: 1000 soups, 1 unsettled, 2 for good, 535 objects")
         self.assertEqual(lines[6].split()[-2:], ["b_to_a", "c_to_a"])
-        self.assertEqual([line.split()[0] for line in lines[7:-2]], ["xs4_33", "xp2_7", "xp15_4r4z4r4", "ov_p123", "xq4_153", "xs8_rr"])
+        self.assertEqual(
+            [line.split()[0] for line in lines[7:-2]],
+            ["xs4_33", "xp2_7", "xp15_4r4z4r4", "ov_p123", "xq4_153", "xs8_rr"],
+        )
         self.assertEqual(lines[7].split()[-2:], ["4.00", "1.02"])
-        self.assertEqual(lines[-2], "in A alone: xq4_153 xs8_rr; in B alone: xp15_4r4z4r4; in C alone: ov_p123")
+        self.assertEqual(
+            lines[-2], "in A alone: xq4_153 xs8_rr; in B alone: xp15_4r4z4r4; in C alone: ov_p123"
+        )
         self.assertIn("as if objects came singly", lines[-1])
 
     def test_all_that_is_printed(self) -> None:
-        """Three hauls in each order, with each option: facts, rates, intervals, ratios and stars, and who has what alone."""
-        names = {"xs4_33": "block", "xp2_7": "blinker", "xq4_153": "glider", "xs8_rr": "bi-block", "xp15_4r4z4r4": "pentadecathlon",
-                 "ov_p123": "not_separated"}
-        facts = {"a": (1000, {"xs4_33": 500, "xp2_7": 20, "xq4_153": 3, "xs8_rr": 1}), "b": (500, {"xs4_33": 1000, "xp2_7": 2, "xp15_4r4z4r4": 4}),
-                 "c": (1000, {"xs4_33": 510, "xp2_7": 20, "ov_p123": 5})}
+        """Three hauls in each order, with each option: facts, rates, intervals, ratios and stars,
+        and who has what alone."""
+        names = {
+            "xs4_33": "block",
+            "xp2_7": "blinker",
+            "xq4_153": "glider",
+            "xs8_rr": "bi-block",
+            "xp15_4r4z4r4": "pentadecathlon",
+            "ov_p123": "not_separated",
+        }
+        facts = {
+            "a": (1000, {"xs4_33": 500, "xp2_7": 20, "xq4_153": 3, "xs8_rr": 1}),
+            "b": (500, {"xs4_33": 1000, "xp2_7": 2, "xp15_4r4z4r4": 4}),
+            "c": (1000, {"xs4_33": 510, "xp2_7": 20, "ov_p123": 5}),
+        }
         rules = {"a": "b3s23", "b": "b36s23", "c": "b3s12"}
         ends = {total: exact_ends(total) for total in (0, 1, 2, 3, 4, 5, 20, 500, 510, 1000)}
         none: list[str] = []
@@ -283,20 +508,39 @@ in A alone: xq4_153 xs8_rr; in B alone: xp15_4r4z4r4
             return f"{number:.2f}" if number >= 1 or number == 0 else f"{number:.3g}"
 
         for order in permutations("abc"):
-            for words, least, unit in ((none, 1, 10**6), (["--per", "soup"], 1, 1), (["--least", "4"], 4, 10**6), (["--rare"], 1, 10**6)):
+            for words, least, unit in (
+                (none, 1, 10**6),
+                (["--per", "soup"], 1, 1),
+                (["--least", "4"], 4, 10**6),
+                (["--rare"], 1, 10**6),
+            ):
                 hauls = [facts[name] for name in order]
-                best = {code: max(totals.get(code, 0) / soups for soups, totals in hauls) for _, totals in hauls for code in totals
-                        if any(other.get(code, 0) >= least for _, other in hauls)}
+                best = {
+                    code: max(totals.get(code, 0) / soups for soups, totals in hauls)
+                    for _, totals in hauls
+                    for code in totals
+                    if any(other.get(code, 0) >= least for _, other in hauls)
+                }
                 codes = sorted(best, key=lambda code: (-best[code], code))
                 if words == ["--rare"]:
                     codes = [code for code in codes[::-1] if code not in ("xs4_33", "xp2_7")]
                 wanted = []
                 for letter, name in zip("ABC", order):
                     soups, totals = facts[name]
-                    wanted += [f"{letter}: seed=x rule={rules[name]} profile=64,512,101,30300",
-                               f"{letter}: {soups} soups, 1 unsettled, 2 for good, {sum(totals.values())} objects"]
+                    wanted += [
+                        f"{letter}: seed=x rule={rules[name]} profile=64,512,101,30300",
+                        f"{letter}: {soups} soups, 1 unsettled, 2 for good, {sum(totals.values())} objects",
+                    ]
                 per = "soup" if unit == 1 else "million"
-                wanted.append(" ".join(["code name", *(f"total_{x} per_{per}_{x} interval_{x}" for x in "abc"), "b_to_a c_to_a"]))
+                wanted.append(
+                    " ".join(
+                        [
+                            "code name",
+                            *(f"total_{x} per_{per}_{x} interval_{x}" for x in "abc"),
+                            "b_to_a c_to_a",
+                        ]
+                    )
+                )
                 for code in codes:
                     row, rates, first = [code, names.get(code, "-")], [], (0.0, 0.0)
                     for k, (soups, totals) in enumerate(hauls):
@@ -304,50 +548,140 @@ in A alone: xq4_153 xs8_rr; in B alone: xp15_4r4z4r4
                         low, high = (end / soups * unit for end in ends[total])
                         first = (low, high) if k == 0 else first
                         rates.append(total / soups)
-                        row += [str(total), shown(total / soups * unit), f"{shown(low)}..{shown(high)}" + "*" * (low > first[1] or high < first[0])]
+                        row += [
+                            str(total),
+                            shown(total / soups * unit),
+                            f"{shown(low)}..{shown(high)}"
+                            + "*" * (low > first[1] or high < first[0]),
+                        ]
                     row += [f"{rate / rates[0]:.2f}" if rates[0] else "-" for rate in rates[1:]]
                     wanted.append(" ".join(row))
-                has = {x: [code for code in codes if code in totals and sum(code in other for _, other in hauls) == 1] for x, (_, totals) in zip("ABC", hauls)}
-                wanted.append("; ".join(f"in {x} alone: {' '.join(has[x]) or 'none'}" for x in "ABC"))
-                wanted.append("intervals: 95 %, as if objects came singly; *: doesn't meet that of A, which is no test at 5 %")
+                has = {
+                    x: [
+                        code
+                        for code in codes
+                        if code in totals and sum(code in other for _, other in hauls) == 1
+                    ]
+                    for x, (_, totals) in zip("ABC", hauls)
+                }
+                wanted.append(
+                    "; ".join(f"in {x} alone: {' '.join(has[x]) or 'none'}" for x in "ABC")
+                )
+                wanted.append(
+                    "intervals: 95 %, as if objects came singly; *: doesn't meet that of A, which is no test at 5 %"
+                )
                 with self.subTest(order=order, words=words):
-                    self.assertEqual([" ".join(line.split()) for line in self.printed("compare", *words, *order).splitlines()], wanted)
+                    self.assertEqual(
+                        [
+                            " ".join(line.split())
+                            for line in self.printed("compare", *words, *order).splitlines()
+                        ],
+                        wanted,
+                    )
 
     def test_rare(self) -> None:
         lines = self.printed("compare", "--rare", "a", "b", "c").splitlines()
-        self.assertEqual([line.split()[0] for line in lines[7:-2]], ["xs8_rr", "xq4_153", "ov_p123", "xp15_4r4z4r4"])
+        self.assertEqual(
+            [line.split()[0] for line in lines[7:-2]],
+            ["xs8_rr", "xq4_153", "ov_p123", "xp15_4r4z4r4"],
+        )
 
     def test_in_a_soup(self) -> None:
         lines = self.printed("compare", "--per", "soup", "a", "b").splitlines()
         self.assertIn("per_soup_a", lines[4])
-        self.assertEqual(lines[6].split()[2:8], ["20", "0.02", "0.0122..0.0309", "2", "0.004", "0.000484..0.0144"])
+        self.assertEqual(
+            lines[6].split()[2:8],
+            ["20", "0.02", "0.0122..0.0309", "2", "0.004", "0.000484..0.0144"],
+        )
 
     def test_csv(self) -> None:
-        rows = {row["code"]: row for row in csv.DictReader(self.printed("compare", "--csv", "a", "b", "c").splitlines())}
+        rows = {
+            row["code"]: row
+            for row in csv.DictReader(self.printed("compare", "--csv", "a", "b", "c").splitlines())
+        }
         self.assertEqual(len(rows), 6)
         block = rows["xs4_33"]
-        self.assertEqual([block[head] for head in ("name", "rule_b", "soups_b", "total_b", "per_million_b", "ratio_b", "differs_b", "differs_c", "ratio_a")],
-                         ["block", "b36s23", "500", "1000", "2000000.0", "4.0", "*", "", ""])
+        self.assertEqual(
+            [
+                block[head]
+                for head in (
+                    "name",
+                    "rule_b",
+                    "soups_b",
+                    "total_b",
+                    "per_million_b",
+                    "ratio_b",
+                    "differs_b",
+                    "differs_c",
+                    "ratio_a",
+                )
+            ],
+            ["block", "b36s23", "500", "1000", "2000000.0", "4.0", "*", "", ""],
+        )
         self.assertAlmostEqual(float(rows["xp2_7"]["low_a"]), 12216.5, places=0)
         self.assertAlmostEqual(float(rows["xp2_7"]["high_a"]), 30888.4, places=0)
         self.assertEqual(rows["ov_p123"]["ratio_c"], "")
         # All that the text has, too.
-        for letter, facts in (("a", ["x", "b3s23", "64,512,101,30300", "1000", "1", "2", "524"]), ("b", ["x", "b36s23", "64,512,101,30300", "500", "1", "2", "1006"])):
+        for letter, facts in (
+            ("a", ["x", "b3s23", "64,512,101,30300", "1000", "1", "2", "524"]),
+            ("b", ["x", "b36s23", "64,512,101,30300", "500", "1", "2", "1006"]),
+        ):
             for row in rows.values():
-                self.assertEqual([row[f"{name}_{letter}"] for name in ("seed", "rule", "profile", "soups", "unsettled", "for_good", "objects")], facts)
-        self.assertEqual({code: row["alone"] for code, row in rows.items()},
-                         {"xs4_33": "", "xp2_7": "", "xq4_153": "A", "xs8_rr": "A", "xp15_4r4z4r4": "B", "ov_p123": "C"})
+                self.assertEqual(
+                    [
+                        row[f"{name}_{letter}"]
+                        for name in (
+                            "seed",
+                            "rule",
+                            "profile",
+                            "soups",
+                            "unsettled",
+                            "for_good",
+                            "objects",
+                        )
+                    ],
+                    facts,
+                )
+        self.assertEqual(
+            {code: row["alone"] for code, row in rows.items()},
+            {
+                "xs4_33": "",
+                "xp2_7": "",
+                "xq4_153": "A",
+                "xs8_rr": "A",
+                "xp15_4r4z4r4": "B",
+                "ov_p123": "C",
+            },
+        )
 
     def test_json(self) -> None:
         told = json.loads(self.printed("compare", "--json", "a", "b", "c"))
-        self.assertEqual([one["alone"] for one in told["hauls"]], [["xq4_153", "xs8_rr"], ["xp15_4r4z4r4"], ["ov_p123"]])
-        self.assertEqual([(one["haul"], one["rule"], one["soups"]) for one in told["hauls"]], [("A", "b3s23", 1000), ("B", "b36s23", 500), ("C", "b3s12", 1000)])
-        self.assertEqual({one["code"]: one["name"] for one in told["objects"] if one["code"] in ("xp2_7", "ov_p123")}, {"xp2_7": "blinker", "ov_p123": None})
+        self.assertEqual(
+            [one["alone"] for one in told["hauls"]],
+            [["xq4_153", "xs8_rr"], ["xp15_4r4z4r4"], ["ov_p123"]],
+        )
+        self.assertEqual(
+            [(one["haul"], one["rule"], one["soups"]) for one in told["hauls"]],
+            [("A", "b3s23", 1000), ("B", "b36s23", 500), ("C", "b3s12", 1000)],
+        )
+        self.assertEqual(
+            {
+                one["code"]: one["name"]
+                for one in told["objects"]
+                if one["code"] in ("xp2_7", "ov_p123")
+            },
+            {"xp2_7": "blinker", "ov_p123": None},
+        )
         block = told["objects"][0]
-        self.assertEqual((block["code"], block["totals"], block["ratios"], block["differs"]), ("xs4_33", [500, 1000, 510], [None, 4.0, 1.02], [False, True, False]))
+        self.assertEqual(
+            (block["code"], block["totals"], block["ratios"], block["differs"]),
+            ("xs4_33", [500, 1000, 510], [None, 4.0, 1.02], [False, True, False]),
+        )
 
     def test_how_many(self) -> None:
-        self.assertEqual(len(json.loads(self.printed("compare", "--json", *["a"] * 16))["hauls"]), 16)
+        self.assertEqual(
+            len(json.loads(self.printed("compare", "--json", *["a"] * 16))["hauls"]), 16
+        )
         status, output, errors = run("compare", *["-"] * 17)
         self.assertEqual((status, output), (2, ""))
         self.assertIn("more than 16 hauls", errors)
@@ -356,16 +690,38 @@ in A alone: xq4_153 xs8_rr; in B alone: xp15_4r4z4r4
 
     def test_none_vanishes(self) -> None:
         """There are sixteen letters."""
-        none = Haul(Job("", "b3s23", (1, 1, 1, 0)), [], 0, 0, 0, {}, {})
-        self.assertEqual("".join(letter for letter, _ in lettered([none] * 16)), "ABCDEFGHIJKLMNOP")
+        none = Haul(
+            Job("", "b3s23", Profile(1, 1, 1, 0)),
+            ranges=[],
+            soups=0,
+            unsettled=0,
+            for_good=0,
+            totals={},
+            samples={},
+        )
+        self.assertEqual(
+            "".join(letter for letter, _ in letter_hauls([none] * 16)), "ABCDEFGHIJKLMNOP"
+        )
         with self.assertRaises(ValueError):
-            list(lettered([none] * 17))
+            list(letter_hauls([none] * 17))
 
     def test_no_soup(self) -> None:
-        none = haul("b3s23", 1, {}).replace("@RANGE 0 1", "@RANGE 0 0").replace("SOUPS 1", "SOUPS 0").replace("SETTLED 1", "SETTLED 0").replace("GOOD 2", "GOOD 0")
+        none = (
+            haul("b3s23", 1, {})
+            .replace("@RANGE 0 1", "@RANGE 0 0")
+            .replace("SOUPS 1", "SOUPS 0")
+            .replace("SETTLED 1", "SETTLED 0")
+            .replace("GOOD 2", "GOOD 0")
+        )
         Path(self.folder.name, "c").write_text(none)
-        self.assertEqual(self.printed("compare", "--intervals", "c", "a").splitlines()[5].split()[2:5], ["0", "0.00", "-"])
-        self.assertEqual(self.printed("compare", "a", "c").splitlines()[5].split()[2:], ["500", "0", "500000.00", "0.00", "0.00"])
+        self.assertEqual(
+            self.printed("compare", "--intervals", "c", "a").splitlines()[5].split()[2:5],
+            ["0", "0.00", "-"],
+        )
+        self.assertEqual(
+            self.printed("compare", "a", "c").splitlines()[5].split()[2:],
+            ["500", "0", "500000.00", "0.00", "0.00"],
+        )
 
 
 class Terminals(Tables):
@@ -373,47 +729,56 @@ class Terminals(Tables):
 
     def on_terminal(self, columns: int, *words: str) -> list[str]:
         """The lines that are printed on a terminal of so many columns."""
-        ours, its = pty.openpty()
-        with patch.dict(os.environ, COLUMNS=str(columns)), subprocess.Popen([HAUL, *words], stdout=its, cwd=self.folder.name, preexec_fn=as_haul(*words)):
-            os.close(its)
-            said = b""
-            while True:
-                try:
-                    piece = os.read(ours, 65536)
-                except OSError:
-                    break
-                if not piece:
-                    break
-                said += piece
-        os.close(ours)
+        with patch.dict(os.environ, COLUMNS=str(columns)):
+            said = read_terminal(
+                lambda stdout: call(words, io.BytesIO(), stdout, sys.stderr, self.folder.name)
+            )
         return said.decode().replace("\r\n", "\n").splitlines()
 
     def test_long_codes_are_cut_there(self) -> None:
         Path(self.folder.name, "a").write_text(haul("b3s23", 10, {"xs4_33": 5, self.CODE: 7}))
-        for words, head in ((["table", "a"], "rank"), (["compare", "a", "a"], "code"), (["compare", "--intervals", "a", "a"], "code")):
+        for words, head in (
+            (["table", "a"], "rank"),
+            (["compare", "a", "a"], "code"),
+            (["compare", "--intervals", "a", "a"], "code"),
+        ):
             with self.subTest(words=words):
                 lines = self.on_terminal(140, *words)
-                table = [line for line in lines if line.startswith(head) or "xs4" in line and "alone" not in line]
+                table = [
+                    line
+                    for line in lines
+                    if line.startswith(head) or "xs4" in line and "alone" not in line
+                ]
                 self.assertEqual(len(table), 3)
                 self.assertLessEqual(max(map(len, table)), 140)
                 self.assertEqual(sum("…" in line for line in lines), 1)
                 self.assertIn(self.CODE, self.printed(words[0], *words[1:]))
 
     def test_where_they_are_cut(self) -> None:
-        """Nothing is cut where all fits; a column less costs a character, and eight are always left."""
+        """Nothing is cut where all fits; a column less costs a character, and eight are always
+        left."""
         code = "xs40_" + "g" * 20
         Path(self.folder.name, "a").write_text(haul("b3s23", 10, {"xs4_33": 5, code: 7}))
         for words in (["table", "a"], ["compare", "a", "a"]):
             printed = self.printed(words[0], *words[1:]).splitlines()
             width = max(len(line) for line in printed if "alone" not in line)
             self.assertEqual(self.on_terminal(width, *words), printed)
-            for columns, shown in ((width - 1, code[:23] + "…"), (width - 2, code[:22] + "…"), (20, "xs40_gg…")):
+            for columns, shown in (
+                (width - 1, code[:23] + "…"),
+                (width - 2, code[:22] + "…"),
+                (20, "xs40_gg…"),
+            ):
                 lines = self.on_terminal(columns, *words)
-                self.assertEqual([line for line in lines if "…" in line], [line for line in lines if f"{shown} " in line])
+                self.assertEqual(
+                    [line for line in lines if "…" in line],
+                    [line for line in lines if f"{shown} " in line],
+                )
                 self.assertEqual(sum(shown in line for line in lines), 1)
 
     def test_short_ones_are_not(self) -> None:
-        self.assertEqual("\n".join(self.on_terminal(200, "table", "a")) + "\n", self.printed("table", "a"))
+        self.assertEqual(
+            "\n".join(self.on_terminal(200, "table", "a")) + "\n", self.printed("table", "a")
+        )
 
 
 if __name__ == "__main__":

@@ -7,8 +7,10 @@ import random
 import re
 import unittest
 
+from haul.formats.field_reader import BadHaul
+from haul.formats.haul import Haul
+from haul.formats.haul_reader import read_hauls, read_one_haul
 from haul.tests.drawn import any_haul, text_of
-from haul.text import BadHaul, Haul, read_hauls, read_one_haul
 
 # Two of four soups of the empty seed, each unsettled, as docs/FORMATS.md has it.
 SMALL = """\
@@ -57,7 +59,8 @@ def read(text: str) -> Haul:
 
 
 def said_of(text: str) -> str:
-    """What is said of a text that is no haul's: a place, and a reason if its words are well formed."""
+    """What is said of a text that is no haul's: a place, and a reason if its words are well
+    formed."""
     try:
         list(read_hauls(io.BytesIO(text.encode("latin-1"))))
     except BadHaul as bad:
@@ -73,7 +76,10 @@ def fault(text: str) -> str:
 class Reading(unittest.TestCase):
     def test_small(self) -> None:
         haul = read(SMALL)
-        self.assertEqual((haul.soups, haul.unsettled, haul.for_good, haul.ranges, haul.totals), (2, 2, 0, [(0, 4)], {}))
+        self.assertEqual(
+            (haul.soups, haul.unsettled, haul.for_good, haul.ranges, haul.totals),
+            (2, 2, 0, [(0, 4)], {}),
+        )
         self.assertEqual(text_of(haul), SMALL)
 
     def test_larger(self) -> None:
@@ -86,12 +92,21 @@ class Reading(unittest.TestCase):
 
     def test_the_largest_total(self) -> None:
         most = 2**64 - 1
-        text = LARGER.replace("OBJECTS 6", f"OBJECTS {most}").replace("xs4_33 4\n", "").replace("xp2_7 2", f"xp2_7 {most}").replace("xs4_33 3 4 10\n", "")
+        text = (
+            LARGER.replace("OBJECTS 6", f"OBJECTS {most}")
+            .replace("xs4_33 4\n", "")
+            .replace("xp2_7 2", f"xp2_7 {most}")
+            .replace("xs4_33 3 4 10\n", "")
+        )
         self.assertEqual(text_of(read(text)), text)
         self.assertEqual(fault(text.replace(str(most), str(most + 1))), "line 11 column 14")
 
     def test_no_number(self) -> None:
-        none = SMALL.replace("@RANGE 0 4", "@RANGE 0 0").replace("SOUPS 2", "SOUPS 0").replace("UNSETTLED 2", "UNSETTLED 0")
+        none = (
+            SMALL.replace("@RANGE 0 4", "@RANGE 0 0")
+            .replace("SOUPS 2", "SOUPS 0")
+            .replace("UNSETTLED 2", "UNSETTLED 0")
+        )
         self.assertEqual(text_of(read(none)), none)
 
     def test_several(self) -> None:
@@ -99,7 +114,8 @@ class Reading(unittest.TestCase):
         self.assertEqual([haul.line for haul in hauls], [1, 15, 34])
 
     def test_places_and_reasons(self) -> None:
-        """Where the words are well formed, the message says why they are wrong, and otherwise only where. `None`: the reason isn't looked at."""
+        """Where the words are well formed, the message says why they are wrong, and otherwise only
+        where. `None`: the reason isn't looked at."""
         for old, new, place, reason in [
             ("@VERSION 2", "", "line 1 column 1", None),
             ("@VERSION 2", "@VERSION", "line 1 column 9", None),
@@ -122,7 +138,12 @@ class Reading(unittest.TestCase):
             ("@RANGE 10 1", "@RANGES 10 1", "line 7 column 1", None),
             ("@RANGE 3 2\n", "@RANGE 0 0\n", "line 7 column 1", None),
             ("@RANGE 10 1", "@RANGE", "line 7 column 7", None),
-            ("@RANGE 10 1", "@RANGE 5 1", "line 7 column 8", "the ranges are not in ascending order, or touch"),
+            (
+                "@RANGE 10 1",
+                "@RANGE 5 1",
+                "line 7 column 8",
+                "the ranges are not in ascending order, or touch",
+            ),
             ("@RANGE 10 1", "@RANGE ", "line 7 column 8", None),
             ("@RANGE 10 1", f"@RANGE {2**40} 1", "line 7 column 8", "the number is too large"),
             ("@RANGE 10 1", "@RANGE 10", "line 7 column 10", None),
@@ -132,8 +153,18 @@ class Reading(unittest.TestCase):
             ("SOUPS 3", "SOUPS 4", "line 8 column 12", "more soups than numbers in the ranges"),
             ("SOUPS 3", "SOUPS 03", "line 8 column 12", ""),
             ("UNSETTLED 0", "UNSETTLED 4", "line 9 column 16", "more unsettled soups than soups"),
-            ("FOR_GOOD 1", "FOR_GOOD 4", "line 10 column 15", "more soups for good than settled soups"),
-            ("OBJECTS 6", "OBJECTS 7", "line 11 column 14", "the objects are not the sum of the table"),
+            (
+                "FOR_GOOD 1",
+                "FOR_GOOD 4",
+                "line 10 column 15",
+                "more soups for good than settled soups",
+            ),
+            (
+                "OBJECTS 6",
+                "OBJECTS 7",
+                "line 11 column 14",
+                "the objects are not the sum of the table",
+            ),
             ("OBJECTS 6", "OBJECTS 06", "line 11 column 14", None),
             ("OBJECTS 6", f"OBJECTS {2**64}", "line 11 column 14", "the number is too large"),
             ("6\n\n@CENSUS", "6\n@CENSUS", "line 12 column 1", None),
@@ -144,13 +175,23 @@ class Reading(unittest.TestCase):
             ("xs4_33 4\n", "xp2_7 4\n", "line 15 column 1", "the codes are not in ascending order"),
             ("xs4_33 4\n", "xp2_6 4\n", "line 15 column 1", None),
             ("xs4_33 4\n", f"xs4_33 {2**64}\n", "line 15 column 8", "the number is too large"),
-            ("xp2_7 3 10", "xp2_8 3 10", "line 18 column 1", "not the code of the same row of the census table"),
+            (
+                "xp2_7 3 10",
+                "xp2_8 3 10",
+                "line 18 column 1",
+                "not the code of the same row of the census table",
+            ),
             ("xp2_7 3 10", "* 3 10", "line 18 column 1", ""),
             ("xp2_7 3 10", "xp2_7", "line 18 column 6", None),
             ("xp2_7 3 10", "xp2_7 3 3", "line 18 column 9", None),
             ("xp2_7 3 10", "xp2_7 3 11", "line 18 column 9", "the number is in no range"),
             ("xp2_7 3 10", f"xp2_7 3 {2**40}", "line 18 column 9", "the number is in no range"),
-            ("xp2_7 3 10", "xp2_7 10 3", "line 18 column 10", "the samples are not in ascending order"),
+            (
+                "xp2_7 3 10",
+                "xp2_7 10 3",
+                "line 18 column 10",
+                "the samples are not in ascending order",
+            ),
             ("xp2_7 3 10", "xp2_7 3 4 10", "line 18 column 11", "more samples than objects"),
             ("xp2_7 3 10", "xp2_7 3 4 x", "line 18 column 11", ""),
             ("xs4_33 3 4 10\n", "", "line 19 column 1", None),
@@ -168,8 +209,15 @@ class Reading(unittest.TestCase):
     def test_what_comes_before_a_fault_is_right(self) -> None:
         """The largest total, and the least number of a soup."""
         most = 2**64 - 1
-        self.assertEqual(said_of(LARGER.replace("xs4_33 4\n", f"xs4_33 {most} x\n")), f"line 15 column {len(f'xs4_33 {most} ') + 1}")
-        first = LARGER.replace("@RANGE 3 2", "@RANGE 0 5").replace("SOUPS 3", "SOUPS 6").replace("xp2_7 3 10", "xp2_7 0 9")
+        self.assertEqual(
+            said_of(LARGER.replace("xs4_33 4\n", f"xs4_33 {most} x\n")),
+            f"line 15 column {len(f'xs4_33 {most} ') + 1}",
+        )
+        first = (
+            LARGER.replace("@RANGE 3 2", "@RANGE 0 5")
+            .replace("SOUPS 3", "SOUPS 6")
+            .replace("xp2_7 3 10", "xp2_7 0 9")
+        )
         self.assertEqual(said_of(first), "line 18 column 9: the number is in no range")
 
     def test_the_sum_comes_after_the_table(self) -> None:
@@ -179,7 +227,9 @@ class Reading(unittest.TestCase):
 
     def test_the_sum_is_below_two_to_the_64(self) -> None:
         for four, place in ((2**64 - 3, "none"), (2**64 - 2, "line 11 column 14")):
-            text = LARGER.replace("OBJECTS 6", f"OBJECTS {four + 2}").replace("xs4_33 4\n", f"xs4_33 {four}\n")
+            text = LARGER.replace("OBJECTS 6", f"OBJECTS {four + 2}").replace(
+                "xs4_33 4\n", f"xs4_33 {four}\n"
+            )
             self.assertEqual(fault(text), place)
 
     def test_lines_go_on_through_the_input(self) -> None:
@@ -189,7 +239,8 @@ class Reading(unittest.TestCase):
         self.assertEqual(fault(""), "line 1 column 1")
 
     def test_cut(self) -> None:
-        """Cut within a word that is no field yet, it is bad where that word begins, and else at the end."""
+        """Cut within a word that is no field yet, it is bad where that word begins, and else at the
+        end."""
         self.assertEqual(fault(LARGER[:5]), "line 1 column 1")
         self.assertEqual(fault("@VERSION "), "line 1 column 10")
         self.assertEqual(fault("@VERSION 2"), "line 1 column 11")
@@ -210,9 +261,9 @@ class Drawn(unittest.TestCase):
             self.assertEqual(read(text_of(haul)), haul)
 
     def test_changed_bytes(self) -> None:
-        """A text with a byte changed, added or left out is lawful, and then it is written as it was read, or it is refused at a
-        place. What stands before that is refused only where it ends, and whatever comes after the field at that place, it is
-        refused there."""
+        """A text with a byte changed, added or left out is lawful, and then it is written as it was
+        read, or it is refused at a place. What stands before that is refused only where it ends,
+        and whatever comes after the field at that place, it is refused there."""
         draw = random.Random("mutations")
         refused = 0
         for _ in range(4000):

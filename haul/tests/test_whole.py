@@ -1,4 +1,5 @@
-"""What is printed of hauls that are made by hand: each number, row and word that a slip could change unseen."""
+"""What is printed of hauls that are made by hand: each number, row and word that a slip could
+change unseen."""
 
 from __future__ import annotations
 
@@ -10,21 +11,36 @@ import tempfile
 import unittest
 from pathlib import Path
 
-from haul.by_parts import Objects
-from haul.compare import Comparison, ranked
-from haul.program import pieces
+from haul.tests.called import QUIET
+from haul.formats.profile import STANDARD, Profile
+from haul.census.command_lines import split_ranges
+from haul.formats.haul import Haul, Job, Range
+from haul.formats.haul_reader import read_one_haul
+from haul.hauls.by_parts import Objects
 from haul.tests.called import census, run
 from haul.tests.drawn import any_haul, text_of
 from haul.tests.pages import page, table_of
-from haul.text import Haul, Job, Range, read_one_haul
+from haul.views.compare import Comparison, rank_codes
 
-STANDARD = (64, 512, 101, 30300)
 NOTES = '#!/bin/sh\necho "$@" >> asked\nexit 4\n'
 
 
-def made(totals: dict[str, int], ranges: list[Range], profile: tuple[int, int, int, int] = STANDARD, samples: dict[str, list[int]] | None = None) -> Haul:
+def made(
+    totals: dict[str, int],
+    ranges: list[Range],
+    profile: Profile = STANDARD,
+    samples: dict[str, list[int]] | None = None,
+) -> Haul:
     soups = sum(count for _, count in ranges)
-    return Haul(Job("a", "b3s23", profile), ranges, soups, 0, 0, dict(sorted(totals.items())), samples or {code: [ranges[0][0]] for code in sorted(totals)})
+    return Haul(
+        Job("a", "b3s23", profile),
+        ranges=ranges,
+        soups=soups,
+        unsettled=0,
+        for_good=0,
+        totals=dict(sorted(totals.items())),
+        samples=samples or {code: [ranges[0][0]] for code in sorted(totals)},
+    )
 
 
 def drawn(path: str) -> set[tuple[int, int]]:
@@ -43,7 +59,12 @@ def drawn(path: str) -> set[tuple[int, int]]:
 
 
 def cells_of(plaintext: str) -> set[tuple[int, int]]:
-    return {(x, y) for y, row in enumerate(plaintext.splitlines()) for x, cell in enumerate(row) if cell == "O"}
+    return {
+        (x, y)
+        for y, row in enumerate(plaintext.splitlines())
+        for x, cell in enumerate(row)
+        if cell == "O"
+    }
 
 
 class Codes(unittest.TestCase):
@@ -56,22 +77,52 @@ class Codes(unittest.TestCase):
                 text = text_of(made({code: 3}, [(2**40 - 3, 3)], samples={code: numbers}))
                 self.assertEqual(run("join", text=text.encode()), (0, text, ""))
                 # A large total, and another range, so that neither row is what nearly every row is.
-                text = text_of(made({code: 2**63}, [(0, 1), (2**40 - 3, 3)], samples={code: numbers}))
+                text = text_of(
+                    made({code: 2**63}, [(0, 1), (2**40 - 3, 3)], samples={code: numbers})
+                )
                 self.assertEqual(run("join", text=text.encode()), (0, text, ""))
         text = text_of(made({"x" * 401: 3}, [(0, 3)]))
-        self.assertEqual(run("join", text=text.encode()), (3, "", "haul: bad haul at line 13 column 1\n"))
+        self.assertEqual(
+            run("join", text=text.encode()), (3, "", "haul: bad haul at line 13 column 1\n")
+        )
 
     def test_none_is_lost(self) -> None:
         """A column has as many cells as its number in binary has ones."""
         for count in (1, 99, 100, 101, 201):
             with self.subTest(count=count):
-                codes = [f"xs4_{digit}{other}z1" for digit in "123456789abcdefghijk" for other in "123456789abc"][:count]
+                codes = [
+                    f"xs4_{digit}{other}z1"
+                    for digit in "123456789abcdefghijk"
+                    for other in "123456789abc"
+                ][:count]
                 known = {code: 2 + k for k, code in enumerate(codes)}
-                rows = table_of(page(made(known, [(0, 300)], samples={code: [k] for k, code in enumerate(sorted(codes))}))).rows
-                self.assertEqual({row.cells[1].split()[-1]: row.cells[4] for row in rows}, {code: str(total) for code, total in known.items()})
+                rows = table_of(
+                    page(
+                        made(
+                            known,
+                            [(0, 300)],
+                            samples={code: [k] for k, code in enumerate(sorted(codes))},
+                        )
+                    )
+                ).rows
+                self.assertEqual(
+                    {row.cells[1].split()[-1]: row.cells[4] for row in rows},
+                    {code: str(total) for code, total in known.items()},
+                )
                 value = "0123456789abcdefghijklmnopqrstuv"
-                self.assertEqual([row.cells[3] for row in rows],
-                                 [str(sum(bin(value.index(digit)).count("1") for digit in row.cells[1].split()[-1][4:6]) + 1) for row in rows])
+                self.assertEqual(
+                    [row.cells[3] for row in rows],
+                    [
+                        str(
+                            sum(
+                                bin(value.index(digit)).count("1")
+                                for digit in row.cells[1].split()[-1][4:6]
+                            )
+                            + 1
+                        )
+                        for row in rows
+                    ],
+                )
                 self.assertEqual([len(row.paths) for row in rows], [1] * count)
 
 
@@ -79,9 +130,15 @@ class Checks(unittest.TestCase):
     TEXT = census("take", "--count", "40").decode()
 
     def test_each_line_of_the_header(self) -> None:
-        for line, is_so, should_be in ((8, "@NUM_UNSETTLED 1", "@NUM_UNSETTLED 0"), (9, "@NUM_FOR_GOOD 13", "@NUM_FOR_GOOD 14")):
+        for line, is_so, should_be in (
+            (8, "@NUM_UNSETTLED 1", "@NUM_UNSETTLED 0"),
+            (9, "@NUM_FOR_GOOD 13", "@NUM_FOR_GOOD 14"),
+        ):
             changed = self.TEXT.replace(should_be, is_so)
-            self.assertEqual(run("check", text=changed.encode()), (7, f"line {line}: is {is_so}, should be {should_be}\n", ""))
+            self.assertEqual(
+                run("check", text=changed.encode()),
+                (7, f"line {line}: is {is_so}, should be {should_be}\n", ""),
+            )
 
     def test_each_sample(self) -> None:
         """Of the forty soups just one leaves a beacon. It stands first, in the middle or last."""
@@ -92,15 +149,23 @@ class Checks(unittest.TestCase):
         line = haul.first_sample_line() + list(haul.samples).index(code)
         for numbers in ([2, 3, 37], [2, 37, 38], [37, 38, 39]):
             haul.samples[code] = numbers
-            wanted = "".join(f"line {line}: soup {number} leaves no {code}\n" for number in numbers if number != 37)
-            self.assertEqual(run("check", "--samples", text=text_of(haul).encode()), (7, wanted, ""))
+            wanted = "".join(
+                f"line {line}: soup {number} leaves no {code}\n"
+                for number in numbers
+                if number != 37
+            )
+            self.assertEqual(
+                run("check", "--samples", text=text_of(haul).encode()), (7, wanted, "")
+            )
 
     def asked(self, haul: Haul, *words: str) -> list[str]:
         """The calls that a program gets which answers none."""
         with tempfile.TemporaryDirectory() as folder:
             Path(folder, "other").write_text(NOTES)
             Path(folder, "other").chmod(0o755)
-            ended = run("check", "--census", "./other", *words, text=text_of(haul).encode(), cwd=folder)
+            ended = run(
+                "check", "--census", "./other", *words, text=text_of(haul).encode(), cwd=folder
+            )
             self.assertEqual(ended[:2], (4, ""))
             return Path(folder, "asked").read_text().splitlines()
 
@@ -108,30 +173,80 @@ class Checks(unittest.TestCase):
         self.assertEqual(run("check", text=census("take", "--count", "0")), (0, "right\n", ""))
 
     def test_workers(self) -> None:
-        for words, workers in (((), 1), (("--workers=1",), 1), (("--workers", "2"), 2), (("--workers=16",), 16)):
-            self.assertEqual(self.asked(made({"xs4_33": 1}, [(5, 7)]), *words), [
-                f"take --seed=a --rule=b3s23 --period=64 --horizon=512 --stride=101 --limit=30300 --first=5 --count=7 --workers={workers}"])
+        for words, workers in (
+            ((), 1),
+            (("--workers=1",), 1),
+            (("--workers", "2"), 2),
+            (("--workers=16",), 16),
+        ):
+            self.assertEqual(
+                self.asked(made({"xs4_33": 1}, [(5, 7)]), *words),
+                [
+                    f"take --seed=a --rule=b3s23 --period=64 --horizon=512 --stride=101 --limit=30300 --first=5 --count=7 --workers={workers}"
+                ],
+            )
 
     def test_no_call_is_too_large(self) -> None:
         """`census take` takes 2^24 numbers at most."""
-        self.assertIn("--first=5 --count=16777216 ", self.asked(made({"xs4_33": 1}, [(5, 2**25)]))[0])
-        self.assertEqual([len(piece) for piece in pieces([(3 * k, 1) for k in range(4001)])], [2000, 2000, 1])
-        self.assertEqual(list(pieces([(5, 2**24 + 1)])), [[(5, 2**24)], [(5 + 2**24, 1)]])
+        self.assertIn(
+            "--first=5 --count=16777216 ", self.asked(made({"xs4_33": 1}, [(5, 2**25)]))[0]
+        )
+        self.assertEqual(
+            [len(piece) for piece in split_ranges([(3 * k, 1) for k in range(4001)])],
+            [2000, 2000, 1],
+        )
+        self.assertEqual(
+            list(split_ranges([(5, 2**24 + 1)])), [[(5, 2**24)], [(5 + 2**24, 1)]]
+        )
 
 
 class Joins(unittest.TestCase):
     def test_each_number(self) -> None:
-        one = Haul(Job("a", "b3s23", STANDARD), [(0, 10)], 10, 2, 3, {"xs4_33": 5, "xs5_253": 7}, {"xs4_33": [1, 4, 9], "xs5_253": [2]})
-        other = Haul(Job("a", "b3s23", STANDARD), [(20, 10)], 10, 4, 5, {"xp2_7": 1, "xs5_253": 8}, {"xp2_7": [20], "xs5_253": [21, 22, 29]})
-        both = Haul(Job("a", "b3s23", STANDARD), [(0, 10), (20, 10)], 20, 6, 8, {"xp2_7": 1, "xs4_33": 5, "xs5_253": 15},
-                    {"xp2_7": [20], "xs4_33": [1, 4, 9], "xs5_253": [2, 21, 22]})
+        one = Haul(
+            Job("a", "b3s23", STANDARD),
+            ranges=[(0, 10)],
+            soups=10,
+            unsettled=2,
+            for_good=3,
+            totals={"xs4_33": 5, "xs5_253": 7},
+            samples={"xs4_33": [1, 4, 9], "xs5_253": [2]},
+        )
+        other = Haul(
+            Job("a", "b3s23", STANDARD),
+            ranges=[(20, 10)],
+            soups=10,
+            unsettled=4,
+            for_good=5,
+            totals={"xp2_7": 1, "xs5_253": 8},
+            samples={"xp2_7": [20], "xs5_253": [21, 22, 29]},
+        )
+        both = Haul(
+            Job("a", "b3s23", STANDARD),
+            ranges=[(0, 10), (20, 10)],
+            soups=20,
+            unsettled=6,
+            for_good=8,
+            totals={"xp2_7": 1, "xs4_33": 5, "xs5_253": 15},
+            samples={"xp2_7": [20], "xs4_33": [1, 4, 9], "xs5_253": [2, 21, 22]},
+        )
         for parts in ((one, other), (other, one)):
-            self.assertEqual(run("join", text="".join(map(text_of, parts)).encode()), (0, text_of(both), ""))
+            self.assertEqual(
+                run("join", text="".join(map(text_of, parts)).encode()), (0, text_of(both), "")
+            )
 
     def test_samples_between_others(self) -> None:
         """The least three, wherever those of the second haul lie."""
+
         def part(ranges: list[Range], numbers: list[int]) -> Haul:
-            return Haul(Job("a", "b3s23", STANDARD), ranges, sum(count for _, count in ranges), 0, 0, {"xs4_33": 9}, {"xs4_33": numbers})
+            return Haul(
+                Job("a", "b3s23", STANDARD),
+                ranges=ranges,
+                soups=sum(count for _, count in ranges),
+                unsettled=0,
+                for_good=0,
+                totals={"xs4_33": 9},
+                samples={"xs4_33": numbers},
+            )
 
         for number, least in ((6, [1, 4, 6]), (7, [1, 4, 7]), (15, [1, 4, 12])):
             parts = [part([(0, 5), (10, 5)], [1, 4, 12]), part([(6, 2), (15, 1)], [number])]
@@ -145,8 +260,14 @@ class Joins(unittest.TestCase):
             Path(good).write_text(text_of(made({"xs4_33": 1}, [(5, 7)])))
             Path(bad).write_text("@VERSION 2\n@ROOT sed=\n")
             Path(worse).write_text("@VERSION 1\n")
-            self.assertEqual(run("join", good, bad, worse), (3, "", f"haul: {bad}: bad haul at line 2 column 7\n"))
-            self.assertEqual(run("join", worse, good, bad), (3, "", f"haul: {worse}: bad haul at line 1 column 10\n"))
+            self.assertEqual(
+                run("join", good, bad, worse),
+                (3, "", f"haul: {bad}: bad haul at line 2 column 7\n"),
+            )
+            self.assertEqual(
+                run("join", worse, good, bad),
+                (3, "", f"haul: {worse}: bad haul at line 1 column 10\n"),
+            )
 
 
 class Compares(unittest.TestCase):
@@ -157,10 +278,27 @@ class Compares(unittest.TestCase):
         for _ in range(200):
             one, other = any_haul(draw), any_haul(draw)
             # Some codes are in both.
-            other.totals |= {code: total + 1 for code, total in one.totals.items() if draw.random() < 0.5}
-            there, back = (list(Comparison(pair, list(map(Objects, pair)), ranked(pair, 1), has_intervals=False).text(None)) for pair in ([one, other], [other, one]))
-            self.assertEqual([line[1:] for line in there[:4]], [line[1:] for line in (*back[2:4], *back[:2])])
-            turned = [[code, name, b, a, rate_b, rate_a] for code, name, a, b, rate_a, rate_b, _ in map(str.split, back[5:-1])]
+            other.totals |= {
+                code: total + 1 for code, total in one.totals.items() if draw.random() < 0.5
+            }
+            there, back = (
+                list(
+                    Comparison(
+                        pair,
+                        [Objects(haul, QUIET) for haul in pair],
+                        rank_codes(pair, 1),
+                        has_intervals=False,
+                    ).text(None)
+                )
+                for pair in ([one, other], [other, one])
+            )
+            self.assertEqual(
+                [line[1:] for line in there[:4]], [line[1:] for line in (*back[2:4], *back[:2])]
+            )
+            turned = [
+                [code, name, b, a, rate_b, rate_a]
+                for code, name, a, b, rate_a, rate_b, _ in map(str.split, back[5:-1])
+            ]
             self.assertEqual([line.split()[:6] for line in there[5:-1]], turned)
             in_a, in_b = back[-1].split("; ")
             self.assertEqual(there[-1], f"in A{in_b[4:]}; in B{in_a[4:]}")
@@ -168,14 +306,19 @@ class Compares(unittest.TestCase):
         self.assertGreater(rows, 1000)
 
     def test_order(self) -> None:
-        """By the greater of the two rates, to which a haul that lacks the code adds nothing, and then by code."""
+        """By the greater of the two rates, to which a haul that lacks the code adds nothing, and
+        then by code."""
         one = made({"xs4_33": 5, "xs5_253": 1, "xq4_153": 1}, [(0, 10)])
         other = made({"xs4_33": 30, "xp2_7": 4, "xs6_696": 3, "xs8_rr": 99}, [(0, 1000)])
         for pair in ([one, other], [other, one]):
             # 5 in 10, then 1 in 10 twice, 99 in 1,000, 4 in 1,000, 3 in 1,000.
-            self.assertEqual(ranked(pair, 1), ["xs4_33", "xq4_153", "xs5_253", "xs8_rr", "xp2_7", "xs6_696"])
-            self.assertEqual(ranked(pair, 4), ["xs4_33", "xs8_rr", "xp2_7"])
-            self.assertEqual(ranked(pair, 1, True), ["xs6_696", "xp2_7", "xs8_rr", "xs5_253", "xq4_153"])
+            self.assertEqual(
+                rank_codes(pair, 1), ["xs4_33", "xq4_153", "xs5_253", "xs8_rr", "xp2_7", "xs6_696"]
+            )
+            self.assertEqual(rank_codes(pair, 4), ["xs4_33", "xs8_rr", "xp2_7"])
+            self.assertEqual(
+                rank_codes(pair, 1, True), ["xs6_696", "xp2_7", "xs8_rr", "xs5_253", "xq4_153"]
+            )
 
     def test_more_soups_than_a_thousand(self) -> None:
         with tempfile.TemporaryDirectory() as folder:
@@ -183,8 +326,15 @@ class Compares(unittest.TestCase):
             Path(names[0]).write_text(text_of(made({"xs4_33": 2, "xp2_7": 50}, [(0, 4000)])))
             Path(names[1]).write_text(text_of(made({"xs4_33": 3, "xp2_7": 5}, [(0, 1001)])))
             rows = [line.split() for line in run("compare", *names)[1].splitlines()[5:-1]]
-        # 50 in 4,000 are 12,500 in a million, and 5 in 1,001 are 4,995.004995; 2 are 500, and 3 are 2,997.002997.
-        self.assertEqual(rows, [["xp2_7", "blinker", "50", "5", "12500.00", "4995.00", "0.40"], ["xs4_33", "block", "2", "3", "500.00", "2997.00", "5.99"]])
+        # 50 in 4,000 are 12,500 in a million, and 5 in 1,001 are 4,995.004995; 2 are 500, and 3 are
+        # 2,997.002997.
+        self.assertEqual(
+            rows,
+            [
+                ["xp2_7", "blinker", "50", "5", "12500.00", "4995.00", "0.40"],
+                ["xs4_33", "block", "2", "3", "500.00", "2997.00", "5.99"],
+            ],
+        )
 
 
 if __name__ == "__main__":

@@ -1,4 +1,4 @@
-//! Each of these tests passes, or fails because memory ran out alone, whichever allocation is refused. `checks/memory`
+//! Each of these tests passes, or fails because memory ran out alone, whichever allocation is refused. `checks/program/memory`
 //! refuses each in turn.
 ghost use Rattle.std.specs.Prelude.{◌≡◌, ◌≢◌, ◌≤◌};
 

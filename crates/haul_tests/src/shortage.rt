@@ -1,4 +1,4 @@
-//! Each of these tests passes, or fails because memory ran out alone, whichever allocation is refused. `checks/memory`
+//! Each of these tests passes, or fails because memory ran out alone, whichever allocation is refused. `checks/program/memory`
 //! refuses each in turn.
 
 use crate::setup::{quick_job, range, still_job, text_of};

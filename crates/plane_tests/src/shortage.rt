@@ -1,4 +1,4 @@
-//! A run ends correctly, or fails because memory ran out, whichever allocation is refused. `checks/memory` refuses each
+//! A run ends correctly, or fails because memory ran out, whichever allocation is refused. `checks/program/memory` refuses each
 //! in turn.
 use plane_core::generation::StepError;
 use plane_core::plane::cell::Cell;

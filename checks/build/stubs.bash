@@ -1,0 +1,174 @@
+# shellcheck shell=bash
+# For the checks that try bin/census, bin/programs and bin/unproved on a small tree, with stubs in place of the toolchain that build in
+# no time and prove nothing.
+
+# A caller may ignore signals, as a shell does for a job in the background, and a shell can't undo that. It is undone here,
+# where `env` can do it.
+if [[ ! ${SIGNALS_UNDONE-} ]] && env --default-signal true 2>/dev/null; then
+    SIGNALS_UNDONE=1 exec env --default-signal bash -- "${BASH_SOURCE[-1]}" "$@"
+fi
+
+# shellcheck source=checks/lib/check.bash
+. "${BASH_SOURCE[0]%/*/*}/lib/check.bash" || exit 1
+room=$(mktemp -d) || exit 1
+# A stub that still waits ends too.
+trap 'touch -- "$room/go"; chmod -R u+w -- "$room"; rm -rf -- "$room"' EXIT
+chmod 755 -- "$room"
+
+tree=$room/tree
+source=$tree/crates/census/src/main.rt
+out=$tree/crates/census/out
+kit=$room/kit
+tools=$room/tools
+
+# Only the commands that these scripts and the stubs need, so that no other `rt` is found.
+mkdir -- "$tools"
+for tool in awk b2sum bash cat chmod cp diff find flock grep head ln mkdir mktemp mv nice nproc readlink rm sed seq sh sleep sort stat tac tail \
+    tee touch truncate; do
+    ln -s -- "$(type -P "$tool")" "$tools/$tool"
+done
+# What is called by this name may be a script that looks for Python on the PATH.
+ln -s -- "$(python3 -c 'import sys; print(sys.executable)')" "$tools/python3"
+
+# Root can write into read-only folders. So as root the cases that need one make their calls as nobody.
+as_user=()
+[[ $(id -u) != 0 ]] || as_user=(setpriv --reuid=65534 --regid=65534 --clear-groups)
+
+# A tree that isn't built, and a toolchain.
+new_tree() {
+    touch -- "$room/go"
+    rm -rf -- "$tree" "$kit" "$room"/{begun.*,said,slow,go,breaks,links,proof,low.pid,prover.pid,version,tries,programs,log}
+    mkdir -p -- "$tree"/{bin,crates/census/{src,specs,must-fail},crates/timing/src} "$kit/bin"
+    cp -- "$top"/bin/{census,rebuild,programs,unproved,built.bash,prove.bash,rebuild-due.bash} "$tree/bin/"
+    cp -rp -- "$top/builder" "$tree/"
+    echo 'census:' >"$tree/crates.txt"
+    echo 'first' >"$source"
+    echo 'a definition' >"$tree/crates/census/specs/Words.antt"
+    echo 'a mutant' >"$tree/crates/census/must-fail/wrong.edit"
+    echo 'another program' >"$tree/crates/timing/src/main.rt"
+    echo 'kit 1' >"$kit/KIT-ID"
+    : >"$room/said"
+    write_stubs
+}
+
+# What the stubs make is a program that prints what main.rt said when it was proved, then its words and its input, and ends with
+# status 3. They note what they are told, and wait, or break, where a case wants it.
+write_stubs() {
+    cat >"$kit/bin/rt" <<'END'
+#!/bin/sh
+room=${0%/kit/bin/rt}
+if [ "$1" = version ]; then exec cat "$room/version"; fi
+if [ "$1 $2" = 'try --' ]; then shift 2; . "$room/tries"; fi
+[ "$*" = 'run -- run 0' ] || exit 99
+if [ -e "$room/breaks" ]; then . "$room/breaks"; fi
+{ echo '#!/bin/sh'; echo "echo 'by rt: $(cat src/main.rt)'"; cat "$room/program"; } >out/census
+chmod +x out/census
+END
+    cat >"$kit/bin/rattle" <<'END'
+#!/bin/sh
+room=${0%/kit/bin/rattle}
+echo "$*" >>"$room/said"
+crate=$3
+for to; do :; done
+if [ -e "$room/proof" ]; then . "$room/proof"; fi
+if [ "$crate" != census ]; then mkdir -p "$to" && echo "logic=proved $crate" && exit; fi
+echo $$ >"$room/prover.pid"
+if [ -e "$room/slow" ]; then while [ ! -e "$room/go" ]; do sleep 0.02; done; fi
+{ echo '#!/bin/sh'; echo "echo '$(cat src/main.rt)'"; cat "$room/program"; } >"$to"
+if [ -e "$room/breaks" ]; then . "$room/breaks"; fi
+echo "logic=proved $crate"
+END
+    cat >"$kit/bin/rattle-link" <<'END'
+#!/bin/sh
+room=${0%/kit/bin/rattle-link}
+while [ "$1" != -o ]; do shift; done
+if [ -e "$room/links" ]; then . "$room/links"; fi
+cp "$3" "$2"
+chmod +x "$2"
+END
+    cat >"$room/program" <<'END'
+[ -e /proc/self/fd/1 ] || echo 'standard output is closed' >&2
+for word; do echo "<$word>"; done
+cat
+exit 3
+END
+    chmod +x -- "$kit"/bin/*
+}
+
+# Calls the launcher in place of this shell, with the stubs for a toolchain.
+launch() { PATH=$kit/bin:$tools exec "$tree/bin/census" "$@"; }
+
+# A call keeps its streams in files, and its status.
+call() {
+    (launch) >"$room/output" 2>"$room/errors" </dev/null
+    status=$?
+}
+
+call_without_rt() {
+    PATH=$tools "$tree/bin/census" >"$room/output" 2>"$room/errors" </dev/null
+    status=$?
+}
+
+call_read_only() {
+    chmod -R a-w -- "$tree"
+    PATH=$kit/bin:$PATH "${as_user[@]}" "$tree/bin/census" >"$room/output" 2>"$room/errors" </dev/null
+    status=$?
+    chmod -R u+w -- "$tree"
+}
+
+# The program that was built from a main.rt with this text ran.
+ran() { [[ $status == 3 && $(head -n 1 -- "$room/output") == "$1" ]]; }
+
+# No program ran, the status is 70, and the last line on standard error says why. It is the only one, but for those that
+# tell what the launcher is doing.
+refused() {
+    [[ $status == 70 && ! -s $room/output ]] || return
+    [[ $(grep -cv '^census: \(building\|waiting\|proving\) ' "$room/errors") == 1 ]] || return
+    tail -n 1 -- "$room/errors" | grep -qv '^census: \(building\|waiting\|proving\) '
+}
+
+# Checks how many times the program was proved, or the crate that is named.
+builds() { [[ $(grep -c "^build --crate-name ${2-census} " "$room/said") == "$1" ]]; }
+silent() { [[ ! -s $room/errors ]]; }
+
+# Waits up to ten seconds for something to become true.
+until_true() {
+    local tries
+    for ((tries = 0; tries < 500; tries++)); do
+        "$@" && return
+        sleep 0.02
+    done
+    return 1
+}
+
+# A list of two crates that stand on nothing, and the program on both.
+two_libraries() {
+    printf '%s\n' '# a comment' 'census: low arguments' 'low: core' 'arguments: clap' 'census_tests: census' >"$tree/crates.txt"
+    mkdir -p -- "$tree"/crates/{low,arguments}/src
+    echo 'low' >"$tree/crates/low/src/lib.rt"
+    echo 'words' >"$tree/crates/arguments/src/lib.rt"
+}
+
+# Checks whether a process has ended.
+has_ended() { ! kill -0 "$1" 2>/dev/null; }
+
+# Runs a case, after its name, on a new tree. If it fails, what the last call wrote to standard error is printed too.
+try() {
+    new_tree
+    : >"$room/errors"
+    if "$2"; then
+        pass
+    else
+        fail "$1"
+        sed 's/^/    /' -- "$room/errors"
+    fi
+}
+
+# A case of a read-only tree, which needs a user who can't write everywhere.
+try_read_only() {
+    if [[ ${#as_user[@]} != 0 ]] && ! "${as_user[@]}" test -x "$room" 2>/dev/null; then
+        skip "$1" "root can write everywhere, and setpriv doesn't work here" 1
+    else
+        try "$@"
+    fi
+}

@@ -1,0 +1,317 @@
+"""A browser that opens the page of `haul page`, and what it shows. It needs Selenium, Pillow and
+Chromium.
+"""
+
+from __future__ import annotations
+
+import io
+import re
+import shutil
+import time
+from collections.abc import Callable
+from pathlib import Path
+from typing import Any, TypeAlias
+
+from PIL import Image
+from selenium import webdriver
+from selenium.webdriver.chrome.service import Service
+from selenium.webdriver.common.by import By
+from selenium.webdriver.remote.webelement import WebElement
+
+from checks.lib.plain import Cells, to_corner
+
+Driver: TypeAlias = webdriver.Chrome
+Element: TypeAlias = WebElement
+
+HEIGHT = 1000
+# A point that is darker than this is one of a live cell.
+DARK = 128
+# How often a picture is taken until it no longer changes, and how long it may take between two.
+MOST_PICTURES, SECONDS_BETWEEN = 40, 0.05
+
+# The texts in sight whose colour has too little contrast with what is behind them, each with its
+# contrast, by the formula of WCAG. In an open dialog only its own texts count, and a control that
+# is switched off doesn't.
+CONTRASTS = """
+const numbers = color => { const [r, g, b, a = 1] = color.match(/[\\d.]+/g).map(Number); return [r, g, b, a]; };
+const over = ([r, g, b, a], under) => [r, g, b].map((value, at) => value * a + under[at] * (1 - a)).concat(1);
+const behind = element => {
+  const layers = [];
+  for (let at = element; at; at = at.parentElement) {
+    layers.push(numbers(getComputedStyle(at).backgroundColor));
+    if (layers.at(-1)[3] === 1 || at === document.querySelector('dialog')) break;
+  }
+  return layers.reverse().reduce((under, layer) => over(layer, under), [255, 255, 255, 1]);
+};
+const light = color => color.slice(0, 3).map(value => value / 255).map(value => value <= .03928 ? value / 12.92 : ((value + .055) / 1.055) ** 2.4)
+  .reduce((sum, value, at) => sum + value * [.2126, .7152, .0722][at], 0);
+const contrast = (one, other) => { const [dark, bright] = [light(one), light(other)].sort((a, b) => a - b); return (bright + .05) / (dark + .05); };
+const faults = [];
+for (const element of (document.querySelector('dialog[open]') ?? document.body).querySelectorAll('*')) {
+  const isText = [...element.childNodes].some(node => node.nodeType === 3 && node.data.trim()) && !element.matches('script, style, option, noscript');
+  if (!isText && !element.matches('.live, input[type=search]') || !element.checkVisibility() || element.closest('.hidden, .skip, :disabled, label:has(:disabled)')) continue;
+  const style = getComputedStyle(element), isDrawn = element instanceof SVGElement;
+  const ratio = contrast(over(numbers(isDrawn ? style.fill : style.color), behind(element)), behind(element));
+  if (ratio < arguments[0]) faults.push(`${element.textContent.trim().slice(0, 30) || element.className.baseVal}: ${ratio.toFixed(2)}`);
+}
+return faults;
+"""
+
+
+def browser(width: int, dark: bool = False, still: bool = True) -> Driver:
+    """Starts a browser of this width in points. Unless `still` is false, it prefers reduced motion."""
+    options = webdriver.ChromeOptions()
+    for word in [
+        "--headless=new",
+        "--no-sandbox",
+        "--disable-gpu",
+        "--hide-scrollbars",
+        "--force-device-scale-factor=1",
+    ]:
+        options.add_argument(word)
+    options.add_argument(f"--window-size={width},{HEIGHT}")
+    options.set_capability("goog:loggingPrefs", {"browser": "ALL"})
+    driver = webdriver.Chrome(service=Service(shutil.which("chromedriver")), options=options)
+    look_like(driver, width, dark, still)
+    return driver
+
+
+def look_like(
+    driver: Driver, width: int, dark: bool = False, still: bool = True, medium: str = ""
+) -> None:
+    """Gives a browser a width and what it prefers. A window may not be as narrow as a telephone,
+    but what it shows may.
+    """
+    driver.execute_cdp_cmd(
+        "Emulation.setDeviceMetricsOverride",
+        {"width": width, "height": HEIGHT, "deviceScaleFactor": 1, "mobile": False},
+    )
+    driver.execute_cdp_cmd(
+        "Emulation.setEmulatedMedia",
+        {
+            "media": medium,
+            "features": [
+                {"name": "prefers-color-scheme", "value": "dark" if dark else "light"},
+                {"name": "prefers-reduced-motion", "value": "reduce" if still else "no-preference"},
+            ],
+        },
+    )
+
+
+def opened(driver: Driver, path: Path, address: str = "") -> Driver:
+    """Opens a page anew, at an address in it."""
+    driver.get("about:blank")
+    driver.get(path.as_uri() + address)
+    return driver
+
+
+def texts(driver: Driver, selector: str) -> list[str]:
+    """Returns the texts of all elements of a kind, whether or not they are in sight."""
+    found: list[str] = driver.execute_script(
+        "return [...document.querySelectorAll(arguments[0])].map(one => one.textContent)", selector
+    )
+    return found
+
+
+def text(driver: Driver, selector: str) -> str:
+    return "|".join(texts(driver, selector))
+
+
+def all_of(driver: Driver) -> list[str]:
+    """Returns the codes of the list, all of which are drawn as for paper, in their order."""
+    driver.execute_script("dispatchEvent(new Event('beforeprint'))")
+    return texts(driver, "#list .card code, #list .name code")
+
+
+def click(driver: Driver, selector: str) -> None:
+    driver.execute_script("document.querySelector(arguments[0]).click()", selector)
+
+
+def choose(driver: Driver, name: str, value: str) -> None:
+    """Chooses from a list of choices."""
+    driver.execute_script(
+        "const one = document.querySelector(arguments[0]); one.value = arguments[1]; one.dispatchEvent(new Event('change', {bubbles: true}))",
+        name,
+        value,
+    )
+
+
+def press(driver: Driver, *keys: str) -> None:
+    for key in keys:
+        driver.switch_to.active_element.send_keys(key)
+
+
+def focused(driver: Driver) -> str:
+    """Returns what has the focus: its text, label or identity."""
+    found: str = driver.execute_script(
+        "const one = document.activeElement; return one.getAttribute('aria-label') || one.textContent.trim() || one.name || one.id || one.tagName"
+    )
+    return found
+
+
+def address(driver: Driver) -> str:
+    return str(driver.execute_script("return location.hash"))
+
+
+def settled(element: Element) -> bytes:
+    """Takes pictures of an element until two in a row are the same, since the first after a click
+    may be taken before all is painted.
+    """
+    before = b""
+    for _ in range(MOST_PICTURES):
+        now: bytes = element.screenshot_as_png
+        if now == before:
+            break
+        before = now
+        time.sleep(SECONDS_BETWEEN)
+    return now
+
+
+def cells_in_picture(driver: Driver, selector: str) -> tuple[Cells, float]:
+    """Returns the live cells in a picture, by the colour of the point in the middle of each cell,
+    and the width of a cell in points.
+    """
+    element = driver.find_element(By.CSS_SELECTOR, selector)
+    driver.execute_script("arguments[0].scrollIntoView({block: 'center'})", element)
+    image = Image.open(io.BytesIO(settled(element))).convert("L")
+    width, height = map(int, element.get_dom_attribute("viewBox").split()[2:])
+    scale: float = image.width / width
+
+    def lives(x: int, y: int) -> bool:
+        return bool(image.getpixel((int(scale * (x + 0.5)), int(scale * (y + 0.5)))) < DARK)
+
+    return to_corner((x, y) for x in range(width) for y in range(height) if lives(x, y)), scale
+
+
+def cells_of_path(path: str) -> Cells:
+    """Returns the cells that a picture's path draws, moved to the corner: a bar for each run."""
+    runs = re.findall(r"M(\d+) (\d+)h(\d+)v1h-\d+z", path)
+    return to_corner((int(x) + k, int(y)) for x, y, length in runs for k in range(int(length)))
+
+
+def paths_seen(driver: Driver, selector: str, seconds: float) -> list[str]:
+    """Returns the paths that a picture has within some seconds, in order. The page notes each
+    change, so that none is missed.
+    """
+    seen: list[str] = driver.execute_async_script(
+        """
+const [selector, seconds, done] = arguments, path = document.querySelector(`${selector} .live`), seen = [path.getAttribute('d')];
+new MutationObserver(() => seen.push(path.getAttribute('d'))).observe(path, { attributeFilter: ['d'] });
+setTimeout(() => done(seen), seconds * 1000);""",
+        selector,
+        seconds,
+    )
+    return seen
+
+
+def is_narrow(driver: Driver) -> bool:
+    """Checks that nothing is wider than the page."""
+    return bool(driver.execute_script("return document.documentElement.scrollWidth <= innerWidth"))
+
+
+def has_live_points(driver: Driver) -> bool:
+    """Checks whether the player's picture has points of the colour that live cells have on the
+    page, within a second.
+    """
+    return wait_for(
+        lambda: bool(
+            driver.execute_script(
+                """
+const canvas = document.querySelector('.player canvas'), { data } = canvas.getContext('2d').getImageData(0, 0, canvas.width, canvas.height);
+const live = getComputedStyle(canvas).getPropertyValue('--live').match(/[0-9a-f]{2}/g).map(byte => parseInt(byte, 16));
+return data.some((value, at) => at % 4 === 0 && live.every((part, color) => data[at + color] === part));"""
+            )
+        ),
+        1,
+    )
+
+
+def complaints(driver: Driver) -> list[str]:
+    """Returns what is on the console since the last call, but for what it says about this module's
+    reading of a canvas.
+    """
+    return [
+        entry["message"]
+        for entry in driver.get_log("browser")
+        if "willReadFrequently" not in entry["message"]
+    ]
+
+
+def low_contrasts(driver: Driver, least: float) -> list[str]:
+    found: list[str] = driver.execute_script(CONTRASTS, least)
+    return found
+
+
+def nameless(driver: Driver) -> list[str]:
+    """Returns the controls of a page that a screen reader has no name for."""
+    nodes: list[dict[str, Any]] = driver.execute_cdp_cmd("Accessibility.getFullAXTree", {})["nodes"]
+    roles = {
+        "button",
+        "link",
+        "searchbox",
+        "textbox",
+        "combobox",
+        "checkbox",
+        "radio",
+        "dialog",
+        "img",
+        "image",
+    }
+    return [
+        node["role"]["value"]
+        for node in nodes
+        if not node["ignored"]
+        and node["role"]["value"] in roles
+        and not node.get("name", {}).get("value", "").strip()
+    ]
+
+
+def wait_for(holds: Callable[[], bool], seconds: float = 10) -> bool:
+    end = time.monotonic() + seconds
+    while not holds() and time.monotonic() < end:
+        time.sleep(SECONDS_BETWEEN)
+    return holds()
+
+
+def seconds_to_open(driver: Driver, path: Path) -> float:
+    """Returns how long it takes to load a page and lay it out."""
+    driver.get("about:blank")
+    began = time.monotonic()
+    driver.get(path.as_uri())
+    driver.execute_script("return document.body.offsetHeight")
+    return time.monotonic() - began
+
+
+def longest_frame(driver: Driver) -> float:
+    """Returns the most milliseconds that the page's main thread works in two frames, in 40 steps in
+    which it scrolls by 300 points. The processor's time is counted, so that other work on the
+    machine doesn't count.
+    """
+    driver.execute_cdp_cmd("Performance.enable", {"timeDomain": "threadTicks"})
+
+    def worked() -> float:
+        metrics = driver.execute_cdp_cmd("Performance.getMetrics", {})["metrics"]
+        return float(
+            next(metric["value"] for metric in metrics if metric["name"] == "TaskDuration")
+        )
+
+    longest, before = 0.0, worked()
+    for _ in range(40):
+        driver.execute_async_script(
+            "scrollBy(0, 300); requestAnimationFrame(() => requestAnimationFrame(arguments[0]))"
+        )
+        now = worked()
+        longest, before = max(longest, now - before), now
+    driver.execute_cdp_cmd("Performance.disable", {})
+    return longest * 1000
+
+
+def least_of(measure: Callable[[], float], tries: int, enough: float) -> float:
+    """Returns the smallest of up to `tries` measurements. Stops when one is less than `enough`,
+    since other work on the machine counts too.
+    """
+    least = measure()
+    for _ in range(tries - 1):
+        if least >= enough:
+            least = min(least, measure())
+    return least

@@ -1,0 +1,123 @@
+"""The definitions of the toolchain, for `audit`: where each one is, and its comment."""
+
+from __future__ import annotations
+
+import re
+from collections.abc import Iterable
+from dataclasses import dataclass
+
+from checks.repository.audit_definitions import CRATES, HEAD, WORD, Key, Names, toolchain
+
+# The toolchain's names that are read as in Rust or in mathematics. Operators, such as `◌+◌`, and
+# Rust's types are too.
+NOTATION = set(
+    "Bool true false not IsTrue MatchBool List length map take drop zero suc pos negsuc max min nat_eq nat_le nat_lt int_eq int_lt int_le unsigned_abs "
+    "Option Some None IfSome OnSome IsSomeAnd is_some unwrap_or option_map option_and_then "
+    "Result Ok Err IfOk IfErr OnOk OnErr IsOkAnd IsErrOf MatchResult is_ok is_err is_eq".split()
+)
+
+
+# Where the libraries are, below the toolchain's folder, of which its crates hand names on.
+LIBRARIES = {"lib": "logic/Lib", "mathlib": "antt/port/mathlib/src"}
+
+
+HANDED_ON = re.compile(r"pub use ((?:Rattle|lib|mathlib)\.[\w.]+)\.\{(.*)\}$")
+
+
+# The libraries' definitions may have no `pub`.
+PLAIN_HEAD = re.compile(r"^([^\s:(){}.]+)(?: : | \()")
+
+
+OPERATOR = re.compile(r"[^A-Za-z0-9_']")
+
+
+@dataclass
+class Told:
+    """A definition of the toolchain: its file and line, and what the comment above it says."""
+
+    path: str
+    line: int
+    says: str
+
+
+def told_by_toolchain(module: str, name: str) -> Told | None:
+    """Finds a name where it is defined, if a module only hands it on."""
+    crate, _, rest = module.partition(".")
+    path = toolchain() / LIBRARIES.get(crate, f"{crate}/specs") / f"{rest.replace('.', '/')}.antt"
+    if not path.is_file():
+        home = home_of(crate, rest)
+        return told_by_toolchain(home, name) if home else None
+    lines = path.read_text().splitlines()
+    for number, line in enumerate(lines, 1):
+        head = HEAD.match(line.strip()) or PLAIN_HEAD.match(line)
+        if head and head[1] == name:
+            return Told(
+                str(path.relative_to(toolchain())),
+                number,
+                comment_above(lines, number) or f"`{lines[number].strip()}`",
+            )
+    for line in lines:
+        found = HANDED_ON.match(line)
+        if found and name in [one.strip() for one in found[2].split(",")]:
+            return told_by_toolchain(
+                found[1].removeprefix("Rattle.").replace(".specs.", ".", 1), name
+            )
+    return None
+
+
+def home_of(crate: str, rest: str) -> str | None:
+    """The module that a crate hands on under this name, if it does."""
+    first, _, more = rest.partition(".")
+    everything = toolchain() / crate / "specs" / "Lib.antt"
+    for line in everything.read_text().splitlines() if everything.is_file() else []:
+        found = re.match(r"pub use Rattle\.(\w+)\.specs\.((?:\w+\.)*(\w+))$", line)
+        if found and found[3] == first and found[1] != crate:
+            return f"{found[1]}.{found[2]}" + (f".{more}" if more else "")
+    return None
+
+
+def comment_above(lines: list[str], number: int) -> str:
+    """What is said above a definition, or above those that it follows without an empty line."""
+    lines, first = [line.strip() for line in lines], number - 1
+    while first and lines[first - 1] and not lines[first - 1].startswith("--"):
+        first -= 1
+    said: list[str] = []
+    while first and lines[first - 1].startswith("--"):
+        first -= 1
+        said.insert(0, lines[first].removeprefix("--").strip())
+    return " ".join(said)
+
+
+def names_of_toolchain(text: str, names: Names) -> set[Key]:
+    """The names of the toolchain's definitions in a text."""
+    known = {*CRATES[1:], "clap"}
+    return {
+        key
+        for word in WORD.findall(text)
+        if (key := names.single.get(word.partition(".")[0]))
+        and key[0].partition(".")[0] not in known
+    }
+
+
+def is_meant(key: Key) -> bool:
+    """Whether the table of the toolchain's definitions has this name. Modules of Rust's types begin
+    with a small letter.
+    """
+    return (
+        key[1] not in NOTATION
+        and not OPERATOR.search(key[1])
+        and not key[0].partition(".")[2][:1].islower()
+    )
+
+
+def told_rows(keys: Iterable[Key]) -> list[str]:
+    """A row for each of the toolchain's definitions that carry meaning."""
+    found = {
+        (told.path, key[1]): told
+        for key in keys
+        if is_meant(key) and (told := told_by_toolchain(*key))
+    }
+    return [
+        f"| `{name}` | `{path}`:{told.line} | {told.says.replace('|', '&#124;')} |"
+        for (path, name), told in sorted(found.items())
+    ]

@@ -1,0 +1,1 @@
+"""The client of `census`: its command lines, its processes and its answers."""

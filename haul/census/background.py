@@ -1,0 +1,151 @@
+"""Programs that run in sessions of their own, which Ctrl-C doesn't reach, and that end when `haul`
+ends."""
+
+from __future__ import annotations
+
+import os
+import re
+import selectors
+import signal
+import subprocess
+import sys
+from collections.abc import Callable
+from contextlib import suppress
+from functools import cache
+from importlib.resources import files
+from typing import IO
+
+from haul.census.client import check_ending
+
+# What the launcher does with the program.
+CENSUS, FIND = "census", "find"
+# mutant: equal because the size of a read doesn't change what is printed
+BYTES_AT_A_TIME = 65_536
+# A program whose streams are closed is waited for so long at a time.
+SECONDS_TO_END = 0.05
+# The line of progress of `census take`.
+PROGRESS = re.compile(rb"([0-9]{1,8}) of [0-9]{1,8} soups")
+
+
+@cache
+def read_launcher() -> str:
+    """Returns the text of `launcher.py`. It is read once, since an installed `haul` is one file,
+    which may be replaced while this runs."""
+    return files("haul.census").joinpath("launcher.py").read_text("utf-8")
+
+
+class StreamWaiter:
+    """Waits for streams, each of which has a function that is called when there is something to
+    read."""
+
+    def __init__(self) -> None:
+        self.selector = selectors.DefaultSelector()
+
+    def add(self, stream: IO[bytes] | int, read: Callable[[], None]) -> None:
+        self.selector.register(stream, selectors.EVENT_READ, read)
+
+    def remove(self, stream: IO[bytes] | int) -> None:
+        self.selector.unregister(stream)
+
+    def wait(self, seconds: float) -> None:
+        """Waits until something can be read, or for so long."""
+        for key, _ in self.selector.select(seconds):
+            key.data()
+
+
+class BackgroundProgram:
+    """A program that runs, with the text that it has printed on a pipe so far."""
+
+    def __init__(
+        self, waiter: StreamWaiter, how: str, words: list[str], stderr: int | None
+    ) -> None:
+        """Starts a program by `launcher.py`, with `CENSUS` or `FIND`. Raises `OSError` if that
+        fails."""
+        starts = [sys.executable, "-I", "-S", "-c", read_launcher(), how, str(os.getpid())]
+        self.waiter = waiter
+        # Ctrl-C mustn't end it before it is in its own session. The starter drops a Ctrl-C that
+        # came until then.
+        mask = signal.pthread_sigmask(signal.SIG_BLOCK, {signal.SIGINT})
+        try:
+            self.process = subprocess.Popen(
+                [*starts, *words],
+                stdin=subprocess.DEVNULL,
+                stdout=subprocess.PIPE,
+                stderr=stderr,
+                start_new_session=True,
+            )
+        finally:
+            signal.pthread_sigmask(signal.SIG_SETMASK, mask)
+        self.printed, self.complained = bytearray(), bytearray()
+        # How many of the two streams are open.
+        self.open = 0
+        for stream, text in (
+            (self.process.stdout, self.printed),
+            (self.process.stderr, self.complained),
+        ):
+            if stream is not None:
+                self.open += 1
+                waiter.add(stream, self.reader(stream, text))
+
+    def reader(self, stream: IO[bytes], text: bytearray) -> Callable[[], None]:
+        def read() -> None:
+            piece = os.read(stream.fileno(), BYTES_AT_A_TIME)
+            text.extend(piece)
+            if not piece:
+                self.waiter.remove(stream)
+                stream.close()
+                self.open -= 1
+
+        return read
+
+    def is_ended(self) -> bool:
+        """Checks whether the program has ended and all that it printed has been read."""
+        if self.open == 0:
+            # It ends at this moment, unless it has closed its streams before.
+            with suppress(subprocess.TimeoutExpired):
+                self.process.wait(SECONDS_TO_END)
+        elif self.process.poll() is not None:
+            # What it may have left running would keep the streams open.
+            self.kill()
+        return self.open == 0 and self.process.returncode is not None
+
+    def kill(self) -> None:
+        """Kills all processes of the session."""
+        with suppress(ProcessLookupError, PermissionError):
+            os.killpg(self.process.pid, signal.SIGKILL)
+
+    def end(self) -> None:
+        """Kills the program and waits for its end. What it printed is given up."""
+        self.kill()
+        self.process.wait()
+        for stream in (self.process.stdout, self.process.stderr):
+            if stream is not None and not stream.closed:
+                self.waiter.remove(stream)
+                stream.close()
+
+
+class BackgroundTake(BackgroundProgram):
+    """A call of `census take`."""
+
+    def __init__(self, waiter: StreamWaiter, words: list[str]) -> None:
+        super().__init__(waiter, CENSUS, words, subprocess.PIPE)
+
+    def soups(self) -> int:
+        """Returns how many soups it has run so far, by its line of progress."""
+        found = PROGRESS.findall(self.complained)
+        # What comes before the last carriage return has been read.
+        del self.complained[: self.complained.rfind(b"\r") + 1]
+        if found:
+            self.latest = int(found[-1])
+        return self.latest
+
+    # How many soups its line of progress said last.
+    latest = 0
+
+    def haul_text(self) -> bytes:
+        """Returns what was printed. Raises `Ended` if the program failed."""
+        complaint = bytes(self.complained).rpartition(b"\r")[2]
+        if PROGRESS.match(complaint):
+            # It was killed, and its line of progress is still there.
+            complaint = b""
+        return check_ending(self.process.returncode, bytes(self.printed), complaint)

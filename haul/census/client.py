@@ -1,0 +1,159 @@
+"""The census program, which decides whether a haul is right, and when a soup has settled."""
+
+from __future__ import annotations
+
+import os
+import re
+import shutil
+import subprocess
+import threading
+from collections.abc import Callable, Iterator
+from concurrent.futures import ThreadPoolExecutor
+from typing import IO, TypeVar
+
+from haul.census.children import NoCensus, NoThread, open_pipe, start_child, start_thread
+from haul.census.command_lines import list_take_arguments, list_work_arguments
+from haul.census.locate import find_beside
+from haul.formats.haul import Job, Range
+from haul.terminal import Terminal
+
+# The statuses of the program that are passed on; each other one counts as a read that failed.
+PASSED_ON = (2, 3, 4, 5)
+FAILED = 5
+
+# How much is read at a time of a pattern that isn't kept, and the byte of a live cell in it.
+# mutant: equal because the size of a read doesn't change what is printed
+BYTES_AT_A_TIME = 2**20
+LIVE = b"O"
+
+# A line of `work` after the job: a number, and what was found.
+REPORT = re.compile(rb"([0-9]{1,13}) ([a-z0-9_=* ]+)")
+
+Asked = TypeVar("Asked")
+Said = TypeVar("Said")
+
+
+class Ended(Exception):
+    """The program ended with another status than 0, and this line."""
+
+    def __init__(self, status: int, line: str) -> None:
+        super().__init__(line)
+        self.status = status if status in PASSED_ON else FAILED
+
+
+class Census:
+    """The census program at a path."""
+
+    def __init__(self, path: str | None, terminal: Terminal) -> None:
+        found = path or find_beside() or shutil.which("census")
+        if found is None:
+            raise NoCensus("no census beside this program or on the PATH")
+        self.path = found
+        # Where it shows how far it is.
+        self.terminal = terminal
+
+    def ask(self, words: list[str], pattern: bytes = b"") -> bytes:
+        """Returns what the program prints. The pattern that it reads has to fit into a pipe, as
+        a soup does."""
+        with open_pipe(pattern) as read, start_child(
+            [self.path, *words], subprocess.PIPE, subprocess.PIPE, read
+        ) as program:
+            printed, errors = program.communicate()
+        return check_ending(program.returncode, printed, errors)
+
+    def live_cells(self, words: list[str], pattern: bytes) -> int:
+        """Counts the live cells of the pattern that the program prints. The pattern isn't kept,
+        since it may be larger than memory."""
+        cells = 0
+        with open_pipe(pattern) as read, start_child(
+            [self.path, *words], subprocess.PIPE, subprocess.PIPE, read
+        ) as program:
+            # mutant: equal because both streams exist
+            assert program.stdout and program.stderr
+            while piece := program.stdout.read(BYTES_AT_A_TIME):
+                cells += piece.count(LIVE)
+            errors = program.stderr.read()
+        check_ending(program.returncode, b"", errors)
+        return cells
+
+    def ask_in_parts(
+        self, ask: Callable[[list[Asked]], Said], asked: list[Asked], size: int, done_what: str
+    ) -> Iterator[Said]:
+        """Asks about parts of `size` of a list, several parts at a time, and yields the answers
+        in order. `done_what` says what has been done, for the line of progress."""
+        parts = [asked[start : start + size] for start in range(0, len(asked), size)]
+        done = 0
+        # mutant: equal because the size of a read doesn't change what is printed
+        with ThreadPoolExecutor(len(os.sched_getaffinity(0))) as pool:
+            for part, said in zip(parts, ask_all(pool, ask, parts), strict=True):
+                done += len(part)
+                self.terminal.show_progress(f"{done} of {len(asked)} {done_what}")
+                yield said
+        self.terminal.show_progress("")
+
+    def reports(self, job: Job, numbers: list[int]) -> dict[int, list[str]]:
+        """Returns what these soups leave, by one call: the fields of each report line after the
+        number of the soup."""
+        printed = self.ask(list_work_arguments(job, [(number, 1) for number in numbers]))
+        start = f"report 2 rule={job.rule} profile={job.profile.format()} seed={job.seed}"
+        before = f"{start} worker=1 soup=".encode("ascii")
+        reports: dict[int, list[str]] = {}
+        for line in printed.splitlines():
+            found = REPORT.fullmatch(line.removeprefix(before))
+            if found is None or not line.startswith(before):
+                raise NoCensus.at(self.path)
+            reports[int(found[1])] = found[2].decode("ascii").split(" ")
+        if list(reports) != numbers:
+            raise NoCensus.at(self.path)
+        return reports
+
+    def take(self, job: Job, ranges: list[Range], workers: int, out: IO[bytes]) -> None:
+        """Writes the haul of a set of soups, which one call can take, to a file. The program's line
+        of progress is shown on a terminal."""
+        words = list_take_arguments(job, ranges, workers, self.terminal.is_interactive())
+        with start_child([self.path, *words], subprocess.PIPE, subprocess.PIPE) as program:
+            # mutant: equal because both streams exist
+            assert program.stdout and program.stderr
+            errors = bytearray()
+            watcher = threading.Thread(target=self.pass_progress_on, args=(program.stderr, errors))
+            try:
+                start_thread(watcher)
+                shutil.copyfileobj(program.stdout, out)
+            except BaseException:
+                # Otherwise, this would wait for it, perhaps for hours.
+                program.terminate()
+                raise
+            finally:
+                if watcher.ident is not None:
+                    watcher.join()
+        check_ending(program.returncode, b"", bytes(errors))
+
+    def pass_progress_on(self, stream: IO[bytes], errors: bytearray) -> None:
+        """Shows what ends with a carriage return, which is a line of progress, and keeps the
+        rest."""
+        # mutant: equal because the size of a read doesn't change what is printed
+        while piece := os.read(stream.fileno(), 4096):
+            errors += piece
+            shown, returned, rest = bytes(errors).rpartition(b"\r")
+            if returned:
+                self.terminal.pass_progress_on(shown + returned)
+            errors[:] = rest
+
+
+def ask_all(
+    pool: ThreadPoolExecutor, ask: Callable[[list[Asked]], Said], parts: list[list[Asked]]
+) -> Iterator[Said]:
+    """Asks all parts, in threads that are started at once."""
+    try:
+        return pool.map(ask, parts)
+    except RuntimeError as error:
+        raise NoThread(str(error)) from None
+
+
+def check_ending(status: int, printed: bytes, errors: bytes) -> bytes:
+    if status != 0:
+        lines = errors.decode("utf-8", "replace").strip().splitlines()
+        # mutant: equal because nothing is printed about status 0
+        how = f"ended with status {status}" if status > 0 else f"was ended by signal {-status}"
+        raise Ended(status, lines[-1].removeprefix("census: ") if lines else f"census {how}")
+    return printed

@@ -1,0 +1,124 @@
+"""Command lines of `census`: arguments for calls, and commands that a reader can copy into a
+shell."""
+
+from __future__ import annotations
+
+import shlex
+from collections.abc import Iterator
+
+from haul.formats.haul import Haul, Job, Range
+from haul.formats.profile import STANDARD
+from haul.formats.rules import LIFE
+
+# `census` takes at most this number of soups in one call.
+NUMBERS_IN_A_CALL = 2**24
+# The most ranges in one call: an argument has at most 131,071 bytes on Linux, and a range 31.
+RANGES_IN_A_CALL = 2000
+# A command for more ranges would be longer than a reader copies.
+RANGES_TO_COPY = 12
+
+# ---- Arguments of calls
+
+
+def list_take_arguments(
+    job: Job, ranges: list[Range], workers: int, has_progress: bool
+) -> list[str]:
+    """Returns the arguments for the haul of a set of soups, which one call can take."""
+    progress = ["--progress"] if has_progress else []
+    return ["take", *list_set_options(job, ranges), f"--workers={workers}", *progress]
+
+
+def list_work_arguments(job: Job, ranges: list[Range]) -> list[str]:
+    """Returns the arguments for report lines about a set of soups, which one call can take."""
+    return ["work", "--worker=1", *list_set_options(job, ranges)]
+
+
+def list_name_arguments(job: Job) -> list[str]:
+    """Returns the arguments for what a pattern, which has no seed, becomes."""
+    return ["name", *list_pattern_options(job)]
+
+
+def list_run_arguments(job: Job, generations: int) -> list[str]:
+    """Returns the arguments for a pattern some generations later."""
+    return ["run", f"--rule={job.rule}", str(generations)]
+
+
+def list_set_options(job: Job, ranges: list[Range]) -> list[str]:
+    """Returns the options of a job and of a set of soups."""
+    # mutant: equal because an empty set is the same wherever it begins
+    (first, count), *more = ranges or [(0, 0)]
+    options = [f"--seed={job.seed}", *list_pattern_options(job)]
+    options += [f"--first={first}", f"--count={count}"]
+    if more:
+        options.append("--also=" + ",".join(f"{first}+{count}" for first, count in more))
+    return options
+
+
+def list_pattern_options(job: Job) -> list[str]:
+    profile = [f"{option}={number}" for option, number in job.profile.list_options()]
+    return [f"--rule={job.rule}", *profile]
+
+
+def split_ranges(ranges: list[Range], numbers: int = NUMBERS_IN_A_CALL) -> Iterator[list[Range]]:
+    """Yields sets that together are these ranges. One call can take each set, which has at most
+    `numbers` soups."""
+    piece: list[Range] = []
+    room = numbers
+    for first, count in ranges:
+        while count > 0:
+            if room == 0 or len(piece) == RANGES_IN_A_CALL:
+                yield piece
+                piece, room = [], numbers
+            taken = min(count, room)
+            piece.append((first, taken))
+            first, count, room = first + taken, count - taken, room - taken
+    if piece or not ranges:
+        yield piece
+
+
+# ---- Commands to copy
+
+
+def format_find_command(job: Job, soup: int) -> str:
+    """Returns the command that runs the soup of a find and names what it leaves. If the profile
+    isn't the standard one, the command has all of it."""
+    # A value that begins with a hyphen has to be attached.
+    seed = ["--seed", job.seed] if not job.seed.startswith("-") else [f"--seed={job.seed}"]
+    profile: list[str] = []
+    if job.profile != STANDARD:
+        for option, number in job.profile.list_options():
+            profile += [option, str(number)]
+    print_soup = shlex.join(["census", "soup", *seed, str(soup)])
+    return f"{print_soup} | {shlex.join(['census', 'name', '--rule', job.rule, *profile])}"
+
+
+def format_soup_commands(job: Job) -> tuple[str, str]:
+    """Returns the command that shows what becomes of a soup, before and after the soup's number."""
+    before = ["census soup", *list_quoted_seed(job), ""]
+    after = [" | census name", *list_changed_options(job)]
+    return " ".join(before), " ".join(after)
+
+
+def format_unsettled_command(haul: Haul) -> str:
+    """Returns the command that lists the unsettled soups of a haul."""
+    options = [*list_quoted_seed(haul.job), *list_changed_options(haul.job)]
+    ranges = [range_ for piece in split_ranges(haul.ranges) for range_ in piece]
+    calls = [
+        " ".join(["census work", *options, f"--first={first} --count={count} --worker=1"])
+        for first, count in ranges[:RANGES_TO_COPY]
+    ]
+    if len(ranges) > RANGES_TO_COPY:
+        calls.append("..")
+    before = calls[0] if len(calls) == 1 else f"{{ {'; '.join(calls)}; }}"
+    return f"{before} | haul soups --unsettled"
+
+
+def list_quoted_seed(job: Job) -> list[str]:
+    """Returns the option of the seed for a shell; none for the empty seed."""
+    return [f"--seed={shlex.quote(job.seed)}"] if job.seed else []
+
+
+def list_changed_options(job: Job) -> list[str]:
+    """Returns the options of rule and profile whose values aren't the defaults."""
+    rule = [f"--rule={job.rule}"] if job.rule != LIFE else []
+    return rule + [f"{option}={number}" for option, number in job.profile.list_changed_options()]

@@ -1,0 +1,43 @@
+"""Finds the census program that is installed with this one, or built in this checkout."""
+
+from __future__ import annotations
+
+import os
+import subprocess
+import sys
+from pathlib import Path
+
+from haul.census.children import NoCensus, start_child
+
+# A release has a program for each level of processors, and this shell script says which one is for
+# the processor that is there.
+SHELL = ["/bin/sh", "-c"]
+CHOOSES = 'libexec=$1; . "$libexec/processor.sh"; printf %s "$program"'
+
+
+def find_beside() -> str | None:
+    """Returns the program that is installed beside this one, or that of this checkout, which its
+    launcher builds if need be; `None` if there is neither."""
+    starter = Path(sys.argv[0]).resolve().parent / "census"
+    if not os.access(starter, os.X_OK):
+        return None
+    top = starter.parent.parent
+    # The program itself is asked in place of what starts it, since there may be thousands of calls.
+    if (top / "libexec" / "gokzerd" / "processor.sh").is_file():
+        return choose_for_processor(starter, top / "libexec" / "gokzerd")
+    if not (starter.parent / "built.bash").is_file():
+        return str(starter)
+    with start_child([str(starter), "--version"], subprocess.DEVNULL, None) as launcher:
+        launcher.wait()
+    if launcher.returncode != 0:
+        raise NoCensus.at(str(starter))
+    return str(top / "crates" / "census" / "out" / "census")
+
+
+def choose_for_processor(starter: Path, libexec: Path) -> str:
+    """Returns the program of a release for this processor."""
+    with start_child([*SHELL, CHOOSES, "sh", str(libexec)], subprocess.PIPE, None) as shell:
+        chosen = shell.communicate()[0]
+    if shell.returncode != 0:
+        raise NoCensus.at(str(starter))
+    return os.fsdecode(chosen)

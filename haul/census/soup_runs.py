@@ -1,0 +1,63 @@
+"""Asks `census` about the patterns of soups: in which generation exactly they settle, and how they
+grow."""
+
+from __future__ import annotations
+
+import re
+from collections.abc import Iterator
+from dataclasses import replace
+from functools import partial
+
+from haul.census.children import NoCensus
+from haul.census.client import Census
+from haul.census.command_lines import list_name_arguments, list_run_arguments
+from haul.formats.haul import Job
+from haul.life.soups import make_soup
+
+# The generations over which growth is counted.
+GENERATIONS_OF_GROWTH = 1000
+EVERY_GENERATION = 1
+# A call of `census` runs one soup, so that several can run at a time.
+SOUPS_IN_A_CALL = 1
+SETTLED = re.compile(rb"settled (0|[1-9][0-9]{0,5})\n")
+
+
+def draw_soup(job: Job, soup: int) -> bytes:
+    """Returns a soup as plaintext."""
+    return "".join(f"{row}\n" for row in make_soup(f"{job.seed}{soup}")).encode("ascii")
+
+
+def find_exact_generations(census: Census, job: Job, soups: list[int]) -> Iterator[int | None]:
+    """Yields the first generation at which each soup is at rest; none if there isn't one up to the
+    limit."""
+    return census.ask_in_parts(
+        partial(find_exact_generation, census, job), soups, SOUPS_IN_A_CALL, "soups run"
+    )
+
+
+def find_exact_generation(census: Census, job: Job, soups: list[int]) -> int | None:
+    (soup,) = soups
+    exact = replace(job, profile=job.profile._replace(stride=EVERY_GENERATION))
+    finding = census.ask(list_name_arguments(exact), draw_soup(job, soup))
+    found = SETTLED.match(finding)
+    if found is None and finding != b"unsettled\n":
+        raise NoCensus.at(census.path)
+    return int(found[1]) if found else None
+
+
+def measure_growths(census: Census, job: Job, soups: list[int]) -> Iterator[tuple[int, int, int]]:
+    """Yields three numbers for each soup: the last checkpoint, the population there, and its growth
+    in the `GENERATIONS_OF_GROWTH` before it, or since the soup if there are fewer."""
+    return census.ask_in_parts(
+        partial(measure_growth, census, job), soups, SOUPS_IN_A_CALL, "soups run"
+    )
+
+
+def measure_growth(census: Census, job: Job, soups: list[int]) -> tuple[int, int, int]:
+    (soup,) = soups
+    last = job.profile.limit - job.profile.limit % job.profile.stride
+    before, after = (
+        census.live_cells(list_run_arguments(job, generation), draw_soup(job, soup))
+        for generation in (max(0, last - GENERATIONS_OF_GROWTH), last)
+    )
+    return last, after, after - before

@@ -1,0 +1,74 @@
+"""Commands and their arguments, as the table of commands describes them."""
+
+from __future__ import annotations
+
+import argparse
+from collections.abc import Callable, Iterator
+from dataclasses import dataclass
+from typing import Any, NamedTuple
+
+from haul.cli.streams import Streams
+
+
+@dataclass(frozen=True)
+class Argument:
+    """An option such as `--top`, or a positional argument such as `file`."""
+
+    name: str
+    help: str
+    # What stands for the value in the help, or `None` for the name. A flag has no value.
+    value: str | None = None
+    # Reads the value. Raises `argparse.ArgumentTypeError` if it isn't one.
+    read: Callable[[str], Any] = str
+    default: Any = None
+    choices: tuple[str, ...] = ()
+    is_flag: bool = False
+    # How many values: `?`, `*` or `+` as in a regular expression; one if it is empty.
+    repeats: str = ""
+    # The most hauls, of which some are given by other arguments.
+    most_hauls: int | None = None
+    other_hauls: int = 0
+
+    def is_option(self) -> bool:
+        return self.name.startswith("-")
+
+
+def option(
+    name: str, value: str, help: str, read: Callable[[str], Any], default: Any = None
+) -> Argument:
+    """Returns an option that takes a value."""
+    return Argument(name, help, value, read, default)
+
+
+def flag(name: str, help: str) -> Argument:
+    """Returns an option that takes no value."""
+    return Argument(name, help, is_flag=True)
+
+
+class Exclusive(NamedTuple):
+    """Options of which at most one can be given."""
+
+    arguments: tuple[Argument, ...]
+
+
+@dataclass(frozen=True)
+class Command:
+    """A command of `haul`."""
+
+    name: str
+    # What it does, and what the help says after that.
+    about: str
+    more: str
+    groups: tuple[Argument | Exclusive, ...]
+    run: Callable[[argparse.Namespace, Streams], int]
+    # Returns why arguments don't go together, or `None` if they do.
+    find_fault: Callable[[argparse.Namespace], str | None] = lambda _: None
+
+    def arguments(self) -> Iterator[tuple[Argument, tuple[Argument, ...]]]:
+        """Yields each argument with those that can't be given together with it."""
+        for group in self.groups:
+            if isinstance(group, Argument):
+                yield group, ()
+            else:
+                for one in group.arguments:
+                    yield one, tuple(other for other in group.arguments if other is not one)

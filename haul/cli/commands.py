@@ -1,0 +1,242 @@
+"""What each command of `haul` does."""
+
+from __future__ import annotations
+
+import argparse
+from contextlib import suppress
+
+from haul.census.children import children
+from haul.census.client import Census
+from haul.cli.statuses import DONE, NOT_RIGHT, REFUSED
+from haul.cli.streams import Refused, Streams, format_place
+from haul.formats.field_reader import BadHaul
+from haul.formats.haul_reader import read_hauls
+from haul.formats.haul_writer import format_haul
+from haul.formats.plaintext import BadPlaintext, is_plaintext, read_plaintext
+from haul.formats.report_files import Reports
+from haul.formats.rle import BadRle, format_rle, read_rle
+from haul.formats.rules import LIFE, parse_rule
+from haul.hauls.by_parts import Objects
+from haul.hauls.check import find_wrong_samples, list_differences, retake
+from haul.hauls.file_choice import FileChoice
+from haul.hauls.join import CantJoin, Joining
+from haul.life.catagolue_soups import BadSample, format_soups
+from haul.page.document import make_page
+from haul.search.job import Disagrees, begin_haul, find_next_soup, refuse_other_jobs
+from haul.search.keeper import CantKeep, Keeper
+from haul.search.search import Dropped, Plan, Search, count_processors
+from haul.search.stopping import Stopping
+from haul.terminal import Terminal, find_output_width
+from haul.views.compare import Comparison, rank_codes
+from haul.views.settling import Settling
+from haul.views.soup_lists import Leaving, Longest, SoupList, Unsettled
+from haul.views.table import (
+    RowChoice,
+    choose_rows,
+    format_table_csv,
+    format_table_json,
+    format_table_text,
+)
+
+RIGHT = "right"
+
+
+def run_check(asked: argparse.Namespace, streams: Streams) -> int:
+    if len(asked.files) <= 1 and asked.random is None:
+        lines = check_haul(asked, streams, asked.files[0] if asked.files else None)
+        streams.write_lines(lines)
+        return DONE if lines == [RIGHT] else NOT_RIGHT
+    files = asked.files
+    if asked.random is not None:
+        choice = FileChoice(files, asked.random, asked.choice)
+        streams.write_lines([choice.text()])
+        streams.stdout.flush()
+        files = choice.choose()
+    return find_worst_status([check_one_file(asked, streams, name) for name in files])
+
+
+def check_one_file(asked: argparse.Namespace, streams: Streams, name: str) -> int:
+    """Checks one of several files, and returns the status for it. What is said begins with its
+    name."""
+    try:
+        lines = check_haul(asked, streams, name)
+    except Refused as why:
+        place = format_place(name)
+        streams.terminal.complain(str(why) if str(why).startswith(place) else f"{place}{why}")
+        return REFUSED
+    streams.write_lines(f"{name}: {line}" for line in lines)
+    streams.stdout.flush()
+    return DONE if lines == [RIGHT] else NOT_RIGHT
+
+
+def find_worst_status(statuses: list[int]) -> int:
+    """Returns the status for several files: a wrong haul counts more than a refused text."""
+    return max(statuses, default=DONE)
+
+
+def check_haul(asked: argparse.Namespace, streams: Streams, name: str | None) -> list[str]:
+    """Returns what `haul check` says of a haul."""
+    haul = streams.read_haul(name)
+    census = Census(asked.census, streams.terminal)
+    if asked.samples:
+        wrong = list(find_wrong_samples(census, haul))
+    elif haul.soups != haul.size():
+        raise Refused("haul with missing soups")
+    else:
+        wrong = list(list_differences(haul, retake(census, haul, asked.workers)))
+    return wrong or [RIGHT]
+
+
+def run_join(asked: argparse.Namespace, streams: Streams) -> int:
+    joining = Joining()
+    bad: str | None = None
+    for done, name in enumerate(asked.files or [None], 1):
+        with streams.open_input(name) as stream:
+            try:
+                for haul in read_hauls(stream):
+                    joining.add(haul, format_place(name))
+            except BadHaul as fault:
+                # The first one is told; the files after it are not read.
+                bad = f"{format_place(name)}{fault}"
+                break
+        streams.terminal.show_progress(f"{done} of {len(asked.files or [None])} files")
+    streams.terminal.show_progress("")
+    if bad is not None:
+        raise Refused(bad)
+    try:
+        joined = joining.result()
+    except CantJoin as why:
+        raise Refused(str(why)) from None
+    streams.write_lines(format_haul(joined))
+    return DONE
+
+
+def run_compare(asked: argparse.Namespace, streams: Streams) -> int:
+    objects = [
+        Objects(streams.read_haul(name), streams.terminal)
+        for name in (asked.a, asked.b, *asked.more)
+    ]
+    hauls = [one.by_parts() if asked.parts else one.haul for one in objects]
+    codes = rank_codes(hauls, asked.least, asked.rare)
+    has_intervals = len(hauls) > 2 or asked.intervals or asked.per is not None or asked.rare
+    comparison = Comparison(
+        hauls, objects, codes, asked.parts, asked.per or "million", has_intervals
+    )
+    streams.write_lines(
+        comparison.csv()
+        if asked.csv
+        else comparison.json()
+        if asked.json
+        else comparison.text(find_output_width(streams.stdout))
+    )
+    return DONE
+
+
+def run_table(asked: argparse.Namespace, streams: Streams) -> int:
+    objects = Objects(streams.read_haul(asked.file), streams.terminal)
+    haul = objects.by_parts() if asked.parts else objects.haul
+    lines = choose_rows(
+        haul, objects, RowChoice(asked.kind, asked.period, asked.strict, asked.rare, asked.top)
+    )
+    by_parts = objects if asked.parts else None
+    streams.write_lines(
+        format_table_csv(lines, asked.parts)
+        if asked.csv
+        else format_table_json(haul, lines, by_parts)
+        if asked.json
+        else format_table_text(lines, find_output_width(streams.stdout))
+    )
+    return DONE
+
+
+def run_page(asked: argparse.Namespace, streams: Streams) -> int:
+    hauls = [streams.read_haul(name) for name in asked.files or [None]]
+    streams.stdout.writelines(
+        make_page(Census(asked.census, streams.terminal), hauls, asked.least, asked.play)
+    )
+    return DONE
+
+
+def run_cells(asked: argparse.Namespace, streams: Streams) -> int:
+    text = streams.read_pattern(asked.file)
+    rule: str | None = None
+    try:
+        if is_plaintext(text):
+            rows = read_plaintext(text)
+        else:
+            rows, rule = read_rle(text)
+    except (BadPlaintext, BadRle) as bad:
+        raise Refused(f"{format_place(asked.file)}{bad}") from None
+    if rule is not None and parse_rule(rule) != LIFE:
+        streams.terminal.complain(f"rule {rule} is --rule {parse_rule(rule)}")
+    streams.write_lines(rows)
+    return DONE
+
+
+def run_rle(asked: argparse.Namespace, streams: Streams) -> int:
+    try:
+        rows = read_plaintext(streams.read_pattern(asked.file))
+    except BadPlaintext as bad:
+        raise Refused(f"{format_place(asked.file)}{bad}") from None
+    streams.write_lines(format_rle(rows, asked.rule))
+    return DONE
+
+
+def run_soup(asked: argparse.Namespace, streams: Streams) -> int:
+    try:
+        streams.write_lines(list(format_soups(asked.samples)))
+    except BadSample as bad:
+        raise Refused(str(bad)) from None
+    return DONE
+
+
+def run_soups(asked: argparse.Namespace, streams: Streams) -> int:
+    reports, settling, soups = (
+        Reports(streams.terminal),
+        Settling(),
+        choose_soup_list(asked, streams.terminal),
+    )
+    for name in asked.files or [None]:
+        with streams.open_input(name) as stream:
+            for report in reports.read(stream, format_place(name)):
+                settling.add(report)
+                soups.add(report)
+    streams.terminal.show_progress("")
+    table = soups.table(reports.job, settling)
+    form = table.csv if asked.csv else table.json if asked.json else table.text
+    streams.write_lines(form(reports.job, settling))
+    return DONE
+
+
+def choose_soup_list(asked: argparse.Namespace, terminal: Terminal) -> SoupList:
+    """Returns the list of soups that is asked for."""
+    if asked.longest is not None:
+        return Longest(asked.longest, Census(asked.census, terminal) if asked.exact else None)
+    if asked.unsettled:
+        return Unsettled(Census(asked.census, terminal))
+    return Leaving(asked.code) if asked.code is not None else SoupList()
+
+
+def run_search(asked: argparse.Namespace, streams: Streams) -> int:
+    try:
+        keeper = Keeper(asked.file)
+        haul = keeper.read()
+        if haul is None:
+            haul = begin_haul(asked)
+        refuse_other_jobs(asked, haul)
+        plan = Plan(
+            find_next_soup(asked, haul),
+            asked.until,
+            asked.part,
+            asked.workers or count_processors(),
+            asked.finds,
+        )
+        stopping = Stopping()
+        census = Census(asked.census, streams.terminal)
+        search = Search(plan, haul, keeper, census, stopping, streams.stdout)
+        children.heed(stopping)
+        with suppress(Dropped):
+            search.run()
+    except (CantKeep, Disagrees, CantJoin) as why:
+        raise Refused(str(why)) from None
+    return DONE

@@ -1,0 +1,118 @@
+"""Reads the arguments of a call by the table of commands, and writes the help."""
+
+from __future__ import annotations
+
+import argparse
+from typing import Any
+
+from haul import VERSION
+from haul.cli.arguments import Argument, Command
+from haul.cli.command_table import COMMANDS
+
+DESCRIPTION = """\
+Searches for rare objects, checks, joins, compares and shows hauls, and converts patterns from and to RLE.
+A haul is the text that `census take` prints: how many of each object a set of soups left."""
+
+EXAMPLES = """\
+examples:
+  haul search mine.haul                           run soups until Ctrl-C, and keep their haul
+  census take --count 400 | haul check            is this haul right?
+  haul check --samples rare.haul                  do the sample soups leave their objects?
+  haul join parts/*.haul > all.haul               one haul from the hauls of all parts of a census
+  haul compare life.haul highlife.haul            two hauls side by side
+  haul table --strict --rare all.haul             the rarest objects of a haul
+  haul page < all.haul > all.html                 a page with a picture of each object
+  haul page life.haul highlife.haul > both.html   a page of two hauls side by side
+  haul soup C1/k_abcdef12345 | census name        what a soup of Catagolue leaves
+  haul soups --longest 10 parts/*.lines           the soups in report lines that settled last
+  haul cells gun.rle | census run 30              run a pattern in RLE for 30 generations
+  census show xq4_153 | haul rle                  draw an object in RLE for Golly
+
+`haul COMMAND --help` explains a command.
+
+exit status: 0 done, 2 usage, 3 a text is refused, 4 out of memory, 5 a read or write failed, 7 a haul isn't right
+"""
+
+
+def parse_arguments(words: list[str]) -> argparse.Namespace:
+    """Reads the arguments of a call. Raises `SystemExit` after it has written the help, the
+    version, or why it doesn't understand them."""
+    asked = make_parser().parse_args(words)
+    fault = asked.command.find_fault(asked)
+    if fault is not None:
+        asked.refuse(fault)
+    return asked
+
+
+def make_parser() -> argparse.ArgumentParser:
+    parser = argparse.ArgumentParser(
+        prog="haul",
+        description=DESCRIPTION,
+        epilog=EXAMPLES,
+        formatter_class=argparse.RawDescriptionHelpFormatter,
+    )
+    parser.add_argument("--version", action="version", version=f"haul {VERSION}")
+    parsers = parser.add_subparsers(dest="name", required=True, metavar="COMMAND")
+    for command in COMMANDS:
+        add_arguments(
+            command,
+            parsers.add_parser(
+                command.name,
+                help=command.about,
+                description=f"{command.about[0].upper()}{command.about[1:]}. {command.more}",
+                formatter_class=argparse.RawDescriptionHelpFormatter,
+            ),
+        )
+    return parser
+
+
+def add_arguments(command: Command, parser: argparse.ArgumentParser) -> None:
+    parser.set_defaults(command=command, refuse=parser.error)
+    for group in command.groups:
+        if isinstance(group, Argument):
+            parser.add_argument(group.name, **list_settings(group))
+        else:
+            exclusive = parser.add_mutually_exclusive_group()
+            for argument in group.arguments:
+                exclusive.add_argument(argument.name, **list_settings(argument))
+
+
+def list_settings(argument: Argument) -> dict[str, Any]:
+    """Returns what `argparse` has to know of an argument besides its name."""
+    if argument.is_flag:
+        return {"action": "store_true", "help": argument.help}
+    settings: dict[str, Any] = {
+        "metavar": argument.value,
+        "help": argument.help,
+        "default": argument.default,
+        "type": argument.read,
+    }
+    if argument.choices:
+        settings["choices"] = argument.choices
+    if argument.repeats:
+        settings["nargs"] = argument.repeats
+    if argument.most_hauls is not None:
+        settings["action"] = HaulList
+        settings["most"], settings["others"] = argument.most_hauls, argument.other_hauls
+    return settings
+
+
+class HaulList(argparse.Action):
+    """Takes the names of hauls, if they aren't too many."""
+
+    def __init__(self, *names: Any, most: int, others: int, **settings: Any) -> None:
+        super().__init__(*names, **settings)
+        self.most = most
+        self.others = others
+
+    def __call__(
+        self,
+        parser: argparse.ArgumentParser,
+        asked: argparse.Namespace,
+        words: object,
+        option: str | None = None,
+    ) -> None:
+        assert isinstance(words, list)
+        if len(words) + self.others > self.most:
+            raise argparse.ArgumentError(self, f"more than {self.most} hauls")
+        setattr(asked, self.dest, words)

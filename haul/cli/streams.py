@@ -1,0 +1,65 @@
+"""The streams of a call of `haul`, and the files that it reads."""
+
+from __future__ import annotations
+
+import errno
+from collections.abc import Iterable, Iterator
+from contextlib import contextmanager
+from typing import BinaryIO, TextIO
+
+from haul.formats.field_reader import BadHaul
+from haul.formats.haul import Haul
+from haul.formats.haul_reader import read_one_haul
+from haul.terminal import Terminal
+
+# A pattern has at most this number of bytes, as in `census`.
+PATTERN_LIMIT = 2**24
+
+
+class Refused(Exception):
+    """A text is refused for this reason."""
+
+
+class Streams:
+    """The standard streams. A file that isn't named, or is named `-`, is standard input."""
+
+    def __init__(self, stdin: BinaryIO, stdout: TextIO, stderr: TextIO) -> None:
+        self.stdin = stdin
+        self.stdout = stdout
+        self.terminal = Terminal(stderr)
+
+    @contextmanager
+    def open_input(self, name: str | None) -> Iterator[BinaryIO]:
+        """Opens a file. It is closed at the end, except for standard input."""
+        if name is None or name == "-":
+            yield self.stdin
+        else:
+            with open(name, "rb") as file:
+                yield file
+
+    def read_haul(self, name: str | None) -> Haul:
+        """Reads the only haul of a file. Raises `Refused` if the file isn't one haul."""
+        with self.open_input(name) as stream:
+            try:
+                return read_one_haul(stream)
+            except BadHaul as bad:
+                raise Refused(f"{format_place(name)}{bad}") from None
+
+    def read_pattern(self, name: str | None) -> bytes:
+        """Reads the text of a pattern. Raises `OSError` if it is too long."""
+        with self.open_input(name) as stream:
+            # mutant: equal because what is longer is refused, however much of it is read
+            text = stream.read(PATTERN_LIMIT + 1)
+        if len(text) > PATTERN_LIMIT:
+            raise OSError(
+                errno.EFBIG, "pattern longer than 16777216 bytes", name if name != "-" else None
+            )
+        return text
+
+    def write_lines(self, lines: Iterable[str]) -> None:
+        self.stdout.writelines(f"{line}\n" for line in lines)
+
+
+def format_place(name: str | None) -> str:
+    """Returns what stands before a complaint about a file."""
+    return "" if name is None or name == "-" else f"{name}: "

@@ -1,0 +1,1 @@
+"""Texts that are read and written: hauls, report lines, plaintext, RLE, rules and codes."""

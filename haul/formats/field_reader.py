@@ -1,0 +1,119 @@
+"""Reads a text field by field, and says where a wrong field begins."""
+
+from __future__ import annotations
+
+import re
+from typing import IO
+
+from haul.formats.syntax import DECIMAL
+
+# No line of a haul has as many bytes: the longest one is a code of 400 with three numbers. The rest
+# of a longer line isn't read.
+# mutant: equal because what is longer is refused, however much of it is read
+LINE_LIMIT = 1000
+
+
+class BadHaul(Exception):
+    """A text is not that of a haul, from a place on: line and column count from 1, and a column is
+    a byte. If the words there are well formed, it says why they are wrong."""
+
+    def __init__(self, line: int, column: int, why: str = "") -> None:
+        super().__init__(f"bad haul at line {line} column {column}" + (f": {why}" if why else ""))
+
+
+class FieldReader:
+    """The lines of an input, and where reading is: the latest line, its fields, and how many of
+    these have been read."""
+
+    def __init__(self, stream: IO[bytes]) -> None:
+        self.stream = stream
+        self.number = 0
+        self.fields: list[bytes] = []
+        self.is_ended = False
+        # mutant: equal because each line begins anew
+        self.read = 0
+        # A line that was looked at before it is wanted.
+        self.held: bytes | None = None
+
+    def peek(self) -> bytes:
+        """Returns the next line with its line feed, or no byte at the end of the input."""
+        if self.held is None:
+            self.held = self.stream.readline(LINE_LIMIT)
+        return self.held
+
+    def skip(self) -> None:
+        """Takes the next line, which has been looked at whole."""
+        self.held = None
+        self.number += 1
+
+    def next_line(self) -> None:
+        line = self.peek()
+        self.held = None
+        self.number += 1
+        self.is_ended = line.endswith(b"\n")
+        body = line[:-1] if self.is_ended else line
+        # An empty line has no field, and the end of the input none either.
+        self.fields = body.split(b" ") if body else []
+        self.read = 0
+
+    def bad_field(self, back: int = 0, why: str = "") -> BadHaul:
+        """Returns the fault that the next field is wrong, or one that was read `back` fields
+        before it."""
+        before = self.fields[: self.read - back]
+        return BadHaul(
+            self.number, sum(map(len, before)) + len(before) + 1 - (self.is_missing(back)), why
+        )
+
+    def is_missing(self, back: int) -> int:
+        """Returns 1 if there is no such field: what is missing would begin after a space that
+        isn't there."""
+        return 1 if self.read - back >= len(self.fields) and self.fields else 0
+
+    def field(self) -> bytes:
+        """Reads the next field."""
+        if self.read == len(self.fields):
+            raise self.bad_field()
+        self.read += 1
+        return self.fields[self.read - 1]
+
+    def word(self, wanted: bytes) -> None:
+        if self.field() != wanted:
+            raise self.bad_field(1)
+
+    def matched(self, wanted: re.Pattern[bytes]) -> str:
+        found = self.field()
+        if not wanted.fullmatch(found):
+            raise self.bad_field(1)
+        return found.decode("ascii")
+
+    def number_in(self, least: int, most: int, too_small: str = "", too_large: str = "") -> int:
+        """Reads the next field, a number. The texts say what is wrong with one that isn't
+        between `least` and `most`."""
+        found = self.field()
+        if not DECIMAL.fullmatch(found):
+            raise self.bad_field(1)
+        number = int(found)
+        if number < least:
+            raise self.bad_field(1, too_small)
+        if number > most:
+            raise self.bad_field(1, too_large)
+        return number
+
+    def end_line(self) -> None:
+        if self.read < len(self.fields) or not self.is_ended:
+            raise self.bad_field()
+
+    def only_number(self, name: bytes, most: int, too_large: str) -> int:
+        """Reads a line of a name and a number."""
+        self.next_line()
+        self.word(name)
+        number = self.number_in(0, most, too_large=too_large)
+        self.end_line()
+        return number
+
+    def only_words(self, *words: bytes) -> None:
+        """Reads a line of just these words."""
+        self.next_line()
+        for word in words:
+            self.word(word)
+        self.end_line()

@@ -1,0 +1,173 @@
+"""RLE, in which LifeWiki, Catagolue and Golly write patterns: read, and written.
+
+A pattern is the rows of its plaintext, of `.` and `O`, from the corner (0, 0) to its last live
+column and row. """
+
+from __future__ import annotations
+
+import re
+
+from haul.formats.plaintext import SIDE, Rows
+from haul.formats.rules import format_rule, parse_rule
+
+# The longest line that is written.
+LINE_LENGTH = 70
+# A longer count is cut to this many digits. It is still too large for live cells, and dead ones are
+# only passed over.
+# mutant: equal because what is longer is refused, however much of it is read
+COUNT_DIGITS = 20
+
+HEADER = re.compile(
+    rb"[ \t]*x[ \t]*=[ \t]*[0-9]+[ \t]*,[ \t]*y[ \t]*=[ \t]*[0-9]+[ \t]*"
+    rb"(?:,[ \t]*rule[ \t]*=[ \t]*([^\r\n]*?)[ \t]*)?"
+)
+BLANKS = re.compile(rb"[ \t\r\n]*")
+COUNT = re.compile(rb"[0-9]*")
+# What stands for the cells of a pattern with more than two states.
+STATE = re.compile(rb"[.A-X]|[p-y][A-X]")
+
+
+class BadRle(Exception):
+    """A text is not RLE from a place on, or it is that of a pattern that can't be written as
+    plaintext."""
+
+    def __init__(self, text: bytes, place: int, why: str) -> None:
+        line, begins = text.count(b"\n", 0, place) + 1, text.rfind(b"\n", 0, place) + 1
+        super().__init__(f"bad RLE at line {line} column {place - begins + 1}: {why}")
+
+
+class RleReader:
+    """A text of RLE, and where reading is."""
+
+    def __init__(self, text: bytes) -> None:
+        self.text = text
+        self.place = 0
+        # Where the next cell goes.
+        self.column = 0
+        self.row = 0
+        self.rows: list[bytearray] = []
+
+    def bad(self, place: int, why: str) -> BadRle:
+        return BadRle(self.text, place, why)
+
+    def skip(self) -> None:
+        """Passes over blanks, and over each line that begins with `#`."""
+        while True:
+            found = BLANKS.match(self.text, self.place)
+            assert found is not None
+            self.place = found.end()
+            begins = self.place == 0 or self.text[self.place - 1 : self.place] == b"\n"
+            if not begins or self.text[self.place : self.place + 1] != b"#":
+                return
+            self.place = min(self.end_of_line() + 1, len(self.text))
+
+    def end_of_line(self) -> int:
+        end = self.text.find(b"\n", self.place)
+        # 2 mutants: equal because another byte stands before that line feed
+        return end if end >= 0 else len(self.text)
+
+    def header(self) -> str | None:
+        """Reads the header, if there is one, and returns its rule as it is written there."""
+        self.skip()
+        if self.text[self.place : self.place + 1] != b"x":
+            return None
+        end = self.end_of_line()
+        found = HEADER.fullmatch(self.text[self.place : end].removesuffix(b"\r"))
+        if found is None:
+            raise self.bad(self.place, "not a header")
+        rule = found[1]
+        if rule is not None:
+            self.look_at_rule(rule.decode("latin-1"), self.place + found.start(1))
+        self.place = end
+        return None if rule is None else rule.decode("latin-1")
+
+    def look_at_rule(self, rule: str, place: int) -> None:
+        if ":" in rule:
+            raise self.bad(place + rule.index(":"), "a bounded grid")
+        option = parse_rule(rule)
+        if option is None:
+            raise self.bad(place, "a rule that is neither B/S, S/B nor a known name")
+        if option.startswith("b0"):
+            raise self.bad(place, "birth on zero neighbours")
+
+    def run(self) -> bool:
+        """Reads a count with what it counts. Returns whether more follows."""
+        self.skip()
+        place = self.place
+        found = COUNT.match(self.text, place)
+        assert found is not None
+        count = int(found[0].lstrip(b"0")[:COUNT_DIGITS] or b"0") if found[0] else 1
+        self.place = found.end()
+        if found[0]:
+            self.skip()
+        tag = self.text[self.place : self.place + 1]
+        if tag == b"!" and not found[0]:
+            return False
+        if tag not in (b"b", b"o", b"$"):
+            is_state = STATE.match(self.text, self.place)
+            raise self.bad(
+                self.place,
+                "no ! at the end"
+                if not tag
+                else "a third state"
+                if is_state
+                else "not b, o, $ or !",
+            )
+        if count == 0:
+            raise self.bad(place, "a count of 0")
+        self.place += 1
+        self.put(tag, count, place)
+        return True
+
+    def put(self, tag: bytes, count: int, place: int) -> None:
+        if tag == b"$":
+            self.row, self.column = self.row + count, 0
+            return
+        first, self.column = self.column, self.column + count
+        if tag == b"o":
+            if self.column > SIDE or self.row >= SIDE:
+                raise self.bad(place, "a cell past the 1000th column or row")
+            self.rows.extend(bytearray() for _ in range(self.row + 1 - len(self.rows)))
+            row = self.rows[self.row]
+            row.extend(b"." * (first - len(row)) + b"O" * count)
+
+
+def read_rle(text: bytes) -> tuple[Rows, str | None]:
+    """Returns the pattern, and the rule in the header. Raises `BadRle` at the first fault."""
+    reading = RleReader(text)
+    rule = reading.header()
+    while reading.run():
+        pass
+    # mutant: equal because without a row, none is filled up
+    width = max(map(len, reading.rows), default=0)
+    return [row.decode("ascii").ljust(width, ".") for row in reading.rows], rule
+
+
+def format_rle(rows: Rows, option: str) -> list[str]:
+    """Returns the lines of a pattern's RLE. A count and what it counts are on one line."""
+    width = max((len(row.rstrip(".")) for row in rows), default=0)
+    height = max((y for y, row in enumerate(rows, 1) if "O" in row), default=0)
+    lines = [f"x = {width}, y = {height}, rule = {format_rule(option)}", ""]
+    for token in [*list_tokens(rows), "!"]:
+        if len(lines[-1]) + len(token) > LINE_LENGTH:
+            lines.append("")
+        lines[-1] += token
+    return lines
+
+
+def list_tokens(rows: Rows) -> list[str]:
+    """Runs of cells, without the dead ones at the end of a row, and of ends of rows."""
+    tokens: list[str] = []
+    ends = 0
+    for row in rows:
+        for run in re.finditer(r"\.+|O+", row.rstrip(".")):
+            if ends:
+                tokens.append(format_run(ends, "$"))
+                ends = 0
+            tokens.append(format_run(len(run[0]), "o" if run[0][0] == "O" else "b"))
+        ends += 1
+    return tokens
+
+
+def format_run(count: int, tag: str) -> str:
+    return tag if count == 1 else f"{count}{tag}"

@@ -1,0 +1,1 @@
+"""Operations on whole hauls: joining, checking, and counting by parts."""

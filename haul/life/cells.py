@@ -1,0 +1,44 @@
+"""Sets of cells: moved, measured and drawn.
+
+A cell is a pair (x, y), where x grows to the right and y downwards.
+"""
+
+from __future__ import annotations
+
+from collections.abc import Iterable
+
+from haul.formats.plaintext import Rows
+
+Cell = tuple[int, int]
+Cells = frozenset[Cell]
+
+
+def move(cells: Iterable[Cell], shift: Cell) -> Cells:
+    dx, dy = shift
+    if not dx and not dy:
+        return frozenset(cells)
+    return frozenset([(x + dx, y + dy) for x, y in cells])
+
+
+def find_corner(cells: Cells) -> Cell:
+    """Returns where the bounding box of a pattern begins."""
+    columns, lines = zip(*cells, strict=True)
+    return min(columns), min(lines)
+
+
+def move_to_corner(cells: Cells) -> Cells:
+    """Returns a pattern moved so that its bounding box begins at (0, 0)."""
+    left, top = find_corner(cells)
+    return move(cells, (-left, -top))
+
+
+def fits_in(cells: Cells, side: int) -> bool:
+    """Returns whether the bounding box has at most so many columns and rows."""
+    return all(max(line) - min(line) < side for line in zip(*cells, strict=True))
+
+
+def draw_rows(cells: Cells, box: Cells) -> Rows:
+    """Returns the rows of a pattern in the bounding box of another one."""
+    # mutant: equal because dead cells at the edge say nothing
+    columns, lines = (range(min(side), max(side) + 1) for side in zip(*box, strict=True))
+    return ["".join(["O" if (x, y) in cells else "." for x in columns]) for y in lines]

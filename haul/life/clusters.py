@@ -1,0 +1,44 @@
+"""Islands and clusters of live cells, as docs/HAUL.md and docs/PROFILE.md define them."""
+
+from __future__ import annotations
+
+from haul.life.cells import Cell, Cells
+from haul.life.generations import list_neighbours
+
+
+def find_islands(phases: list[Cells]) -> list[Cells]:
+    """Returns the islands of an object, each as its cells in phase 0, in the order of their first
+    cells.
+
+    Two cells that touch (also at corners) in the same phase belong to one island, and a place is
+    one cell in all phases."""
+    left = [set(phase) for phase in phases]
+    islands: list[Cells] = []
+    while left[0]:
+        island: list[Cell] = []
+        reached = [min(left[0])]
+        while reached:
+            cell = reached.pop()
+            island += [cell] if cell in left[0] else []
+            for phase in left:
+                if cell in phase:
+                    phase.remove(cell)
+                    reached.extend(phase.intersection(list_neighbours(cell)))
+        islands.append(frozenset(island))
+    return islands
+
+
+def is_cluster(cells: Cells) -> bool:
+    """Returns whether steps of at most two cells, in any direction, join all live cells; there has
+    to be one."""
+    left, edge = set(cells), list(cells)[:1]
+    left.difference_update(edge)
+    while edge and left:
+        x, y = edge.pop()
+        reached = left.intersection(
+            # 2 mutants: equal because it goes to both sides
+            [(x + dx, y + dy) for dx in (-2, -1, 0, 1, 2) for dy in (-2, -1, 0, 1, 2)]
+        )
+        left -= reached
+        edge.extend(reached)
+    return bool(cells) and not left

@@ -1,0 +1,70 @@
+"""Drawings of patterns as paths of SVG: a line for each run of live cells, as wide as a cell is
+high."""
+
+from __future__ import annotations
+
+import re
+from functools import cache
+from html import escape
+
+from haul.formats.plaintext import Rows
+from haul.life.cells import Cells, draw_rows
+from haul.plurals import write_count
+
+# Points a cell, for objects, and for those of few cells.
+SCALE, LARGER_SCALE = 4, 12
+# Those have less cells than this.
+FEW_CELLS = 10
+RUNS = re.compile("O+")
+
+
+def draw_path(rows: Rows) -> str:
+    """Writes the runs of live cells, row by row; each move is relative to where the run before has
+    ended."""
+    moves: list[str] = []
+    # 2 mutants: equal because the first run is placed, not moved to
+    end, before = 0, 0
+    for y, row in enumerate(rows):
+        found = draw_runs(row)
+        if found is not None:
+            first, runs, last = found
+            moves.append(
+                f"m{first - end} {y - before}{runs}" if moves else f"M{first} {y + 0.5}{runs}"
+            )
+            end, before = last, y
+    return "".join(moves)
+
+
+@cache
+def draw_runs(row: str) -> tuple[int, str, int] | None:
+    """Returns where the first run of live cells in a row begins, the runs with the moves between
+    them, and where the last one ends; none if there is no run."""
+    runs = [run.span() for run in RUNS.finditer(row)]
+    if not runs:
+        return None
+    (first, end), *more = runs
+    text = f"h{end - first}"
+    for start, stop in more:
+        text += f"m{start - end} 0h{stop - start}"
+        end = stop
+    return first, text, end
+
+
+def draw_picture(cells: Cells, name: str) -> str:
+    """Draws a pattern with a margin of one cell."""
+    width, height = measure(cells)
+    scale = LARGER_SCALE if len(cells) < FEW_CELLS else SCALE
+    title = f"{name}: {width} by {height}, {write_count(len(cells), 'cell')}"
+    columns, rows = width + 2, height + 2
+    return (
+        f'<svg class="cells-{scale}" width="{columns * scale}" height="{rows * scale}" '
+        f'viewBox="-1 -1 {columns} {rows}" role="img">'
+        f'<title>{escape(title)}</title><path d="{draw_path(draw_rows(cells, cells))}"/></svg>'
+    )
+
+
+def measure(cells: Cells) -> tuple[int, int]:
+    """Returns the width and the height of a pattern whose bounding box begins in column 0 and row
+    0."""
+    width, height = (max(side) + 1 for side in zip(*cells, strict=True))
+    return width, height

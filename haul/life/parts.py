@@ -1,0 +1,94 @@
+"""Takes objects apart: which independent objects a pseudo-object is made of.
+
+docs/HAUL.md has the definition. A bi-block, for example, is two blocks:
+
+    OO.OO       OO.OO       the census takes it as one object, since its cells are two steps apart;
+    OO.OO       OO.OO       each half, run alone, does in each generation what it does beside the other
+"""
+
+from __future__ import annotations
+
+from dataclasses import dataclass
+
+from haul.formats.codes import read_drawing, read_kind
+from haul.life.apgcodes import find_code, read_wechsler
+from haul.life.blocks import Blocks, Run
+from haul.life.cells import Cells, move_to_corner
+from haul.life.generations import MOST_PERIOD, Recurrence, Rule, find_recurrence
+
+# Of an object with more islands only the separation into single islands is tried: there are too
+# many others.
+MOST_ISLANDS = 10
+
+
+@dataclass(frozen=True)
+class Separation:
+    """What an object is made of."""
+
+    # The codes of its parts, in ASCII order.
+    parts: tuple[str, ...]
+    # An object that isn't separated counts as itself, though it may have parts.
+    is_separated: bool = True
+
+    def is_strict(self) -> bool:
+        return self.is_separated and len(self.parts) == 1
+
+
+class Separator:
+    """Separates the objects of a census under one rule."""
+
+    def __init__(self, rule: Rule) -> None:
+        self.rule = rule
+        # The codes of parts, by their cells moved to the corner.
+        self.known: dict[Cells, str] = {}
+        # The runs of islands, by their cells moved to the corner. Many objects have the same
+        # islands.
+        self.runs: dict[Cells, Run] = {}
+
+    def separate(self, code: str) -> Separation:
+        recurrence = read_object(self.rule, code)
+        if recurrence is None:
+            return Separation((code,), is_separated=False)
+        blocks = Blocks(self.rule, self.runs, recurrence)
+        parts = blocks.single_islands() or self.most_parts(blocks)
+        if parts is None:
+            return Separation((code,), is_separated=False)
+        return Separation(self.codes(parts))
+
+    def most_parts(self, blocks: Blocks) -> list[Cells] | None:
+        """Returns the parts by the separation with the most blocks; none if there are too many
+        islands to look for it."""
+        if len(blocks.islands) > MOST_ISLANDS:
+            return None
+        found = [*blocks.list_separations(), [blocks.object]]
+        most = max(map(len, found))
+        return min((parts for parts in found if len(parts) == most), key=self.codes)
+
+    def codes(self, parts: list[Cells]) -> tuple[str, ...]:
+        return tuple(sorted(map(self.code, parts)))
+
+    def code(self, part: Cells) -> str:
+        shape = move_to_corner(part)
+        if shape not in self.known:
+            recurrence = find_recurrence(self.rule, shape)
+            assert recurrence is not None
+            self.known[shape] = find_code(recurrence)
+        return self.known[shape]
+
+
+def read_object(rule: Rule, code: str) -> Recurrence | None:
+    """Returns the phases of the object that a code names, in which the drawing of the code is phase
+    0; none if the code can't be drawn, or if what is drawn doesn't recur with the kind and the
+    number of the prefix."""
+    text, known = read_drawing(code), read_kind(code)
+    cells = read_wechsler(text) if text is not None else None
+    if known is None or cells is None or known.period() > MOST_PERIOD:
+        return None
+    recurrence = find_recurrence(rule, cells, known.period())
+    if recurrence is None or recurrence.kind() != known.letter:
+        return None
+    return (
+        recurrence
+        if known.number == (len(cells) if known.letter == "s" else recurrence.period)
+        else None
+    )

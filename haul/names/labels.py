@@ -1,0 +1,52 @@
+"""What objects are called: by their names, and otherwise by their parts."""
+
+from __future__ import annotations
+
+import re
+from collections import Counter
+
+from haul.formats.codes import read_kind
+from haul.life.parts import Separation
+from haul.names.objects import NAMES
+
+NOT_SEPARATED = "not separated"
+
+
+def find_label(code: str, separation: Separation) -> str:
+    """Returns the name of an object, or its parts in words if it has several; otherwise nothing."""
+    if code in NAMES:
+        return NAMES[code]
+    return describe_parts(separation.parts) if len(separation.parts) > 1 else ""
+
+
+def mark_label(label: str, separation: Separation) -> str:
+    """Returns a label for a reader, which says so if the object isn't separated."""
+    return (
+        label
+        if separation.is_separated
+        else f"{label}, {NOT_SEPARATED}"
+        if label
+        else NOT_SEPARATED
+    )
+
+
+def describe_parts(parts: tuple[str, ...]) -> str:
+    """Writes parts as `2 blocks`, or `block and beehive`: oscillators first and still lifes last,
+    small ones before large ones."""
+    counts = Counter(sorted(parts, key=lambda code: (read_kind(code), code)))
+    *before, last = (name_several(code, count) for code, count in counts.items())
+    return f"{', '.join(before)} and {last}" if before else last
+
+
+def name_several(code: str, count: int) -> str:
+    name = NAMES.get(code, code)
+    return name if count == 1 else f"{count} {make_plural(name) if code in NAMES else name}"
+
+
+def make_plural(name: str) -> str:
+    """Returns `half-bakeries`, `loaves`, `blocks on table`. Names that end in an `s`, an `x` or a
+    digit stay as they are."""
+    thing, rest = re.fullmatch("(.*?)((?: on | with ).*)?", name).groups(default="")  # type: ignore[union-attr]
+    if thing[-1] not in "sx0123456789":
+        thing = re.sub("y$", "ie", re.sub("f$", "ve", thing)) + "s"
+    return thing + rest

@@ -1,0 +1,106 @@
+"""The table that a page has for readers without JavaScript."""
+
+from __future__ import annotations
+
+from collections.abc import Iterator
+from html import escape
+from urllib.parse import quote
+
+from haul.formats.codes import is_large, read_drawing, read_kind
+from haul.life.apgcodes import read_wechsler
+from haul.life.drawing import draw_picture
+from haul.names.labels import find_label, mark_label
+from haul.names.objects import NAMES
+from haul.page.data import count_cells
+from haul.page.sides import Side, Sides
+from haul.views.rates import bound_rarity
+
+KINDS = {"s": "still life", "p": "oscillator of period", "q": "spaceship of period"}
+CATAGOLUE = "https://catagolue.hatsya.com"
+
+
+def write_table(sides: Sides) -> Iterator[str]:
+    """Yields the table, row by row, with each object that has a place on the page."""
+    letters = [f" in {side.letter}" if len(sides.all) > 1 else "" for side in sides.all]
+    heads = ["Picture", "Name and code", "What it is", "Cells"]
+    for letter in letters:
+        heads += [f"Total{letter}", f"How often{letter}", f"Sample soups{letter}"]
+    yield f'<p>{describe_omissions(sides)}</p>\n<div class="scroll"><table class="all"><thead><tr>'
+    yield "".join(f'<th scope="col">{head}</th>' for head in heads) + "</tr></thead><tbody>\n"
+    for code in sides.codes:
+        yield write_row(sides, code)
+    yield "</tbody></table></div>\n"
+
+
+def describe_omissions(sides: Sides) -> str:
+    """Writes how many objects have a row, and how many don't."""
+    kinds = len(sides.kinds())
+    text = f"{len(sides.codes):,} of {kinds:,} distinct objects, the most frequent first."
+    if kinds > len(sides.codes):
+        text += f" Of the others there are fewer than {sides.least:,}."
+    return text
+
+
+def write_row(sides: Sides, code: str) -> str:
+    separation = sides.first_with(code).separate(code)
+    label = mark_label(find_label(code, separation), separation)
+    cells = count_cells(code)
+    rule = sides.first_with(code).haul.job.rule
+    named = f"<b>{escape(label)}</b> {link_code(code, rule)}" if label else link_code(code, rule)
+    columns = [draw_object(code), named, describe_kind(code), "" if cells is None else cells]
+    row = "".join(f"<td>{column}</td>" for column in columns)
+    counts = "".join(write_counts(side, code) for side in sides.all)
+    return f'<tr id="{escape(code)}">{row}{counts}</tr>\n'
+
+
+def write_counts(side: Side, code: str) -> str:
+    """Writes what a haul says of an object."""
+    haul = side.haul
+    if code not in haul.totals:
+        return "<td>0</td><td></td><td></td>"
+    total = haul.totals[code]
+    samples = " ".join(
+        f'<a href="{link_soup(side, number)}">{number}</a>' for number in haul.samples[code]
+    )
+    return f"<td>{total:,}</td><td>{describe_frequency(haul.soups, total)}</td><td>{samples}</td>"
+
+
+def describe_frequency(soups: int, total: int) -> str:
+    """Writes how often an object comes, as the script does."""
+    if not soups:
+        return "none"
+    if total * 2 <= soups:
+        return f"≤ 1 in {bound_rarity(soups, total):,} soups"
+    each = total / soups
+    # 2 mutants: equal because from 100 to 101 both forms have the same three digits
+    return f"{each:,.0f} per soup" if each >= 100 else f"{each:.3g} per soup"
+
+
+def link_soup(side: Side, number: int) -> str:
+    """Returns the address of Catagolue's page of a soup."""
+    job = side.haul.job
+    return f"{CATAGOLUE}/hashsoup/C1/{quote(job.seed, safe='')}{number}/{job.rule}"
+
+
+def link_code(code: str, rule: str) -> str:
+    if is_large(code):
+        return f"<code>{escape(code)}</code>"
+    return f'<a href="{CATAGOLUE}/object/{escape(code)}/{rule}"><code>{escape(code)}</code></a>'
+
+
+def draw_object(code: str) -> str:
+    """Writes the picture of an object, or why there is none."""
+    text = read_drawing(code)
+    cells = read_wechsler(text) if text is not None else None
+    if cells is not None:
+        return draw_picture(cells, NAMES.get(code, code))
+    # A haul can have a code that names nothing.
+    return "too large to draw" if is_large(code) else "can't be drawn"
+
+
+def describe_kind(code: str) -> str:
+    """Writes what the prefix of a code says."""
+    known = read_kind(code)
+    if known is None:
+        return "an object"
+    return KINDS[known.letter] + ("" if known.letter == "s" else f" {known.period()}")

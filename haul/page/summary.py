@@ -1,0 +1,241 @@
+"""What stands at the top of a page: what it shows, in a sentence and in tiles for each haul, and
+how to verify it. At the foot: what made it."""
+
+from __future__ import annotations
+
+from html import escape
+from string import Template
+
+from haul import VERSION
+from haul.census.command_lines import format_unsettled_command
+from haul.formats.haul import Haul, Job
+from haul.formats.profile import Profile
+from haul.formats.rules import LIFE, format_rule
+from haul.page.sides import Side, Sides
+from haul.plurals import pluralize, write_count
+
+# More ranges than these are only counted.
+MOST_RANGES = 12
+NO_NUMBER = "–"
+COUNTED = "the formally verified program <code>census</code> counted the objects that they left"
+
+NOTES = """\
+<p>An object is <em>strict</em> if it doesn't consist of smaller objects that would do the same each by itself, as the two blocks of a
+bi-block would. The parts are found by a definition of this project, not by apgsearch's code. Names are those of LifeWiki. A haul doesn't
+record how many soups contain an object, so only an upper bound is shown: “≤ 1 in 50 soups” means that at most one soup in 50 has one.</p>
+"""
+ABOUT = """\
+<p>Made by <code>haul page</code> of Gokzerd $version from $hauls. A <em>haul</em> is the text that <code>census take</code> prints: how many of
+each object a set of soups left, with up to three sample soups for each. Gokzerd has two programs. <code>census</code> runs the soups and
+counts; it is formally verified, so its counts are proved to match a written definition. <code>haul</code> and this page are tested, but not
+proved. The commands on this page need both programs on the <code>PATH</code>, on Linux.</p>
+"""
+
+
+def write_title(sides: Sides) -> str:
+    first, *others = (side.haul for side in sides.all)
+    if not others:
+        where = (
+            "in Conway's Game of Life"
+            if first.job.rule == LIFE
+            else f"under {format_rule(first.job.rule)}"
+        )
+        return f"A census of {write_count(first.soups, 'soup')} {where}"
+    rules = list(dict.fromkeys(format_rule(side.haul.job.rule) for side in sides.all))
+    if len(rules) == 1:
+        return f"{len(sides.all)} censuses under {rules[0]}, compared"
+    *before, last = rules
+    return f"Censuses under {', '.join(before)} and {last}, compared"
+
+
+def write_top(sides: Sides) -> str:
+    """Writes the top, from the line below the title on."""
+    is_compared = len(sides.all) > 1
+    about = (
+        write_comparison(sides)
+        if is_compared
+        else f"<p>{write_sentence(sides.all[0].haul)}</p>\n{write_tiles(sides.all[0])}\n"
+    )
+    more = [
+        write_verification(sides),
+        *(write_unsettled(side, is_compared) for side in sides.all),
+        write_definitions(sides),
+    ]
+    return "".join([about, '<div class="more">', *more, "</div>\n"])
+
+
+def write_foot(sides: Sides) -> str:
+    """Writes the foot: what made the page, what a haul is, and what the commands need."""
+    count = len(sides.all)
+    return Template(ABOUT).substitute(
+        version=VERSION, hauls="a haul" if count == 1 else write_count(count, "haul")
+    )
+
+
+def fold(summary: str, words: str) -> str:
+    return f"<details><summary>{summary}</summary>\n{words}</details>\n"
+
+
+def write_comparison(sides: Sides) -> str:
+    """Writes the facts on hauls that are compared, in a table with a row for each."""
+    # mutant: equal because all have facts of the same names
+    first = sides.all[0]
+    heads = ["Haul", *(name for name, _, _ in list_tiles(first)), "seed", "numbers"]
+    rows = [
+        [
+            write_rule(side),
+            *(value for _, value, _ in list_tiles(side)),
+            write_seed(side.haul.job),
+            describe_ranges(side.haul),
+        ]
+        for side in sides.all
+    ]
+    body = "".join(
+        f'<tr><th scope="row">{head}</th>{"".join(f"<td>{cell}</td>" for cell in cells)}</tr>\n'
+        for head, *cells in rows
+    )
+    head = "".join(f'<th scope="col">{name}</th>' for name in heads)
+    return (
+        "<p>Random soups of 16 by 16 cells ran under each rule until they had settled, and "
+        f'{COUNTED}.</p>\n<div class="scroll" tabindex="0" role="region" aria-label="The hauls">'
+        f'<table class="hauls"><thead><tr>{head}</tr></thead><tbody>\n{body}</tbody></table></div>\n'
+    )
+
+
+def write_rule(side: Side) -> str:
+    letter = f'<span class="letter" data-haul="{side.letter}">{side.letter}</span>'
+    return f"{letter} {format_rule(side.haul.job.rule)}"
+
+
+def write_seed(job: Job) -> str:
+    return f'<code class="seed">{escape(job.seed)}</code>' if job.seed else "empty"
+
+
+def write_sentence(haul: Haul) -> str:
+    seed = f"the seed {write_seed(haul.job)}" if haul.job.seed else "the empty seed"
+    return (
+        f"Random soups of 16 by 16 cells (numbers {describe_ranges(haul)} of {seed}) ran under the "
+        f"rule <code>{haul.job.rule}</code> ({format_rule(haul.job.rule)}) until they had settled, "
+        f"and {COUNTED}."
+    )
+
+
+def describe_ranges(haul: Haul) -> str:
+    said = [
+        f"{first} to {first + count - 1}" if count > 1 else f"{first}"
+        for first, count in haul.ranges
+    ]
+    if len(said) > MOST_RANGES:
+        said[MOST_RANGES:] = [write_count(len(said) - MOST_RANGES, "more range")]
+    return escape(", ".join(said) or "none")
+
+
+def write_tiles(side: Side) -> str:
+    """Writes the facts on a haul as tiles."""
+    words = [
+        (f"{name}<small>{meaning}</small>" if meaning else name, value)
+        for name, value, meaning in list_tiles(side)
+    ]
+    return (
+        '<dl class="tiles">'
+        + "".join(f"<div><dt>{name}</dt><dd>{value}</dd></div>" for name, value in words)
+        + "</dl>"
+    )
+
+
+def list_tiles(side: Side) -> list[tuple[str, str, str]]:
+    """Returns the facts on all objects of a haul, with or without a place on the page: their names,
+    their values, and what they mean if that isn't plain."""
+    haul, profile = side.haul, side.haul.job.profile
+    others = haul.soups - haul.unsettled - haul.for_good
+    strict = sum(side.separate(code).is_strict() for code in haul.totals)
+    return [
+        (
+            "soups",
+            f"{haul.soups:,} <small>of {haul.size():,}</small>"
+            if haul.soups < haul.size()
+            else f"{haul.soups:,}",
+            "",
+        ),
+        ("objects", f"{haul.objects():,}", ""),
+        ("objects per soup", f"{haul.objects() / haul.soups:.2f}" if haul.soups else NO_NUMBER, ""),
+        ("distinct objects", f"{len(haul.totals):,}", ""),
+        ("of these strict", f"{strict:,}", "not made of smaller objects"),
+        ("unsettled soups", f"{haul.unsettled:,}", f"not at rest by generation {profile.limit:,}"),
+        (
+            "settled for good",
+            f"{haul.for_good:,}",
+            f"at rest forever; the other {others:,} for at least "
+            f"{write_count(profile.horizon, 'generation')}",
+        ),
+    ]
+
+
+def write_unsettled(side: Side, is_compared: bool) -> str:
+    """Writes by which command the unsettled soups of a haul are listed."""
+    haul = side.haul
+    if not haul.unsettled:
+        return ""
+    soups = pluralize(haul.unsettled, "a soup that has", "soups that have")
+    them = pluralize(haul.unsettled, "it", "them")
+    words = (
+        f"<p>What is in {soups} not settled isn't counted. This command runs the census again, and "
+        f"lists {them}:</p>\n<pre><code>{escape(format_unsettled_command(haul))}</code></pre>\n"
+    )
+    letter = f"{side.letter}: " if is_compared else ""
+    return fold(letter + write_count(haul.unsettled, "unsettled soup"), words)
+
+
+def write_verification(sides: Sides) -> str:
+    """Writes how the hauls can be verified. One with missing soups doesn't say which ones, so it
+    can't be run again."""
+    hauls = [side.haul for side in sides.all]
+    name, these = (
+        ("all.haul", "the haul of this page")
+        if len(hauls) == 1
+        else ("a.haul", "a haul of this page")
+    )
+    samples = f"<code>haul check --samples {name}</code>"
+    text = (
+        f"<p>If {these} is in the file <code>{name}</code>, <code>haul check {name}</code> runs the "
+        f"whole census again and compares, and {samples} runs only the sample soups."
+    )
+    missing = [side.letter for side in sides.all if side.haul.soups < side.haul.size()]
+    if missing:
+        which = (
+            "this haul"
+            if len(hauls) == 1
+            else f"the haul {' and '.join(missing)}"
+            if len(missing) == 1
+            else f"the hauls {', '.join(missing)}"
+        )
+        text += f" Soups are missing from {which}, so only {samples} works there."
+    return fold("How to verify it", text + "</p>\n")
+
+
+def write_definitions(sides: Sides) -> str:
+    """Writes the definitions by which objects were counted."""
+    profiles: dict[Profile, list[str]] = {}
+    for side in sides.all:
+        profiles.setdefault(side.haul.job.profile, []).append(side.letter)
+    words = ""
+    for profile, letters in profiles.items():
+        which = f"{', '.join(letters)}: " if len(profiles) > 1 else ""
+        words += f"<p>{which}{describe_profile(profile)}</p>\n"
+    return fold("How objects are counted", words + NOTES)
+
+
+def describe_profile(profile: Profile) -> str:
+    period, horizon, stride, limit = profile
+    each = f"{stride:,} generations" if stride > 1 else "generation"
+    checkpoints = (
+        f"one every {each}, up to generation {limit:,}"
+        if limit >= stride
+        else "the only one, at generation 0"
+    )
+    return (
+        f"A soup has settled at the first checkpoint ({checkpoints}) at which each of its objects "
+        f"recurs within {write_count(period, 'generation')}, and for "
+        f"{write_count(horizon, 'generation')} no object meets another. It is settled for good if "
+        "it has no spaceship and all its objects recur together within that time."
+    )

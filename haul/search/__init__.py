@@ -1,0 +1,1 @@
+"""`haul search`: batches of soups, the file that keeps them, and finds."""

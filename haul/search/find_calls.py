@@ -1,0 +1,69 @@
+"""Calls the program of `haul search --finds`, once for each find, one call after another."""
+
+from __future__ import annotations
+
+import time
+from collections import deque
+from collections.abc import Callable
+
+from haul.census.background import FIND, BackgroundProgram, StreamWaiter
+from haul.census.launcher import DONE
+
+# A call that takes longer is ended.
+MOST_SECONDS = 60.0
+
+
+class FindCalls:
+    """The calls that are still to be made, and the one that runs."""
+
+    def __init__(
+        self, waiter: StreamWaiter, program: str | None, complain: Callable[[str], None]
+    ) -> None:
+        """Calls nothing without a program. Failures are passed to `complain` as lines."""
+        self.waiter = waiter
+        self.program = program
+        self.complain = complain
+        self.waiting: deque[list[str]] = deque()
+        self.running: BackgroundProgram | None = None
+        # When it began, in seconds.
+        self.began: float
+
+    def add(self, arguments: list[str]) -> None:
+        if self.program is not None:
+            self.waiting.append(arguments)
+
+    def is_done(self) -> bool:
+        return self.left() == 0
+
+    def left(self) -> int:
+        """Returns how many calls haven't ended."""
+        return len(self.waiting) + (self.running is not None)
+
+    def step(self) -> None:
+        """Begins the next call, or looks at the one that runs."""
+        if self.running is None and self.waiting:
+            self.begin(self.waiting.popleft())
+        elif self.running is not None and self.running.is_ended():
+            self.report(self.running.printed.decode("utf-8", "replace").strip() or "was ended")
+            self.running = None
+        elif self.running is not None and time.monotonic() - self.began >= MOST_SECONDS:
+            self.end()
+            self.report(f"ended after {MOST_SECONDS:.0f} seconds")
+
+    def begin(self, arguments: list[str]) -> None:
+        assert self.program is not None
+        try:
+            self.running = BackgroundProgram(self.waiter, FIND, [self.program, *arguments], None)
+            self.began = time.monotonic()
+        except OSError as error:
+            self.report(error.strerror or "can't be started")
+
+    def report(self, how: str) -> None:
+        if how != DONE:
+            self.complain(f"{self.program}: {how}")
+
+    def end(self) -> None:
+        """Ends the call that runs, with all that it has started."""
+        if self.running is not None:
+            self.running.end()
+            self.running = None

@@ -1,0 +1,172 @@
+"""Finds: the parts of objects that a search comes upon for the first time.
+
+A find is a part whose code no object of the haul had as a part before, and that isn't common.
+docs/HAUL.md says what the parts of an object are. The soups that one call of `census take` runs are
+a batch, as in search.py. """
+
+from __future__ import annotations
+
+from collections import defaultdict, deque
+from collections.abc import Iterable
+from dataclasses import dataclass, field
+from datetime import datetime, timezone
+
+from haul.census.command_lines import format_find_command
+from haul.formats.codes import Kind, read_kind
+from haul.formats.haul import Haul, Job
+from haul.formats.profile import STANDARD
+from haul.formats.rules import LIFE
+from haul.life.generations import read_rule
+from haul.life.parts import Separator
+from haul.names.common_parts import COMMON
+from haul.names.objects import NAMES
+
+# The separator remembers what it has run. After this many runs it forgets them, since a search goes
+# on for weeks.
+# mutant: equal because one more remembered run doesn't change what is printed
+MOST_RUNS = 20_000
+
+
+@dataclass(frozen=True)
+class Find:
+    """The code of a part that was found, and the lowest of the soups just taken that left it."""
+
+    code: str
+    soup: int
+
+    def fields(self, job: Job) -> list[str]:
+        """Returns what is told of the find: when that is, the code, the name or `-`, the soup, and
+        a command that shows it."""
+        now = datetime.now(timezone.utc).strftime("%Y-%m-%dT%H:%M:%SZ")
+        return [
+            now,
+            self.code,
+            NAMES.get(self.code, "-"),
+            str(self.soup),
+            format_find_command(job, self.soup),
+        ]
+
+
+@dataclass
+class NewCodes:
+    """The codes that a batch of soups brought for the first time, until their finds are known."""
+
+    # Those that aren't separated yet, each with the lowest soup that left it.
+    codes: deque[tuple[str, int]]
+    # The parts of those that have been separated, each with its lowest soup.
+    parts: dict[str, int] = field(default_factory=dict)
+
+    def add(self, part: str, soup: int) -> None:
+        self.parts[part] = min(soup, self.parts.get(part, soup))
+
+
+class Unread:
+    """The objects of the file whose parts aren't known yet, by their kinds."""
+
+    def __init__(self, codes: Iterable[str]) -> None:
+        self.codes: defaultdict[Kind | None, set[str]] = defaultdict(set)
+        self.add(codes)
+
+    def add(self, codes: Iterable[str]) -> None:
+        for code in codes:
+            self.codes[read_kind(code)].add(code)
+
+    def __contains__(self, code: str) -> bool:
+        kind = read_kind(code)
+        return kind in self.codes and code in self.codes[kind]
+
+    def holders(self, parts: Iterable[str]) -> list[set[str]]:
+        """Returns sets of codes, which aren't empty, of all objects that can have one of these
+        parts beside others."""
+        kinds = {kind for part in parts if (kind := read_kind(part)) is not None}
+        return [
+            codes
+            for whole, codes in self.codes.items()
+            if codes and whole is not None and any(can_hold(whole, kind) for kind in kinds)
+        ]
+
+    def holding(self, parts: Iterable[str]) -> int:
+        """Returns how many objects can have one of these parts beside others."""
+        return sum(map(len, self.holders(parts)))
+
+
+def can_hold(whole: Kind, part: Kind) -> bool:
+    """Checks whether an object of a kind can have a part of another kind beside others. The period
+    of a part divides that of the whole, a part moves exactly if the whole does, and a part of a
+    still life has fewer cells than the whole."""
+    if whole.letter == "s":
+        return part.letter == "s" and part.number < whole.number
+    return (part.letter == "q") == (whole.letter == "q") and whole.number % part.period() == 0
+
+
+class Finder:
+    """Looks for finds, an object at a time, so that the search can do other things in between.
+
+    The objects that the file had at first are separated only when there is a part that may be in
+    one of them. A part that is also an object of its own in the file is known without that, and for
+    most parts that is enough."""
+
+    def __init__(self, job: Job, haul: Haul) -> None:
+        self.separator = Separator(read_rule(job.rule))
+        self.common = COMMON if job.rule == LIFE else frozenset()
+        # Under another rule or profile the first batch tells no finds: almost every part in it
+        # would be one.
+        self.is_silent = (job.rule != LIFE or job.profile != STANDARD) and haul.soups == 0
+        # The objects whose parts aren't known yet, although they were there before.
+        self.unread = Unread(haul.totals)
+        self.known: set[str] = set()
+        # One item for each batch with new codes; the oldest is first.
+        self.queue: deque[NewCodes] = deque()
+
+    def add(self, codes: Iterable[tuple[str, int]]) -> None:
+        """Takes the new codes of the next batch, each with its lowest soup, once they are in the
+        file."""
+        new = NewCodes(deque(codes))
+        if self.is_silent:
+            self.unread.add(code for code, _ in new.codes)
+            self.is_silent = False
+        elif new.codes:
+            self.queue.append(new)
+
+    def left(self) -> int:
+        """Returns how many objects have to be separated still, as far as is known."""
+        codes = sum(len(new.codes) for new in self.queue)
+        first = self.queue[0].parts if self.queue and not self.queue[0].codes else {}
+        return codes + self.unread.holding(filter(self.is_new, first))
+
+    def is_done(self) -> bool:
+        return not self.queue
+
+    def step(self) -> list[Find]:
+        """Separates an object, and returns the finds of a batch if that was its last one. The queue
+        isn't empty."""
+        first = self.queue[0]
+        if first.codes:
+            code, soup = first.codes.popleft()
+            for part in self.parts_of(code):
+                first.add(part, soup)
+        if first.codes:
+            return []
+        new = {part: soup for part, soup in first.parts.items() if self.is_new(part)}
+        for codes in self.unread.holders(new):
+            # They may be in one of these objects.
+            self.known.update(self.parts_of(codes.pop()))
+            return []
+        self.known.update(first.parts)
+        self.queue.popleft()
+        return sorted(
+            (Find(part, soup) for part, soup in new.items()),
+            key=lambda find: (find.soup, find.code),
+        )
+
+    def is_new(self, part: str) -> bool:
+        """Checks whether a part is neither common nor known, and isn't an object that was there
+        before. Such an object has no other parts than itself, since a part has none."""
+        return part not in self.common and part not in self.known and part not in self.unread
+
+    def parts_of(self, code: str) -> tuple[str, ...]:
+        # mutant: equal because one more remembered run doesn't change what is printed
+        if len(self.separator.runs) > MOST_RUNS:
+            self.separator.runs.clear()
+            self.separator.known.clear()
+        return self.separator.separate(code).parts

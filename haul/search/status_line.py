@@ -1,0 +1,114 @@
+"""The status line of a search: on a terminal one line that is written again and again, and
+otherwise a line per minute."""
+
+from __future__ import annotations
+
+import time
+from dataclasses import dataclass
+
+from haul.plurals import pluralize, write_count
+from haul.terminal import Terminal
+
+# How often the status is told.
+SECONDS_ON_A_TERMINAL, SECONDS_ELSEWHERE = 1.0, 60.0
+
+
+@dataclass(frozen=True)
+class Status:
+    """How far a search is."""
+
+    # The soups of the haul, with those of the batch that runs.
+    soups: int
+    # The soups that this call has run.
+    run: int
+    objects: int
+    codes: int
+    finds: int
+    # The running time of this call, in seconds.
+    seconds: float
+    # How many soups are to be run still; none if there is no end.
+    left: int | None
+
+    def rate(self) -> float:
+        """Returns how many soups a second this call has run."""
+        return self.run / self.seconds if self.seconds > 0 else 0.0
+
+    def text(self) -> str:
+        words = [
+            write_count(self.soups, "soup"),
+            f"{self.rate():,.0f} per second",
+            write_count(self.objects, "object"),
+            write_count(self.codes, "code"),
+            write_count(self.finds, "find"),
+            f"running for {format_duration(self.seconds)}",
+        ]
+        return ", ".join([*words, *self.time_left()])
+
+    def short_text(self) -> str:
+        """Returns the same with three digits of each number, for a narrow terminal."""
+        numbers = (
+            (self.soups, "soup"),
+            (self.objects, "object"),
+            (self.codes, "code"),
+            (self.finds, "find"),
+        )
+        soups, *others = (
+            f"{format_short(number)} {pluralize(number, name)}" for number, name in numbers
+        )
+        return " ".join(
+            [
+                soups,
+                f"{format_short(round(self.rate()))}/s",
+                *others,
+                format_duration(self.seconds),
+                *self.time_left(),
+            ]
+        )
+
+    def time_left(self) -> list[str]:
+        if self.left is None:
+            return []
+        return [f"{format_duration(self.left / self.rate())} left" if self.rate() > 0 else "? left"]
+
+
+def format_duration(seconds: float) -> str:
+    """Writes a time in hours, minutes and seconds, such as `121:02:03`."""
+    whole = int(seconds)
+    return f"{whole // 3600}:{whole // 60 % 60:02}:{whole % 60:02}"
+
+
+def format_short(number: int) -> str:
+    """Writes a number with three digits, such as `12.3M`; one below a thousand as it is."""
+    if number < 1000:
+        return str(number)
+    # With three digits, 999,500 is a million.
+    size = (len(str(int(float(f"{number:.3g}")))) - 1) // 3
+    return f"{number / 1000**size:.3g}{' kMGTPE'[size]}"
+
+
+class StatusLine:
+    """Tells a status when it is time for that."""
+
+    def __init__(self, terminal: Terminal) -> None:
+        self.terminal = terminal
+        self.is_on_a_terminal = terminal.is_interactive()
+        self.every = SECONDS_ON_A_TERMINAL if self.is_on_a_terminal else SECONDS_ELSEWHERE
+        self.next = time.monotonic() + self.every
+
+    def is_due(self) -> bool:
+        return time.monotonic() >= self.next
+
+    def show(self, status: Status) -> None:
+        """Writes the status to standard error. If that fails, nothing is said."""
+        self.next = time.monotonic() + self.every
+        if self.is_on_a_terminal:
+            # A line that is wider than the terminal couldn't be wiped.
+            text = (
+                status.text() if len(status.text()) < self.terminal.width() else status.short_text()
+            )
+            self.terminal.show_progress(text[: self.terminal.width() - 1])
+        else:
+            self.terminal.complain(status.text())
+
+    def seconds_left(self) -> float:
+        return max(0.0, self.next - time.monotonic())

@@ -1,0 +1,170 @@
+"""The places in which a module can be changed, and the changes that no test can notice.
+
+A change that is equal to the original stands as a comment above its line:
+
+    # mutant: equal because no period is above the standard horizon
+    # 2 mutants: equal because both forms have the same three digits
+"""
+
+from __future__ import annotations
+
+import ast
+import re
+from collections import Counter
+from collections.abc import Iterator
+from dataclasses import dataclass
+
+OPPOSITE = {
+    ast.Lt: ast.LtE,
+    ast.LtE: ast.Lt,
+    ast.Gt: ast.GtE,
+    ast.GtE: ast.Gt,
+    ast.Eq: ast.NotEq,
+    ast.NotEq: ast.Eq,
+    ast.In: ast.NotIn,
+    ast.NotIn: ast.In,
+    ast.Is: ast.IsNot,
+    ast.IsNot: ast.Is,
+    ast.And: ast.Or,
+    ast.Or: ast.And,
+    ast.Add: ast.Sub,
+    ast.Sub: ast.Add,
+}
+ALLOWANCE = re.compile(r"# (?:(?P<number>[0-9]+) )?mutants?: equal because ")
+
+
+@dataclass
+class Place:
+    """Where a file is changed: the field of a node, or an entry of it, and what comes there."""
+
+    file: str
+    line: int
+    # The class and the function in which it is.
+    within: str
+    words: str
+    node: ast.AST
+    field: str
+    entry: int | None
+    new: object
+
+    def __str__(self) -> str:
+        return f"{self.file}:{self.line}: {self.within}{self.words}"
+
+    def key(self) -> str:
+        return f"{self.file}: {self.within}{self.words}"
+
+    def changed(self, tree: ast.Module) -> str:
+        """Returns the file with the change. The tree is as before after it."""
+        kept = self.change()
+        text = ast.unparse(ast.fix_missing_locations(tree))
+        setattr(self.node, self.field, kept)
+        return text
+
+    def change(self) -> object:
+        """Makes the change in the tree, and returns what was there."""
+        kept = getattr(self.node, self.field)
+        new = self.new
+        if self.entry is not None:
+            new = [*kept[: self.entry], self.new, *kept[self.entry + 1 :]]
+        setattr(self.node, self.field, new)
+        return kept
+
+
+def find_places(file: str, tree: ast.Module) -> Iterator[Place]:
+    """Yields each place of a module, in the order of its lines."""
+    truths = find_truths(tree)
+    shown_in = {
+        id(node): whole
+        for statement in ast.walk(tree)
+        if isinstance(statement, ast.stmt)
+        for whole in list_shown_parts(statement)
+        for node in ast.walk(whole)
+    }
+    within = {id(node): name for name, outer in name_nodes(tree, "") for node in ast.walk(outer)}
+    signalled = find_signals(tree)
+    nodes = [node for node in ast.walk(tree) if hasattr(node, "lineno")]
+    nodes = [node for node in nodes if id(node) not in signalled]
+    for node in sorted(nodes, key=lambda node: (node.lineno, node.col_offset)):
+        for field, entry, new in list_changes(node, id(node) in truths):
+            place = Place(file, node.lineno, within.get(id(node), ""), "", node, field, entry, new)
+            shown = shown_in.get(id(node), node)
+            before = ast.unparse(shown)
+            kept = place.change()
+            place.words = f"{before} => {ast.unparse(shown)}"
+            setattr(node, field, kept)
+            yield place
+
+
+def find_truths(tree: ast.Module) -> set[int]:
+    """Returns the nodes of the functions that return a truth value."""
+    return {
+        id(node)
+        for function in ast.walk(tree)
+        if isinstance(function, ast.FunctionDef)
+        and ast.unparse(function.returns or function) == "bool"
+        for node in ast.walk(function)
+    }
+
+
+def find_signals(tree: ast.Module) -> set[int]:
+    """Returns the nodes in calls that send signals. With another number a signal would go to
+    processes of others: `killpg(1, ..)` ends all that there are."""
+    return {
+        id(node)
+        for call in ast.walk(tree)
+        if isinstance(call, ast.Call) and ast.unparse(call.func) in ("os.kill", "os.killpg")
+        for node in ast.walk(call)
+    }
+
+
+def list_changes(node: ast.AST, is_truth: bool) -> Iterator[tuple[str, int | None, object]]:
+    """Yields what may be changed in a node: a field, an entry of it, and what comes there."""
+    match node:
+        case ast.Compare():
+            for entry, op in enumerate(node.ops):
+                yield "ops", entry, OPPOSITE[type(op)]()
+        case ast.Constant() if type(node.value) in (int, float):
+            yield "value", None, node.value + 1
+        case ast.BoolOp():
+            yield "op", None, OPPOSITE[type(node.op)]()
+        case ast.BinOp() | ast.AugAssign() if type(node.op) in OPPOSITE:
+            yield "op", None, OPPOSITE[type(node.op)]()
+        case ast.Slice():
+            for side in ("lower", "upper"):
+                if getattr(node, side) is not None:
+                    yield side, None, None
+        case ast.Return() if node.value is not None and ast.unparse(node.value) != "None":
+            new = ast.UnaryOp(ast.Not(), node.value) if is_truth else ast.Constant(None)
+            yield "value", None, new
+
+
+def name_nodes(outer: ast.AST, before: str) -> Iterator[tuple[str, ast.AST]]:
+    """Yields the classes and functions in a node with their names, each before those within it."""
+    for node in ast.iter_child_nodes(outer):
+        name = before
+        if isinstance(node, (ast.ClassDef, ast.FunctionDef)):
+            name = f"{before}{node.name}: "
+            yield name, node
+        yield from name_nodes(node, name)
+
+
+def list_shown_parts(statement: ast.stmt) -> list[ast.AST]:
+    """Returns what is shown of a statement that is changed: all of it, or the parts before its
+    body."""
+    if not hasattr(statement, "body"):
+        return [statement]
+    parts = [getattr(statement, name, []) for name in ("test", "iter", "items", "subject", "args")]
+    return [one for part in parts for one in (part if isinstance(part, list) else [part])]
+
+
+def find_allowances(text: str) -> Counter[int]:
+    """Returns how many changes of a line may go unnoticed, by the comment above the line."""
+    allowances: Counter[int] = Counter()
+    number = 0
+    for line, words in enumerate(text.splitlines(), 1):
+        if found := ALLOWANCE.search(words):
+            number = int(found["number"] or 1)
+        elif not words.lstrip().startswith("#"):
+            allowances[line] = number
+            number = 0
+    return +allowances

@@ -1,0 +1,175 @@
+"""Runs tests over changed copies of `haul`, each in processes of its own."""
+
+from __future__ import annotations
+
+import ctypes
+import os
+import py_compile
+import re
+import resource
+import shutil
+import signal
+import subprocess
+import sys
+import tempfile
+import unittest
+from collections.abc import Iterator
+from functools import partial
+from importlib import import_module
+from importlib.util import cache_from_source
+from multiprocessing import get_context
+from pathlib import Path
+from typing import NamedTuple
+
+from haul.tests.forked import go_on
+
+TOP = Path(__file__).resolve().parents[3]
+PROGRAM = TOP / "crates" / "census" / "out" / "census"
+# What `unittest` writes about a test that fails.
+FAILED = re.compile(r"^(?:FAIL|ERROR): \w+ \(([\w.]+)\)", re.MULTILINE)
+# A changed program may go on for ever, or ask for all memory.
+MOST_SECONDS, MOST_BYTES = 15, 2**30
+# Of the system's call `prctl`: a process whose parent has ended gets this one as its parent.
+PR_SET_CHILD_SUBREAPER = 36
+
+
+class Trial(NamedTuple):
+    """A changed file, by its path below haul/, and the tests that may notice the change, each with
+    the seconds that it takes."""
+
+    file: str
+    text: str
+    tests: dict[str, float]
+
+
+def make_copy(copy: Path) -> None:
+    """Copies what tests need of a checkout. The launcher of the copy builds nothing."""
+    for folder in ("haul", "release"):
+        shutil.copytree(TOP / folder, copy / folder, ignore=shutil.ignore_patterns("__pycache__"))
+    for folder in ("bin", "crates/census/out"):
+        (copy / folder).mkdir(parents=True)
+    shutil.copy(TOP / "bin" / "haul", copy / "bin" / "haul")
+    (copy / "bin" / "built.bash").touch()
+    (copy / "bin" / "census").write_text(f'#!/bin/sh\nexec "{PROGRAM}" "$@"\n')
+    (copy / "bin" / "census").chmod(0o755)
+    (copy / "crates" / "census" / "out" / "census").symlink_to(PROGRAM)
+    for folder in ("docs", "examples"):
+        (copy / folder).symlink_to(TOP / folder)
+
+
+def compile_copy(copy: Path) -> None:
+    """Makes a copy in which all modules are compiled, so that no test has to do it. Python doesn't
+    check whether a file has changed since."""
+    make_copy(copy)
+    mode = py_compile.PycInvalidationMode.UNCHECKED_HASH
+    for file in copy.glob("haul/**/*.py"):
+        py_compile.compile(str(file), doraise=True, invalidation_mode=mode)
+
+
+def try_all(trials: list[Trial], workers: int) -> Iterator[str | None]:
+    """Yields the test that notices each change, or `None` if no test does."""
+    with tempfile.TemporaryDirectory() as compiled:
+        compile_copy(Path(compiled))
+        # A process in which threads run can't be forked as these are.
+        with get_context("fork").Pool(workers, load_libraries, [compiled]) as pool:
+            yield from pool.imap(partial(find_noticing_test, compiled), trials)
+
+
+def find_noticing_test(compiled: str, trial: Trial) -> str | None:
+    """Returns the first test that fails over the changed file, `time` or `start` if the tests take
+    too long or can't start, or `None` if all tests pass."""
+    if not trial.tests:
+        return None
+    with tempfile.TemporaryDirectory(ignore_cleanup_errors=True) as folder:
+        # Links take less time than copies. The changed file replaces its link.
+        shutil.copytree(compiled, folder, symlinks=True, copy_function=os.link, dirs_exist_ok=True)
+        changed = Path(folder) / "haul" / trial.file
+        changed.unlink()
+        changed.write_text(trial.text)
+        Path(cache_from_source(str(changed))).unlink()
+        with open(Path(folder) / "said", "w+b") as said:
+            status = run_tests(Path(folder), trial.tests, said.fileno())
+            said.seek(0)
+            failed = FAILED.search(said.read().decode("utf-8", "replace"))
+    if status is None:
+        return "time"
+    if status == 0:
+        return None
+    return failed[1] if failed and failed[1] in trial.tests else "start"
+
+
+def run_tests(copy: Path, tests: dict[str, float], errors: int) -> int | None:
+    """Returns the status of tests of a copy, or `None` if they take too long."""
+    program = subprocess.Popen(
+        ["unittest", *tests],
+        cwd=copy,
+        stdin=subprocess.DEVNULL,
+        stdout=subprocess.DEVNULL,
+        stderr=errors,
+        start_new_session=True,
+        preexec_fn=lambda: go_on(partial(run_tests_here, copy, list(tests))),
+    )
+    # A signal ends the tests, too. At any other time it ends this process at once, even if the
+    # process waits for a lock.
+    signal.signal(signal.SIGTERM, end)
+    try:
+        return program.wait(MOST_SECONDS + sum(tests.values()))
+    except subprocess.TimeoutExpired:
+        return None
+    finally:
+        program.kill()
+        program.wait()
+        end_orphans()
+        signal.signal(signal.SIGTERM, signal.SIG_DFL)
+
+
+def run_tests_here(copy: Path, names: list[str]) -> int:
+    """Runs tests of a copy up to the first that fails, as `python3 -m unittest --failfast` does."""
+    resource.setrlimit(resource.RLIMIT_AS, (MOST_BYTES, MOST_BYTES))
+    signal.signal(signal.SIGTERM, signal.SIG_DFL)
+    forget_modules()
+    os.environ.update({"PYTHONDONTWRITEBYTECODE": "1", "PYTHONPATH": str(copy)})
+    sys.path.insert(0, str(copy))
+    try:
+        unittest.main(None, argv=["unittest", "--failfast", *names])
+    except SystemExit as ended:
+        return 1 if ended.code else 0
+    return 1
+
+
+def end_orphans() -> None:
+    """Kills what a changed program has left running, in whatever session. It is a child of this
+    process then."""
+    while left := list_children():
+        for number in left:
+            os.kill(number, signal.SIGKILL)
+            os.waitpid(number, 0)
+
+
+def list_children() -> list[int]:
+    paths = Path("/proc/self/task").glob("*/children")
+    return [int(number) for path in paths for number in path.read_text().split()]
+
+
+def load_libraries(compiled: str) -> None:
+    """Imports once, for all tests that are forked from here, what `haul` and its tests import of
+    Python's library. That takes longer than most tests."""
+    signal.signal(signal.SIGTERM, signal.SIG_DFL)
+    ctypes.CDLL(None).prctl(PR_SET_CHILD_SUBREAPER, 1)
+    sys.path.insert(0, compiled)
+    for name in ("haul.cli.process", "haul.tests.pages", "unittest.mock"):
+        import_module(name)
+    sys.path.remove(compiled)
+    forget_modules()
+
+
+def forget_modules() -> None:
+    """Forgets the modules of this checkout, so that the next import takes those of a copy."""
+    for name in list(sys.modules):
+        if name.partition(".")[0] in ("haul", "release"):
+            del sys.modules[name]
+
+
+def end(_number: int, _frame: object) -> None:
+    """Ends this process in order, with those that it has started."""
+    sys.exit(1)

@@ -1,0 +1,1 @@
+"""What the commands print about hauls and report lines: text, CSV and JSON."""

@@ -1,0 +1,262 @@
+"""Sets hauls side by side: each code, with how often each haul has it, and how far each count may
+lie from what it is expected to be."""
+
+from __future__ import annotations
+
+from collections.abc import Iterable, Iterator
+from dataclasses import dataclass
+from itertools import chain
+
+from haul.formats.haul import Haul
+from haul.hauls.by_parts import Objects
+from haul.life.parts import Separation
+from haul.names.labels import find_label, mark_label
+from haul.views.haul_facts import (
+    describe_lettered_job,
+    describe_soups,
+    list_haul_facts,
+    list_part_facts,
+)
+from haul.views.intervals import find_interval
+from haul.views.layout import (
+    align_columns,
+    format_csv,
+    format_figure,
+    format_json,
+    format_truth,
+    make_exact,
+)
+from haul.views.rates import MILLION, compute_rate
+
+# The hauls are called by these letters, so no more of them stand side by side.
+LETTERS = "ABCDEFGHIJKLMNOP"
+MOST_HAULS = len(LETTERS)
+UNITS = {"million": MILLION, "soup": 1}
+# The columns of code and name. In those after them a number stands.
+TEXTS = {0, 1}
+# The columns about a haul in each row of comma-separated values: what the text says before its
+# table.
+FACTS = ("seed", "rule", "profile", "soups", "unsettled", "for_good", "objects")
+EXPLAINED = (
+    "intervals: 95 %, as if objects came singly; *: doesn't meet that of A, which is no test at 5 %"
+)
+
+
+def letter_hauls(hauls: list[Haul]) -> Iterator[tuple[str, Haul]]:
+    """Yields the hauls, A for the first, B for the second, and so on."""
+    return zip(LETTERS[: len(hauls)], hauls, strict=True)
+
+
+def rank_codes(hauls: list[Haul], least: int, rare: bool = False) -> list[str]:
+    """Returns the codes by descending rate, without those of which each haul has less than so many
+    objects. With `rare` the rarest come first, and those that all hauls have are left out."""
+    codes = [
+        code
+        for code in set().union(*(haul.totals for haul in hauls))
+        # mutant: equal because each code has an object in at least one haul
+        if any(haul.totals.get(code, 0) >= least for haul in hauls)
+    ]
+    rates = {
+        code: max(compute_rate(haul.totals.get(code, 0), haul.soups) for haul in hauls)
+        for code in codes
+    }
+    codes.sort(key=lambda code: (-rates[code], code))
+    return (
+        [code for code in reversed(codes) if not all(code in haul.totals for haul in hauls)]
+        if rare
+        else codes
+    )
+
+
+@dataclass
+class Cell:
+    """What one haul has of a code."""
+
+    total: int
+    # Objects in a million soups, or in one.
+    rate: float
+    # The ends of the interval of the rate; none without a soup.
+    ends: tuple[float, float] | None
+    # How many times as many as in the first haul; none if that has none.
+    ratio: float | None = None
+    # Whether the interval doesn't meet that of the first haul.
+    differs: bool = False
+
+
+@dataclass
+class Comparison:
+    """Hauls side by side, by these codes."""
+
+    # With totals by parts these aren't the hauls whose objects are separated.
+    hauls: list[Haul]
+    objects: list[Objects]
+    codes: list[str]
+    by_parts: bool = False
+    # Rates are those in a `million` soups or in a `soup`.
+    per: str = "million"
+    # Whether intervals stand in the text. They always do in comma-separated values and JSON.
+    has_intervals: bool = True
+
+    def letters(self) -> list[str]:
+        return [letter.lower() for letter, _ in letter_hauls(self.hauls)]
+
+    def cells(self, code: str) -> list[Cell]:
+        cells = [self.cell(code, haul) for haul in self.hauls]
+        first, of_first = cells[0], self.hauls[0]
+        for cell, haul in zip(cells[1:], self.hauls[1:], strict=True):
+            if first.rate:
+                cell.ratio = (
+                    cell.total * of_first.soups / (haul.soups * first.total) if haul.soups else 0.0
+                )
+            cell.differs = not overlap(first.ends, cell.ends)
+        return cells
+
+    def cell(self, code: str, haul: Haul) -> Cell:
+        total, unit = haul.totals.get(code, 0), UNITS[self.per]
+        ends = None
+        if haul.soups:
+            low, high = find_interval(total)
+            ends = low * unit / haul.soups, high * unit / haul.soups
+        return Cell(total, compute_rate(total, haul.soups, unit), ends)
+
+    def text(self, width: int | None) -> Iterator[str]:
+        """Yields the lines for a reader. On a terminal of this width long codes are cut."""
+        for letter, haul in letter_hauls(self.hauls):
+            yield describe_lettered_job(letter, haul)
+            yield describe_soups(letter, haul, self.by_parts)
+        yield from align_columns([self.heads(), *map(self.row, self.codes)], TEXTS, 0, width)
+        yield self.alone_line()
+        if self.has_intervals:
+            yield EXPLAINED
+
+    def heads(self) -> list[str]:
+        letters = self.letters()
+        heads = [
+            [f"total_{letter}", f"per_{self.per}_{letter}", f"interval_{letter}"]
+            for letter in letters
+        ]
+        return [
+            "code",
+            "name",
+            *self.arranged(heads),
+            *(f"{letter}_to_a" for letter in letters[1:]),
+        ]
+
+    def row(self, code: str) -> list[str]:
+        cells = self.cells(code)
+        shown = [
+            [str(cell.total), format_figure(cell.rate), format_interval(cell)] for cell in cells
+        ]
+        ratios = [f"{cell.ratio:.2f}" if cell.ratio is not None else "-" for cell in cells[1:]]
+        label = self.label(code) or mark_label("", self.separate(code)) or "-"
+        return [code, label.replace(" ", "_"), *self.arranged(shown), *ratios]
+
+    def label(self, code: str) -> str:
+        return find_label(code, self.separate(code))
+
+    def separate(self, code: str) -> Separation:
+        """Returns what an object is made of under the rule of the first haul that has it."""
+        objects = next(
+            objects
+            for objects, haul in zip(self.objects, self.hauls, strict=True)
+            if code in haul.totals
+        )
+        return objects.separate(code)
+
+    def arranged(self, shown: list[list[str]]) -> Iterable[str]:
+        """Arranges what each haul has in columns: haul by haul, or without intervals the totals and
+        then the rates."""
+        return chain(*shown) if self.has_intervals else chain(*list(zip(*shown, strict=True))[:-1])
+
+    def alone(self, haul: Haul) -> list[str]:
+        """Returns the codes that this haul has, and no other."""
+        others = [other for other in self.hauls if other is not haul]
+        return [
+            code
+            for code in self.codes
+            if code in haul.totals and not any(code in other.totals for other in others)
+        ]
+
+    def alone_line(self) -> str:
+        return "; ".join(
+            f"in {letter} alone: {' '.join(self.alone(haul)) or 'none'}"
+            for letter, haul in letter_hauls(self.hauls)
+        )
+
+    def csv(self) -> Iterator[str]:
+        """Yields the lines of a table for a spreadsheet, with all that the text has. A missing
+        value is empty."""
+        heads = ["code", "name", "alone"]
+        for letter in self.letters():
+            heads += [
+                f"{name}_{letter}"
+                for name in (
+                    *FACTS,
+                    "total",
+                    f"per_{self.per}",
+                    "low",
+                    "high",
+                    "ratio",
+                    "differs",
+                    "parts",
+                )
+            ]
+        return format_csv([[*heads, "by_parts"], *map(self.csv_row, self.codes)])
+
+    def csv_row(self, code: str) -> list[str]:
+        having = [letter for letter, haul in letter_hauls(self.hauls) if code in haul.totals]
+        row = [code, self.label(code), having[0] if len(having) == 1 else ""]
+        for haul, objects, cell in zip(self.hauls, self.objects, self.cells(code), strict=True):
+            low, high = map(str, cell.ends) if cell.ends else ("", "")
+            ratio = "" if cell.ratio is None else str(cell.ratio)
+            facts = [haul.job.seed, haul.job.rule, haul.job.profile.format()]
+            facts += map(str, [haul.soups, haul.unsettled, haul.for_good, haul.objects()])
+            row += [
+                *facts,
+                str(cell.total),
+                str(cell.rate),
+                low,
+                high,
+                ratio,
+                "*" if cell.differs else "",
+            ]
+            row.append(" ".join(objects.separate(code).parts) if code in haul.totals else "")
+        return [*row, format_truth(self.by_parts)]
+
+    def json(self) -> Iterator[str]:
+        """Yields the lines of a JSON object, in which each code has one."""
+        hauls: list[dict[str, object]] = [
+            {
+                "haul": letter,
+                **list_haul_facts(haul),
+                "alone": self.alone(haul),
+                **list_part_facts(objects),
+            }
+            for (letter, haul), objects in zip(letter_hauls(self.hauls), self.objects, strict=True)
+        ]
+        return format_json(
+            {"per": self.per, "by_parts": self.by_parts, "hauls": hauls},
+            map(self.json_object, self.codes),
+        )
+
+    def json_object(self, code: str) -> dict[str, object]:
+        cells = self.cells(code)
+        return {
+            "code": code,
+            "name": self.label(code) or None,
+            "totals": [make_exact(cell.total) for cell in cells],
+            "rates": [cell.rate for cell in cells],
+            "intervals": [list(cell.ends) if cell.ends else None for cell in cells],
+            "ratios": [cell.ratio for cell in cells],
+            "differs": [cell.differs for cell in cells],
+        }
+
+
+def format_interval(cell: Cell) -> str:
+    ends = f"{format_figure(cell.ends[0])}..{format_figure(cell.ends[1])}" if cell.ends else "-"
+    return ends + ("*" if cell.differs else "")
+
+
+def overlap(one: tuple[float, float] | None, other: tuple[float, float] | None) -> bool:
+    """Returns whether two intervals have a number in common. A missing one meets any."""
+    return one is None or other is None or (one[0] <= other[1] and other[0] <= one[1])

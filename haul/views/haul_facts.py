@@ -1,0 +1,48 @@
+"""What a haul says before its table."""
+
+from __future__ import annotations
+
+from haul.formats.haul import Haul, Job
+from haul.hauls.by_parts import Objects
+from haul.plurals import pluralize
+from haul.views.layout import make_exact
+
+
+def describe_job(job: Job) -> str:
+    return f"seed={job.seed} rule={job.rule} profile={job.profile.format()}"
+
+
+def describe_lettered_job(letter: str, haul: Haul) -> str:
+    return f"{letter}: {describe_job(haul.job)}"
+
+
+def describe_soups(letter: str, haul: Haul, by_parts: bool = False) -> str:
+    soups, objects = pluralize(haul.soups, "soup"), pluralize(haul.objects(), "object")
+    line = f"{letter}: {haul.soups} {soups}, {haul.unsettled} unsettled"
+    line += f", {haul.for_good} for good, {haul.objects()} {objects}"
+    return f"{line} by parts" if by_parts else line
+
+
+def list_haul_facts(haul: Haul) -> dict[str, object]:
+    """Returns the facts for JSON."""
+    return {
+        "seed": haul.job.seed,
+        "rule": haul.job.rule,
+        "profile": list(haul.job.profile),
+        "ranges": [list(range_) for range_ in haul.ranges],
+        "soups": haul.soups,
+        "unsettled": haul.unsettled,
+        "for_good": haul.for_good,
+        "total": make_exact(haul.objects()),
+    }
+
+
+def list_part_facts(objects: Objects) -> dict[str, object]:
+    """Returns the parts of each object of a haul, and which objects aren't separated, for JSON."""
+    separations = objects.separate_all(objects.haul.totals)
+    return {
+        "parts": {code: list(separation.parts) for code, separation in separations.items()},
+        "not_separated": [
+            code for code, separation in separations.items() if not separation.is_separated
+        ],
+    }

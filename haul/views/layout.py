@@ -1,0 +1,74 @@
+"""Tables as text, as comma-separated values, and as JSON."""
+
+from __future__ import annotations
+
+import csv
+import io
+import json
+from collections.abc import Iterable, Iterator
+
+GAP = "  "
+# A code is cut to no fewer characters than these.
+LEAST_OF_A_CODE = 8
+# Larger numbers lose digits where numbers are doubles, as they are in JavaScript.
+EXACT = 2**53
+
+
+def align_columns(
+    rows: list[list[str]], texts: set[int], code: int, width: int | None
+) -> Iterator[str]:
+    """Yields lines whose columns line up: texts to the left, numbers to the right. If there is a
+    width, the codes in column `code` are cut so that no line is wider."""
+    widths = [max(len(row[column]) for row in rows) for column in range(len(rows[0]))]
+    over = sum(widths) + len(GAP) * (len(widths) - 1) - width if width is not None else 0
+    # mutant: equal because a column that is cut to its width is whole
+    if over > 0:
+        widths[code] = min(widths[code], max(LEAST_OF_A_CODE, widths[code] - over))
+    for row in rows:
+        cells: list[str] = []
+        for column, (cell, most) in enumerate(zip(row, widths, strict=True)):
+            shown = cut_text(cell, most) if column == code else cell
+            cells.append(shown.ljust(most) if column in texts else shown.rjust(most))
+        yield GAP.join(cells).rstrip()
+
+
+def cut_text(text: str, most: int) -> str:
+    return text if len(text) <= most else text[: most - 1] + "…"
+
+
+def format_figure(number: float) -> str:
+    """Returns a number with two digits after the point, or with three significant digits if it
+    is below 1."""
+    return f"{number:.2f}" if number >= 1 or number == 0 else f"{number:.3g}"
+
+
+def format_truth(holds: bool) -> str:
+    return "yes" if holds else "no"
+
+
+def make_exact(number: int) -> int | str:
+    """Returns a whole number for JSON, as text if a double would lose digits."""
+    return number if number <= EXACT else str(number)
+
+
+def format_csv(rows: Iterable[list[str]]) -> Iterator[str]:
+    """Yields the lines of these rows, without their line feeds."""
+    for row in rows:
+        text = io.StringIO()
+        csv.writer(text, lineterminator="").writerow(row)
+        yield text.getvalue()
+
+
+def format_json(
+    facts: dict[str, object], objects: Iterable[dict[str, object]], name: str = "objects"
+) -> Iterator[str]:
+    """Yields the lines of a JSON object, in which the objects are a list of this name, each on a
+    line of its own."""
+    yield f'{json.dumps(facts)[:-1]}, "{name}": ['
+    before: str | None = None
+    for one in objects:
+        if before is not None:
+            yield before + ","
+        before = json.dumps(one)
+    yield from [] if before is None else [before]
+    yield "]}"

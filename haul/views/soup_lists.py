@@ -1,0 +1,131 @@
+"""The lists of `haul soups`. Each keeps what it needs of the reports, and makes a table of that."""
+
+from __future__ import annotations
+
+from dataclasses import dataclass, field
+
+from haul.census.client import Census
+from haul.census.soup_runs import find_exact_generations, measure_growths
+from haul.formats.haul import Job
+from haul.formats.report_lines import Report
+from haul.names.objects import NAMES
+from haul.plurals import pluralize
+from haul.views.layout import make_exact
+from haul.views.settling import Settling
+from haul.views.soup_table import SoupTable, describe_settling
+
+
+class SoupList:
+    """Lists no single soup: its table counts all soups together. This is the base of the other
+    lists."""
+
+    def add(self, report: Report) -> None:
+        """Keeps what the list needs of a report."""
+
+    def table(self, _job: Job | None, settling: Settling) -> SoupTable:
+        """Returns the table of the reports that were added, which are of this job. Without a report
+        there is no job."""
+        return SoupTable(
+            "bars",
+            ["from", "to", "settled"],
+            [list(bar) for bar in settling.bars()],
+            describe_settling(settling),
+            has_bars=True,
+        )
+
+
+@dataclass
+class Longest(SoupList):
+    """The soups that settled last."""
+
+    most: int
+    # The program that is asked for exact generations; none if checkpoints will do.
+    census: Census | None
+    # Numbers of soups and of their objects, by the checkpoint. All soups of a checkpoint are kept,
+    # so that exact generations can decide between them.
+    kept: dict[int, list[tuple[int, int]]] = field(default_factory=dict)
+    count: int = 0
+
+    def add(self, report: Report) -> None:
+        if report.settled is None:
+            return
+        self.kept.setdefault(report.settled, []).append((report.soup, report.objects()))
+        self.count += 1
+        first = min(self.kept)
+        if self.count - len(self.kept[first]) >= self.most:
+            self.count -= len(self.kept.pop(first))
+
+    def table(self, job: Job | None, _settling: Settling) -> SoupTable:
+        """Returns the table by descending generation. If generations are equal, the lower number
+        comes first."""
+        rows: list[list[int | None]] = [
+            [soup, checkpoint, objects]
+            for checkpoint, soups in self.kept.items()
+            for soup, objects in soups
+        ]
+        heads = ["soup", "checkpoint", "objects"]
+        if self.census and job:
+            heads = ["soup", "generation", "checkpoint", "objects"]
+            generations = find_exact_generations(
+                self.census, job, [soup for soups in self.kept.values() for soup, _ in soups]
+            )
+            rows = [
+                [soup, generation, *rest]
+                for (soup, *rest), generation in zip(rows, generations, strict=True)
+            ]
+        rows.sort(key=lambda row: (-(row[1] or 0), row[0]))
+        return SoupTable("longest", heads, rows[: self.most])
+
+
+@dataclass
+class Unsettled(SoupList):
+    """The unsettled soups, each with its population at the last checkpoint and its growth before
+    that."""
+
+    census: Census
+    soups: list[int] = field(default_factory=list)
+
+    def add(self, report: Report) -> None:
+        if report.settled is None:
+            self.soups.append(report.soup)
+
+    def table(self, job: Job | None, _settling: Settling) -> SoupTable:
+        rows: list[list[int | None]] = []
+        if job:
+            soups = sorted(self.soups)
+            rows = [
+                [soup, *growth]
+                for soup, growth in zip(
+                    soups, measure_growths(self.census, job, soups), strict=True
+                )
+            ]
+        return SoupTable("growth", ["soup", "generation", "population", "growth"], rows)
+
+
+@dataclass
+class Leaving(SoupList):
+    """The soups that left objects of a code, and how many each left."""
+
+    code: str
+    objects: dict[int, int] = field(default_factory=dict)
+
+    def add(self, report: Report) -> None:
+        if self.code in report.counts:
+            self.objects[report.soup] = report.counts[self.code]
+
+    def table(self, _job: Job | None, _settling: Settling) -> SoupTable:
+        total, soups = sum(self.objects.values()), len(self.objects)
+        called = f"{self.code} ({NAMES[self.code]})" if self.code in NAMES else self.code
+        title = (
+            f"{called}: {total} {pluralize(total, 'object')} in {soups} {pluralize(soups, 'soup')}"
+        )
+        rows: list[list[int | None]] = [
+            [soup, number] for soup, number in sorted(self.objects.items())
+        ]
+        return SoupTable(
+            "leaving",
+            ["soup", "objects"],
+            rows,
+            title,
+            {"code": self.code, "objects": make_exact(total)},
+        )

@@ -1,0 +1,122 @@
+"""What `haul soups` prints: facts on all soups together, and a table."""
+
+from __future__ import annotations
+
+from collections.abc import Iterator
+from dataclasses import dataclass, field
+
+from haul.formats.haul import Job
+from haul.plurals import pluralize
+from haul.views.haul_facts import describe_job
+from haul.views.layout import align_columns, format_csv, format_figure, format_json, make_exact
+from haul.views.settling import Settling
+
+# What comma-separated values have after the columns of each table.
+FACTS = [
+    "seed",
+    "rule",
+    "profile",
+    "soups",
+    "unsettled",
+    "for_good",
+    "unmarked",
+    "first_quartile",
+    "median",
+    "third_quartile",
+    "mean",
+]
+# The longest bar, in characters.
+LONGEST_BAR = 50
+
+
+@dataclass
+class SoupTable:
+    """A table of whole numbers."""
+
+    # What the list of its rows is called in JSON.
+    name: str
+    heads: list[str]
+    # A number that isn't known is none.
+    rows: list[list[int | None]]
+    # A line before the table; none if it is empty.
+    title: str = ""
+    # What JSON has besides.
+    facts: dict[str, object] = field(default_factory=dict)
+    # Whether a reader sees a bar for the last number of each row.
+    has_bars: bool = False
+
+    def text(self, job: Job | None, settling: Settling) -> Iterator[str]:
+        """Yields the lines for a reader."""
+        yield from [describe_job(job)] if job else []
+        yield describe_soups(settling)
+        yield from [self.title] if self.title else []
+        rows = [["-" if cell is None else str(cell) for cell in row] for row in self.rows]
+        bars = [[bar] for bar in self.bars()] if self.has_bars else [[]] * len(rows)
+        shown = [row + bar for row, bar in zip(rows, bars, strict=True)]
+        heads = self.heads + [""] * self.has_bars
+        # mutant: equal because without a width no column is cut
+        yield from align_columns([heads, *shown], {len(self.heads)}, 0, None)
+
+    def bars(self) -> list[str]:
+        """Returns a bar for each row. The longest has `LONGEST_BAR` characters, and only that of 0
+        is empty."""
+        numbers = [row[-1] or 0 for row in self.rows]
+        most = max(numbers)
+        return ["#" * -(-number * LONGEST_BAR // most) if number else "" for number in numbers]
+
+    def csv(self, job: Job | None, settling: Settling) -> Iterator[str]:
+        facts = list_csv_facts(job, settling)
+        rows = (["" if cell is None else str(cell) for cell in row] + facts for row in self.rows)
+        yield from format_csv([self.heads + FACTS])
+        yield from format_csv(rows)
+
+    def json(self, job: Job | None, settling: Settling) -> Iterator[str]:
+        rows = ([None if cell is None else make_exact(cell) for cell in row] for row in self.rows)
+        return format_json(
+            list_json_facts(job, settling) | self.facts,
+            (dict(zip(self.heads, row, strict=True)) for row in rows),
+            self.name,
+        )
+
+
+def describe_soups(settling: Settling) -> str:
+    soups = settling.soups()
+    line = f"{soups} {pluralize(soups, 'soup')}, {settling.unsettled} unsettled"
+    line += f", {settling.for_good} for good"
+    return f"{line}, {settling.unmarked} unmarked" if settling.unmarked else line
+
+
+def describe_settling(settling: Settling) -> str:
+    quartiles, mean = settling.quartiles(), settling.mean()
+    # mutant: equal because either both are known or neither is
+    if quartiles is None or mean is None:
+        return "no soup has settled"
+    first, median, third = quartiles
+    quarters = f"first quartile {first}, median {median}, third quartile {third}"
+    return f"settled at: {quarters}, mean {format_figure(mean)}"
+
+
+def list_csv_facts(job: Job | None, settling: Settling) -> list[str]:
+    of_job = [job.seed, job.rule, job.profile.format()] if job else [""] * 3
+    numbers = [settling.soups(), settling.unsettled, settling.for_good, settling.unmarked]
+    quartiles, mean = settling.quartiles(), settling.mean()
+    return [
+        *of_job,
+        *map(str, numbers),
+        *(map(str, quartiles) if quartiles else [""] * 3),
+        "" if mean is None else str(mean),
+    ]
+
+
+def list_json_facts(job: Job | None, settling: Settling) -> dict[str, object]:
+    return {
+        "seed": job.seed if job else None,
+        "rule": job.rule if job else None,
+        "profile": list(job.profile) if job else None,
+        "soups": settling.soups(),
+        "unsettled": settling.unsettled,
+        "for_good": settling.for_good,
+        "unmarked": settling.unmarked,
+        "quartiles": settling.quartiles(),
+        "mean": settling.mean(),
+    }

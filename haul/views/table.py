@@ -1,0 +1,159 @@
+"""The table of one haul, with how often each object comes."""
+
+from __future__ import annotations
+
+from collections.abc import Iterator
+from dataclasses import dataclass
+
+from haul.formats.codes import read_kind
+from haul.formats.haul import Haul
+from haul.hauls.by_parts import Objects
+from haul.life.parts import Separation
+from haul.names.labels import find_label, mark_label
+from haul.views.haul_facts import list_haul_facts, list_part_facts
+from haul.views.layout import (
+    align_columns,
+    format_csv,
+    format_figure,
+    format_json,
+    format_truth,
+    make_exact,
+)
+from haul.views.rates import bound_rarity, compute_rate
+
+HEADS = ["rank", "code", "total", "per_million", "one_in_at_most", "samples", "label"]
+# What comma-separated values have besides.
+MORE_HEADS = ["parts", "strict", "separated", "by_parts"]
+CODE = 1
+# The columns of code, samples and label.
+TEXTS = {1, 5, 6}
+
+
+@dataclass
+class TableRow:
+    """A code in the table."""
+
+    rank: int
+    code: str
+    total: int
+    per_million: float
+    one_in: int
+    samples: list[int]
+    separation: Separation
+
+    def label(self) -> str:
+        return find_label(self.code, self.separation)
+
+    def words(self) -> list[str]:
+        samples = ",".join(map(str, self.samples))
+        label = mark_label(self.label(), self.separation) or "-"
+        return [
+            str(self.rank),
+            self.code,
+            str(self.total),
+            format_figure(self.per_million),
+            str(self.one_in),
+            samples,
+            label,
+        ]
+
+    def csv_row(self, by_parts: bool) -> list[str]:
+        samples = " ".join(map(str, self.samples))
+        row = [
+            str(self.rank),
+            self.code,
+            str(self.total),
+            str(self.per_million),
+            str(self.one_in),
+            samples,
+            self.label(),
+        ]
+        separation = self.separation
+        return [
+            *row,
+            " ".join(separation.parts),
+            format_truth(separation.is_strict()),
+            format_truth(separation.is_separated),
+            format_truth(by_parts),
+        ]
+
+    def json_object(self) -> dict[str, object]:
+        return {
+            "rank": self.rank,
+            "code": self.code,
+            "total": make_exact(self.total),
+            "per_million": self.per_million,
+            "one_in_at_most": self.one_in,
+            "samples": self.samples,
+            "label": self.label() or None,
+            "parts": list(self.separation.parts),
+            "strict": self.separation.is_strict(),
+            "separated": self.separation.is_separated,
+        }
+
+
+@dataclass
+class RowChoice:
+    """Which lines of a table are shown, and in which order."""
+
+    kind: str | None = None
+    period: int | None = None
+    # Objects that are strict, and those that aren't separated.
+    strict: bool = False
+    rare: bool = False
+    top: int | None = None
+
+    def has(self, code: str) -> bool:
+        """Returns whether a code is of the chosen kind and period."""
+        known = read_kind(code)
+        kind, period = (known.letter, known.period()) if known else ("", 0)
+        return self.kind in (None, kind) and self.period in (None, period)
+
+
+def choose_rows(haul: Haul, objects: Objects, choice: RowChoice) -> list[TableRow]:
+    """Returns the chosen lines of a haul's table, each with its rank among all: by descending
+    total, or the rarest first."""
+    codes = sorted(haul.totals, key=lambda code: (-haul.totals[code], code))
+    ranks = [(rank, code) for rank, code in enumerate(codes, 1) if choice.has(code)]
+    if choice.strict:
+        separations = objects.separate_all(code for _, code in ranks)
+        ranks = [
+            (rank, code)
+            for rank, code in ranks
+            if separations[code].is_strict() or not separations[code].is_separated
+        ]
+    shown = (ranks[::-1] if choice.rare else ranks)[: choice.top]
+    separations = objects.separate_all(code for _, code in shown)
+    return [make_row(haul, rank, code, separations[code]) for rank, code in shown]
+
+
+def make_row(haul: Haul, rank: int, code: str, separation: Separation) -> TableRow:
+    total = haul.totals[code]
+    return TableRow(
+        rank,
+        code,
+        total,
+        compute_rate(total, haul.soups),
+        bound_rarity(haul.soups, total),
+        haul.samples[code],
+        separation,
+    )
+
+
+def format_table_text(lines: list[TableRow], width: int | None) -> Iterator[str]:
+    """Yields the lines for a reader. Each column is a word, except for the last one."""
+    return align_columns([HEADS] + [line.words() for line in lines], TEXTS, CODE, width)
+
+
+def format_table_csv(lines: list[TableRow], by_parts: bool) -> Iterator[str]:
+    return format_csv([HEADS + MORE_HEADS] + [line.csv_row(by_parts) for line in lines])
+
+
+def format_table_json(haul: Haul, lines: list[TableRow], by_parts: Objects | None) -> Iterator[str]:
+    """Yields the lines of a JSON object. Where totals are by parts it has the parts of each object,
+    too."""
+    facts = list_haul_facts(haul) | {"by_parts": by_parts is not None}
+    return format_json(
+        facts | list_part_facts(by_parts) if by_parts else facts,
+        (line.json_object() for line in lines),
+    )
