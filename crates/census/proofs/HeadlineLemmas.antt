@@ -36,7 +36,7 @@ use Rattle.arguments.specs.Requests.{Text, asked_by}
 use Rattle.arguments.specs.Table as table
 use Rattle.arguments.specs.Uses.{Use, is_used}
 use Rattle.arguments.proofs.LawLemmas.{ask_for_their_values}
-use Rattle.census.specs.Headline.{IsCall, IsCensusOf, IsFindingOf, IsJobOf, IsRuleOf, NamePrintsItsFinding, PrintsWhatIsAsked, TakePrintsItsCensus}
+use Rattle.census.specs.Headline.{IsCall, IsCensusOfCall, IsFindingOf, IsJobOf, IsRuleOf, NamePrintsItsFinding, PrintsWhatIsAsked, TakePrintsItsCensus}
 use Rattle.census.specs.Program.{IsDone}
 use Rattle.census.specs.Requests.{right_for}
 
@@ -103,7 +103,7 @@ job_of uses job is =
 
 -- a plan's census is that of the call
 census_of : (uses : List Use) (before after : Option (List ℕ)) → (prints : PrintsCensus (plan_given uses) before after)
-    → IsCensusOf uses prints.tells.census
+    → IsCensusOfCall uses prints.tells.census
 census_of uses before after prints = record {
   job = prints.job;
   job_is = job_of uses prints.job prints.job_is;

@@ -53,7 +53,7 @@ pub record AreSoupsOf (uses : List Use) (ranges : List Range) : Type 0 where
   pub all : ranges ≡ listed ++ record { first = number_given first uses; count = number_given count uses } ∷ []
 
 -- the census of a call: of its job, over each of its soups once
-pub record IsCensusOf (uses : List Use) (census : Census) : Type 0 where
+pub record IsCensusOfCall (uses : List Use) (census : Census) : Type 0 where
   pub job : Job
   pub job_is : IsJobOf uses job
   pub ranges : List Range
@@ -67,7 +67,7 @@ pub record IsCensusOf (uses : List Use) (census : Census) : Type 0 where
 -- a call of `take` has printed the haul text of its census
 abbrev pub TakePrintsItsCensus : List Text → (before after : Option (List ℕ)) → Type 0
 TakePrintsItsCensus arguments before after = (uses : List Use) → IsCall take_command uses arguments
-    → (census : Census) × IsCensusOf uses census × Appends before after (haul_text census)
+    → (census : Census) × IsCensusOfCall uses census × Appends before after (haul_text census)
 
 -- the finding of the pattern in an input, under the rule and profile of a call
 pub record IsFindingOf (uses : List Use) (bytes : List ℕ) (finding : Finding) : Type 0 where
