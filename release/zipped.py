@@ -20,7 +20,7 @@ from pathlib import Path
 
 # The package, and the part of it that isn't packed.
 PACKAGE, TESTS = "haul/", "haul/tests/"
-ENDINGS = (".py", ".html", ".css", ".js")
+ENDINGS = (".py", ".html", ".css", ".js", ".tsv")
 # The first date that an archive can have.
 DATE = (1980, 1, 1, 0, 0, 0)
 # The mode of a text, and the number of the systems that have such modes.

@@ -292,7 +292,7 @@ SOUPS = Command(
                 option(
                     "--code",
                     "CODE",
-                    "list the soups that left an object of this code, and how many they left",
+                    "list the soups that left an object of this code or name, and how many they left",
                     read_code,
                 ),
             )

@@ -6,6 +6,7 @@ import argparse
 from collections.abc import Callable
 
 from haul.formats.syntax import CODE, RULE, SEED
+from haul.names.objects import find_code_of_name
 
 
 def read_path(text: str) -> str:
@@ -50,8 +51,14 @@ def read_count(text: str) -> int:
 
 
 def read_code(text: str) -> str:
-    if not CODE.fullmatch(text.encode("utf-8", "surrogateescape")):
-        raise argparse.ArgumentTypeError(f"{text} is no code, as xs4_33 is one")
+    """Reads a code, or the name of an object."""
+    code = find_code_of_name(text)
+    if code is not None:
+        return code
+    if not CODE.fullmatch(text.encode("utf-8", "surrogateescape")) or "_" not in text:
+        raise argparse.ArgumentTypeError(
+            f"{text} is neither a code such as xs4_33 nor a known name"
+        )
     return text
 
 

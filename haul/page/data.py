@@ -15,7 +15,7 @@ from haul.formats.rules import format_rule
 from haul.life.apgcodes import read_wechsler
 from haul.life.soups import make_soup
 from haul.names.labels import find_label
-from haul.names.objects import NAMES
+from haul.names.objects import find_name, find_other_names
 from haul.page.sides import Side, Sides
 from haul.views.intervals import find_interval
 from haul.views.layout import make_exact
@@ -68,8 +68,10 @@ def describe_object(sides: Sides, code: str) -> dict[str, object]:
         "label": find_label(code, separation),
         "made": [describe_parts(side, code) for side in sides.all],
     }
-    if code in NAMES:
+    if find_name(code) is not None:
         known["named"] = 1
+    if find_other_names(code):
+        known["also"] = list(find_other_names(code))
     if any(of_objects):
         known["objects"] = of_objects
     if any(of_parts):

@@ -12,11 +12,6 @@ const noun = (number, one) => `${one}${String(number) === '1' ? '' : 's'}`;
 const KIND_WORDS = { s: 'still life', p: 'oscillator', q: 'spaceship', '': 'object' };
 const NOT_SEPARATED = 'not separated', STRICT = 'strict';
 const kindWords = ({ letter, period }) => letter === 's' || !letter ? KIND_WORDS[letter] : `${KIND_WORDS[letter]} of period ${period}`;
-// What else objects are called, for the search.
-const ALIASES = {
-  xq4_6frc: 'LWSS', xq4_27dee6: 'MWSS', xq4_27deee6: 'HWSS', xp2_s01110szw222: 'TL', xp15_4r4z4r4: 'PD',
-};
-
 // A way of counting: the total and the samples for each haul, and what they say together.
 const counting = values => {
   const totals = hauls.map((_, place) => values?.[place]?.[0] ?? values?.[place] ?? 0).map(total => total || 0);
@@ -26,14 +21,14 @@ const counting = values => {
     samples: hauls.map((_, place) => values?.[place] ? values[place].slice(1) : []),
   };
 };
-const objectOf = ({ code, label, named, made, cells, objects: asObjects, parts: asParts }) => {
+const objectOf = ({ code, label, also = [], named, made, cells, objects: asObjects, parts: asParts }) => {
   const { letter, period } = kindOf(code), ways = { objects: counting(asObjects), parts: counting(asParts) };
   const isLeftOut = way => !ways[way].totals.some(total => BigInt(total) >= BigInt(data.least) && BigInt(total) > 0n);
   return {
     code, label, isNamed: Boolean(named), made, cells, letter, period, ...ways, isLeftOut: { objects: isLeftOut('objects'), parts: isLeftOut('parts') },
     // An object is shown as strict if it is in one of the hauls, or if it couldn't be separated.
     isStrict: made.some(one => one === STRICT || one === NOT_SEPARATED), isUnsure: made.includes(NOT_SEPARATED),
-    text: [code, label, ALIASES[code], kindWords({ letter, period })].join(' ').toLowerCase(),
+    text: [code, label, ...also, kindWords({ letter, period })].join(' ').toLowerCase(),
   };
 };
 const objects = new Map(data.objects.map(one => [one.code, objectOf(one)]));

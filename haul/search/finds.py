@@ -19,7 +19,7 @@ from haul.formats.rules import LIFE
 from haul.life.generations import read_rule
 from haul.life.parts import Separator
 from haul.names.common_parts import COMMON
-from haul.names.objects import NAMES
+from haul.names.objects import find_name
 
 # The separator remembers what it has run. After this many runs it forgets them, since a search goes
 # on for weeks.
@@ -41,7 +41,7 @@ class Find:
         return [
             now,
             self.code,
-            NAMES.get(self.code, "-"),
+            find_name(self.code) or "-",
             str(self.soup),
             format_find_command(job, self.soup),
         ]

@@ -40,8 +40,8 @@ LIFE, OTHER_RULE, OTHER_PROFILE = (
     Job("a", "b36s23", STANDARD),
     Job("a", "b3s23", Profile(4, 8, 10, 30)),
 )
-# The last of them is two blocks. The tripole isn't common under Life, and the others are.
-TRIPOLE, BLINKER, BLOCK, BI_BLOCK = "xp2_31ago", "xp2_7", "xs4_33", "xs8_rr"
+# The last of them is two blocks. The bipole isn't common under Life, and the others are.
+BIPOLE, BLINKER, BLOCK, BI_BLOCK = "xp2_31ago", "xp2_7", "xs4_33", "xs8_rr"
 
 
 def haul_of(job: Job, *codes: str) -> Haul:
@@ -80,14 +80,14 @@ class Common(unittest.TestCase):
 class Finds(unittest.TestCase):
     def test_what_is_common(self) -> None:
         self.assertEqual(
-            found(Finder(LIFE, haul_of(LIFE)), [(BLOCK, 5), (TRIPOLE, 6), (BI_BLOCK, 1)]),
-            [Find(TRIPOLE, 6)],
+            found(Finder(LIFE, haul_of(LIFE)), [(BLOCK, 5), (BIPOLE, 6), (BI_BLOCK, 1)]),
+            [Find(BIPOLE, 6)],
         )
 
     def test_it_is_told_once(self) -> None:
         self.assertEqual(
-            found(Finder(LIFE, haul_of(LIFE)), [(TRIPOLE, 9), (BLOCK, 3)], [], [(TRIPOLE, 10)]),
-            [Find(TRIPOLE, 9)],
+            found(Finder(LIFE, haul_of(LIFE)), [(BIPOLE, 9), (BLOCK, 3)], [], [(BIPOLE, 10)]),
+            [Find(BIPOLE, 9)],
         )
 
     def test_in_the_order_of_soups(self) -> None:
@@ -121,11 +121,11 @@ class Finds(unittest.TestCase):
 
     def test_the_part_that_begins_a_haul(self) -> None:
         """Under another rule or profile it tells nothing, and what it had is known."""
-        for job, finds in ((LIFE, [Find(TRIPOLE, 5)]), (OTHER_RULE, []), (OTHER_PROFILE, [])):
+        for job, finds in ((LIFE, [Find(BIPOLE, 5)]), (OTHER_RULE, []), (OTHER_PROFILE, [])):
             finder = Finder(job, haul_of(job))
-            self.assertEqual(found(finder, [(TRIPOLE, 5)]), finds)
+            self.assertEqual(found(finder, [(BIPOLE, 5)]), finds)
             self.assertEqual(
-                found(finder, [(TRIPOLE, 9), ("xp3_695qc8zx33", 11)]), [Find("xp3_695qc8zx33", 11)]
+                found(finder, [(BIPOLE, 9), ("xp3_695qc8zx33", 11)]), [Find("xp3_695qc8zx33", 11)]
             )
 
     def test_a_haul_without_objects(self) -> None:
@@ -145,26 +145,26 @@ class Finds(unittest.TestCase):
                         samples={},
                     ),
                 ),
-                [(TRIPOLE, 9)],
+                [(BIPOLE, 9)],
             ),
-            [Find(TRIPOLE, 9)],
+            [Find(BIPOLE, 9)],
         )
 
     def test_what_is_common_under_another_profile(self) -> None:
         self.assertEqual(
             found(
-                Finder(OTHER_PROFILE, haul_of(OTHER_PROFILE, TRIPOLE)),
+                Finder(OTHER_PROFILE, haul_of(OTHER_PROFILE, BIPOLE)),
                 [(BLOCK, 100), (BI_BLOCK, 101)],
             ),
             [],
         )
 
     def test_objects_are_separated_only_if_need_be(self) -> None:
-        finder = Finder(LIFE, haul_of(LIFE, TRIPOLE, "xp2_s01110szw222", BI_BLOCK))
+        finder = Finder(LIFE, haul_of(LIFE, BIPOLE, "xp2_s01110szw222", BI_BLOCK))
         with patch.object(
             finder.separator, "separate", wraps=finder.separator.separate
         ) as separated:
-            self.assertEqual(found(finder, [(TRIPOLE, 200), (BLOCK, 201)]), [])
+            self.assertEqual(found(finder, [(BIPOLE, 200), (BLOCK, 201)]), [])
             self.assertEqual(separated.call_count, 2)
             # An oscillator of period 3 is in none of the three, and a still life of seven cells may
             # be in each of them.
@@ -181,7 +181,7 @@ class Finds(unittest.TestCase):
         """Objects of the file count once those of the batch are separated."""
         finder = Finder(LIFE, haul_of(LIFE, BI_BLOCK))
         self.assertEqual(finder.left(), 0)
-        finder.add([("xs7_2552", 11), (TRIPOLE, 12)])
+        finder.add([("xs7_2552", 11), (BIPOLE, 12)])
         self.assertEqual(finder.left(), 2)
         self.assertEqual(finder.step(), [])
         self.assertEqual(finder.left(), 1)
@@ -232,7 +232,7 @@ class Finds(unittest.TestCase):
                         finder,
                         [
                             (code, 1)
-                            for code in (TRIPOLE, "xp3_695qc8zx33", "xs8_rr", "xs6_696", "xp2_318c")
+                            for code in (BIPOLE, "xp3_695qc8zx33", "xs8_rr", "xs6_696", "xp2_318c")
                         ],
                     )
                 ),
@@ -243,10 +243,10 @@ class Finds(unittest.TestCase):
 
 class Fields(Searches):
     def test_fields(self) -> None:
-        time_, *fields = Find(TRIPOLE, 17).fields(LIFE)
+        time_, *fields = Find(BIPOLE, 17).fields(LIFE)
         self.assertRegex(time_, r"^\d{4}-\d\d-\d\dT\d\d:\d\d:\d\dZ$")
         self.assertEqual(
-            fields, [TRIPOLE, "tripole", "17", "census soup --seed a 17 | census name --rule b3s23"]
+            fields, [BIPOLE, "bipole", "17", "census soup --seed a 17 | census name --rule b3s23"]
         )
         self.assertEqual(Find("xs99_0", 1).fields(LIFE)[2], "-")
 
@@ -527,7 +527,7 @@ class Telling(Searches):
             keeper = Keeper(str(self.file))
             search = Search(
                 Plan(100, 200, 30, 1, None),
-                haul_of(LIFE, BLOCK, TRIPOLE),
+                haul_of(LIFE, BLOCK, BIPOLE),
                 keeper,
                 make_client(),
                 Stopping(),
@@ -799,7 +799,7 @@ class Pace(Searches):
                     now.return_value = at
                     search.wait_until(Mock(side_effect=[False, True]))
                     self.assertEqual((wait.call_args.args, find_for.call_count), ((seconds,), 0))
-                search.finder.add([(TRIPOLE, 1)])
+                search.finder.add([(BIPOLE, 1)])
                 search.wait_until(Mock(side_effect=[False, True]))
                 self.assertEqual((wait.call_args.args, find_for.call_args.args), ((0,), (0.02,)))
                 stopping.came(signal.SIGTERM)
@@ -811,7 +811,7 @@ class Pace(Searches):
             search.find_for(0.0)
             self.assertEqual(told.getvalue(), "")
             search.find_for(0.001)
-            self.assertIn(TRIPOLE, told.getvalue())
+            self.assertIn(BIPOLE, told.getvalue())
             self.assertEqual(search.status().finds, 1)
         os.close(keeper.lock)
 
@@ -829,7 +829,7 @@ class Pace(Searches):
                 Stopping(),
                 sys.stdout,
             )
-            search.finder.add([(TRIPOLE, 1), (CLOCK, 2)])
+            search.finder.add([(BIPOLE, 1), (CLOCK, 2)])
             looked: list[tuple[float, int]] = []
 
             def find_for(_seconds: float) -> None:

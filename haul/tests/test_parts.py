@@ -9,6 +9,7 @@ import re
 import subprocess
 import tempfile
 import unittest
+from importlib.resources import files
 from pathlib import Path
 from unittest.mock import patch
 
@@ -19,7 +20,8 @@ from haul.life.clusters import is_cluster
 from haul.life.generations import read_rule
 from haul.life.parts import MOST_ISLANDS, Separation, Separator, read_object
 from haul.names.labels import describe_parts, find_label, make_plural, mark_label
-from haul.names.objects import NAMES
+from haul.formats.tables import BadTable
+from haul.names.objects import find_code_of_name, load_names, parse_names
 from haul.tests import plain_parts
 from haul.tests.called import CENSUS, census, run
 from haul.tests.test_life import STILL, example
@@ -37,6 +39,7 @@ FREQUENT = {
     "xs10_25520oo": "block and beehive",
 }
 LIGHT = "xp2_s01110szw222"
+FOLDER = Path(__file__).resolve().parent
 
 
 def parts(code: str, rule: str = "b3s23") -> Separation:
@@ -51,20 +54,57 @@ def unknown(code: str) -> Separation:
     return Separation((code,), is_separated=False)
 
 
+def read_pictures(text: str) -> dict[str, str]:
+    """Returns the pictures by their names. A line with a name begins with `!`."""
+    found = (picture.partition("\n") for picture in text.split("!")[1:])
+    return {name: rows for name, _, rows in found}
+
+
 class Names(unittest.TestCase):
-    def test_each_is_named_so(self) -> None:
-        """What `census show` draws of a code has that code. Of some the phase that is drawn is in
-        two pieces, so it settles later."""
-        self.assertEqual(len(NAMES), 92)
-        self.assertEqual(len(set(NAMES.values())), 92)
-        for code in NAMES:
-            with self.subTest(code=code):
+    def test_each_picture_has_the_code(self) -> None:
+        """`census` names the picture of each name as names.tsv does."""
+        pictures = read_pictures((FOLDER / "pictures.txt").read_text())
+        names = load_names()
+        self.assertEqual(list(pictures), list(names.shown.values()))
+        for code, name in names.shown.items():
+            with self.subTest(name=name):
                 named = subprocess.run(
-                    [CENSUS, "name"], input=census("show", code), stdout=subprocess.PIPE, check=True
+                    [CENSUS, "name"],
+                    input=pictures[name].encode(),
+                    stdout=subprocess.PIPE,
+                    check=True,
                 ).stdout
                 settled, *objects = named.decode().splitlines()
                 self.assertTrue(settled.startswith("settled "))
                 self.assertEqual(objects, [f"{code} 1"])
+
+    def test_names_abbreviations_and_other_names_are_found(self) -> None:
+        for name, code in (
+            ("LWSS", "xq4_6frc"),
+            ("fishhook", "xs7_178c"),
+            ("Twin Hat", "xs17_2ege1ege2"),
+            ("twinhat", "xs17_2ege1ege2"),
+            ("half bakery", "xs14_g88m952z121"),
+            ("prodigal", None),
+        ):
+            self.assertEqual(find_code_of_name(name), code)
+
+    def test_a_damaged_file_is_refused(self) -> None:
+        right = files("haul.names").joinpath("names.tsv").read_bytes()
+        for text, why in (
+            (b"", "line 1: the table is empty"),
+            (right[:-1], f"line {right.count(10)}: no line feed at the end"),
+            (right.replace(b"name", b"nome", 1), "line 1: the heads aren't code name also"),
+            (right.replace(b"\ttumbler", b" tumbler"), "line 3: not 3 fields"),
+            (right.replace(b"tumbler", b"t\xc3\xbcmbler"), "line 3: a byte that isn't ASCII"),
+            (right.replace(b"tumbler", b""), "line 3: an empty name, or one of another object"),
+            (right.replace(b"tumbler", b"lwss"), "an empty name, or one of another object"),
+            (right.replace(b"xp14_", b"xp11_"), "line 3: not a code after the one before it"),
+            (right.replace(b"xp14_", b"XP14_"), "line 3: not a code after the one before it"),
+        ):
+            with self.subTest(why=why), self.assertRaises(BadTable) as bad:
+                parse_names(text)
+            self.assertIn(why, str(bad.exception))
 
     def test_plurals(self) -> None:
         for one, more in (
