@@ -21,6 +21,7 @@ from haul.formats.haul import NUMBER_LIMIT
 from haul.formats.profile import LIMIT, MOST_HORIZON, PERIOD, STANDARD, STRIDE, Profile
 from haul.formats.rules import LIFE
 from haul.page.sides import MOST_SIDES
+from haul.rarity.reference import SOUPS as REFERENCE_SOUPS
 from haul.views.compare import MOST_HAULS
 
 CENSUS = option(
@@ -44,9 +45,11 @@ SEARCH = Command(
     "on after\nits last soup. Otherwise FILE is made, with a random seed unless --seed is given.\n\n"
     "The search runs one batch of soups after another, each in one call of `census take`.\nCtrl-C "
     "finishes the running batch, so nothing is lost. A second Ctrl-C drops it.\n\n"
-    "A find is an object that is new in FILE and not common. Each find is printed as a line of\n"
-    "five values with tabs between them: the time, the code, the name or `-`, the soup, and a\n"
-    "command that shows what the soup leaves.\n\n"
+    "A find is an object that is new in FILE and rare: under Life, fewer than one soup in a\n"
+    "million of the reference census has it. Each find is printed as a line of six values with\n"
+    "tabs between them: the time, the code, the name or `-`, the soup, a command that shows what\n"
+    "the soup leaves, and how rare the object is. What the reference doesn't have begins with `!`\n"
+    "on a terminal.\n\n"
     "examples:\n  haul search mine.haul\n  haul search --rule b36s23 --until 1000000 highlife.haul\n"
     "  haul search --finds ./tell-me mine.haul",
     (
@@ -65,9 +68,16 @@ SEARCH = Command(
             read_workers,
         ),
         option(
+            "--rarer",
+            "N",
+            "tell of objects that fewer than one soup in N of the reference has (default: 1000000); "
+            "only under Life",
+            read_within(1, REFERENCE_SOUPS),
+        ),
+        option(
             "--finds",
             "PROGRAM",
-            "call PROGRAM for each find, with its five values as arguments; "
+            "call PROGRAM for each find, with its six values as arguments; "
             "a call is ended after 60 seconds",
             read_path,
         ),
@@ -226,6 +236,22 @@ TABLE = Command(
     commands.run_table,
 )
 
+RARITY = Command(
+    "rarity",
+    "print how rare objects are, by the reference census",
+    "The reference is a census of\n100,000,000 soups of Life with the standard profile. Each object "
+    "has a line: one soup in how\nmany has it, with the interval of 95 %, and how many there are in "
+    "all soups. A pseudo-object,\nwhich is made of smaller objects, has a line, and one for each of "
+    "them. No haul and no built\n`census` is needed.\n\n"
+    "examples:\n  haul rarity loafer 'octagon 2' block\n  haul rarity xs8_rr",
+    (
+        Argument(
+            "objects", "a code, or a name such as `loafer`", "NAME|CODE", read_code, repeats="+"
+        ),
+    ),
+    commands.run_rarity,
+)
+
 PAGE = Command(
     "page",
     "make a page of a haul, or of several, with pictures of its objects and soups",
@@ -333,4 +359,4 @@ RLE = Command(
     commands.run_rle,
 )
 
-COMMANDS = (SEARCH, CHECK, JOIN, COMPARE, TABLE, PAGE, SOUP, SOUPS, CELLS, RLE)
+COMMANDS = (SEARCH, CHECK, JOIN, COMPARE, TABLE, RARITY, PAGE, SOUP, SOUPS, CELLS, RLE)

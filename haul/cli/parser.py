@@ -21,6 +21,7 @@ examples:
   haul join parts/*.haul > all.haul               one haul from the hauls of all parts of a census
   haul compare life.haul highlife.haul            two hauls side by side
   haul table --strict --rare all.haul             the rarest objects of a haul
+  haul rarity loafer block                        how rare are they?
   haul page < all.haul > all.html                 a page with a picture of each object
   haul page life.haul highlife.haul > both.html   a page of two hauls side by side
   haul soup C1/k_abcdef12345 | census name        what a soup of Catagolue leaves

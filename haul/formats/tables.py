@@ -30,10 +30,3 @@ def read_table(name: str, text: bytes, heads: list[str]) -> Iterator[list[str]]:
             yield fields
     if not lines:
         raise BadTable(name, 1, "the table is empty")
-
-
-def read_number(name: str, line: int, field: str) -> int:
-    """Reads a field that is a number without a sign or leading zeros."""
-    if not (field.isascii() and field.isdigit() and str(int(field)) == field):
-        raise BadTable(name, line, f"{field!r} is no number")
-    return int(field)
