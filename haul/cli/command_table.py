@@ -6,7 +6,10 @@ from __future__ import annotations
 from haul.census.command_lines import NUMBERS_IN_A_CALL
 from haul.cli import commands
 from haul.cli.arguments import Argument, Command, Exclusive, flag, option
-from haul.cli.faults import find_fault_of_check, find_fault_of_search, find_fault_of_soups
+from haul.cli.faults import find_fault_of_check, find_fault_of_search
+from haul.cli.index_commands import run_index
+from haul.cli.shared_options import CENSUS, FORMS
+from haul.cli.soup_commands import CELLS, RLE, SOUP, SOUPS
 from haul.cli.values import (
     read_code,
     read_count,
@@ -19,24 +22,9 @@ from haul.cli.values import (
 )
 from haul.formats.haul import NUMBER_LIMIT
 from haul.formats.profile import LIMIT, MOST_HORIZON, PERIOD, STANDARD, STRIDE, Profile
-from haul.formats.rules import LIFE
 from haul.page.sides import MOST_SIDES
 from haul.rarity.reference import SOUPS as REFERENCE_SOUPS
 from haul.views.compare import MOST_HAULS
-
-CENSUS = option(
-    "--census",
-    "PATH",
-    "the census program (default: the one beside this program, or on the PATH)",
-    read_path,
-)
-FORMS = Exclusive(
-    (
-        flag("--csv", "print comma-separated values, for a spreadsheet"),
-        flag("--json", "print JSON, for a program"),
-    )
-)
-
 
 SEARCH = Command(
     "search",
@@ -119,8 +107,11 @@ CHECK = Command(
     "Prints `right` if they are equal,\nor a line for each difference; then the status is 7. If "
     "there are several files, each line\nbegins with the name of its file. A check takes as much "
     "work as the census did.\n\n"
+    "If the first file is an index, which `haul index` writes, the census of each part is taken\n"
+    "again and its digest is compared. With hauls after the index, their digests are compared, and\n"
+    "no soup is run. Each part is a line, `FIRST+COUNT: right` or `FIRST+COUNT: other digest`.\n\n"
     "examples:\n  census take --count 400 | haul check --workers 4\n"
-    "  haul check --random 30 parts/*.haul",
+    "  haul check --random 30 parts/*.haul\n  haul check reference/index --random 2",
     (
         option("--workers", "W", "run soups with W workers, 1 to 16 (default: 1)", read_workers, 1),
         flag(
@@ -131,7 +122,7 @@ CHECK = Command(
         option(
             "--random",
             "N",
-            "check N of the files, drawn at random. The first line names the choice, and says how "
+            "check N of the files, or of the parts of an index, drawn at random. The first line names the choice, and says how "
             "likely such a choice is to miss every wrong file if one file in a hundred is wrong",
             read_count,
         ),
@@ -155,6 +146,16 @@ JOIN = Command(
     "soups.\n\nexample:\n  haul join parts/*.haul > all.haul",
     (Argument("files", "the hauls (default: standard input, one after another)", repeats="*"),),
     commands.run_join,
+)
+
+INDEX = Command(
+    "index",
+    "write an index of hauls of one job, by which others can check a large census in parts",
+    "It\nhas a line for each haul: its first soup, its number of soups, and the SHA-256 of its text. "
+    "Each\nhaul must have one range and no missing soups, and no two may share a soup.\n\n"
+    "example:\n  haul index parts/*.haul > index",
+    (Argument("files", "the hauls (default: standard input)", "file", repeats="*"),),
+    run_index,
 )
 
 COMPARE = Command(
@@ -286,77 +287,4 @@ PAGE = Command(
     commands.run_page,
 )
 
-SOUP = Command(
-    "soup",
-    "print the soup of a sample on Catagolue",
-    "The sample is C1/k_abcdef12345, or the part after\nthe slash. If there are several, a comment "
-    "with the sample comes before each soup.\n\n"
-    "example:\n  haul soup C1/k_abcdef12345 | census name",
-    (Argument("samples", "the sample", "ID", repeats="+"),),
-    commands.run_soup,
-)
-
-
-SOUPS = Command(
-    "soups",
-    "list what report lines say about their soups",
-    "Without --longest, --unsettled or\n--code, it prints when the soups settled: the quartiles and "
-    "the mean of the checkpoints, and a\nbar for every 500 generations. The lines, which `census work` "
-    "prints, aren't checked;\n`census gather` does that. A bad line, and a line of another job than "
-    "the first, is\nreported and skipped. Each soup counts once.\n\n"
-    "examples:\n  census work --count 200 --worker 1 | haul soups\n"
-    "  haul soups --longest 10 --exact parts/*.lines\n  haul soups --code xp2_7e parts/*.lines",
-    (
-        Exclusive(
-            (
-                option("--longest", "N", "list the N soups that settled last", read_count),
-                flag(
-                    "--unsettled",
-                    "list the unsettled soups, each with its population at the last checkpoint, and "
-                    "how much that grew over 1,000 generations",
-                ),
-                option(
-                    "--code",
-                    "CODE",
-                    "list the soups that left an object of this code or name, and how many they left",
-                    read_code,
-                ),
-            )
-        ),
-        flag("--exact", "with --longest: find the exact generations, as `--stride 1` does"),
-        FORMS,
-        CENSUS,
-        Argument("files", "the lines (default: standard input)", "file", repeats="*"),
-    ),
-    commands.run_soups,
-    find_fault_of_soups,
-)
-
-CELLS = Command(
-    "cells",
-    "print a pattern in RLE as plaintext, which `census run` and `census name` read",
-    "If the\nrule in the header isn't Life, the option that `census` needs is written to standard "
-    "error.\nPlaintext passes through without its comments.\n\n"
-    "example:\n  haul cells gun.rle | census run 30",
-    (Argument("file", "the pattern (default: standard input)", repeats="?"),),
-    commands.run_cells,
-)
-
-RLE = Command(
-    "rle",
-    "print a plaintext pattern as RLE, which Golly and LifeWiki read",
-    "\n\nexample:\n  census show xq4_153 | haul rle > glider.rle",
-    (
-        option(
-            "--rule",
-            "RULE",
-            "the rule of the header, such as b36s23 (default: b3s23, Life)",
-            read_rule_value,
-            LIFE,
-        ),
-        Argument("file", "the pattern (default: standard input)", repeats="?"),
-    ),
-    commands.run_rle,
-)
-
-COMMANDS = (SEARCH, CHECK, JOIN, COMPARE, TABLE, RARITY, PAGE, SOUP, SOUPS, CELLS, RLE)
+COMMANDS = (SEARCH, CHECK, INDEX, JOIN, COMPARE, TABLE, RARITY, PAGE, SOUP, SOUPS, CELLS, RLE)

@@ -18,6 +18,8 @@ examples:
   haul search mine.haul                           run soups until Ctrl-C, and keep their haul
   census take --count 400 | haul check            is this haul right?
   haul check --samples rare.haul                  do the sample soups leave their objects?
+  haul check reference/index --random 2           are two parts of the reference census right?
+  haul index parts/*.haul > index                 an index, by which others can check a census
   haul join parts/*.haul > all.haul               one haul from the hauls of all parts of a census
   haul compare life.haul highlife.haul            two hauls side by side
   haul table --strict --rare all.haul             the rarest objects of a haul

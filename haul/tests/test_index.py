@@ -51,7 +51,7 @@ class Indexes(unittest.TestCase):
             self.assertEqual(self.called("index", *names), (0, self.index, ""))
 
     def test_what_is_no_part(self) -> None:
-        (self.folder / "two").write_bytes(census("take", "--range", "0", "5", "--range", "7", "9"))
+        (self.folder / "two").write_text(self.called("join", "0.haul", "20.haul")[1])
         (self.folder / "none").write_bytes(census("take", "--count", "0"))
         (self.folder / "other").write_bytes(census("take", "--count", "3", "--seed", "x"))
         (self.folder / "across").write_bytes(census("take", "--first", "4", "--count", "3"))
@@ -129,7 +129,7 @@ class Indexes(unittest.TestCase):
             (digest, digest[1:], "line 9 column 6"),
             (digest, digest.upper(), "line 9 column 6"),
             (digest, digest[:-1] + "\u00fc", "line 9 column 6"),
-            (digest + "\n", digest, "line 9 column 71"),
+            (digest + "\n", digest, "line 9 column 70"),
             (digest, digest + " 1", "line 9 column 71"),
         ):
             with self.subTest(wrong=wrong):
