@@ -31,7 +31,7 @@ from haul.search.keeper import Keeper
 from haul.search.search import Batch, Dropped, Plan, Search
 from haul.search.status_line import Status, StatusLine, format_duration, format_short
 from haul.search.stopping import Stopping
-from haul.tests.called import CENSUS, HAUL, TOP, census, make_client, run
+from haul.tests.called import CENSUS, HAUL, TOP, census, make_client
 from haul.terminal import Terminal
 from haul.tests.searching import CLOCK, CLOCK_SOUP, Searches
 
