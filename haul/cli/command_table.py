@@ -13,7 +13,9 @@ from haul.cli.soup_commands import CELLS, RLE, SOUP, SOUPS
 from haul.cli.values import (
     read_code,
     read_count,
+    read_kinds,
     read_path,
+    read_periods,
     read_rule_value,
     read_seed,
     read_within,
@@ -210,17 +212,18 @@ TABLE = Command(
     (
         option("--top", "N", "print only the first N lines", read_count),
         flag("--rare", "begin with the rarest code"),
-        Argument(
+        option(
             "--kind",
-            "print only still lifes `s`, oscillators `p` or spaceships `q`",
-            "KIND",
-            choices=("s", "p", "q"),
+            "KINDS",
+            "print only still lifes `s`, oscillators `p` or spaceships `q`; `pq` are both of these",
+            read_kinds,
         ),
         option(
             "--period",
             "N",
-            "print only objects of this period; still lifes have period 1",
-            read_count,
+            "print only objects of period N, or of periods such as `3+` or `3-8`; still lifes have "
+            "period 1",
+            read_periods,
         ),
         Exclusive(
             (

@@ -157,7 +157,7 @@ xs4_33 (block): one in 1.10 soups (95 %: 1.10 to 1.10); 673827113 objects in 911
         self.assertNotIn("none", output)
 
     def test_what_is_neither(self) -> None:
-        self.assertEqual(run("rarity", "blok")[0], 2)
+        self.assertEqual(run("rarity", "blocksmith")[0], 2)
         self.assertEqual(run("rarity")[0], 2)
 
 

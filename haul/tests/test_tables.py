@@ -322,6 +322,20 @@ rank  code     total  per_million  one_in_at_most  samples  label
         self.assertEqual(codes("--period", "15", "b"), [["2", "xp15_4r4z4r4"]])
         self.assertEqual(codes("--period", "123", "c"), [["3", "ov_p123"]])
         self.assertEqual(codes("--kind", "q", "--period", "2", "a"), [])
+        self.assertEqual(codes("--kind", "pq", "a"), [["2", "xp2_7"], ["3", "xq4_153"]])
+        self.assertEqual(codes("--period", "2+", "a"), [["2", "xp2_7"], ["3", "xq4_153"]])
+        self.assertEqual(codes("--period", "3-15", "b"), [["2", "xp15_4r4z4r4"]])
+        self.assertEqual(codes("--period", "3-14", "b"), [])
+        for words in (
+            ["--period", "8-3"],
+            ["--period", "+"],
+            ["--period", "3-"],
+            ["--period", "-3"],
+            ["--kind", ""],
+            ["--kind", "pp"],
+            ["--kind", "px"],
+        ):
+            self.assertEqual(run("table", *words)[0], 2, words)
 
     def test_codes_that_say_nothing(self) -> None:
         """One that names no kind has none, and no period."""

@@ -120,8 +120,10 @@ class TableRow:
 class RowChoice:
     """Which lines of a table are shown, and in which order."""
 
+    # The letters of the kinds; all kinds if it is none.
     kind: str | None = None
-    period: int | None = None
+    # The least and the most period; the last is none if there is no most.
+    period: tuple[int, int | None] | None = None
     # Objects that are strict, and those that aren't separated.
     strict: bool = False
     rare: bool = False
@@ -130,8 +132,11 @@ class RowChoice:
     def has(self, code: str) -> bool:
         """Returns whether a code is of the chosen kind and period."""
         known = read_kind(code)
-        kind, period = (known.letter, known.period()) if known else ("", 0)
-        return self.kind in (None, kind) and self.period in (None, period)
+        if known is None:
+            return self.kind is None and self.period is None
+        least, most = self.period or (0, None)
+        is_period = least <= known.period() and (most is None or known.period() <= most)
+        return is_period and (self.kind is None or known.letter in self.kind)
 
 
 def choose_rows(
