@@ -11,13 +11,9 @@ _haul() {
     # After an option that takes a value, only its values are proposed.
     case $before in
         =) return ;;
-        --until | --part | --workers | --rarer | --seed | --first | --rule | --period | --horizon | --stride | --limit | --random | --choice | --least | --top | --play | --longest | --code) return ;;
+        --until | --part | --workers | --rarer | --seed | --first | --rule | --period | --horizon | --stride | --limit | --random | --choice | --least | --top | --kind | --play | --longest | --code) return ;;
         --per)
             mapfile -t COMPREPLY < <(compgen -W 'million soup' -- "$word")
-            return
-            ;;
-        --kind)
-            mapfile -t COMPREPLY < <(compgen -W 's p q' -- "$word")
             return
             ;;
         --finds | --census)
