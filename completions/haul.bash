@@ -26,8 +26,8 @@ _haul() {
         check) options='--workers --samples --random --choice --census --help' ;;
         index) options='--help' ;;
         join) options='--help' ;;
-        compare) options='--least --intervals --per --rare --parts --csv --json --help' ;;
-        table) options='--top --rare --kind --period --strict --parts --csv --json --help' ;;
+        compare) options='--least --intervals --per --rare --parts --whole --csv --json --help' ;;
+        table) options='--top --rare --kind --period --strict --parts --whole --csv --json --help' ;;
         rarity) options='--help' ;;
         page) options='--least --play --census --help' ;;
         soup) options='--help' ;;

@@ -6,7 +6,11 @@ from __future__ import annotations
 from haul.census.command_lines import NUMBERS_IN_A_CALL
 from haul.cli import commands
 from haul.cli.arguments import Argument, Command, Exclusive, flag, option
-from haul.cli.faults import find_fault_of_check, find_fault_of_search
+from haul.cli.faults import (
+    find_fault_of_check,
+    find_fault_of_counting,
+    find_fault_of_search,
+)
 from haul.cli.index_commands import run_index
 from haul.cli.shared_options import CENSUS, FORMS
 from haul.cli.soup_commands import CELLS, RLE, SOUP, SOUPS
@@ -165,9 +169,10 @@ COMPARE = Command(
     "set hauls side by side",
     "Each code has a line, with the highest rate first: its name or\nparts, its total in each haul, "
     "its number per million soups, and how many times as frequent\nit is as in A. With --intervals, "
-    "--per or --rare, or with more than two hauls, each rate has\nits 95 % interval, calculated as if "
-    "objects occurred one at a time, and a * if the interval\ndoesn't overlap that of A. This isn't a "
-    "test at 5 %, because a soup often leaves several\nobjects of a kind.\n\n"
+    "--per or --rare, or with more than two hauls, each rate has\nits 95 % interval. By parts, under "
+    "Life with the standard profile, the interval allows for soups\nthat leave several objects of a "
+    "kind, and a * marks a rate that differs from that of A\n(p < 0.001). Other intervals begin with "
+    "~ and are too narrow for such objects.\n\n"
     "examples:\n  haul compare --least 10 life.haul highlife.haul\n"
     "  haul compare --csv life.haul highlife.haul seeds.haul > all.csv",
     (
@@ -186,7 +191,15 @@ COMPARE = Command(
             choices=("million", "soup"),
         ),
         flag("--rare", "begin with the rarest code, and leave out codes that all hauls have"),
-        flag("--parts", "count each object by its parts, under the rule of its haul"),
+        Exclusive(
+            (
+                flag(
+                    "--parts",
+                    "count each object by its parts, under the rule of its haul (default)",
+                ),
+                flag("--whole", "count objects as the hauls do, pseudo-objects among them"),
+            )
+        ),
         FORMS,
         Argument("a", "a haul (`-`: standard input)", "A"),
         Argument("b", "another haul (`-`: standard input)", "B"),
@@ -207,7 +220,10 @@ TABLE = Command(
     "table",
     "print the table of a haul, with how often each object occurs",
     "Each code has\na line, the most frequent first: its rank, its total, its number per million "
-    "soups, N if at\nmost one soup in N has it, its samples, and its name or parts.\n\n"
+    "soups, how\nrare it is, its samples, and its name or parts. By parts, under Life with the "
+    "standard profile,\n`one_in` is N if one soup in N of the reference census has it, and its 95 % "
+    "interval follows.\nOtherwise `one_in_at_most` is N if at most one soup in N of the haul has "
+    "it.\n\n"
     "examples:\n  haul table --top 20 all.haul\n  haul table --strict --rare all.haul",
     (
         option("--top", "N", "print only the first N lines", read_count),
@@ -229,15 +245,18 @@ TABLE = Command(
             (
                 flag(
                     "--strict",
-                    "leave out pseudo-objects; objects that can't be separated stay, and are marked",
+                    "count objects as --whole does, and leave out pseudo-objects; objects that can't "
+                    "be separated stay, and are marked",
                 ),
-                flag("--parts", "count each object by its parts"),
+                flag("--parts", "count each object by its parts (default)"),
             )
         ),
+        flag("--whole", "count objects as the haul does, pseudo-objects among them"),
         FORMS,
         Argument("file", "the haul (default: standard input)", repeats="?"),
     ),
     commands.run_table,
+    find_fault_of_counting,
 )
 
 RARITY = Command(

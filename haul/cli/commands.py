@@ -125,12 +125,11 @@ def run_compare(asked: argparse.Namespace, streams: Streams) -> int:
         Objects(streams.read_haul(name), streams.terminal)
         for name in (asked.a, asked.b, *asked.more)
     ]
-    hauls = [one.by_parts() if asked.parts else one.haul for one in objects]
+    by_parts = not asked.whole
+    hauls = [one.by_parts() if by_parts else one.haul for one in objects]
     codes = rank_codes(hauls, asked.least, asked.rare)
     has_intervals = len(hauls) > 2 or asked.intervals or asked.per is not None or asked.rare
-    comparison = Comparison(
-        hauls, objects, codes, asked.parts, asked.per or "million", has_intervals
-    )
+    comparison = Comparison(hauls, objects, codes, by_parts, asked.per or "million", has_intervals)
     streams.write_lines(
         comparison.csv()
         if asked.csv
@@ -143,17 +142,18 @@ def run_compare(asked: argparse.Namespace, streams: Streams) -> int:
 
 def run_table(asked: argparse.Namespace, streams: Streams) -> int:
     objects = Objects(streams.read_haul(asked.file), streams.terminal)
-    haul = objects.by_parts() if asked.parts else objects.haul
-    has_rarity = asked.parts and is_covered(haul.job)
+    counts_parts = not (asked.whole or asked.strict)
+    haul = objects.by_parts() if counts_parts else objects.haul
+    has_rarity = counts_parts and is_covered(haul.job)
     lines = choose_rows(
         haul,
         objects,
         RowChoice(asked.kind, asked.period, asked.strict, asked.rare, asked.top),
         has_rarity,
     )
-    by_parts = objects if asked.parts else None
+    by_parts = objects if counts_parts else None
     streams.write_lines(
-        format_table_csv(lines, has_rarity, asked.parts)
+        format_table_csv(lines, has_rarity, counts_parts)
         if asked.csv
         else format_table_json(haul, lines, by_parts)
         if asked.json

@@ -36,5 +36,9 @@ def find_fault_of_index_check(asked: argparse.Namespace) -> str | None:
     return None
 
 
+def find_fault_of_counting(asked: argparse.Namespace) -> str | None:
+    return "--parts doesn't go with --whole" if asked.parts and asked.whole else None
+
+
 def find_fault_of_soups(asked: argparse.Namespace) -> str | None:
     return "--exact needs --longest" if asked.exact and asked.longest is None else None

@@ -357,7 +357,8 @@ class Tables(unittest.TestCase):
     TEXT = sampled("b3s23", CODES).encode()
 
     def rows(self, *words: str) -> list[list[str]]:
-        status, output, errors = run("table", *words, text=self.TEXT)
+        whole = [] if {"--parts", "--strict"} & {*words} else ["--whole"]
+        status, output, errors = run("table", *whole, *words, text=self.TEXT)
         self.assertEqual((status, errors), (0, ""))
         return [re.split("  +", row.strip()) for row in output.splitlines()[1:]]
 
@@ -412,7 +413,7 @@ class Tables(unittest.TestCase):
         heads = ("code", "label", "parts", "strict", "separated", "by_parts")
         for words, wanted in (
             (
-                ["--csv"],
+                ["--csv", "--whole"],
                 [
                     ["xs4_33", "block", "xs4_33", "yes", "yes", "no"],
                     ["xs8_rr", "bi-block", "xs4_33 xs4_33", "no", "yes", "no"],
@@ -429,7 +430,7 @@ class Tables(unittest.TestCase):
             self.assertEqual([[row[head] for head in heads] for row in rows], wanted)
 
     def test_json(self) -> None:
-        told = json.loads(run("table", "--json", text=self.TEXT)[1])
+        told = json.loads(run("table", "--json", "--whole", text=self.TEXT)[1])
         self.assertEqual((told["by_parts"], told["total"]), (False, 77))
         self.assertEqual(
             {
@@ -494,7 +495,9 @@ class SideBySide(unittest.TestCase):
     def test_each_under_its_own_rule(self) -> None:
         rows = {
             row["code"]: row
-            for row in csv.DictReader(run("compare", "--csv", *self.names)[1].splitlines())
+            for row in csv.DictReader(
+                run("compare", "--csv", "--whole", *self.names)[1].splitlines()
+            )
         }
         self.assertEqual(
             [
@@ -507,7 +510,7 @@ class SideBySide(unittest.TestCase):
             [rows["xp2_70ggg07"][head] for head in ("parts_a", "parts_b")],
             ["xp2_7 xp2_7 xp2_7", ""],
         )
-        told = json.loads(run("compare", "--json", *self.names)[1])
+        told = json.loads(run("compare", "--json", "--whole", *self.names)[1])
         self.assertFalse(told["by_parts"])
         self.assertEqual(
             [one["parts"].get("xs8_rr") for one in told["hauls"]], [["xs4_33"] * 2] * 2
@@ -520,7 +523,7 @@ class SideBySide(unittest.TestCase):
         middle."""
         for name, rule in zip(self.names, ("b3s23", "bs123"), strict=True):
             Path(name).write_text(haul(rule, 100, {"xs12_raar": 4}))
-        told = json.loads(run("compare", "--json", *self.names)[1])
+        told = json.loads(run("compare", "--json", "--whole", *self.names)[1])
         self.assertEqual(
             [one["parts"] for one in told["hauls"]],
             [{"xs12_raar": ["xs12_raar"]}, {"xs12_raar": ["xs6_9f"] * 2}],
@@ -560,7 +563,10 @@ class SideBySide(unittest.TestCase):
         )
 
     def test_names_are_words_there(self) -> None:
-        rows = [line.split()[:2] for line in run("compare", *self.names)[1].splitlines()[5:-1]]
+        rows = [
+            line.split()[:2]
+            for line in run("compare", "--whole", *self.names)[1].splitlines()[5:-1]
+        ]
         self.assertEqual(
             rows,
             [

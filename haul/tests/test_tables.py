@@ -86,8 +86,12 @@ class Tables(unittest.TestCase):
             Path(self.folder.name, name).write_text(text)
 
     def printed(self, command: str, *words: str) -> str:
+        """What a call prints, which counts whole objects unless its words say otherwise."""
+        whole = [] if {"--parts", "--strict", "--default"} & {*words} else ["--whole"]
+        words = tuple(word for word in words if word != "--default")
         status, output, errors = run(
             command,
+            *whole,
             *(os.path.join(self.folder.name, word) if word in "abclm" else word for word in words),
         )
         self.assertEqual((status, errors), (0, ""))
@@ -407,13 +411,13 @@ rank  code     total  per_million  one_in_at_most  samples  label
         text = haul(
             "b3s23", 2**40, {"xs4_33": 2**53, "xp2_7": 2**53 + 1, "xs8_rr": 2**63}
         ).encode()
-        told = json.loads(run("table", "--json", text=text)[1])
+        told = json.loads(run("table", "--whole", "--json", text=text)[1])
         self.assertEqual(
             [one["total"] for one in told["objects"]],
             ["9223372036854775808", "9007199254740993", 9007199254740992],
         )
         self.assertEqual(told["total"], "9241386435364257793")
-        self.assertIn("9223372036854775808", run("table", "--csv", text=text)[1])
+        self.assertIn("9223372036854775808", run("table", "--whole", "--csv", text=text)[1])
 
 
 class OfSeveral(Tables):
@@ -528,6 +532,22 @@ in A alone: xq4_153 xs8_rr; in B alone: xp15_4r4z4r4
         row = next(line.split() for line in lines if line.startswith("xp2_7"))
         self.assertFalse(row[4].startswith("~"))
         self.assertTrue(row[7].startswith("~"))
+
+    def test_parts_are_the_default(self) -> None:
+        forms: list[list[str]] = [[], ["--csv"], ["--json"]]
+        for words in (["table", "a"], ["compare", "a", "c"]):
+            for form in forms:
+                printed = self.printed(words[0], "--default", *form, *words[1:])
+                self.assertEqual(printed, self.printed(words[0], "--parts", *form, *words[1:]))
+                self.assertNotEqual(printed, self.printed(words[0], *form, *words[1:]))
+        strict = self.printed("table", "--strict", "a")
+        self.assertEqual(strict, self.printed("table", "--strict", "--default", "--whole", "a"))
+        for words in (
+            ["table", "--parts", "--whole"],
+            ["table", "--parts", "--strict"],
+            ["compare", "--parts", "--whole", "-", "-"],
+        ):
+            self.assertEqual(run(*words)[0], 2, words)
 
     def test_three(self) -> None:
         lines = self.printed("compare", "a", "b", "c").splitlines()
@@ -786,7 +806,9 @@ class Terminals(Tables):
         """The lines that are printed on a terminal of so many columns."""
         with patch.dict(os.environ, COLUMNS=str(columns)):
             said = read_terminal(
-                lambda stdout: call(words, io.BytesIO(), stdout, sys.stderr, self.folder.name)
+                lambda stdout: call(
+                    (*words, "--whole"), io.BytesIO(), stdout, sys.stderr, self.folder.name
+                )
             )
         return said.decode().replace("\r\n", "\n").splitlines()
 
