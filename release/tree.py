@@ -39,7 +39,7 @@ def places_of(checkout: Checkout, zsh: str) -> dict[str, str]:
     places |= {
         file: f"share/census/{file}"
         for file in checkout.files
-        if file.rpartition("/")[0] == "cluster"
+        if file.rpartition("/")[0] in ("cluster", "reference")
     }
     lacking = sorted(set(places) - checkout.files)
     if lacking:
@@ -54,6 +54,7 @@ def installed(checkout: Checkout, programs: Path, zsh: str) -> Tree:
     linked = {
         **places,
         "cluster": "share/census/cluster",
+        "reference": "share/census/reference",
         "docs/man": "share/man/man1",
         "examples/README.md": f"{DOC}/100000.html",
     }

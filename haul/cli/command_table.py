@@ -6,11 +6,20 @@ from __future__ import annotations
 from haul.census.command_lines import NUMBERS_IN_A_CALL
 from haul.cli import commands
 from haul.cli.arguments import Argument, Command, Exclusive, flag, option
-from haul.cli.faults import find_fault_of_check, find_fault_of_search, find_fault_of_soups
+from haul.cli.faults import (
+    find_fault_of_check,
+    find_fault_of_counting,
+    find_fault_of_search,
+)
+from haul.cli.index_commands import run_index
+from haul.cli.shared_options import CENSUS, FORMS
+from haul.cli.soup_commands import CELLS, RLE, SOUP, SOUPS
 from haul.cli.values import (
     read_code,
     read_count,
+    read_kinds,
     read_path,
+    read_periods,
     read_rule_value,
     read_seed,
     read_within,
@@ -19,23 +28,9 @@ from haul.cli.values import (
 )
 from haul.formats.haul import NUMBER_LIMIT
 from haul.formats.profile import LIMIT, MOST_HORIZON, PERIOD, STANDARD, STRIDE, Profile
-from haul.formats.rules import LIFE
 from haul.page.sides import MOST_SIDES
+from haul.rarity.reference import SOUPS as REFERENCE_SOUPS
 from haul.views.compare import MOST_HAULS
-
-CENSUS = option(
-    "--census",
-    "PATH",
-    "the census program (default: the one beside this program, or on the PATH)",
-    read_path,
-)
-FORMS = Exclusive(
-    (
-        flag("--csv", "print comma-separated values, for a spreadsheet"),
-        flag("--json", "print JSON, for a program"),
-    )
-)
-
 
 SEARCH = Command(
     "search",
@@ -44,9 +39,11 @@ SEARCH = Command(
     "on after\nits last soup. Otherwise FILE is made, with a random seed unless --seed is given.\n\n"
     "The search runs one batch of soups after another, each in one call of `census take`.\nCtrl-C "
     "finishes the running batch, so nothing is lost. A second Ctrl-C drops it.\n\n"
-    "A find is an object that is new in FILE and not common. Each find is printed as a line of\n"
-    "five values with tabs between them: the time, the code, the name or `-`, the soup, and a\n"
-    "command that shows what the soup leaves.\n\n"
+    "A find is an object that is new in FILE and rare: under Life, fewer than one soup in a\n"
+    "million of the reference census has it. Each find is printed as a line of six values with\n"
+    "tabs between them: the time, the code, the name or `-`, the soup, a command that shows what\n"
+    "the soup leaves, and how rare the object is. What the reference doesn't have begins with `!`\n"
+    "on a terminal.\n\n"
     "examples:\n  haul search mine.haul\n  haul search --rule b36s23 --until 1000000 highlife.haul\n"
     "  haul search --finds ./tell-me mine.haul",
     (
@@ -65,9 +62,16 @@ SEARCH = Command(
             read_workers,
         ),
         option(
+            "--rarer",
+            "N",
+            "tell of objects that fewer than one soup in N of the reference has (default: 1000000); "
+            "only under Life",
+            read_within(1, REFERENCE_SOUPS),
+        ),
+        option(
             "--finds",
             "PROGRAM",
-            "call PROGRAM for each find, with its five values as arguments; "
+            "call PROGRAM for each find, with its six values as arguments; "
             "a call is ended after 60 seconds",
             read_path,
         ),
@@ -109,8 +113,11 @@ CHECK = Command(
     "Prints `right` if they are equal,\nor a line for each difference; then the status is 7. If "
     "there are several files, each line\nbegins with the name of its file. A check takes as much "
     "work as the census did.\n\n"
+    "If the first file is an index, which `haul index` writes, the census of each part is taken\n"
+    "again and its digest is compared. With hauls after the index, their digests are compared, and\n"
+    "no soup is run. Each part is a line, `FIRST+COUNT: right` or `FIRST+COUNT: other digest`.\n\n"
     "examples:\n  census take --count 400 | haul check --workers 4\n"
-    "  haul check --random 30 parts/*.haul",
+    "  haul check --random 30 parts/*.haul\n  haul check reference/index --random 2",
     (
         option("--workers", "W", "run soups with W workers, 1 to 16 (default: 1)", read_workers, 1),
         flag(
@@ -121,7 +128,7 @@ CHECK = Command(
         option(
             "--random",
             "N",
-            "check N of the files, drawn at random. The first line names the choice, and says how "
+            "check N of the files, or of the parts of an index, drawn at random. The first line names the choice, and says how "
             "likely such a choice is to miss every wrong file if one file in a hundred is wrong",
             read_count,
         ),
@@ -147,14 +154,25 @@ JOIN = Command(
     commands.run_join,
 )
 
+INDEX = Command(
+    "index",
+    "write an index of hauls of one job, by which others can check a large census in parts",
+    "It\nhas a line for each haul: its first soup, its number of soups, and the SHA-256 of its text. "
+    "Each\nhaul must have one range and no missing soups, and no two may share a soup.\n\n"
+    "example:\n  haul index parts/*.haul > index",
+    (Argument("files", "the hauls (default: standard input)", "file", repeats="*"),),
+    run_index,
+)
+
 COMPARE = Command(
     "compare",
     "set hauls side by side",
     "Each code has a line, with the highest rate first: its name or\nparts, its total in each haul, "
     "its number per million soups, and how many times as frequent\nit is as in A. With --intervals, "
-    "--per or --rare, or with more than two hauls, each rate has\nits 95 % interval, calculated as if "
-    "objects occurred one at a time, and a * if the interval\ndoesn't overlap that of A. This isn't a "
-    "test at 5 %, because a soup often leaves several\nobjects of a kind.\n\n"
+    "--per or --rare, or with more than two hauls, each rate has\nits 95 % interval. By parts, under "
+    "Life with the standard profile, the interval allows for soups\nthat leave several objects of a "
+    "kind, and a * marks a rate that differs from that of A\n(p < 0.001). Other intervals begin with "
+    "~ and are too narrow for such objects.\n\n"
     "examples:\n  haul compare --least 10 life.haul highlife.haul\n"
     "  haul compare --csv life.haul highlife.haul seeds.haul > all.csv",
     (
@@ -173,7 +191,15 @@ COMPARE = Command(
             choices=("million", "soup"),
         ),
         flag("--rare", "begin with the rarest code, and leave out codes that all hauls have"),
-        flag("--parts", "count each object by its parts, under the rule of its haul"),
+        Exclusive(
+            (
+                flag(
+                    "--parts",
+                    "count each object by its parts, under the rule of its haul (default)",
+                ),
+                flag("--whole", "count objects as the hauls do, pseudo-objects among them"),
+            )
+        ),
         FORMS,
         Argument("a", "a haul (`-`: standard input)", "A"),
         Argument("b", "another haul (`-`: standard input)", "B"),
@@ -194,36 +220,59 @@ TABLE = Command(
     "table",
     "print the table of a haul, with how often each object occurs",
     "Each code has\na line, the most frequent first: its rank, its total, its number per million "
-    "soups, N if at\nmost one soup in N has it, its samples, and its name or parts.\n\n"
+    "soups, how\nrare it is, its samples, and its name or parts. By parts, under Life with the "
+    "standard profile,\n`one_in` is N if one soup in N of the reference census has it, and its 95 % "
+    "interval follows.\nOtherwise `one_in_at_most` is N if at most one soup in N of the haul has "
+    "it.\n\n"
     "examples:\n  haul table --top 20 all.haul\n  haul table --strict --rare all.haul",
     (
         option("--top", "N", "print only the first N lines", read_count),
         flag("--rare", "begin with the rarest code"),
-        Argument(
+        option(
             "--kind",
-            "print only still lifes `s`, oscillators `p` or spaceships `q`",
-            "KIND",
-            choices=("s", "p", "q"),
+            "KINDS",
+            "print only still lifes `s`, oscillators `p` or spaceships `q`; `pq` are both of these",
+            read_kinds,
         ),
         option(
             "--period",
             "N",
-            "print only objects of this period; still lifes have period 1",
-            read_count,
+            "print only objects of period N, or of periods such as `3+` or `3-8`; still lifes have "
+            "period 1",
+            read_periods,
         ),
         Exclusive(
             (
                 flag(
                     "--strict",
-                    "leave out pseudo-objects; objects that can't be separated stay, and are marked",
+                    "count objects as --whole does, and leave out pseudo-objects; objects that can't "
+                    "be separated stay, and are marked",
                 ),
-                flag("--parts", "count each object by its parts"),
+                flag("--parts", "count each object by its parts (default)"),
             )
         ),
+        flag("--whole", "count objects as the haul does, pseudo-objects among them"),
         FORMS,
         Argument("file", "the haul (default: standard input)", repeats="?"),
     ),
     commands.run_table,
+    find_fault_of_counting,
+)
+
+RARITY = Command(
+    "rarity",
+    "print how rare objects are, by the reference census",
+    "The reference is a census of\n100,000,000 soups of Life with the standard profile. Each object "
+    "has a line: one soup in how\nmany has it, with the interval of 95 %, and how many there are in "
+    "all soups. A pseudo-object,\nwhich is made of smaller objects, has a line, and one for each of "
+    "them. No haul and no built\n`census` is needed.\n\n"
+    "examples:\n  haul rarity loafer 'octagon 2' block\n  haul rarity xs8_rr",
+    (
+        Argument(
+            "objects", "a code, or a name such as `loafer`", "NAME|CODE", read_code, repeats="+"
+        ),
+    ),
+    commands.run_rarity,
 )
 
 PAGE = Command(
@@ -260,77 +309,4 @@ PAGE = Command(
     commands.run_page,
 )
 
-SOUP = Command(
-    "soup",
-    "print the soup of a sample on Catagolue",
-    "The sample is C1/k_abcdef12345, or the part after\nthe slash. If there are several, a comment "
-    "with the sample comes before each soup.\n\n"
-    "example:\n  haul soup C1/k_abcdef12345 | census name",
-    (Argument("samples", "the sample", "ID", repeats="+"),),
-    commands.run_soup,
-)
-
-
-SOUPS = Command(
-    "soups",
-    "list what report lines say about their soups",
-    "Without --longest, --unsettled or\n--code, it prints when the soups settled: the quartiles and "
-    "the mean of the checkpoints, and a\nbar for every 500 generations. The lines, which `census work` "
-    "prints, aren't checked;\n`census gather` does that. A bad line, and a line of another job than "
-    "the first, is\nreported and skipped. Each soup counts once.\n\n"
-    "examples:\n  census work --count 200 --worker 1 | haul soups\n"
-    "  haul soups --longest 10 --exact parts/*.lines\n  haul soups --code xp2_7e parts/*.lines",
-    (
-        Exclusive(
-            (
-                option("--longest", "N", "list the N soups that settled last", read_count),
-                flag(
-                    "--unsettled",
-                    "list the unsettled soups, each with its population at the last checkpoint, and "
-                    "how much that grew over 1,000 generations",
-                ),
-                option(
-                    "--code",
-                    "CODE",
-                    "list the soups that left an object of this code, and how many they left",
-                    read_code,
-                ),
-            )
-        ),
-        flag("--exact", "with --longest: find the exact generations, as `--stride 1` does"),
-        FORMS,
-        CENSUS,
-        Argument("files", "the lines (default: standard input)", "file", repeats="*"),
-    ),
-    commands.run_soups,
-    find_fault_of_soups,
-)
-
-CELLS = Command(
-    "cells",
-    "print a pattern in RLE as plaintext, which `census run` and `census name` read",
-    "If the\nrule in the header isn't Life, the option that `census` needs is written to standard "
-    "error.\nPlaintext passes through without its comments.\n\n"
-    "example:\n  haul cells gun.rle | census run 30",
-    (Argument("file", "the pattern (default: standard input)", repeats="?"),),
-    commands.run_cells,
-)
-
-RLE = Command(
-    "rle",
-    "print a plaintext pattern as RLE, which Golly and LifeWiki read",
-    "\n\nexample:\n  census show xq4_153 | haul rle > glider.rle",
-    (
-        option(
-            "--rule",
-            "RULE",
-            "the rule of the header, such as b36s23 (default: b3s23, Life)",
-            read_rule_value,
-            LIFE,
-        ),
-        Argument("file", "the pattern (default: standard input)", repeats="?"),
-    ),
-    commands.run_rle,
-)
-
-COMMANDS = (SEARCH, CHECK, JOIN, COMPARE, TABLE, PAGE, SOUP, SOUPS, CELLS, RLE)
+COMMANDS = (SEARCH, CHECK, INDEX, JOIN, COMPARE, TABLE, RARITY, PAGE, SOUP, SOUPS, CELLS, RLE)

@@ -7,11 +7,13 @@ from contextlib import suppress
 
 from haul.census.children import children
 from haul.census.client import Census
+from haul.cli.index_commands import run_index_check
 from haul.cli.statuses import DONE, NOT_RIGHT, REFUSED
 from haul.cli.streams import Refused, Streams, format_place
 from haul.formats.field_reader import BadHaul
 from haul.formats.haul_reader import read_hauls
 from haul.formats.haul_writer import format_haul
+from haul.formats.index import is_index
 from haul.formats.plaintext import BadPlaintext, is_plaintext, read_plaintext
 from haul.formats.report_files import Reports
 from haul.formats.rle import BadRle, format_rle, read_rle
@@ -21,13 +23,18 @@ from haul.hauls.check import find_wrong_samples, list_differences, retake
 from haul.hauls.file_choice import FileChoice
 from haul.hauls.join import CantJoin, Joining
 from haul.life.catagolue_soups import BadSample, format_soups
+from haul.life.generations import read_rule
+from haul.life.parts import Separator
 from haul.page.document import make_page
-from haul.search.job import Disagrees, begin_haul, find_next_soup, refuse_other_jobs
+from haul.rarity.reference import is_covered
+from haul.names.objects import load_names
+from haul.search.job import USUAL_RARER, Disagrees, begin_haul, find_next_soup, refuse_other_jobs
 from haul.search.keeper import CantKeep, Keeper
 from haul.search.search import Dropped, Plan, Search, count_processors
 from haul.search.stopping import Stopping
 from haul.terminal import Terminal, find_output_width
 from haul.views.compare import Comparison, rank_codes
+from haul.views.rarity import describe_rarity
 from haul.views.settling import Settling
 from haul.views.soup_lists import Leaving, Longest, SoupList, Unsettled
 from haul.views.table import (
@@ -42,6 +49,8 @@ RIGHT = "right"
 
 
 def run_check(asked: argparse.Namespace, streams: Streams) -> int:
+    if asked.files and is_index(asked.files[0]):
+        return run_index_check(asked, streams)
     if len(asked.files) <= 1 and asked.random is None:
         lines = check_haul(asked, streams, asked.files[0] if asked.files else None)
         streams.write_lines(lines)
@@ -116,12 +125,11 @@ def run_compare(asked: argparse.Namespace, streams: Streams) -> int:
         Objects(streams.read_haul(name), streams.terminal)
         for name in (asked.a, asked.b, *asked.more)
     ]
-    hauls = [one.by_parts() if asked.parts else one.haul for one in objects]
+    by_parts = not asked.whole
+    hauls = [one.by_parts() if by_parts else one.haul for one in objects]
     codes = rank_codes(hauls, asked.least, asked.rare)
     has_intervals = len(hauls) > 2 or asked.intervals or asked.per is not None or asked.rare
-    comparison = Comparison(
-        hauls, objects, codes, asked.parts, asked.per or "million", has_intervals
-    )
+    comparison = Comparison(hauls, objects, codes, by_parts, asked.per or "million", has_intervals)
     streams.write_lines(
         comparison.csv()
         if asked.csv
@@ -134,18 +142,30 @@ def run_compare(asked: argparse.Namespace, streams: Streams) -> int:
 
 def run_table(asked: argparse.Namespace, streams: Streams) -> int:
     objects = Objects(streams.read_haul(asked.file), streams.terminal)
-    haul = objects.by_parts() if asked.parts else objects.haul
+    counts_parts = not (asked.whole or asked.strict)
+    haul = objects.by_parts() if counts_parts else objects.haul
+    has_rarity = counts_parts and is_covered(haul.job)
     lines = choose_rows(
-        haul, objects, RowChoice(asked.kind, asked.period, asked.strict, asked.rare, asked.top)
+        haul,
+        objects,
+        RowChoice(asked.kind, asked.period, asked.strict, asked.rare, asked.top),
+        has_rarity,
     )
-    by_parts = objects if asked.parts else None
+    by_parts = objects if counts_parts else None
     streams.write_lines(
-        format_table_csv(lines, asked.parts)
+        format_table_csv(lines, has_rarity, counts_parts)
         if asked.csv
         else format_table_json(haul, lines, by_parts)
         if asked.json
-        else format_table_text(lines, find_output_width(streams.stdout))
+        else format_table_text(lines, has_rarity, find_output_width(streams.stdout))
     )
+    return DONE
+
+
+def run_rarity(asked: argparse.Namespace, streams: Streams) -> int:
+    separator = Separator(read_rule(LIFE))
+    lines = [line for code in asked.objects for line in describe_rarity(separator, code)]
+    streams.write_lines(lines)
     return DONE
 
 
@@ -224,12 +244,15 @@ def run_search(asked: argparse.Namespace, streams: Streams) -> int:
         if haul is None:
             haul = begin_haul(asked)
         refuse_other_jobs(asked, haul)
+        # The file of this program may be replaced while the search goes on.
+        load_names()
         plan = Plan(
             find_next_soup(asked, haul),
             asked.until,
             asked.part,
             asked.workers or count_processors(),
             asked.finds,
+            USUAL_RARER if asked.rarer is None else asked.rarer,
         )
         stopping = Stopping()
         census = Census(asked.census, streams.terminal)

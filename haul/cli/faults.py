@@ -4,6 +4,7 @@ from __future__ import annotations
 
 import argparse
 
+from haul.formats.index import is_index
 from haul.formats.profile import STANDARD
 
 
@@ -20,9 +21,23 @@ def find_fault_of_search(asked: argparse.Namespace) -> str | None:
 def find_fault_of_check(asked: argparse.Namespace) -> str | None:
     if asked.choice is not None and asked.random is None:
         return "--choice needs --random"
+    if asked.files and is_index(asked.files[0]):
+        return find_fault_of_index_check(asked)
     if asked.random is not None and asked.random > len(asked.files):
         return f"--random {asked.random} is more than there are files"
     return None
+
+
+def find_fault_of_index_check(asked: argparse.Namespace) -> str | None:
+    if asked.samples:
+        return f"--samples needs hauls, and {asked.files[0]} is an index, which has no samples"
+    if asked.random is not None and len(asked.files) > 1:
+        return "--random draws parts of the index, so no haul can be given beside it"
+    return None
+
+
+def find_fault_of_counting(asked: argparse.Namespace) -> str | None:
+    return "--parts doesn't go with --whole" if asked.parts and asked.whole else None
 
 
 def find_fault_of_soups(asked: argparse.Namespace) -> str | None:

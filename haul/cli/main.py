@@ -10,6 +10,7 @@ from haul.census.client import Ended
 from haul.cli.parser import parse_arguments
 from haul.cli.statuses import DONE, FAILED, NO_MEMORY, REFUSED, USAGE
 from haul.cli.streams import Refused, Streams
+from haul.formats.tables import BadTable
 
 
 def main(arguments: list[str], stdin: BinaryIO, stdout: TextIO, stderr: TextIO) -> int:
@@ -20,7 +21,7 @@ def main(arguments: list[str], stdin: BinaryIO, stdout: TextIO, stderr: TextIO) 
         status = run_command(arguments, streams)
         stdout.flush()
         return status
-    except Refused as why:
+    except (Refused, BadTable) as why:
         complain(str(why))
         return REFUSED
     except NoCensus as why:

@@ -18,9 +18,12 @@ examples:
   haul search mine.haul                           run soups until Ctrl-C, and keep their haul
   census take --count 400 | haul check            is this haul right?
   haul check --samples rare.haul                  do the sample soups leave their objects?
+  haul check reference/index --random 2           are two parts of the reference census right?
+  haul index parts/*.haul > index                 an index, by which others can check a census
   haul join parts/*.haul > all.haul               one haul from the hauls of all parts of a census
   haul compare life.haul highlife.haul            two hauls side by side
   haul table --strict --rare all.haul             the rarest objects of a haul
+  haul rarity loafer block                        how rare are they?
   haul page < all.haul > all.html                 a page with a picture of each object
   haul page life.haul highlife.haul > both.html   a page of two hauls side by side
   haul soup C1/k_abcdef12345 | census name        what a soup of Catagolue leaves

@@ -6,6 +6,7 @@ import argparse
 from collections.abc import Callable
 
 from haul.formats.syntax import CODE, RULE, SEED
+from haul.names.objects import find_code_of_name
 
 
 def read_path(text: str) -> str:
@@ -49,9 +50,33 @@ def read_count(text: str) -> int:
     return int(text)
 
 
+def read_periods(text: str) -> tuple[int, int | None]:
+    """Reads `3`, `3+` or `3-8` as the least and the most period."""
+    least, between, most = text.partition("-")
+    if text.endswith("+"):
+        return read_count(text[:-1]), None
+    periods = read_count(least), read_count(most if between else least)
+    if periods[0] > periods[1]:
+        raise argparse.ArgumentTypeError(f"{text}: the first period is the larger one")
+    return periods
+
+
+def read_kinds(text: str) -> str:
+    """Reads the letters of kinds, each at most once."""
+    if not text or not set(text) <= set("spq") or len(set(text)) < len(text):
+        raise argparse.ArgumentTypeError(f"{text!r} isn't made of the letters s, p and q")
+    return text
+
+
 def read_code(text: str) -> str:
-    if not CODE.fullmatch(text.encode("utf-8", "surrogateescape")):
-        raise argparse.ArgumentTypeError(f"{text} is no code, as xs4_33 is one")
+    """Reads a code, or the name of an object."""
+    code = find_code_of_name(text)
+    if code is not None:
+        return code
+    if not CODE.fullmatch(text.encode("utf-8", "surrogateescape")) or "_" not in text:
+        raise argparse.ArgumentTypeError(
+            f"{text} is neither a code such as xs4_33 nor a known name"
+        )
     return text
 
 

@@ -14,11 +14,13 @@ LINE_LIMIT = 1000
 
 
 class BadHaul(Exception):
-    """A text is not that of a haul, from a place on: line and column count from 1, and a column is
-    a byte. If the words there are well formed, it says why they are wrong."""
+    """A text is not that of a haul, or of `what` else, from a place on: line and column count from
+    1, and a column is a byte. If the words there are well formed, it says why they are wrong."""
 
-    def __init__(self, line: int, column: int, why: str = "") -> None:
-        super().__init__(f"bad haul at line {line} column {column}" + (f": {why}" if why else ""))
+    def __init__(self, line: int, column: int, why: str = "", what: str = "haul") -> None:
+        reason = f": {why}" if why else ""
+        super().__init__(f"bad {what} at line {line} column {column}{reason}")
+        self.line, self.column, self.why = line, column, why
 
 
 class FieldReader:

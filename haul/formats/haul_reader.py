@@ -62,6 +62,7 @@ def read_one_haul(stream: IO[bytes]) -> Haul:
 
 def read_haul(lines: FieldReader) -> Haul:
     begins = lines.number + 1
+    lines.only_words(b"@VERSION", b"2")
     job = read_job(lines)
     ranges = read_ranges(lines)
     soups = lines.only_number(b"@NUM_SOUPS", count_numbers(ranges), MORE_SOUPS)
@@ -89,7 +90,6 @@ def read_haul(lines: FieldReader) -> Haul:
 
 
 def read_job(lines: FieldReader) -> Job:
-    lines.only_words(b"@VERSION", b"2")
     lines.next_line()
     lines.word(b"@ROOT")
     seed = lines.matched(SEED).removeprefix("seed=")

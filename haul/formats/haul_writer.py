@@ -4,17 +4,24 @@ from __future__ import annotations
 
 from collections.abc import Iterator
 
-from haul.formats.haul import Haul
+from haul.formats.haul import Haul, Job
+
+
+def format_job(job: Job) -> list[str]:
+    """Returns the lines that say which census it is."""
+    return [
+        f"@ROOT seed={job.seed}",
+        f"@RULE {job.rule}",
+        "@SYMMETRY C1",
+        "@PROFILE " + " ".join(map(str, job.profile)),
+    ]
 
 
 def format_header(haul: Haul) -> list[str]:
     """Returns the lines before the table of totals."""
     return [
         "@VERSION 2",
-        f"@ROOT seed={haul.job.seed}",
-        f"@RULE {haul.job.rule}",
-        "@SYMMETRY C1",
-        "@PROFILE " + " ".join(map(str, haul.job.profile)),
+        *format_job(haul.job),
         *(f"@RANGE {first} {count}" for first, count in haul.ranges or [(0, 0)]),
         f"@NUM_SOUPS {haul.soups}",
         f"@NUM_UNSETTLED {haul.unsettled}",

@@ -15,13 +15,17 @@ FILES_FOR_ONE_WRONG = 100
 
 
 class FileChoice:
-    """So many of these files, by a text that decides which ones: those with the lowest SHA-256 of
-    the text, a space and the name."""
+    """So many of these files, or parts, by a text that decides which ones: those with the lowest
+    SHA-256 of the text, a space and the name."""
 
-    def __init__(self, files: list[str], number: int, choice: str | None) -> None:
+    def __init__(
+        self, files: list[str], number: int, choice: str | None, thing: str = "file"
+    ) -> None:
         """Chooses `number` of the files, which are at least as many. Without a text, one is
         drawn."""
         self.files = files
+        # What they are called.
+        self.thing = thing
         self.number = number
         self.choice = choice or "".join(
             secrets.choice(string.ascii_lowercase + string.digits) for _ in range(CHOICE_LENGTH)
@@ -43,7 +47,7 @@ class FileChoice:
         files = len(self.files)
         wrong, chance = count_wrong_files(files), compute_chance_to_miss(files, self.number)
         return (
-            f"choice {self.choice}: {self.number} of {write_count(files, 'file')}; "
+            f"choice {self.choice}: {self.number} of {write_count(files, self.thing)}; "
             f"if {wrong} {pluralize(wrong, 'was', 'were')} wrong, a choice like this would miss "
             f"{pluralize(wrong, 'it', 'them all')} with probability {chance:.4f}"
         )

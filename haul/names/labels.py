@@ -7,15 +7,16 @@ from collections import Counter
 
 from haul.formats.codes import read_kind
 from haul.life.parts import Separation
-from haul.names.objects import NAMES
+from haul.names.objects import find_name
 
 NOT_SEPARATED = "not separated"
 
 
 def find_label(code: str, separation: Separation) -> str:
     """Returns the name of an object, or its parts in words if it has several; otherwise nothing."""
-    if code in NAMES:
-        return NAMES[code]
+    name = find_name(code)
+    if name is not None:
+        return name
     return describe_parts(separation.parts) if len(separation.parts) > 1 else ""
 
 
@@ -39,8 +40,10 @@ def describe_parts(parts: tuple[str, ...]) -> str:
 
 
 def name_several(code: str, count: int) -> str:
-    name = NAMES.get(code, code)
-    return name if count == 1 else f"{count} {make_plural(name) if code in NAMES else name}"
+    name = find_name(code)
+    if count == 1:
+        return name or code
+    return f"{count} {code if name is None else make_plural(name)}"
 
 
 def make_plural(name: str) -> str:

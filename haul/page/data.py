@@ -15,10 +15,11 @@ from haul.formats.rules import format_rule
 from haul.life.apgcodes import read_wechsler
 from haul.life.soups import make_soup
 from haul.names.labels import find_label
-from haul.names.objects import NAMES
+from haul.names.objects import find_name, find_other_names
 from haul.page.sides import Side, Sides
 from haul.views.intervals import find_interval
 from haul.views.layout import make_exact
+from haul.views.rarity import describe_part
 
 # What stands in place of the parts of an object that has no others.
 STRICT, NOT_SEPARATED = "strict", "not separated"
@@ -68,14 +69,36 @@ def describe_object(sides: Sides, code: str) -> dict[str, object]:
         "label": find_label(code, separation),
         "made": [describe_parts(side, code) for side in sides.all],
     }
-    if code in NAMES:
+    if find_name(code) is not None:
         known["named"] = 1
+    if find_other_names(code):
+        known["also"] = list(find_other_names(code))
     if any(of_objects):
         known["objects"] = of_objects
     if any(of_parts):
         known["parts"] = of_parts
+        known |= describe_rates(sides, code)
     cells = count_cells(code)
     return known if cells is None else known | {"cells": cells}
+
+
+def describe_rates(sides: Sides, code: str) -> dict[str, object]:
+    """Returns what is known of the rates of a part: how often the reference has it, and if hauls are
+    compared, the intervals and which rates differ from the first haul's."""
+    comparison = sides.compare_parts()
+    rates: dict[str, object] = {}
+    if comparison.has_rarity():
+        rates["rarity"] = describe_part(code)
+    if len(sides.all) > 1:
+        cells = comparison.cells(code)
+        rates["ends"] = [cell.ends and [shorten(end) for end in cell.ends] for cell in cells]
+        rates["stars"] = [int(cell.differs) for cell in cells]
+    return rates
+
+
+def shorten(number: float) -> float:
+    """Returns a number with six digits, which is more than a page shows."""
+    return float(f"{number:.6g}")
 
 
 def list_counts(haul: Haul, code: str) -> list[object] | int:
@@ -129,13 +152,9 @@ def encode_soup(text: str) -> str:
 
 
 def list_intervals(sides: Sides) -> dict[int, tuple[float, float]]:
-    """Returns the intervals of the totals of a page that compares hauls, by the totals."""
+    """Returns the intervals of the totals of objects on a page that compares hauls, by the
+    totals."""
     if len(sides.all) == 1:
         return {}
-    totals = {
-        haul.totals.get(code, 0)
-        for side in sides.all
-        for haul in (side.haul, side.by_parts)
-        for code in sides.known
-    }
+    totals = {side.haul.totals.get(code, 0) for side in sides.all for code in sides.known}
     return {total: find_interval(total) for total in sorted(totals)}

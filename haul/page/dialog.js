@@ -55,7 +55,7 @@ const phasesBlock = (object, haul) => {
   const known = object.made[haul.place] !== null ? recurrenceIn(object, haul) : null, cells = cellsOfCode(object.code);
   const phases = known ? known.phases : [cells], title = `${nameOf(object)}, ${kindWords(object)}`;
   const picture = cells ? pictureOf(phases, LARGE_SIDE, title) : pictureOfObject(object, LARGE_SIDE);
-  const facts = factsOf(object, known) + partsOf(object, haul) + (isCompared ? '' : totalsOf(object, haul));
+  const facts = factsOf(object, known) + partsOf(object, haul) + (object.rarity && fact('in the reference', object.rarity)) + (isCompared ? '' : totalsOf(object, haul));
   return `<div class="large"><div class="frame">${picture}</div>${phases.length > 1 ? PHASE_BUTTONS : ''}</div><dl class="facts">${facts}</dl>`;
 };
 const grouped = (values, textOf) => {

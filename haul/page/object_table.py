@@ -10,7 +10,7 @@ from haul.formats.codes import is_large, read_drawing, read_kind
 from haul.life.apgcodes import read_wechsler
 from haul.life.drawing import draw_picture
 from haul.names.labels import find_label, mark_label
-from haul.names.objects import NAMES
+from haul.names.objects import find_name
 from haul.page.data import count_cells
 from haul.page.sides import Side, Sides
 from haul.views.rates import bound_rarity
@@ -93,7 +93,7 @@ def draw_object(code: str) -> str:
     text = read_drawing(code)
     cells = read_wechsler(text) if text is not None else None
     if cells is not None:
-        return draw_picture(cells, NAMES.get(code, code))
+        return draw_picture(cells, find_name(code) or code)
     # A haul can have a code that names nothing.
     return "too large to draw" if is_large(code) else "can't be drawn"
 

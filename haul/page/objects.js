@@ -12,28 +12,23 @@ const noun = (number, one) => `${one}${String(number) === '1' ? '' : 's'}`;
 const KIND_WORDS = { s: 'still life', p: 'oscillator', q: 'spaceship', '': 'object' };
 const NOT_SEPARATED = 'not separated', STRICT = 'strict';
 const kindWords = ({ letter, period }) => letter === 's' || !letter ? KIND_WORDS[letter] : `${KIND_WORDS[letter]} of period ${period}`;
-// What else objects are called, for the search.
-const ALIASES = {
-  xq4_6frc: 'LWSS', xq4_27dee6: 'MWSS', xq4_27deee6: 'HWSS', xp2_s01110szw222: 'TL', xp15_4r4z4r4: 'PD',
-};
-
 // A way of counting: the total and the samples for each haul, and what they say together.
-const counting = values => {
+const counting = (values, ends, stars) => {
   const totals = hauls.map((_, place) => values?.[place]?.[0] ?? values?.[place] ?? 0).map(total => total || 0);
   const rates = totals.map((total, place) => hauls[place].soups ? Number(total) / hauls[place].soups : 0);
   return {
     totals, rates, rate: Math.max(...rates), total: totals.reduce((sum, total) => sum + BigInt(total), 0n),
-    samples: hauls.map((_, place) => values?.[place] ? values[place].slice(1) : []),
+    samples: hauls.map((_, place) => values?.[place] ? values[place].slice(1) : []), ends, stars,
   };
 };
-const objectOf = ({ code, label, named, made, cells, objects: asObjects, parts: asParts }) => {
-  const { letter, period } = kindOf(code), ways = { objects: counting(asObjects), parts: counting(asParts) };
+const objectOf = ({ code, label, also = [], named, made, cells, objects: asObjects, parts: asParts, ends, stars, rarity = '' }) => {
+  const { letter, period } = kindOf(code), ways = { objects: counting(asObjects), parts: counting(asParts, ends, stars) };
   const isLeftOut = way => !ways[way].totals.some(total => BigInt(total) >= BigInt(data.least) && BigInt(total) > 0n);
   return {
-    code, label, isNamed: Boolean(named), made, cells, letter, period, ...ways, isLeftOut: { objects: isLeftOut('objects'), parts: isLeftOut('parts') },
+    code, label, rarity, isNamed: Boolean(named), made, cells, letter, period, ...ways, isLeftOut: { objects: isLeftOut('objects'), parts: isLeftOut('parts') },
     // An object is shown as strict if it is in one of the hauls, or if it couldn't be separated.
     isStrict: made.some(one => one === STRICT || one === NOT_SEPARATED), isUnsure: made.includes(NOT_SEPARATED),
-    text: [code, label, ALIASES[code], kindWords({ letter, period })].join(' ').toLowerCase(),
+    text: [code, label, ...also, kindWords({ letter, period })].join(' ').toLowerCase(),
   };
 };
 const objects = new Map(data.objects.map(one => [one.code, objectOf(one)]));
@@ -49,15 +44,14 @@ const oftenWords = (total, soups) => !soups || !Number(total) ? 'none'
   : Number(total) * 2 > soups ? `${figure(Number(total) / soups)} per soup` : `≤ 1 in ${whole(oneIn(total, soups))} soups`;
 const perMillion = rate => `${figure(rate * PER)} per million soups`;
 
-// ---- Comparing: the interval of 95 % of a rate, as if objects came singly, and how many times as many there are as in the first haul.
+// ---- Comparing: the interval of 95 % of a rate, and how many times as many there are as in the first haul. Those of parts are in the
+// data, since they allow for soups that leave several. Those of objects are as if objects came singly, and have no test.
 const intervalOf = (way, place) => {
+  if (way.ends) return way.ends[place];
   const ends = data.intervals[way.totals[place]], { soups } = hauls[place];
   return ends && soups ? ends.map(end => end / soups * PER) : null;
 };
-const differs = (way, place) => {
-  const [first, other] = [intervalOf(way, 0), intervalOf(way, place)];
-  return place > 0 && first !== null && other !== null && (first[0] > other[1] || other[0] > first[1]);
-};
+const differs = (way, place) => Boolean(way.stars?.[place]);
 const ratioOf = (way, place) => way.rates[0] ? way.rates[place] / way.rates[0] : way.rates[place] ? Infinity : 0;
 const ratioWords = (way, place) => {
   const ratio = ratioOf(way, place), { letter } = hauls[place], first = hauls[0].letter;

@@ -39,7 +39,7 @@ const showControls = () => {
   for (const radio of controls.elements.view) radio.checked = radio.value === choice.view;
 };
 const sumOf = some => some.reduce((sum, object) => sum + wayOf(object).total, 0n);
-const COMPARED = ' Bars: objects per million soups; * differs from A: the intervals of 95 % don’t meet, as if objects came singly.';
+const COMPARED = ' Bars: objects per million soups; * differs from A (p < 0.001).';
 const showCount = () => {
   const byParts = choice.parts === '1', kinds = byParts ? data.kindsOfParts : data.kinds;
   const every = hauls.reduce((sum, haul) => sum + BigInt(byParts ? haul.parts : haul.objects), 0n);

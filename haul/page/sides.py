@@ -10,7 +10,7 @@ from haul.formats.haul import Haul
 from haul.hauls.by_parts import Objects
 from haul.life.parts import Separation
 from haul.terminal import Terminal
-from haul.views.compare import letter_hauls, rank_codes
+from haul.views.compare import Comparison, letter_hauls, rank_codes
 
 # A page has room for so many hauls.
 MOST_SIDES = 8
@@ -80,6 +80,15 @@ class Sides:
         """Checks whether an object is strict, or couldn't be separated, in one of the hauls that
         have it."""
         return any(side.may_be_strict(code) for side in self.all)
+
+    def compare_parts(self) -> Comparison:
+        """Returns the parts of all hauls side by side."""
+        return Comparison(
+            [side.by_parts for side in self.all],
+            [side.objects for side in self.all],
+            self.known,
+            by_parts=True,
+        )
 
     def kinds(self) -> set[str]:
         """Returns the codes of all objects, with or without a place on the page."""

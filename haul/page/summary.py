@@ -22,7 +22,8 @@ COUNTED = "the formally verified program <code>census</code> counted the objects
 NOTES = """\
 <p>An object is <em>strict</em> if it doesn't consist of smaller objects that would do the same each by itself, as the two blocks of a
 bi-block would. The parts are found by a definition of this project, not by apgsearch's code. Names are those of LifeWiki. A haul doesn't
-record how many soups contain an object, so only an upper bound is shown: “≤ 1 in 50 soups” means that at most one soup in 50 has one.</p>
+record how many soups contain an object, so only an upper bound is shown: “≤ 1 in 50 soups” means that at most one soup in 50 has one. The
+reference is a census of 100,000,000 soups of Life that comes with <code>haul</code>; it does record how many soups contain each part.</p>
 """
 ABOUT = """\
 <p>Made by <code>haul page</code> of Gokzerd $version from $hauls. A <em>haul</em> is the text that <code>census take</code> prints: how many of

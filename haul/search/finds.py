@@ -1,6 +1,7 @@
 """Finds: the parts of objects that a search comes upon for the first time.
 
-A find is a part whose code no object of the haul had as a part before, and that isn't common.
+A find is a part whose code no object of the haul had as a part before, and that isn't common: under
+Life, the reference census has it in fewer soups than a limit.
 docs/HAUL.md says what the parts of an object are. The soups that one call of `census take` runs are
 a batch, as in search.py. """
 
@@ -18,8 +19,8 @@ from haul.formats.profile import STANDARD
 from haul.formats.rules import LIFE
 from haul.life.generations import read_rule
 from haul.life.parts import Separator
-from haul.names.common_parts import COMMON
-from haul.names.objects import NAMES
+from haul.names.objects import find_name
+from haul.rarity.reference import SOUPS, find_occurrence, is_covered, load_reference
 
 # The separator remembers what it has run. After this many runs it forgets them, since a search goes
 # on for weeks.
@@ -35,16 +36,21 @@ class Find:
     soup: int
 
     def fields(self, job: Job) -> list[str]:
-        """Returns what is told of the find: when that is, the code, the name or `-`, the soup, and
-        a command that shows it."""
+        """Returns what is told of the find: when that is, the code, the name or `-`, the soup, a
+        command that shows it, and how rare it is by the reference or `-`."""
         now = datetime.now(timezone.utc).strftime("%Y-%m-%dT%H:%M:%SZ")
         return [
             now,
             self.code,
-            NAMES.get(self.code, "-"),
+            find_name(self.code) or "-",
             str(self.soup),
             format_find_command(job, self.soup),
+            find_occurrence(self.code).describe() if is_covered(job) else "-",
         ]
+
+    def is_unknown(self, job: Job) -> bool:
+        """Checks whether the reference could have the part and doesn't."""
+        return is_covered(job) and not find_occurrence(self.code).having
 
 
 @dataclass
@@ -99,6 +105,13 @@ def can_hold(whole: Kind, part: Kind) -> bool:
     return (part.letter == "q") == (whole.letter == "q") and whole.number % part.period() == 0
 
 
+def list_common_parts(rarer: int) -> frozenset[str]:
+    """Returns the parts that at least one soup of the reference in `rarer` has."""
+    return frozenset(
+        code for code, entry in load_reference().items() if entry.soups * rarer >= SOUPS
+    )
+
+
 class Finder:
     """Looks for finds, an object at a time, so that the search can do other things in between.
 
@@ -106,9 +119,10 @@ class Finder:
     one of them. A part that is also an object of its own in the file is known without that, and for
     most parts that is enough."""
 
-    def __init__(self, job: Job, haul: Haul) -> None:
+    def __init__(self, job: Job, haul: Haul, rarer: int) -> None:
+        """Looks for parts that, under Life, fewer than one soup of the reference in `rarer` has."""
         self.separator = Separator(read_rule(job.rule))
-        self.common = COMMON if job.rule == LIFE else frozenset()
+        self.common = list_common_parts(rarer) if job.rule == LIFE else frozenset()
         # Under another rule or profile the first batch tells no finds: almost every part in it
         # would be one.
         self.is_silent = (job.rule != LIFE or job.profile != STANDARD) and haul.soups == 0

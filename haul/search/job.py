@@ -12,6 +12,8 @@ from haul.formats.rules import LIFE
 
 # Two people who draw their seeds don't take the same soups: there are 62^12 of these.
 SEED_BEGINS, SEED_LENGTH = "h_", 12
+# A find is usually a part that fewer than one soup in so many has.
+USUAL_RARER = 1_000_000
 
 
 class Disagrees(Exception):
@@ -35,6 +37,10 @@ def refuse_other_jobs(asked: argparse.Namespace, haul: Haul) -> None:
     said = (asked.seed, asked.rule, *list_profile_numbers(asked), asked.first)
     first = haul.ranges[0][0] if haul.ranges else asked.first
     there = (haul.job.seed, haul.job.rule, *haul.job.profile, first)
+    if asked.rarer is not None and haul.job.rule != LIFE:
+        raise Disagrees(
+            f"{asked.file}: --rarer needs Life, since the reference has no soups of {haul.job.rule}"
+        )
     for name, wanted, is_so in zip(
         ("seed", "rule", *Profile._fields, "first soup"), said, there, strict=True
     ):

@@ -41,6 +41,8 @@ SHARE_OF_WRITING, MOST_SECONDS_UNKEPT = 50, 600.0
 # The longest time for which it waits for streams, and for which it looks for finds before it looks
 # at streams again.
 SECONDS_AT_A_TIME, SECONDS_OF_FINDING = 0.5, 0.02
+# On a terminal, what the reference doesn't have begins with this.
+UNKNOWN_MARK = "!"
 # The time for which finds are still told after a signal that ends the search at once.
 LAST_SECONDS = 1.0
 # If finds are still told this long after the last batch, a line says so.
@@ -64,6 +66,8 @@ class Plan:
     workers: int
     # The program that is called for each find.
     finds: str | None
+    # A find is a part that fewer than one soup of the reference in this number has.
+    rarer: int
 
 
 @dataclass
@@ -107,9 +111,10 @@ class Search:
         self.batch: Batch | None = None
         self.waiter = StreamWaiter()
         self.waiter.add(stopping.reading, stopping.hear)
-        self.finder = Finder(haul.job, haul)
+        self.finder = Finder(haul.job, haul, plan.rarer)
         self.calls = FindCalls(self.waiter, plan.finds, self.terminal.complain)
         self.finds = 0
+        self.marks_finds = output.isatty()
         self.line = StatusLine(self.terminal)
         self.said_that_it_finishes = self.said_what_is_left = False
         self.began = self.kept_at = time.monotonic()
@@ -247,7 +252,8 @@ class Search:
             for find in self.finder.step():
                 fields = find.fields(self.job)
                 self.terminal.show_progress("")
-                print("\t".join(fields), file=self.output, flush=True)
+                mark = UNKNOWN_MARK if self.marks_finds and find.is_unknown(self.job) else ""
+                print(mark + "\t".join(fields), file=self.output, flush=True)
                 self.finds += 1
                 self.calls.add(fields)
 

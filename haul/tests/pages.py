@@ -36,6 +36,14 @@ def objects_of(text: str) -> dict[str, Any]:
     return {one["code"]: one for one in data_of(text)["objects"]}
 
 
+RATES = ("rarity", "ends", "stars")
+
+
+def without_rates(one: dict[str, Any]) -> dict[str, Any]:
+    """Returns an object of a page without what is said of the rates of parts."""
+    return {name: value for name, value in one.items() if name not in RATES}
+
+
 def before_table(text: str) -> str:
     """Returns what a page has before its table."""
     return text.partition("<noscript>")[0].partition("<body>")[2]

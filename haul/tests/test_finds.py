@@ -23,15 +23,15 @@ from haul.formats.haul_reader import read_one_haul
 from haul.formats.profile import STANDARD, Profile
 from haul.life.generations import read_rule
 from haul.life.parts import Separator
-from haul.names.common_parts import COMMON, LEAST
+from haul.rarity.reference import SOUPS, find_occurrence, load_reference
 from haul.census.background import FIND, StreamWaiter, read_launcher
 from haul.search.find_calls import FindCalls
-from haul.search.finds import Find, Finder, Unread
+from haul.search.finds import Find, Finder, list_common_parts, Unread
 from haul.search.keeper import Keeper
 from haul.search.search import Batch, Dropped, Plan, Search
 from haul.search.status_line import Status, StatusLine, format_duration, format_short
 from haul.search.stopping import Stopping
-from haul.tests.called import CENSUS, HAUL, TOP, census, make_client, run
+from haul.tests.called import CENSUS, HAUL, TOP, census, make_client
 from haul.terminal import Terminal
 from haul.tests.searching import CLOCK, CLOCK_SOUP, Searches
 
@@ -40,8 +40,11 @@ LIFE, OTHER_RULE, OTHER_PROFILE = (
     Job("a", "b36s23", STANDARD),
     Job("a", "b3s23", Profile(4, 8, 10, 30)),
 )
-# The last of them is two blocks. The tripole isn't common under Life, and the others are.
-TRIPOLE, BLINKER, BLOCK, BI_BLOCK = "xp2_31ago", "xp2_7", "xs4_33", "xs8_rr"
+# The last of them is two blocks. The bipole isn't common under Life, and the others are.
+# Fewer than one soup in so many has a bipole.
+RARER = 10_000
+RARE = [f"--rarer={RARER}"]
+BIPOLE, BLINKER, BLOCK, BI_BLOCK = "xp2_31ago", "xp2_7", "xs4_33", "xs8_rr"
 
 
 def haul_of(job: Job, *codes: str) -> Haul:
@@ -67,33 +70,46 @@ def found(finder: Finder, *batches: list[tuple[str, int]]) -> list[Find]:
 
 
 class Common(unittest.TestCase):
-    def test_the_list(self) -> None:
-        """It is made of the haul in examples/."""
-        rows = run("table", "--parts", "--csv", str(TOP / "examples" / "100000.haul"))[
-            1
-        ].splitlines()[1:]
-        totals = {code: int(total) for _, code, total, *_ in (row.split(",") for row in rows)}
-        self.assertEqual(COMMON, {code for code, total in totals.items() if total >= LEAST})
-        self.assertEqual(LEAST, 3)
+    def test_the_limit(self) -> None:
+        """A part is common if at least one soup of the reference in so many has it."""
+        reference = load_reference()
+        for rarer, some in ((10_000, 37), (1_000_000, 100), (SOUPS, 971)):
+            common = list_common_parts(rarer)
+            self.assertGreaterEqual(len(common), some)
+            for code, entry in reference.items():
+                self.assertEqual(code in common, entry.soups >= SOUPS / rarer)
+        self.assertEqual(list_common_parts(1), frozenset())
+
+    def test_rarity(self) -> None:
+        """The sixth field is that of the reference under Life with the standard profile."""
+        self.assertEqual(Find(BIPOLE, 1).fields(LIFE)[5], find_occurrence(BIPOLE).describe())
+        self.assertEqual(Find("xs99_0", 1).fields(LIFE)[5], "none in 100000000")
+        for job in (OTHER_PROFILE, OTHER_RULE):
+            self.assertEqual(Find(BIPOLE, 1).fields(job)[5], "-")
+            self.assertFalse(Find("xs99_0", 1).is_unknown(job))
+        self.assertTrue(Find("xs99_0", 1).is_unknown(LIFE))
+        self.assertFalse(Find(BIPOLE, 1).is_unknown(LIFE))
 
 
 class Finds(unittest.TestCase):
     def test_what_is_common(self) -> None:
         self.assertEqual(
-            found(Finder(LIFE, haul_of(LIFE)), [(BLOCK, 5), (TRIPOLE, 6), (BI_BLOCK, 1)]),
-            [Find(TRIPOLE, 6)],
+            found(Finder(LIFE, haul_of(LIFE), RARER), [(BLOCK, 5), (BIPOLE, 6), (BI_BLOCK, 1)]),
+            [Find(BIPOLE, 6)],
         )
 
     def test_it_is_told_once(self) -> None:
         self.assertEqual(
-            found(Finder(LIFE, haul_of(LIFE)), [(TRIPOLE, 9), (BLOCK, 3)], [], [(TRIPOLE, 10)]),
-            [Find(TRIPOLE, 9)],
+            found(
+                Finder(LIFE, haul_of(LIFE), RARER), [(BIPOLE, 9), (BLOCK, 3)], [], [(BIPOLE, 10)]
+            ),
+            [Find(BIPOLE, 9)],
         )
 
     def test_in_the_order_of_soups(self) -> None:
         self.assertEqual(
             found(
-                Finder(OTHER_RULE, haul_of(OTHER_RULE, BI_BLOCK)),
+                Finder(OTHER_RULE, haul_of(OTHER_RULE, BI_BLOCK), RARER),
                 [(BLINKER, 9), ("xs6_696", 3), (BLOCK, 1)],
             ),
             [Find("xs6_696", 3), Find(BLINKER, 9)],
@@ -103,29 +119,31 @@ class Finds(unittest.TestCase):
         """A blinker that was there as a part of a traffic light is known, and so is one that was an
         object."""
         for there in ("xp2_s01110szw222", BLINKER):
-            finder = Finder(OTHER_RULE, haul_of(OTHER_RULE, BLOCK, there))
+            finder = Finder(OTHER_RULE, haul_of(OTHER_RULE, BLOCK, there), RARER)
             self.assertEqual(
                 found(finder, [(BLINKER, 9), ("xs6_696", 10)], [(BLINKER, 11)]),
                 [Find("xs6_696", 10)],
             )
 
     def test_a_new_object_of_known_parts(self) -> None:
-        self.assertEqual(found(Finder(OTHER_RULE, haul_of(OTHER_RULE, BLOCK)), [(BI_BLOCK, 9)]), [])
+        self.assertEqual(
+            found(Finder(OTHER_RULE, haul_of(OTHER_RULE, BLOCK), RARER), [(BI_BLOCK, 9)]), []
+        )
 
     def test_parts_of_a_new_object(self) -> None:
         """The soup is the lowest of those that left the part."""
-        finder = Finder(OTHER_RULE, haul_of(OTHER_RULE, "xs6_696"))
+        finder = Finder(OTHER_RULE, haul_of(OTHER_RULE, "xs6_696"), RARER)
         self.assertEqual(
             found(finder, [(BI_BLOCK, 9), (BLOCK, 20)], [(BLOCK, 30)]), [Find(BLOCK, 9)]
         )
 
     def test_the_part_that_begins_a_haul(self) -> None:
         """Under another rule or profile it tells nothing, and what it had is known."""
-        for job, finds in ((LIFE, [Find(TRIPOLE, 5)]), (OTHER_RULE, []), (OTHER_PROFILE, [])):
-            finder = Finder(job, haul_of(job))
-            self.assertEqual(found(finder, [(TRIPOLE, 5)]), finds)
+        for job, finds in ((LIFE, [Find(BIPOLE, 5)]), (OTHER_RULE, []), (OTHER_PROFILE, [])):
+            finder = Finder(job, haul_of(job), RARER)
+            self.assertEqual(found(finder, [(BIPOLE, 5)]), finds)
             self.assertEqual(
-                found(finder, [(TRIPOLE, 9), ("xp3_695qc8zx33", 11)]), [Find("xp3_695qc8zx33", 11)]
+                found(finder, [(BIPOLE, 9), ("xp3_695qc8zx33", 11)]), [Find("xp3_695qc8zx33", 11)]
             )
 
     def test_a_haul_without_objects(self) -> None:
@@ -144,27 +162,28 @@ class Finds(unittest.TestCase):
                         totals={},
                         samples={},
                     ),
+                    RARER,
                 ),
-                [(TRIPOLE, 9)],
+                [(BIPOLE, 9)],
             ),
-            [Find(TRIPOLE, 9)],
+            [Find(BIPOLE, 9)],
         )
 
     def test_what_is_common_under_another_profile(self) -> None:
         self.assertEqual(
             found(
-                Finder(OTHER_PROFILE, haul_of(OTHER_PROFILE, TRIPOLE)),
+                Finder(OTHER_PROFILE, haul_of(OTHER_PROFILE, BIPOLE), RARER),
                 [(BLOCK, 100), (BI_BLOCK, 101)],
             ),
             [],
         )
 
     def test_objects_are_separated_only_if_need_be(self) -> None:
-        finder = Finder(LIFE, haul_of(LIFE, TRIPOLE, "xp2_s01110szw222", BI_BLOCK))
+        finder = Finder(LIFE, haul_of(LIFE, BIPOLE, "xp2_s01110szw222", BI_BLOCK), RARER)
         with patch.object(
             finder.separator, "separate", wraps=finder.separator.separate
         ) as separated:
-            self.assertEqual(found(finder, [(TRIPOLE, 200), (BLOCK, 201)]), [])
+            self.assertEqual(found(finder, [(BIPOLE, 200), (BLOCK, 201)]), [])
             self.assertEqual(separated.call_count, 2)
             # An oscillator of period 3 is in none of the three, and a still life of seven cells may
             # be in each of them.
@@ -179,9 +198,9 @@ class Finds(unittest.TestCase):
 
     def test_how_many_are_left(self) -> None:
         """Objects of the file count once those of the batch are separated."""
-        finder = Finder(LIFE, haul_of(LIFE, BI_BLOCK))
+        finder = Finder(LIFE, haul_of(LIFE, BI_BLOCK), RARER)
         self.assertEqual(finder.left(), 0)
-        finder.add([("xs7_2552", 11), (TRIPOLE, 12)])
+        finder.add([("xs7_2552", 11), (BIPOLE, 12)])
         self.assertEqual(finder.left(), 2)
         self.assertEqual(finder.step(), [])
         self.assertEqual(finder.left(), 1)
@@ -225,14 +244,14 @@ class Finds(unittest.TestCase):
 
     def test_what_is_remembered_is_bounded(self) -> None:
         with patch("haul.search.finds.MOST_RUNS", 3):
-            finder = Finder(LIFE, haul_of(LIFE))
+            finder = Finder(LIFE, haul_of(LIFE), RARER)
             self.assertEqual(
                 len(
                     found(
                         finder,
                         [
                             (code, 1)
-                            for code in (TRIPOLE, "xp3_695qc8zx33", "xs8_rr", "xs6_696", "xp2_318c")
+                            for code in (BIPOLE, "xp3_695qc8zx33", "xs8_rr", "xs6_696", "xp2_318c")
                         ],
                     )
                 ),
@@ -243,10 +262,17 @@ class Finds(unittest.TestCase):
 
 class Fields(Searches):
     def test_fields(self) -> None:
-        time_, *fields = Find(TRIPOLE, 17).fields(LIFE)
+        time_, *fields = Find(BIPOLE, 17).fields(LIFE)
         self.assertRegex(time_, r"^\d{4}-\d\d-\d\dT\d\d:\d\d:\d\dZ$")
         self.assertEqual(
-            fields, [TRIPOLE, "tripole", "17", "census soup --seed a 17 | census name --rule b3s23"]
+            fields,
+            [
+                BIPOLE,
+                "bipole",
+                "17",
+                "census soup --seed a 17 | census name --rule b3s23",
+                find_occurrence(BIPOLE).describe(),
+            ],
         )
         self.assertEqual(Find("xs99_0", 1).fields(LIFE)[2], "-")
 
@@ -279,9 +305,9 @@ class Fields(Searches):
                 )
 
     def test_a_search_tells_them(self) -> None:
-        words = ["--seed=", "--first", str(CLOCK_SOUP - 20), "--part", "10"]
+        words = ["--seed=", "--first", str(CLOCK_SOUP - 20), "--part", "10", *RARE]
         self.assertEqual(self.search(*words, "--until", "20"), (0, "", ""))
-        status, output, errors = self.search("--until", "40", "--part", "10")
+        status, output, errors = self.search("--until", "40", "--part", "10", *RARE)
         time_, *fields = output.removesuffix("\n").split("\t")
         self.assertEqual(
             (status, errors, fields),
@@ -293,6 +319,7 @@ class Fields(Searches):
                     "clock",
                     str(CLOCK_SOUP),
                     f"census soup --seed '' {CLOCK_SOUP} | census name --rule b3s23",
+                    find_occurrence(CLOCK).describe(),
                 ],
             ),
         )
@@ -305,15 +332,21 @@ class Fields(Searches):
             60,
         )
 
+    def test_rarer_needs_life(self) -> None:
+        words = [*RARE, "--rule=b36s23", "--until=1"]
+        told = "haul: mine.haul: --rarer needs Life, since the reference has no soups of b36s23\n"
+        self.assertEqual(self.search(*words), (3, "", told))
+        self.assertFalse(self.file.exists())
+
     def test_it_is_told_after_it_is_in_the_file(self) -> None:
-        with self.start("--seed=", "--first", str(CLOCK_SOUP), "--until", "1") as program:
+        with self.start("--seed=", "--first", str(CLOCK_SOUP), "--until", "1", *RARE) as program:
             assert program.stdout
             self.assertIn(CLOCK, program.stdout.readline().decode())
             self.assertIn(CLOCK, self.haul().totals)
             program.communicate(timeout=60)
 
     def test_it_is_not_told_if_it_is_not_in_the_file(self) -> None:
-        words = ["--seed=", "--first", str(CLOCK_SOUP), "--until", "1"]
+        words = ["--seed=", "--first", str(CLOCK_SOUP), "--until", "1", *RARE]
         self.assertEqual(
             self.search(*words, most_bytes=100), (5, "", "haul: mine.haul.new: File too large\n")
         )
@@ -323,7 +356,7 @@ class Fields(Searches):
 class Calls(Searches):
     """The program of `--finds`."""
 
-    ONE = ["--seed=", "--first", str(CLOCK_SOUP), "--until", "1"]
+    ONE = ["--seed=", "--first", str(CLOCK_SOUP), "--until", "1", *RARE]
 
     def test_its_arguments(self) -> None:
         program = self.stub('for word; do echo "$word" >> said; done')
@@ -526,8 +559,8 @@ class Telling(Searches):
         with patch("time.monotonic", return_value=1000.0) as now:
             keeper = Keeper(str(self.file))
             search = Search(
-                Plan(100, 200, 30, 1, None),
-                haul_of(LIFE, BLOCK, TRIPOLE),
+                Plan(100, 200, 30, 1, None, RARER),
+                haul_of(LIFE, BLOCK, BIPOLE),
                 keeper,
                 make_client(),
                 Stopping(),
@@ -554,7 +587,7 @@ class Telling(Searches):
     def test_a_search_with_more_than_is_asked_for(self) -> None:
         keeper = Keeper(str(self.file))
         search = Search(
-            Plan(100, 50, 30, 1, None),
+            Plan(100, 50, 30, 1, None, RARER),
             haul_of(LIFE, BLOCK),
             keeper,
             make_client(),
@@ -570,7 +603,7 @@ class Telling(Searches):
         with patch("time.monotonic", return_value=1000.0) as now:
             keeper = Keeper(str(self.file))
             search = Search(
-                Plan(0, None, 30, 1, None),
+                Plan(0, None, 30, 1, None, RARER),
                 haul_of(LIFE),
                 keeper,
                 Census(CENSUS, Terminal(said)),
@@ -726,7 +759,7 @@ class Pace(Searches):
         with patch("time.monotonic", return_value=1000.0) as now:
             keeper = Keeper(str(self.file))
             search = Search(
-                Plan(0, None, 10, 1, None),
+                Plan(0, None, 10, 1, None, RARER),
                 haul_of(LIFE),
                 keeper,
                 make_client(),
@@ -752,7 +785,7 @@ class Pace(Searches):
         with patch("time.monotonic", return_value=1000.0) as now:
             keeper, stopping = Keeper(str(self.file)), Stopping()
             search = Search(
-                Plan(0, None, 10, 1, None),
+                Plan(0, None, 10, 1, None, RARER),
                 haul_of(LIFE),
                 keeper,
                 make_client(),
@@ -790,7 +823,7 @@ class Pace(Searches):
         client = Census(CENSUS, Terminal(said))
         with patch("time.monotonic", return_value=1000.0) as now:
             search = Search(
-                Plan(0, None, 10, 1, None), haul_of(LIFE), keeper, client, stopping, told
+                Plan(0, None, 10, 1, None, RARER), haul_of(LIFE), keeper, client, stopping, told
             )
             with patch.object(search, "find_for") as find_for, patch.object(
                 search.waiter, "wait"
@@ -799,7 +832,7 @@ class Pace(Searches):
                     now.return_value = at
                     search.wait_until(Mock(side_effect=[False, True]))
                     self.assertEqual((wait.call_args.args, find_for.call_count), ((seconds,), 0))
-                search.finder.add([(TRIPOLE, 1)])
+                search.finder.add([(BIPOLE, 1)])
                 search.wait_until(Mock(side_effect=[False, True]))
                 self.assertEqual((wait.call_args.args, find_for.call_args.args), ((0,), (0.02,)))
                 stopping.came(signal.SIGTERM)
@@ -811,7 +844,7 @@ class Pace(Searches):
             search.find_for(0.0)
             self.assertEqual(told.getvalue(), "")
             search.find_for(0.001)
-            self.assertIn(TRIPOLE, told.getvalue())
+            self.assertIn(BIPOLE, told.getvalue())
             self.assertEqual(search.status().finds, 1)
         os.close(keeper.lock)
 
@@ -822,14 +855,14 @@ class Pace(Searches):
             io.StringIO()
         ) as said:
             search = Search(
-                Plan(0, None, 10, 1, None),
+                Plan(0, None, 10, 1, None, RARER),
                 haul_of(LIFE),
                 keeper,
                 make_client(),
                 Stopping(),
                 sys.stdout,
             )
-            search.finder.add([(TRIPOLE, 1), (CLOCK, 2)])
+            search.finder.add([(BIPOLE, 1), (CLOCK, 2)])
             looked: list[tuple[float, int]] = []
 
             def find_for(_seconds: float) -> None:
@@ -851,7 +884,12 @@ class Pace(Searches):
         """They are written, and the batch that runs isn't."""
         keeper, stopping = Keeper(str(self.file)), Stopping()
         search = Search(
-            Plan(0, None, 10, 1, None), haul_of(LIFE), keeper, make_client(), stopping, sys.stdout
+            Plan(0, None, 10, 1, None, RARER),
+            haul_of(LIFE),
+            keeper,
+            make_client(),
+            stopping,
+            sys.stdout,
         )
         begin_batch = search.begin_batch
 
@@ -873,7 +911,12 @@ class Pace(Searches):
         """They are written together, at the end at the latest."""
         keeper = Keeper(str(self.file))
         search = Search(
-            Plan(0, 60, 10, 2, None), haul_of(LIFE), keeper, make_client(), Stopping(), sys.stdout
+            Plan(0, 60, 10, 2, None, RARER),
+            haul_of(LIFE),
+            keeper,
+            make_client(),
+            Stopping(),
+            sys.stdout,
         )
         written: list[int] = []
         write = keeper.write

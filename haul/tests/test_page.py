@@ -23,9 +23,20 @@ from haul.life.generations import read_rule
 from haul.page.summary import describe_profile
 from haul.tests.called import CENSUS, TOP, census, run
 from haul.tests.drawn import text_of
-from haul.tests.pages import before_table, compared, data_of, objects_of, page, table_of
+from haul.tests.pages import (
+    RATES,
+    before_table,
+    compared,
+    data_of,
+    objects_of,
+    page,
+    table_of,
+    without_rates,
+)
 from haul.tests.test_whole import cells_of, drawn, made
-from haul.views.intervals import find_interval
+from haul.rarity.reference import find_dispersion
+from haul.views.intervals import find_dispersed_interval, find_interval
+from haul.views.rarity import describe_part
 
 PULSAR = "xp3_co9nas0san9oczgoldlo0oldlogz1047210127401"
 
@@ -433,7 +444,7 @@ class Data(unittest.TestCase):
     def test_each_object(self) -> None:
         """14 blinkers, of which no object is one alone; 3 + 2 + 2 blocks; 3 beehives."""
         self.assertEqual(
-            data_of(page(self.HAUL, 0))["objects"],
+            list(map(without_rates, data_of(page(self.HAUL, 0))["objects"])),
             [
                 {
                     "code": "xp2_1110s",
@@ -649,7 +660,7 @@ class Comparing(unittest.TestCase):
         each haul."""
         objects = objects_of(compared(self.LIFE, self.OTHER))
         self.assertEqual(
-            objects["xs12_raar"],
+            without_rates(objects["xs12_raar"]),
             {
                 "code": "xs12_raar",
                 "label": "table on table",
@@ -661,7 +672,7 @@ class Comparing(unittest.TestCase):
             },
         )
         self.assertEqual(
-            objects["xs6_9f"],
+            without_rates(objects["xs6_9f"]),
             {
                 "code": "xs6_9f",
                 "label": "",
@@ -678,8 +689,24 @@ class Comparing(unittest.TestCase):
         found = data_of(compared(self.LIFE, self.OTHER))["intervals"]
         self.assertEqual(
             {int(total): tuple(ends) for total, ends in found.items()},
-            {total: find_interval(total) for total in (0, 4, 5, 8, 10, 1000)},
+            {total: find_interval(total) for total in (0, 4, 5, 10, 1000)},
         )
+
+    def test_rates_of_parts(self) -> None:
+        """Each part has intervals and stars if hauls are compared, and its rarity under Life with
+        the standard profile."""
+        many, few = (made({"xs4_33": total}, [(0, 1000)]) for total in (9000, 5000))
+        block = objects_of(compared(many, few))["xs4_33"]
+        self.assertEqual(block["stars"], [0, 1])
+        low, high = find_dispersed_interval(5000, find_dispersion("xs4_33"))
+        for end, wanted in zip(block["ends"][1], (low, high)):
+            self.assertAlmostEqual(end / 1000 / wanted, 1, places=5)
+        self.assertEqual(block["rarity"], describe_part("xs4_33"))
+        one = objects_of(page(many, 0))["xs4_33"]
+        self.assertEqual([name in one for name in RATES], [True, False, False])
+        other = objects_of(compared(self.LIFE, self.OTHER))["xs4_33"]
+        self.assertEqual([name in other for name in RATES], [False, True, True])
+        self.assertEqual(other["stars"], [0, 0])
 
     def test_the_table(self) -> None:
         table = table_of(compared(self.LIFE, self.OTHER))

@@ -9,6 +9,7 @@ import re
 import subprocess
 import tempfile
 import unittest
+from importlib.resources import files
 from pathlib import Path
 from unittest.mock import patch
 
@@ -19,7 +20,8 @@ from haul.life.clusters import is_cluster
 from haul.life.generations import read_rule
 from haul.life.parts import MOST_ISLANDS, Separation, Separator, read_object
 from haul.names.labels import describe_parts, find_label, make_plural, mark_label
-from haul.names.objects import NAMES
+from haul.formats.tables import BadTable
+from haul.names.objects import find_code_of_name, load_names, parse_names
 from haul.tests import plain_parts
 from haul.tests.called import CENSUS, census, run
 from haul.tests.test_life import STILL, example
@@ -37,6 +39,7 @@ FREQUENT = {
     "xs10_25520oo": "block and beehive",
 }
 LIGHT = "xp2_s01110szw222"
+FOLDER = Path(__file__).resolve().parent
 
 
 def parts(code: str, rule: str = "b3s23") -> Separation:
@@ -51,20 +54,57 @@ def unknown(code: str) -> Separation:
     return Separation((code,), is_separated=False)
 
 
+def read_pictures(text: str) -> dict[str, str]:
+    """Returns the pictures by their names. A line with a name begins with `!`."""
+    found = (picture.partition("\n") for picture in text.split("!")[1:])
+    return {name: rows for name, _, rows in found}
+
+
 class Names(unittest.TestCase):
-    def test_each_is_named_so(self) -> None:
-        """What `census show` draws of a code has that code. Of some the phase that is drawn is in
-        two pieces, so it settles later."""
-        self.assertEqual(len(NAMES), 92)
-        self.assertEqual(len(set(NAMES.values())), 92)
-        for code in NAMES:
-            with self.subTest(code=code):
+    def test_each_picture_has_the_code(self) -> None:
+        """`census` names the picture of each name as names.tsv does."""
+        pictures = read_pictures((FOLDER / "pictures.txt").read_text())
+        names = load_names()
+        self.assertEqual(list(pictures), list(names.shown.values()))
+        for code, name in names.shown.items():
+            with self.subTest(name=name):
                 named = subprocess.run(
-                    [CENSUS, "name"], input=census("show", code), stdout=subprocess.PIPE, check=True
+                    [CENSUS, "name"],
+                    input=pictures[name].encode(),
+                    stdout=subprocess.PIPE,
+                    check=True,
                 ).stdout
                 settled, *objects = named.decode().splitlines()
                 self.assertTrue(settled.startswith("settled "))
                 self.assertEqual(objects, [f"{code} 1"])
+
+    def test_names_abbreviations_and_other_names_are_found(self) -> None:
+        for name, code in (
+            ("LWSS", "xq4_6frc"),
+            ("fishhook", "xs7_178c"),
+            ("Twin Hat", "xs17_2ege1ege2"),
+            ("twinhat", "xs17_2ege1ege2"),
+            ("half bakery", "xs14_g88m952z121"),
+            ("prodigal", None),
+        ):
+            self.assertEqual(find_code_of_name(name), code)
+
+    def test_a_damaged_file_is_refused(self) -> None:
+        right = files("haul.names").joinpath("names.tsv").read_bytes()
+        for text, why in (
+            (b"", "line 1: the table is empty"),
+            (right[:-1], f"line {right.count(10)}: no line feed at the end"),
+            (right.replace(b"name", b"nome", 1), "line 1: the heads aren't code name also"),
+            (right.replace(b"\ttumbler", b" tumbler"), "line 3: not 3 fields"),
+            (right.replace(b"tumbler", b"t\xc3\xbcmbler"), "line 3: a byte that isn't ASCII"),
+            (right.replace(b"tumbler", b""), "line 3: an empty name, or one of another object"),
+            (right.replace(b"tumbler", b"lwss"), "an empty name, or one of another object"),
+            (right.replace(b"xp14_", b"xp11_"), "line 3: not a code after the one before it"),
+            (right.replace(b"xp14_", b"XP14_"), "line 3: not a code after the one before it"),
+        ):
+            with self.subTest(why=why), self.assertRaises(BadTable) as bad:
+                parse_names(text)
+            self.assertIn(why, str(bad.exception))
 
     def test_plurals(self) -> None:
         for one, more in (
@@ -317,7 +357,8 @@ class Tables(unittest.TestCase):
     TEXT = sampled("b3s23", CODES).encode()
 
     def rows(self, *words: str) -> list[list[str]]:
-        status, output, errors = run("table", *words, text=self.TEXT)
+        whole = [] if {"--parts", "--strict"} & {*words} else ["--whole"]
+        status, output, errors = run("table", *whole, *words, text=self.TEXT)
         self.assertEqual((status, errors), (0, ""))
         return [re.split("  +", row.strip()) for row in output.splitlines()[1:]]
 
@@ -358,10 +399,10 @@ class Tables(unittest.TestCase):
         self.assertEqual(
             self.rows("--parts"),
             [
-                ["1", "xs4_33", "84", "840000.00", "1", "3,4,7", "block"],
-                ["2", "xp2_7", "15", "150000.00", "6", "0,1,2", "blinker"],
-                ["3", "xs12_256o8a6", "2", "20000.00", "50", "5", "-"],
-                ["4", "ov_p12", "1", "10000.00", "100", "6", "not separated"],
+                ["1", "xs4_33", "84", "840000.00", "1.10", "1.10", "1.10", "3,4,7", "block"],
+                ["2", "xp2_7", "15", "150000.00", "1.20", "1.20", "1.20", "0,1,2", "blinker"],
+                ["3", "xs12_256o8a6", "2", "20000.00", "390625", "345594", "443266", "5", "-"],
+                ["4", "ov_p12", "1", "10000.00", "none", "27108504", "none", "6", "not separated"],
             ],
         )
         self.assertEqual(
@@ -372,7 +413,7 @@ class Tables(unittest.TestCase):
         heads = ("code", "label", "parts", "strict", "separated", "by_parts")
         for words, wanted in (
             (
-                ["--csv"],
+                ["--csv", "--whole"],
                 [
                     ["xs4_33", "block", "xs4_33", "yes", "yes", "no"],
                     ["xs8_rr", "bi-block", "xs4_33 xs4_33", "no", "yes", "no"],
@@ -389,7 +430,7 @@ class Tables(unittest.TestCase):
             self.assertEqual([[row[head] for head in heads] for row in rows], wanted)
 
     def test_json(self) -> None:
-        told = json.loads(run("table", "--json", text=self.TEXT)[1])
+        told = json.loads(run("table", "--json", "--whole", text=self.TEXT)[1])
         self.assertEqual((told["by_parts"], told["total"]), (False, 77))
         self.assertEqual(
             {
@@ -454,7 +495,9 @@ class SideBySide(unittest.TestCase):
     def test_each_under_its_own_rule(self) -> None:
         rows = {
             row["code"]: row
-            for row in csv.DictReader(run("compare", "--csv", *self.names)[1].splitlines())
+            for row in csv.DictReader(
+                run("compare", "--csv", "--whole", *self.names)[1].splitlines()
+            )
         }
         self.assertEqual(
             [
@@ -467,7 +510,7 @@ class SideBySide(unittest.TestCase):
             [rows["xp2_70ggg07"][head] for head in ("parts_a", "parts_b")],
             ["xp2_7 xp2_7 xp2_7", ""],
         )
-        told = json.loads(run("compare", "--json", *self.names)[1])
+        told = json.loads(run("compare", "--json", "--whole", *self.names)[1])
         self.assertFalse(told["by_parts"])
         self.assertEqual(
             [one["parts"].get("xs8_rr") for one in told["hauls"]], [["xs4_33"] * 2] * 2
@@ -480,7 +523,7 @@ class SideBySide(unittest.TestCase):
         middle."""
         for name, rule in zip(self.names, ("b3s23", "bs123"), strict=True):
             Path(name).write_text(haul(rule, 100, {"xs12_raar": 4}))
-        told = json.loads(run("compare", "--json", *self.names)[1])
+        told = json.loads(run("compare", "--json", "--whole", *self.names)[1])
         self.assertEqual(
             [one["parts"] for one in told["hauls"]],
             [{"xs12_raar": ["xs12_raar"]}, {"xs12_raar": ["xs6_9f"] * 2}],
@@ -520,7 +563,10 @@ class SideBySide(unittest.TestCase):
         )
 
     def test_names_are_words_there(self) -> None:
-        rows = [line.split()[:2] for line in run("compare", *self.names)[1].splitlines()[5:-1]]
+        rows = [
+            line.split()[:2]
+            for line in run("compare", "--whole", *self.names)[1].splitlines()[5:-1]
+        ]
         self.assertEqual(
             rows,
             [

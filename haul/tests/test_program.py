@@ -254,7 +254,7 @@ class Comparing(unittest.TestCase):
         with tempfile.TemporaryDirectory() as folder:
             for name, rule in (("a", "b3s23"), ("b", "b36s23")):
                 Path(folder, name).write_bytes(census("take", "--count", "40", "--rule", rule))
-            status, output, errors = run("compare", f"{folder}/a", f"{folder}/b")
+            status, output, errors = run("compare", "--whole", f"{folder}/a", f"{folder}/b")
         lines = output.splitlines()
         self.assertEqual(
             (status, errors, lines[0], lines[2]),
@@ -274,7 +274,7 @@ class Comparing(unittest.TestCase):
 
     def test_one_soup(self) -> None:
         status, output, errors = run(
-            "compare", "-", "/dev/null", text=census("take", "--count", "1")
+            "compare", "--whole", "-", "/dev/null", text=census("take", "--count", "1")
         )
         self.assertEqual(
             (status, output, errors), (3, "", "haul: /dev/null: bad haul at line 1 column 1\n")

@@ -293,10 +293,11 @@ soup  objects
                 "",
             ),
         )
-        self.assertEqual(rows("--code=xp2_7"), [["3", "3"], ["5", "1"], ["11", "1"]])
+        for name in ("xp2_7", "blinker", "Blinker"):
+            self.assertEqual(rows(f"--code={name}"), [["3", "3"], ["5", "1"], ["11", "1"]])
         self.assertEqual(
-            run("soups", "--code=a", text=text_of(LINES))[1].splitlines()[2],
-            "a: 0 objects in 0 soups",
+            run("soups", "--code=xs4_a", text=text_of(LINES))[1].splitlines()[2],
+            "xs4_a: 0 objects in 0 soups",
         )
         told = json.loads(run("soups", "--json", "--code=xq4_153", text=text_of(LINES))[1])
         self.assertEqual(
@@ -305,9 +306,9 @@ soup  objects
         )
 
     def test_large_counts(self) -> None:
-        line = f"report 2 {JOB} worker=1 soup=0 at=0 good=yes a*{2**64 - 1}"
+        line = f"report 2 {JOB} worker=1 soup=0 at=0 good=yes xs4_a*{2**64 - 1}"
         self.assertEqual(
-            json.loads(run("soups", "--json", "--code=a", text=text_of([line]))[1])["leaving"],
+            json.loads(run("soups", "--json", "--code=xs4_a", text=text_of([line]))[1])["leaving"],
             [{"soup": 0, "objects": str(2**64 - 1)}],
         )
 
@@ -322,7 +323,7 @@ soup  objects
         self.assertIn(" ".join(["xp2_7", *(str(one["soup"]) for one in told["leaving"][:3])]), haul)
 
     def test_what_is_no_code(self) -> None:
-        for code in ("", "XS4_33", "xs4 33", "a" * 401):
+        for code in ("", "XS4_33", "xs4 33", "blinkr", "x_" + "a" * 400):
             self.assertEqual(run("soups", f"--code={code}")[0], 2)
 
 

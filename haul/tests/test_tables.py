@@ -20,9 +20,12 @@ from unittest.mock import patch
 
 from haul.formats.profile import Profile
 from haul.formats.haul import Haul, Job
+from haul.rarity.equal_rates import compute_p_value
+from haul.rarity.incomplete import compute_gamma_tail
+from haul.rarity.reference import find_dispersion
 from haul.tests.called import call, read_terminal, run
-from haul.views.compare import letter_hauls, overlap
-from haul.views.intervals import find_interval
+from haul.views.compare import letter_hauls
+from haul.views.intervals import find_dispersed_interval, find_interval
 from haul.views.layout import format_figure
 from haul.views.rates import compute_rate
 
@@ -83,9 +86,13 @@ class Tables(unittest.TestCase):
             Path(self.folder.name, name).write_text(text)
 
     def printed(self, command: str, *words: str) -> str:
+        """What a call prints, which counts whole objects unless its words say otherwise."""
+        whole = [] if {"--parts", "--strict", "--default"} & {*words} else ["--whole"]
+        words = tuple(word for word in words if word != "--default")
         status, output, errors = run(
             command,
-            *(os.path.join(self.folder.name, word) if word in "abc" else word for word in words),
+            *whole,
+            *(os.path.join(self.folder.name, word) if word in "abclm" else word for word in words),
         )
         self.assertEqual((status, errors), (0, ""))
         return output
@@ -187,16 +194,28 @@ class Intervals(unittest.TestCase):
         ):
             self.assertEqual(format_figure(number), shown)
 
-    def test_whether_two_meet(self) -> None:
-        """They do if they have one number in common, and one that isn't there meets any."""
-        for one, other, wanted in (
-            ((1, 2), (2, 3), True),
-            ((1, 2), (2.5, 3), False),
-            ((1, 9), (2, 3), True),
-            ((1, 2), None, True),
-            (None, None, True),
-        ):
-            self.assertEqual((overlap(one, other), overlap(other, one)), (wanted, wanted))
+    def test_dispersed(self) -> None:
+        """The ends are Garwood's for the count divided by the dispersion, times that. Between whole
+        counts they lie between those."""
+        for total in (0, 1, 7, 30, 31, 5000):
+            self.assertEqual(find_dispersed_interval(total, 1), find_interval(total))
+            low, high = find_dispersed_interval(4 * total, 4)
+            self.assertEqual((low / 4, high / 4), find_interval(total))
+        for total, spread in ((5, 2), (77, 12.2), (399, 12.2), (10, 3)):
+            below, above = int(total / spread), int(total / spread) + 1
+            ends = [end / spread for end in find_dispersed_interval(total, spread)]
+            for end, least, most in zip(ends, find_interval(below), find_interval(above)):
+                self.assertTrue(least < end < most)
+
+    def test_dispersed_ends_have_their_chances(self) -> None:
+        for total, spread in ((5, 2), (77, 12.2), (399, 12.2), (1000, 12.2), (123456, 12.2)):
+            low, high = find_dispersed_interval(total, spread)
+            count = total / spread
+            for chance, wanted in (
+                (compute_gamma_tail(count, low / spread), 0.975),
+                (compute_gamma_tail(count + 1, high / spread), 0.025),
+            ):
+                self.assertAlmostEqual(chance, wanted, places=6)
 
     def test_time(self) -> None:
         """The lines that it runs are counted, since a clock tells what else runs on the machine as
@@ -307,6 +326,20 @@ rank  code     total  per_million  one_in_at_most  samples  label
         self.assertEqual(codes("--period", "15", "b"), [["2", "xp15_4r4z4r4"]])
         self.assertEqual(codes("--period", "123", "c"), [["3", "ov_p123"]])
         self.assertEqual(codes("--kind", "q", "--period", "2", "a"), [])
+        self.assertEqual(codes("--kind", "pq", "a"), [["2", "xp2_7"], ["3", "xq4_153"]])
+        self.assertEqual(codes("--period", "2+", "a"), [["2", "xp2_7"], ["3", "xq4_153"]])
+        self.assertEqual(codes("--period", "3-15", "b"), [["2", "xp15_4r4z4r4"]])
+        self.assertEqual(codes("--period", "3-14", "b"), [])
+        for words in (
+            ["--period", "8-3"],
+            ["--period", "+"],
+            ["--period", "3-"],
+            ["--period", "-3"],
+            ["--kind", ""],
+            ["--kind", "pp"],
+            ["--kind", "px"],
+        ):
+            self.assertEqual(run("table", *words)[0], 2, words)
 
     def test_codes_that_say_nothing(self) -> None:
         """One that names no kind has none, and no period."""
@@ -378,13 +411,13 @@ rank  code     total  per_million  one_in_at_most  samples  label
         text = haul(
             "b3s23", 2**40, {"xs4_33": 2**53, "xp2_7": 2**53 + 1, "xs8_rr": 2**63}
         ).encode()
-        told = json.loads(run("table", "--json", text=text)[1])
+        told = json.loads(run("table", "--whole", "--json", text=text)[1])
         self.assertEqual(
             [one["total"] for one in told["objects"]],
             ["9223372036854775808", "9007199254740993", 9007199254740992],
         )
         self.assertEqual(told["total"], "9241386435364257793")
-        self.assertIn("9223372036854775808", run("table", "--csv", text=text)[1])
+        self.assertIn("9223372036854775808", run("table", "--whole", "--csv", text=text)[1])
 
 
 class OfSeveral(Tables):
@@ -446,10 +479,10 @@ in A alone: xq4_153 xs8_rr; in B alone: xp15_4r4z4r4
                 "blinker",
                 "20",
                 "20000.00",
-                "12216.52..30888.38",
+                "~12216.52..30888.38",
                 "2",
                 "4000.00",
-                "484.42..14449.38",
+                "~484.42..14449.38",
                 "0.20",
             ],
         )
@@ -460,15 +493,61 @@ in A alone: xq4_153 xs8_rr; in B alone: xp15_4r4z4r4
                 "glider",
                 "3",
                 "3000.00",
-                "618.67..8767.27",
+                "~618.67..8767.27",
                 "0",
                 "0.00",
-                "0.00..7377.76",
+                "~0.00..7377.76",
                 "0.00",
             ],
         )
-        self.assertTrue(rows["xs4_33"][7].endswith("*"))
-        self.assertEqual([code for code, row in rows.items() if row[7].endswith("*")], ["xs4_33"])
+        self.assertEqual([code for code, row in rows.items() if row[7].endswith("*")], [])
+
+    def test_stars(self) -> None:
+        """By parts, under Life with the standard profile, a star is a test by the reference."""
+        Path(self.folder.name, "l").write_text(haul("b3s23", 1000, {"xs4_33": 700, "xp2_7": 20}))
+        Path(self.folder.name, "m").write_text(haul("b3s23", 500, {"xs4_33": 700, "xp2_7": 12}))
+        lines = self.printed("compare", "--parts", "--intervals", "l", "m").splitlines()
+        self.assertEqual(lines[-1], "intervals: 95 %; *: differs from A (p < 0.001)")
+        self.assertEqual(lines[4].split()[-3:], ["one_in", "one_in_low", "one_in_high"])
+        self.assertEqual(lines[5].split()[-3:], ["1.10", "1.10", "1.10"])
+        stars = [line.split()[0] for line in lines if "*" in line and line is not lines[-1]]
+        self.assertEqual(stars, ["xs4_33"])
+        rows = csv.DictReader(self.printed("compare", "--parts", "--csv", "l", "m").splitlines())
+        told = json.loads(self.printed("compare", "--parts", "--json", "l", "m"))["objects"]
+        for row, one in zip(rows, told):
+            spread = find_dispersion(row["code"])
+            totals = int(row["total_a"]) / spread, int(row["total_b"]) / spread
+            p_value = compute_p_value(totals[0], 1000, totals[1], 500)
+            self.assertEqual((float(row["p"]), one["p_values"]), (p_value, [None, p_value]))
+            self.assertEqual(
+                (row["differs_b"], row["one_in"]),
+                ("*" * (row["code"] == "xs4_33"), str(one["one_in"])),
+            )
+        self.assertNotIn("*", self.printed("compare", "--intervals", "l", "m"))
+
+    def test_another_rule_beside_life(self) -> None:
+        lines = self.printed("compare", "--parts", "--intervals", "a", "b").splitlines()
+        self.assertEqual(lines[-1], "intervals: 95 %; ~: as if objects came singly")
+        self.assertNotIn("one_in", lines[4])
+        row = next(line.split() for line in lines if line.startswith("xp2_7"))
+        self.assertFalse(row[4].startswith("~"))
+        self.assertTrue(row[7].startswith("~"))
+
+    def test_parts_are_the_default(self) -> None:
+        forms: list[list[str]] = [[], ["--csv"], ["--json"]]
+        for words in (["table", "a"], ["compare", "a", "c"]):
+            for form in forms:
+                printed = self.printed(words[0], "--default", *form, *words[1:])
+                self.assertEqual(printed, self.printed(words[0], "--parts", *form, *words[1:]))
+                self.assertNotEqual(printed, self.printed(words[0], *form, *words[1:]))
+        strict = self.printed("table", "--strict", "a")
+        self.assertEqual(strict, self.printed("table", "--strict", "--default", "--whole", "a"))
+        for words in (
+            ["table", "--parts", "--whole"],
+            ["table", "--parts", "--strict"],
+            ["compare", "--parts", "--whole", "-", "-"],
+        ):
+            self.assertEqual(run(*words)[0], 2, words)
 
     def test_three(self) -> None:
         lines = self.printed("compare", "a", "b", "c").splitlines()
@@ -542,17 +621,15 @@ in A alone: xq4_153 xs8_rr; in B alone: xp15_4r4z4r4
                     )
                 )
                 for code in codes:
-                    row, rates, first = [code, names.get(code, "-")], [], (0.0, 0.0)
-                    for k, (soups, totals) in enumerate(hauls):
+                    row, rates = [code, names.get(code, "-")], []
+                    for soups, totals in hauls:
                         total = totals.get(code, 0)
                         low, high = (end / soups * unit for end in ends[total])
-                        first = (low, high) if k == 0 else first
                         rates.append(total / soups)
                         row += [
                             str(total),
                             shown(total / soups * unit),
-                            f"{shown(low)}..{shown(high)}"
-                            + "*" * (low > first[1] or high < first[0]),
+                            f"~{shown(low)}..{shown(high)}",
                         ]
                     row += [f"{rate / rates[0]:.2f}" if rates[0] else "-" for rate in rates[1:]]
                     wanted.append(" ".join(row))
@@ -567,9 +644,7 @@ in A alone: xq4_153 xs8_rr; in B alone: xp15_4r4z4r4
                 wanted.append(
                     "; ".join(f"in {x} alone: {' '.join(has[x]) or 'none'}" for x in "ABC")
                 )
-                wanted.append(
-                    "intervals: 95 %, as if objects came singly; *: doesn't meet that of A, which is no test at 5 %"
-                )
+                wanted.append("intervals: 95 %; ~: as if objects came singly")
                 with self.subTest(order=order, words=words):
                     self.assertEqual(
                         [
@@ -591,7 +666,7 @@ in A alone: xq4_153 xs8_rr; in B alone: xp15_4r4z4r4
         self.assertIn("per_soup_a", lines[4])
         self.assertEqual(
             lines[6].split()[2:8],
-            ["20", "0.02", "0.0122..0.0309", "2", "0.004", "0.000484..0.0144"],
+            ["20", "0.02", "~0.0122..0.0309", "2", "0.004", "~0.000484..0.0144"],
         )
 
     def test_csv(self) -> None:
@@ -616,7 +691,7 @@ in A alone: xq4_153 xs8_rr; in B alone: xp15_4r4z4r4
                     "ratio_a",
                 )
             ],
-            ["block", "b36s23", "500", "1000", "2000000.0", "4.0", "*", "", ""],
+            ["block", "b36s23", "500", "1000", "2000000.0", "4.0", "", "", ""],
         )
         self.assertAlmostEqual(float(rows["xp2_7"]["low_a"]), 12216.5, places=0)
         self.assertAlmostEqual(float(rows["xp2_7"]["high_a"]), 30888.4, places=0)
@@ -675,7 +750,7 @@ in A alone: xq4_153 xs8_rr; in B alone: xp15_4r4z4r4
         block = told["objects"][0]
         self.assertEqual(
             (block["code"], block["totals"], block["ratios"], block["differs"]),
-            ("xs4_33", [500, 1000, 510], [None, 4.0, 1.02], [False, True, False]),
+            ("xs4_33", [500, 1000, 510], [None, 4.0, 1.02], [False, False, False]),
         )
 
     def test_how_many(self) -> None:
@@ -731,7 +806,9 @@ class Terminals(Tables):
         """The lines that are printed on a terminal of so many columns."""
         with patch.dict(os.environ, COLUMNS=str(columns)):
             said = read_terminal(
-                lambda stdout: call(words, io.BytesIO(), stdout, sys.stderr, self.folder.name)
+                lambda stdout: call(
+                    (*words, "--whole"), io.BytesIO(), stdout, sys.stderr, self.folder.name
+                )
             )
         return said.decode().replace("\r\n", "\n").splitlines()
 

@@ -325,7 +325,9 @@ class Compares(unittest.TestCase):
             names = [os.path.join(folder, name) for name in "ab"]
             Path(names[0]).write_text(text_of(made({"xs4_33": 2, "xp2_7": 50}, [(0, 4000)])))
             Path(names[1]).write_text(text_of(made({"xs4_33": 3, "xp2_7": 5}, [(0, 1001)])))
-            rows = [line.split() for line in run("compare", *names)[1].splitlines()[5:-1]]
+            rows = [
+                line.split() for line in run("compare", "--whole", *names)[1].splitlines()[5:-1]
+            ]
         # 50 in 4,000 are 12,500 in a million, and 5 in 1,001 are 4,995.004995; 2 are 500, and 3 are
         # 2,997.002997.
         self.assertEqual(

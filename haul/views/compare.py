@@ -11,13 +11,15 @@ from haul.formats.haul import Haul
 from haul.hauls.by_parts import Objects
 from haul.life.parts import Separation
 from haul.names.labels import find_label, mark_label
+from haul.rarity.equal_rates import STARRED_BELOW, compute_p_value
+from haul.rarity.reference import find_dispersion, find_occurrence, is_covered
 from haul.views.haul_facts import (
     describe_lettered_job,
     describe_soups,
     list_haul_facts,
     list_part_facts,
 )
-from haul.views.intervals import find_interval
+from haul.views.intervals import find_dispersed_interval, find_interval
 from haul.views.layout import (
     align_columns,
     format_csv,
@@ -25,6 +27,12 @@ from haul.views.layout import (
     format_json,
     format_truth,
     make_exact,
+)
+from haul.views.rarity import (
+    RARITY_HEADS,
+    list_rarity_facts,
+    list_rarity_values,
+    list_rarity_words,
 )
 from haul.views.rates import MILLION, compute_rate
 
@@ -37,9 +45,9 @@ TEXTS = {0, 1}
 # The columns about a haul in each row of comma-separated values: what the text says before its
 # table.
 FACTS = ("seed", "rule", "profile", "soups", "unsettled", "for_good", "objects")
-EXPLAINED = (
-    "intervals: 95 %, as if objects came singly; *: doesn't meet that of A, which is no test at 5 %"
-)
+EXPLAINED = "intervals: 95 %"
+SINGLY = "~: as if objects came singly"
+STARRED = f"*: differs from A (p < {STARRED_BELOW})"
 
 
 def letter_hauls(hauls: list[Haul]) -> Iterator[tuple[str, Haul]]:
@@ -77,10 +85,18 @@ class Cell:
     rate: float
     # The ends of the interval of the rate; none without a soup.
     ends: tuple[float, float] | None
+    # By how many times the variance of the number in a soup is larger than its mean; none if that
+    # isn't known.
+    dispersion: float | None
     # How many times as many as in the first haul; none if that has none.
     ratio: float | None = None
-    # Whether the interval doesn't meet that of the first haul.
-    differs: bool = False
+    # The probability of such a difference to the first haul if the rates are equal; none if that
+    # can't be computed.
+    p_value: float | None = None
+
+    @property
+    def differs(self) -> bool:
+        return self.p_value is not None and self.p_value < STARRED_BELOW
 
 
 @dataclass
@@ -108,16 +124,35 @@ class Comparison:
                 cell.ratio = (
                     cell.total * of_first.soups / (haul.soups * first.total) if haul.soups else 0.0
                 )
-            cell.differs = not overlap(first.ends, cell.ends)
+            if first.dispersion is not None and cell.dispersion is not None:
+                cell.p_value = compute_p_value(
+                    first.total / first.dispersion,
+                    of_first.soups,
+                    cell.total / cell.dispersion,
+                    haul.soups,
+                )
         return cells
 
     def cell(self, code: str, haul: Haul) -> Cell:
         total, unit = haul.totals.get(code, 0), UNITS[self.per]
+        dispersion = find_dispersion(code) if self.is_referred(haul) else None
         ends = None
         if haul.soups:
-            low, high = find_interval(total)
+            low, high = (
+                find_interval(total)
+                if dispersion is None
+                else find_dispersed_interval(total, dispersion)
+            )
             ends = low * unit / haul.soups, high * unit / haul.soups
-        return Cell(total, compute_rate(total, haul.soups, unit), ends)
+        return Cell(total, compute_rate(total, haul.soups, unit), ends, dispersion)
+
+    def is_referred(self, haul: Haul) -> bool:
+        """Checks whether the reference says how much the objects of a haul vary."""
+        return self.by_parts and is_covered(haul.job)
+
+    def has_rarity(self) -> bool:
+        """Checks whether each row says how often the reference has the object."""
+        return all(map(self.is_referred, self.hauls))
 
     def text(self, width: int | None) -> Iterator[str]:
         """Yields the lines for a reader. On a terminal of this width long codes are cut."""
@@ -127,7 +162,12 @@ class Comparison:
         yield from align_columns([self.heads(), *map(self.row, self.codes)], TEXTS, 0, width)
         yield self.alone_line()
         if self.has_intervals:
-            yield EXPLAINED
+            yield self.explanation()
+
+    def explanation(self) -> str:
+        referred = list(map(self.is_referred, self.hauls))
+        words = [EXPLAINED] + [SINGLY] * (not all(referred))
+        return "; ".join(words + [STARRED] * (referred[0] and any(referred[1:])))
 
     def heads(self) -> list[str]:
         letters = self.letters()
@@ -140,6 +180,7 @@ class Comparison:
             "name",
             *self.arranged(heads),
             *(f"{letter}_to_a" for letter in letters[1:]),
+            *(RARITY_HEADS if self.has_rarity() else []),
         ]
 
     def row(self, code: str) -> list[str]:
@@ -149,7 +190,8 @@ class Comparison:
         ]
         ratios = [f"{cell.ratio:.2f}" if cell.ratio is not None else "-" for cell in cells[1:]]
         label = self.label(code) or mark_label("", self.separate(code)) or "-"
-        return [code, label.replace(" ", "_"), *self.arranged(shown), *ratios]
+        rarity = list_rarity_words(find_occurrence(code)) if self.has_rarity() else []
+        return [code, label.replace(" ", "_"), *self.arranged(shown), *ratios, *rarity]
 
     def label(self, code: str) -> str:
         return find_label(code, self.separate(code))
@@ -201,12 +243,19 @@ class Comparison:
                     "parts",
                 )
             ]
-        return format_csv([[*heads, "by_parts"], *map(self.csv_row, self.codes)])
+        heads += ["by_parts", *self.p_heads(), *(RARITY_HEADS if self.has_rarity() else [])]
+        return format_csv([heads, *map(self.csv_row, self.codes)])
+
+    def p_heads(self) -> list[str]:
+        """Returns the heads of the p-values: `p` for two hauls, otherwise one for each but A."""
+        letters = self.letters()[1:]
+        return ["p"] if len(letters) == 1 else [f"p_{letter}" for letter in letters]
 
     def csv_row(self, code: str) -> list[str]:
         having = [letter for letter, haul in letter_hauls(self.hauls) if code in haul.totals]
         row = [code, self.label(code), having[0] if len(having) == 1 else ""]
-        for haul, objects, cell in zip(self.hauls, self.objects, self.cells(code), strict=True):
+        cells = self.cells(code)
+        for haul, objects, cell in zip(self.hauls, self.objects, cells, strict=True):
             low, high = map(str, cell.ends) if cell.ends else ("", "")
             ratio = "" if cell.ratio is None else str(cell.ratio)
             facts = [haul.job.seed, haul.job.rule, haul.job.profile.format()]
@@ -221,7 +270,9 @@ class Comparison:
                 "*" if cell.differs else "",
             ]
             row.append(" ".join(objects.separate(code).parts) if code in haul.totals else "")
-        return [*row, format_truth(self.by_parts)]
+        p_values = ["" if cell.p_value is None else str(cell.p_value) for cell in cells[1:]]
+        rarity = list_rarity_values(find_occurrence(code)) if self.has_rarity() else []
+        return [*row, format_truth(self.by_parts), *p_values, *rarity]
 
     def json(self) -> Iterator[str]:
         """Yields the lines of a JSON object, in which each code has one."""
@@ -249,14 +300,13 @@ class Comparison:
             "intervals": [list(cell.ends) if cell.ends else None for cell in cells],
             "ratios": [cell.ratio for cell in cells],
             "differs": [cell.differs for cell in cells],
+            "p_values": [cell.p_value for cell in cells],
+            **(list_rarity_facts(find_occurrence(code)) if self.has_rarity() else {}),
         }
 
 
 def format_interval(cell: Cell) -> str:
-    ends = f"{format_figure(cell.ends[0])}..{format_figure(cell.ends[1])}" if cell.ends else "-"
-    return ends + ("*" if cell.differs else "")
-
-
-def overlap(one: tuple[float, float] | None, other: tuple[float, float] | None) -> bool:
-    """Returns whether two intervals have a number in common. A missing one meets any."""
-    return one is None or other is None or (one[0] <= other[1] and other[0] <= one[1])
+    if cell.ends is None:
+        return "-"
+    ends = "..".join(map(format_figure, cell.ends))
+    return ("~" if cell.dispersion is None else "") + ends + ("*" if cell.differs else "")

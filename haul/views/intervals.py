@@ -2,7 +2,8 @@
 count (Garwood 1936).
 
 A count follows Poisson's law if what is counted comes singly. Objects don't: a soup often leaves
-several of a kind. So an interval says what it is worth: as if objects came singly.
+several of a kind. Under Life with the standard profile, the reference says how large the variance of
+the number in a soup is as a multiple of its mean, the dispersion, and the interval allows for that.
 
 The low end is the mean at which so many or more come with a chance of 2.5 %, and the high end the
 one at which so many or less do. Both are found by bisection. """
@@ -12,11 +13,13 @@ from __future__ import annotations
 from collections.abc import Callable
 from math import erfc, exp, log1p, pi, sqrt
 
+from haul.rarity.incomplete import compute_gamma_tail
+
 TAIL = 0.025
 # After so many steps a double changes no more.
 # mutant: equal because a double changes no more
 STEPS = 60
-# Up to here the terms of the sum are added up. Above it two terms of an expansion have more than
+# Up to here the chance is computed exactly. Above it two terms of an expansion have more than
 # six digits.
 # mutant: equal because both ways have more digits than are shown
 MOST_TERMS = 30
@@ -31,12 +34,20 @@ def find_interval(total: int) -> tuple[float, float]:
     return low, find_mean(total + 1, TAIL)
 
 
-def find_mean(count: int, chance: float) -> float:
+def find_dispersed_interval(total: int, dispersion: float) -> tuple[float, float]:
+    """Returns the ends for a count whose variance is this multiple of its mean: those of the count
+    divided by it, which needn't be whole, times the same."""
+    count = total / dispersion
+    low = find_mean(count, 1 - TAIL) if total else 0.0
+    return low * dispersion, find_mean(count + 1, TAIL) * dispersion
+
+
+def find_mean(count: float, chance: float) -> float:
     """Returns the mean at which fewer than `count` come with this chance."""
     # mutant: equal because both ways have more digits than are shown
     if count <= MOST_TERMS:
         # mutant: equal because the same value is found between other ends
-        return bisect(lambda mean: sum_terms(count, mean), chance, 0.0, 2.0 * MOST_TERMS)
+        return bisect(lambda mean: find_chance(count, mean), chance, 0.0, 2.0 * MOST_TERMS)
     # The mean is looked for by how far it is from the count, since that has more digits.
     most = DEVIATIONS / sqrt(count)
     return count * (1 + bisect(lambda apart: expand(count, apart), chance, -most, most))
@@ -54,6 +65,13 @@ def bisect(falls: Callable[[float], float], wanted: float, low: float, high: flo
     return (low + high) / 2
 
 
+def find_chance(count: float, mean: float) -> float:
+    """Returns the chance that fewer than `count` come."""
+    if count == int(count):
+        return sum_terms(int(count), mean)
+    return compute_gamma_tail(count, mean)
+
+
 def sum_terms(count: int, mean: float) -> float:
     """Returns the chance that fewer than `count` come, as a sum of terms."""
     term = chance = exp(-mean)
@@ -63,7 +81,7 @@ def sum_terms(count: int, mean: float) -> float:
     return chance
 
 
-def expand(count: int, apart: float) -> float:
+def expand(count: float, apart: float) -> float:
     """Returns the same chance if the mean is `count * (1 + apart)`, by Temme's expansion of the
     incomplete gamma function: the NIST Digital Library of Mathematical Functions, 8.12.4."""
     # mutant: equal because both forms agree there

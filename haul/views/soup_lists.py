@@ -8,7 +8,7 @@ from haul.census.client import Census
 from haul.census.soup_runs import find_exact_generations, measure_growths
 from haul.formats.haul import Job
 from haul.formats.report_lines import Report
-from haul.names.objects import NAMES
+from haul.names.objects import find_name
 from haul.plurals import pluralize
 from haul.views.layout import make_exact
 from haul.views.settling import Settling
@@ -115,7 +115,8 @@ class Leaving(SoupList):
 
     def table(self, _job: Job | None, _settling: Settling) -> SoupTable:
         total, soups = sum(self.objects.values()), len(self.objects)
-        called = f"{self.code} ({NAMES[self.code]})" if self.code in NAMES else self.code
+        name = find_name(self.code)
+        called = self.code if name is None else f"{self.code} ({name})"
         title = (
             f"{called}: {total} {pluralize(total, 'object')} in {soups} {pluralize(soups, 'soup')}"
         )

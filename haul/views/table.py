@@ -10,6 +10,8 @@ from haul.formats.haul import Haul
 from haul.hauls.by_parts import Objects
 from haul.life.parts import Separation
 from haul.names.labels import find_label, mark_label
+from haul.rarity.occurrence import Occurrence
+from haul.rarity.reference import find_occurrence
 from haul.views.haul_facts import list_haul_facts, list_part_facts
 from haul.views.layout import (
     align_columns,
@@ -19,14 +21,20 @@ from haul.views.layout import (
     format_truth,
     make_exact,
 )
+from haul.views.rarity import (
+    RARITY_HEADS,
+    list_rarity_facts,
+    list_rarity_values,
+    list_rarity_words,
+)
 from haul.views.rates import bound_rarity, compute_rate
 
-HEADS = ["rank", "code", "total", "per_million", "one_in_at_most", "samples", "label"]
+BEFORE_RARITY = ["rank", "code", "total", "per_million"]
+AT_MOST = ["one_in_at_most"]
+AFTER_RARITY = ["samples", "label"]
 # What comma-separated values have besides.
 MORE_HEADS = ["parts", "strict", "separated", "by_parts"]
 CODE = 1
-# The columns of code, samples and label.
-TEXTS = {1, 5, 6}
 
 
 @dataclass
@@ -37,9 +45,12 @@ class TableRow:
     code: str
     total: int
     per_million: float
-    one_in: int
+    # A bound by the haul.
+    one_in_at_most: int
     samples: list[int]
     separation: Separation
+    # How often the reference has the code; none if it doesn't know such soups or objects.
+    occurrence: Occurrence | None = None
 
     def label(self) -> str:
         return find_label(self.code, self.separation)
@@ -52,10 +63,15 @@ class TableRow:
             self.code,
             str(self.total),
             format_figure(self.per_million),
-            str(self.one_in),
+            *self.rarity_words(),
             samples,
             label,
         ]
+
+    def rarity_words(self) -> list[str]:
+        if self.occurrence is None:
+            return [str(self.one_in_at_most)]
+        return list_rarity_words(self.occurrence)
 
     def csv_row(self, by_parts: bool) -> list[str]:
         samples = " ".join(map(str, self.samples))
@@ -64,7 +80,11 @@ class TableRow:
             self.code,
             str(self.total),
             str(self.per_million),
-            str(self.one_in),
+            *(
+                [str(self.one_in_at_most)]
+                if self.occurrence is None
+                else list_rarity_values(self.occurrence)
+            ),
             samples,
             self.label(),
         ]
@@ -83,7 +103,11 @@ class TableRow:
             "code": self.code,
             "total": make_exact(self.total),
             "per_million": self.per_million,
-            "one_in_at_most": self.one_in,
+            **(
+                {"one_in_at_most": self.one_in_at_most}
+                if self.occurrence is None
+                else list_rarity_facts(self.occurrence)
+            ),
             "samples": self.samples,
             "label": self.label() or None,
             "parts": list(self.separation.parts),
@@ -96,8 +120,10 @@ class TableRow:
 class RowChoice:
     """Which lines of a table are shown, and in which order."""
 
+    # The letters of the kinds; all kinds if it is none.
     kind: str | None = None
-    period: int | None = None
+    # The least and the most period; the last is none if there is no most.
+    period: tuple[int, int | None] | None = None
     # Objects that are strict, and those that aren't separated.
     strict: bool = False
     rare: bool = False
@@ -106,13 +132,18 @@ class RowChoice:
     def has(self, code: str) -> bool:
         """Returns whether a code is of the chosen kind and period."""
         known = read_kind(code)
-        kind, period = (known.letter, known.period()) if known else ("", 0)
-        return self.kind in (None, kind) and self.period in (None, period)
+        if known is None:
+            return self.kind is None and self.period is None
+        least, most = self.period or (0, None)
+        is_period = least <= known.period() and (most is None or known.period() <= most)
+        return is_period and (self.kind is None or known.letter in self.kind)
 
 
-def choose_rows(haul: Haul, objects: Objects, choice: RowChoice) -> list[TableRow]:
+def choose_rows(
+    haul: Haul, objects: Objects, choice: RowChoice, has_rarity: bool
+) -> list[TableRow]:
     """Returns the chosen lines of a haul's table, each with its rank among all: by descending
-    total, or the rarest first."""
+    total, or the rarest first. With `has_rarity` each says how often the reference has it."""
     codes = sorted(haul.totals, key=lambda code: (-haul.totals[code], code))
     ranks = [(rank, code) for rank, code in enumerate(codes, 1) if choice.has(code)]
     if choice.strict:
@@ -124,7 +155,11 @@ def choose_rows(haul: Haul, objects: Objects, choice: RowChoice) -> list[TableRo
         ]
     shown = (ranks[::-1] if choice.rare else ranks)[: choice.top]
     separations = objects.separate_all(code for _, code in shown)
-    return [make_row(haul, rank, code, separations[code]) for rank, code in shown]
+    rows = [make_row(haul, rank, code, separations[code]) for rank, code in shown]
+    if has_rarity:
+        for row in rows:
+            row.occurrence = find_occurrence(row.code)
+    return rows
 
 
 def make_row(haul: Haul, rank: int, code: str, separation: Separation) -> TableRow:
@@ -140,13 +175,21 @@ def make_row(haul: Haul, rank: int, code: str, separation: Separation) -> TableR
     )
 
 
-def format_table_text(lines: list[TableRow], width: int | None) -> Iterator[str]:
+def list_heads(has_rarity: bool) -> list[str]:
+    return [*BEFORE_RARITY, *(RARITY_HEADS if has_rarity else AT_MOST), *AFTER_RARITY]
+
+
+def format_table_text(lines: list[TableRow], has_rarity: bool, width: int | None) -> Iterator[str]:
     """Yields the lines for a reader. Each column is a word, except for the last one."""
-    return align_columns([HEADS] + [line.words() for line in lines], TEXTS, CODE, width)
+    heads = list_heads(has_rarity)
+    texts = {CODE, *(heads.index(head) for head in AFTER_RARITY)}
+    return align_columns([heads] + [line.words() for line in lines], texts, CODE, width)
 
 
-def format_table_csv(lines: list[TableRow], by_parts: bool) -> Iterator[str]:
-    return format_csv([HEADS + MORE_HEADS] + [line.csv_row(by_parts) for line in lines])
+def format_table_csv(lines: list[TableRow], has_rarity: bool, by_parts: bool) -> Iterator[str]:
+    return format_csv(
+        [list_heads(has_rarity) + MORE_HEADS] + [line.csv_row(by_parts) for line in lines]
+    )
 
 
 def format_table_json(haul: Haul, lines: list[TableRow], by_parts: Objects | None) -> Iterator[str]:

@@ -1,0 +1,83 @@
+"""The commands about soups, report lines and patterns, as the table of commands has them."""
+
+from __future__ import annotations
+
+from haul.cli import commands
+from haul.cli.arguments import Argument, Command, Exclusive, flag, option
+from haul.cli.faults import find_fault_of_soups
+from haul.cli.shared_options import CENSUS, FORMS
+from haul.cli.values import read_code, read_count, read_rule_value
+from haul.formats.rules import LIFE
+
+SOUP = Command(
+    "soup",
+    "print the soup of a sample on Catagolue",
+    "The sample is C1/k_abcdef12345, or the part after\nthe slash. If there are several, a comment "
+    "with the sample comes before each soup.\n\n"
+    "example:\n  haul soup C1/k_abcdef12345 | census name",
+    (Argument("samples", "the sample", "ID", repeats="+"),),
+    commands.run_soup,
+)
+
+
+SOUPS = Command(
+    "soups",
+    "list what report lines say about their soups",
+    "Without --longest, --unsettled or\n--code, it prints when the soups settled: the quartiles and "
+    "the mean of the checkpoints, and a\nbar for every 500 generations. The lines, which `census work` "
+    "prints, aren't checked;\n`census gather` does that. A bad line, and a line of another job than "
+    "the first, is\nreported and skipped. Each soup counts once.\n\n"
+    "examples:\n  census work --count 200 --worker 1 | haul soups\n"
+    "  haul soups --longest 10 --exact parts/*.lines\n  haul soups --code xp2_7e parts/*.lines",
+    (
+        Exclusive(
+            (
+                option("--longest", "N", "list the N soups that settled last", read_count),
+                flag(
+                    "--unsettled",
+                    "list the unsettled soups, each with its population at the last checkpoint, and "
+                    "how much that grew over 1,000 generations",
+                ),
+                option(
+                    "--code",
+                    "CODE",
+                    "list the soups that left an object of this code or name, and how many they left",
+                    read_code,
+                ),
+            )
+        ),
+        flag("--exact", "with --longest: find the exact generations, as `--stride 1` does"),
+        FORMS,
+        CENSUS,
+        Argument("files", "the lines (default: standard input)", "file", repeats="*"),
+    ),
+    commands.run_soups,
+    find_fault_of_soups,
+)
+
+CELLS = Command(
+    "cells",
+    "print a pattern in RLE as plaintext, which `census run` and `census name` read",
+    "If the\nrule in the header isn't Life, the option that `census` needs is written to standard "
+    "error.\nPlaintext passes through without its comments.\n\n"
+    "example:\n  haul cells gun.rle | census run 30",
+    (Argument("file", "the pattern (default: standard input)", repeats="?"),),
+    commands.run_cells,
+)
+
+RLE = Command(
+    "rle",
+    "print a plaintext pattern as RLE, which Golly and LifeWiki read",
+    "\n\nexample:\n  census show xq4_153 | haul rle > glider.rle",
+    (
+        option(
+            "--rule",
+            "RULE",
+            "the rule of the header, such as b36s23 (default: b3s23, Life)",
+            read_rule_value,
+            LIFE,
+        ),
+        Argument("file", "the pattern (default: standard input)", repeats="?"),
+    ),
+    commands.run_rle,
+)

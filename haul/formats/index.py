@@ -1,0 +1,80 @@
+"""Indexes: the SHA-256 of each haul of a census in parts, so that anybody can check some of them."""
+
+from __future__ import annotations
+
+import os
+import re
+from collections.abc import Iterator
+from dataclasses import dataclass
+from hashlib import sha256
+from typing import IO
+
+from haul.formats.field_reader import BadHaul, FieldReader
+from haul.formats.haul import NUMBER_LIMIT, Haul, Job, Range
+from haul.formats.haul_reader import TOO_LARGE, read_job
+from haul.formats.haul_writer import format_haul, format_job
+
+BEGINNING = b"@INDEX"
+DIGEST = re.compile(rb"[0-9a-f]{64}")
+PARTS_DESCEND = "the parts are not in ascending order, or share a soup"
+
+
+@dataclass
+class Index:
+    """The parts of a census, in ascending order, each with the SHA-256 of its haul text."""
+
+    job: Job
+    parts: dict[Range, str]
+
+
+def is_index(path: str) -> bool:
+    """Checks whether a file begins as an index does."""
+    if not os.path.isfile(path):
+        return False
+    with open(path, "rb") as file:
+        return file.read(len(BEGINNING)) == BEGINNING
+
+
+def name_part(part: Range) -> str:
+    return f"{part[0]}+{part[1]}"
+
+
+def compute_digest(haul: Haul) -> str:
+    """Returns the SHA-256 of a haul's text."""
+    digest = sha256()
+    for line in format_haul(haul):
+        digest.update(f"{line}\n".encode("ascii"))
+    return digest.hexdigest()
+
+
+def format_index(index: Index) -> Iterator[str]:
+    """Yields the lines of an index, without their line feeds."""
+    yield from ["@INDEX 1", *format_job(index.job), ""]
+    for (first, count), digest in index.parts.items():
+        yield f"{first} {count} {digest}"
+
+
+def read_index(stream: IO[bytes]) -> Index:
+    """Reads an index. Raises `BadHaul` at the first fault."""
+    lines = FieldReader(stream)
+    try:
+        lines.only_words(BEGINNING, b"1")
+        job = read_job(lines)
+        lines.only_words()
+        return Index(job, read_parts(lines))
+    except BadHaul as bad:
+        raise BadHaul(bad.line, bad.column, bad.why, "index") from None
+
+
+def read_parts(lines: FieldReader) -> dict[Range, str]:
+    """Reads at least one part, up to the end of the input."""
+    parts: dict[Range, str] = {}
+    least = 0
+    while not parts or lines.peek():
+        lines.next_line()
+        first = lines.number_in(least, NUMBER_LIMIT - 1, PARTS_DESCEND, TOO_LARGE)
+        count = lines.number_in(1, NUMBER_LIMIT - first, too_large=TOO_LARGE)
+        parts[first, count] = lines.matched(DIGEST)
+        lines.end_line()
+        least = first + count
+    return parts

@@ -1,0 +1,32 @@
+"""Reads the tables that `haul` has beside its code: lines of fields with tabs between them."""
+
+from __future__ import annotations
+
+from collections.abc import Iterator
+
+
+class BadTable(Exception):
+    """A table is damaged from a line on."""
+
+    def __init__(self, name: str, line: int, why: str) -> None:
+        super().__init__(f"{name}: bad table at line {line}: {why}")
+
+
+def read_table(name: str, text: bytes, heads: list[str]) -> Iterator[list[str]]:
+    """Yields the fields of each line after the heads. Raises `BadTable` at a line that isn't ASCII,
+    or has another number of fields."""
+    lines = text.split(b"\n")
+    if lines.pop():
+        raise BadTable(name, len(lines) + 1, "no line feed at the end")
+    for number, line in enumerate(lines, 1):
+        if not line.isascii():
+            raise BadTable(name, number, "a byte that isn't ASCII")
+        fields = line.decode("ascii").split("\t")
+        if number == 1 and fields != heads:
+            raise BadTable(name, number, f"the heads aren't {' '.join(heads)}")
+        if len(fields) != len(heads):
+            raise BadTable(name, number, f"not {len(heads)} fields")
+        if number > 1:
+            yield fields
+    if not lines:
+        raise BadTable(name, 1, "the table is empty")

@@ -1,0 +1,39 @@
+"""Makes an index of the hauls of a census in parts."""
+
+from __future__ import annotations
+
+from haul.formats.haul import Haul, Job, Range
+from haul.formats.index import Index, compute_digest
+
+
+class CantIndex(Exception):
+    """Why a haul can't be in an index."""
+
+
+class Indexing:
+    """The hauls so far."""
+
+    def __init__(self) -> None:
+        self.job: Job | None = None
+        self.parts: dict[Range, str] = {}
+
+    def add(self, haul: Haul) -> None:
+        """Adds a haul. Raises `CantIndex` if it isn't one of this job's parts."""
+        if self.job is not None and haul.job != self.job:
+            raise CantIndex("other job")
+        if len(haul.ranges) != 1:
+            raise CantIndex(
+                "haul without a soup" if not haul.ranges else "haul with several ranges"
+            )
+        if haul.soups != haul.size():
+            raise CantIndex("haul with missing soups")
+        self.job = haul.job
+        first, count = part = haul.ranges[0]
+        if any(first < sum(other) and other[0] < first + count for other in self.parts):
+            raise CantIndex("haul that shares a soup with another one")
+        self.parts[part] = compute_digest(haul)
+
+    def result(self) -> Index:
+        """Returns the index of the hauls, of which there is at least one."""
+        assert self.job is not None
+        return Index(self.job, dict(sorted(self.parts.items())))

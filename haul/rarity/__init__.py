@@ -1,0 +1,1 @@
+"""How rare an object is: the reference census, and the statistics of rates."""

@@ -1,0 +1,73 @@
+"""The reference: a census of soups of Life with the standard profile, in the folder reference/.
+
+reference/README.md says how it was made and how to check it."""
+
+from __future__ import annotations
+
+from dataclasses import dataclass
+from functools import cache
+from hashlib import sha256
+from importlib.resources import files
+
+from haul.formats.haul import Job
+from haul.formats.profile import STANDARD
+from haul.formats.rules import LIFE
+from haul.formats.tables import BadTable, read_table
+from haul.rarity.occurrence import Occurrence
+
+FILE = "parts.tsv"
+HEADS = ["code", "total", "soups", "sum_of_squares", "samples"]
+# The soups of the reference.
+SOUPS = 100_000_000
+# The SHA-256 of the table, so that no changed digit goes unnoticed.
+DIGEST = "ec1175e92f017a496bd5884bd95b6e0bb70dcfe76f5d134a51f04095f6542149"
+
+
+@dataclass(frozen=True)
+class Entry:
+    """What the reference says of a part."""
+
+    # How many there are in all soups, and the sum over soups of the square of their number.
+    total: int
+    squares: int
+    # How many soups have at least one.
+    soups: int
+
+    def dispersion(self) -> float:
+        """Returns the variance over the mean of the number in a soup, at least 1."""
+        return max(1.0, self.squares / self.total - self.total / SOUPS)
+
+
+Reference = dict[str, Entry]
+NONE = Entry(0, 0, 0)
+
+
+def is_covered(job: Job) -> bool:
+    """Checks whether the reference says how rare the objects of a job are."""
+    return job.rule == LIFE and job.profile == STANDARD
+
+
+@cache
+def load_reference() -> Reference:
+    """Returns the table by parts. Raises `BadTable` if it is damaged."""
+    return parse_reference(files("haul").joinpath("reference").joinpath(FILE).read_bytes())
+
+
+def parse_reference(text: bytes) -> Reference:
+    if sha256(text).hexdigest() != DIGEST:
+        raise BadTable(FILE, 1, "the table isn't that of the reference, by its SHA-256")
+    return {
+        code: Entry(int(total), int(squares), int(soups))
+        for code, total, soups, squares, _ in read_table(FILE, text, HEADS)
+    }
+
+
+def find_occurrence(code: str) -> Occurrence:
+    """Returns in how many soups of the reference a part occurs."""
+    return Occurrence(load_reference().get(code, NONE).soups, SOUPS)
+
+
+def find_dispersion(code: str) -> float:
+    """Returns the dispersion of a part; 1 if the reference doesn't have it."""
+    entry = load_reference().get(code)
+    return 1.0 if entry is None else entry.dispersion()

@@ -1,0 +1,165 @@
+"""The reference census, exact intervals, the test of equal rates, and `haul rarity`."""
+
+from __future__ import annotations
+
+import math
+import unittest
+from importlib.resources import files
+
+from haul.formats.tables import BadTable
+from haul.rarity.equal_rates import compute_p_value
+from haul.rarity.incomplete import compute_beta, compute_gamma_tail
+from haul.rarity.occurrence import Occurrence, find_share_high, find_share_low
+from haul.rarity.reference import (
+    find_dispersion,
+    find_occurrence,
+    load_reference,
+    parse_reference,
+)
+from haul.tests.called import TOP, run
+
+
+def binomial_tail(least: int, trials: int, share: float) -> float:
+    """The probability of at least so many successes, as a sum."""
+    return math.fsum(
+        math.comb(trials, k) * share**k * (1 - share) ** (trials - k)
+        for k in range(least, trials + 1)
+    )
+
+
+def poisson_below(count: int, mean: float) -> float:
+    return math.fsum(math.exp(-mean) * mean**k / math.factorial(k) for k in range(count))
+
+
+class Functions(unittest.TestCase):
+    def near(self, value: float | None, wanted: float, within: float = 1e-9) -> None:
+        assert value is not None
+        self.assertLess(abs(value - wanted), within * max(abs(wanted), 1e-300), (value, wanted))
+
+    def test_beta_of_whole_numbers(self) -> None:
+        for trials, least in ((1, 1), (7, 3), (40, 12), (40, 40), (100, 55)):
+            for share in (0.001, 0.3, 0.5, 0.72, 0.99):
+                self.near(
+                    compute_beta(least, trials - least + 1, share),
+                    binomial_tail(least, trials, share),
+                )
+
+    def test_beta_of_other_numbers(self) -> None:
+        """Of parameters 1/2 it is an arcsine, and of one parameter 1 a power."""
+        for x in (0.01, 0.3, 0.9):
+            self.near(compute_beta(0.5, 0.5, x), 2 / math.pi * math.asin(math.sqrt(x)))
+            self.near(compute_beta(2.7, 1, x), x**2.7)
+            self.near(compute_beta(1, 3.3, x), 1 - (1 - x) ** 3.3)
+        self.assertEqual((compute_beta(2, 3, 0), compute_beta(2, 3, 1)), (0, 1))
+
+    def test_gamma(self) -> None:
+        for count in (1, 2, 5, 17, 30):
+            for mean in (0.01, 1, 4.5, 17, 60):
+                self.near(compute_gamma_tail(count, mean), poisson_below(count, mean), 1e-8)
+        for x in (0.1, 1, 1.6, 9):
+            self.near(compute_gamma_tail(0.5, x), math.erfc(math.sqrt(x)))
+            wanted = math.erfc(math.sqrt(x)) + 2 * math.sqrt(x / math.pi) * math.exp(-x)
+            self.near(compute_gamma_tail(1.5, x), wanted)
+        self.assertEqual(compute_gamma_tail(2, 0), 1)
+
+    def test_clopper_and_pearson(self) -> None:
+        """The ends for 10 of 100 are those of statistical tables. At each end the tail has 2.5 %."""
+        self.assertEqual(
+            (round(find_share_low(10, 100), 4), round(find_share_high(10, 100), 4)),
+            (0.0490, 0.1762),
+        )
+        for having, soups in ((1, 1), (1, 5), (3, 8), (8, 8), (50, 90)):
+            self.near(binomial_tail(having, soups, find_share_low(having, soups)), 0.025)
+            if having < soups:
+                high = find_share_high(having, soups)
+                self.near(1 - binomial_tail(having + 1, soups, high), 0.025)
+        self.assertEqual(find_share_high(7, 7), 1)
+
+    def test_none_of_many(self) -> None:
+        self.near(Occurrence(0, 1000).one_in_low(), 1 / (1 - 0.025 ** (1 / 1000)))
+        self.assertIsNone(Occurrence(0, 1000).one_in())
+        self.assertIsNone(Occurrence(0, 1000).one_in_high())
+
+    def test_equal_rates(self) -> None:
+        """Against the sums of the binomial distribution."""
+        for one, other, soups, others in ((5, 15, 100, 100), (0, 6, 10, 20), (9, 4, 7, 3)):
+            trials, share = one + other, soups / (soups + others)
+            at_least = binomial_tail(one, trials, share)
+            above = binomial_tail(one + 1, trials, share)
+            up = (at_least + above) / 2
+            wanted = min(1, 2 * min(up, 1 - up))
+            self.near(compute_p_value(one, soups, other, others), wanted, 1e-8)
+            self.near(compute_p_value(other, others, one, soups), wanted, 1e-8)
+        self.assertEqual(compute_p_value(0, 5, 0, 7), 1)
+        self.assertEqual(compute_p_value(4, 5, 4, 5), 1)
+        self.assertIsNone(compute_p_value(0, 0, 3, 5))
+        self.assertIsNone(compute_p_value(3, 5, 0, 0))
+
+
+class TheReference(unittest.TestCase):
+    def test_what_it_has(self) -> None:
+        reference = load_reference()
+        self.assertEqual(len(reference), 971)
+        self.assertEqual(sum(entry.total for entry in reference.values()), 2_182_885_627)
+        self.assertEqual(find_occurrence("xs4_33").having, 91_186_721)
+        self.assertEqual(round(find_dispersion("xs4_33"), 1), 12.2)
+        self.assertEqual(
+            (find_dispersion("xq7_3nw17862z6952"), find_dispersion("xp15_4r4z4r4")), (1, 1)
+        )
+
+    def test_a_changed_digit_in_each_column(self) -> None:
+        right = files("haul").joinpath("reference").joinpath("parts.tsv").read_bytes()
+        heads, row, *rows = right.split(b"\n")
+        for column in range(5):
+            fields = row.split(b"\t")
+            fields[column] = fields[column][:-1] + (b"2" if fields[column][-1:] != b"2" else b"3")
+            with self.assertRaises(BadTable):
+                parse_reference(b"\n".join([heads, b"\t".join(fields), *rows]))
+
+    def test_sizes(self) -> None:
+        """The tables have at most 2 MB together."""
+        self.assertLess(sum(file.stat().st_size for file in (TOP / "reference").iterdir()), 2e6)
+
+    def test_the_other_tables(self) -> None:
+        lifespans = (TOP / "reference" / "lifespans.tsv").read_text().splitlines()[1:]
+        late = (TOP / "reference" / "late.tsv").read_text().splitlines()[1:]
+        unsettled = [line for line in late if line.endswith("\tunsettled")]
+        self.assertEqual((len(unsettled), len(late) - len(unsettled)), (1177, 4683))
+        settled = {int(at): int(soups) for at, soups in (line.split("\t") for line in lifespans)}
+        self.assertEqual(sum(settled.values()) + len(unsettled), 100_000_000)
+        self.assertEqual(sum(soups for at, soups in settled.items() if at >= 12_000), 4683)
+
+
+class Rarity(unittest.TestCase):
+    def test_parts(self) -> None:
+        self.assertEqual(
+            run("rarity", "loafer", "octagon 2", "xs4_33"),
+            (
+                0,
+                """\
+xq7_3nw17862z6952 (loafer): none in 100000000 soups; less than one in 27100000 (95 %)
+xp5_idiidiz01w1 (octagon 2): one in 100000000 soups (95 %: 17948025 to 3949789091); 1 object in 1 of 100000000 soups
+xs4_33 (block): one in 1.10 soups (95 %: 1.10 to 1.10); 673827113 objects in 91186721 of 100000000 soups
+""",
+                "",
+            ),
+        )
+
+    def test_a_pseudo_object(self) -> None:
+        """It has a line of its own, and one for each of its parts; nothing says `none`."""
+        status, output, errors = run("rarity", "xp2_33ws")
+        self.assertEqual((status, errors), (0, ""))
+        first, *others = output.splitlines()
+        self.assertEqual(first, "xp2_33ws: a pseudo-object, made of blinker and block")
+        self.assertEqual(
+            [line.split(":")[0] for line in others], ["  xp2_7 (blinker)", "  xs4_33 (block)"]
+        )
+        self.assertNotIn("none", output)
+
+    def test_what_is_neither(self) -> None:
+        self.assertEqual(run("rarity", "blocksmith")[0], 2)
+        self.assertEqual(run("rarity")[0], 2)
+
+
+if __name__ == "__main__":
+    unittest.main()

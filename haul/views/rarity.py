@@ -1,0 +1,75 @@
+"""What `haul rarity` prints: in one of how many soups of the reference an object occurs."""
+
+from __future__ import annotations
+
+from collections import Counter
+from collections.abc import Iterator
+
+from haul.life.parts import Separator
+from haul.names.labels import NOT_SEPARATED, describe_parts
+from haul.names.objects import find_name
+from haul.plurals import pluralize
+from haul.rarity.occurrence import Occurrence, format_one_in
+from haul.rarity.reference import NONE, SOUPS, find_occurrence, load_reference
+
+# The heads of the columns of rarity.
+RARITY_HEADS = ["one_in", "one_in_low", "one_in_high"]
+ROUNDED = 3
+
+
+def describe_rarity(separator: Separator, code: str) -> Iterator[str]:
+    """Yields the lines for an object. A pseudo-object has a line, and one for each of its parts."""
+    separation = separator.separate(code)
+    if len(separation.parts) == 1:
+        unsure = "" if separation.is_separated else f", {NOT_SEPARATED}"
+        yield f"{name_object(code)}{unsure}: {describe_part(code)}"
+        return
+    yield f"{name_object(code)}: a pseudo-object, made of {describe_parts(separation.parts)}"
+    for part in Counter(separation.parts):
+        yield f"  {name_object(part)}: {describe_part(part)}"
+
+
+def name_object(code: str) -> str:
+    name = find_name(code)
+    return code if name is None else f"{code} ({name})"
+
+
+def describe_part(code: str) -> str:
+    """Returns how often a part occurs, with the interval of 95 %."""
+    occurrence, entry = find_occurrence(code), load_reference().get(code, NONE)
+    high = occurrence.one_in_high()
+    low = occurrence.one_in_low()
+    if high is None:
+        return f"{occurrence.describe()} soups; less than one in {round_down(low)} (95 %)"
+    interval = f"{format_one_in(low)} to {format_one_in(high)}"
+    return (
+        f"{occurrence.describe()} soups (95 %: {interval}); "
+        f"{entry.total} {pluralize(entry.total, 'object')} in {entry.soups} of {SOUPS} soups"
+    )
+
+
+def round_down(number: float) -> int:
+    """Returns a number with three digits and zeros after them."""
+    unit = int(10 ** (len(str(int(number))) - ROUNDED))
+    return int(number) // unit * unit
+
+
+def list_rarity_words(occurrence: Occurrence) -> list[str]:
+    """Returns the three columns for a reader; `none` stands for a number that there isn't."""
+    return [
+        "none" if number is None else format_one_in(number) for number in list_numbers(occurrence)
+    ]
+
+
+def list_rarity_values(occurrence: Occurrence) -> list[str]:
+    """Returns the three columns of comma-separated values."""
+    return ["none" if number is None else str(number) for number in list_numbers(occurrence)]
+
+
+def list_rarity_facts(occurrence: Occurrence) -> dict[str, object]:
+    """Returns the three fields of JSON."""
+    return dict(zip(RARITY_HEADS, list_numbers(occurrence), strict=True))
+
+
+def list_numbers(occurrence: Occurrence) -> list[float | None]:
+    return [occurrence.one_in(), occurrence.one_in_low(), occurrence.one_in_high()]
