@@ -36,7 +36,7 @@ const ranking = () => [...objects.values()].filter(object => !object.isLeftOut[w
 // On a linear axis a bar, and on a logarithmic one, where a length means nothing, a dot at its end.
 const barOf = (object, axis, { letter, place: at }) => {
   const value = valueOf(object, at), width = value ? `max(2px, ${percent(axis.at(value))})` : 0;
-  return `<span class="bar${value ? '' : ' none'}" data-haul="${letter}" style="width:${width}"></span>`;
+  return `<span class="bar${value ? '' : ' absent'}" data-haul="${letter}" style="width:${width}"></span>`;
 };
 const barsOf = (object, axis) => {
   const label = `<span class="label">${escaped(nameOf(object))}</span>`;
