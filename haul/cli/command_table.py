@@ -8,6 +8,7 @@ from haul.cli import commands
 from haul.cli.arguments import Argument, Command, Exclusive, flag, option
 from haul.cli.faults import find_fault_of_check, find_fault_of_search, find_fault_of_soups
 from haul.cli.values import (
+    read_as_census,
     read_code,
     read_count,
     read_path,
@@ -77,7 +78,9 @@ SEARCH = Command(
             "begin FILE with this seed; '' is the empty seed (default: a random seed)",
             read_seed,
         ),
-        option("--first", "N", "begin FILE with soup N (default: 0)", read_within(0, NUMBER_LIMIT)),
+        option(
+            "--first", "N", "begin FILE with soup N (default: 0)", read_as_census(0, NUMBER_LIMIT)
+        ),
         option(
             "--rule",
             "RULE",
@@ -89,7 +92,7 @@ SEARCH = Command(
                 f"--{name}",
                 "N",
                 f"begin FILE with this {name}, {least} to {most} (default: {standard})",
-                read_within(least, most),
+                read_as_census(least, most),
             )
             for name, (least, most), standard in zip(
                 Profile._fields, (PERIOD, (0, MOST_HORIZON), STRIDE, LIMIT), STANDARD, strict=True

@@ -7,6 +7,7 @@ import errno
 import fcntl
 import os
 import stat
+import time
 from contextlib import suppress
 
 from haul.formats.field_reader import BadHaul
@@ -16,6 +17,8 @@ from haul.formats.haul_writer import format_haul
 
 # A file is made with these rights, less those that the user's mask takes away.
 ANY_RIGHTS = 0o666
+# How long a lock is tried, and how often.
+SECONDS_FOR_LOCK, SECONDS_BETWEEN_TRIES = 2.0, 0.02
 
 
 class CantKeep(Exception):
@@ -38,7 +41,7 @@ class Keeper:
             f"{self.path}.lock", os.O_RDWR | os.O_CREAT | os.O_CLOEXEC | os.O_NOFOLLOW, ANY_RIGHTS
         )
         try:
-            fcntl.flock(self.lock, fcntl.LOCK_EX | fcntl.LOCK_NB)
+            lock_within(self.lock, SECONDS_FOR_LOCK)
         except BlockingIOError:
             raise CantKeep(f"{name}: another search keeps this file") from None
         except OSError as error:
@@ -90,6 +93,20 @@ class Keeper:
             file.writelines(f"{line}\n" for line in format_haul(haul))
             file.flush()
             os.fsync(number)
+
+
+def lock_within(number: int, seconds: float) -> None:
+    """Locks a file, for which it tries for some seconds: a search that was killed may hold the lock
+    for a moment. Raises `BlockingIOError` if another one still holds it."""
+    end = time.monotonic() + seconds
+    while True:
+        try:
+            fcntl.flock(number, fcntl.LOCK_EX | fcntl.LOCK_NB)
+            return
+        except BlockingIOError:
+            if time.monotonic() >= end:
+                raise
+            time.sleep(SECONDS_BETWEEN_TRIES)
 
 
 def sync_folder(path: str) -> None:

@@ -154,7 +154,9 @@ class Search:
         if count <= 0 or self.stopping.finishes:
             return None
         words = list_take_arguments(self.job, [(self.next, count)], self.plan.workers, True)
-        batch = Batch(self.next, count, BackgroundTake(self.waiter, [self.census.path, *words]))
+        batch = Batch(
+            self.next, count, BackgroundTake(self.waiter, [self.census.path, *words], count)
+        )
         self.next += count
         self.begun += count
         return batch
