@@ -26,6 +26,8 @@ BYTES_AT_A_TIME = 65_536
 MOST_PRINTED, BYTES_OF_A_SOUP, MOST_COMPLAINED = 2**26, 4096, 2**20
 # A program whose streams are closed is waited for so long at a time.
 SECONDS_TO_END = 0.05
+# The starter of a program has so long for ending all that the program has started.
+MOST_SECONDS_TO_END = 2.0
 # The line of progress of `census take`.
 PROGRESS = re.compile(rb"([0-9]{1,8}) of [0-9]{1,8} soups")
 
@@ -132,7 +134,12 @@ class BackgroundProgram:
         return self.open == 0 and self.process.returncode is not None
 
     def kill(self) -> None:
-        """Kills all processes of the session."""
+        """Kills all processes that the program has started. The starter does that, and then it is
+        killed itself."""
+        if self.process.poll() is None:
+            self.process.terminate()
+            with suppress(subprocess.TimeoutExpired):
+                self.process.wait(MOST_SECONDS_TO_END)
         with suppress(ProcessLookupError, PermissionError):
             os.killpg(self.process.pid, signal.SIGKILL)
 
