@@ -9,6 +9,7 @@ import signal
 import subprocess
 import sys
 import time
+from collections.abc import Callable
 from unittest.mock import patch
 
 from haul.formats import report_files
@@ -91,10 +92,11 @@ class Files(Searches):
     def test_changed_by_another_program(self) -> None:
         """The file stays as the other program left it, and the haul is beside it."""
         other = census("take", "--seed=other", "--count=3")
-        for change, name in (
+        changes: list[tuple[Callable[[], object], str]] = [
             (self.file.unlink, "mine.haul.mine"),
             (lambda: self.file.write_bytes(other), "mine.haul.mine.2"),
-        ):
+        ]
+        for change, name in changes:
             self.file.write_bytes(census("take", "--seed=a", "--count=20"))
             running = self.start("--part", "10")
             self.wait_for(40)
