@@ -133,7 +133,8 @@ const start = () => {
   if (open.unknown) byId('found').scrollIntoView();
 };
 let width = innerWidth;
-addEventListener('resize', () => { if (innerWidth !== width) { width = innerWidth; showList(); refreshCharts(); } });
+// On paper the list has all objects, whatever the width.
+addEventListener('resize', () => { if (innerWidth !== width && !matchMedia('print').matches) { width = innerWidth; showList(); refreshCharts(); } });
 addEventListener('hashchange', () => {
   const before = choiceText();
   readAddress();
