@@ -3,10 +3,12 @@
 from __future__ import annotations
 
 import os
+import re
 import shutil
 from contextlib import suppress
 from typing import TextIO
 
+CONTROLS = re.compile(r"[\x00-\x1f\x7f-\x9f]")
 # The columns of a terminal that doesn't say how many it has.
 USUAL_WIDTH = 80
 
@@ -37,7 +39,7 @@ class Terminal:
         """Writes a line of its own."""
         self.show_progress("")
         with suppress(OSError):
-            print(f"haul: {line}", file=self.stderr, flush=True)
+            print(f"haul: {escape_controls(line)}", file=self.stderr, flush=True)
 
     def width(self) -> int:
         """Returns the number of columns."""
@@ -45,6 +47,12 @@ class Terminal:
             return os.get_terminal_size(self.stderr.fileno()).columns or USUAL_WIDTH
         except OSError:
             return USUAL_WIDTH
+
+
+def escape_controls(text: str) -> str:
+    """Writes control characters as escapes, such as `\\x1b`, so that the name of a file can't move
+    the cursor or end a line."""
+    return CONTROLS.sub(lambda found: f"\\x{ord(found[0]):02x}", text)
 
 
 def find_output_width(stdout: TextIO) -> int | None:

@@ -60,7 +60,7 @@ def try_dialogs(driver: Driver, path: Path, haul: bytes) -> None:
             count.equal(
                 f"phase {phase} of {code}",
                 (browser.cells_of_path(path_seen), text(driver, ".phase")),
-                (drawn(code, phase), f"phase {phase} of 0 to {period - 1}"),
+                (drawn(code, phase), f"phase {phase} (0 to {period - 1})"),
             )
             click(driver, "[data-act=phase]")
     facts = dict(zip(texts(driver, ".facts dt"), texts(driver, ".facts dd"), strict=True))

@@ -82,8 +82,9 @@ def try_looks(driver: Driver, path: Path, both: Path, haul: bytes) -> None:
                 count.holds(
                     "a card on a telephone is at most 90 points high", 40 < tall <= 90, tall
                 )
+                click(driver, "#filter")
                 count.equal(
-                    "its total is in sight, and so are all chips",
+                    "its total is in sight, and so are all chips behind the button",
                     driver.execute_script(
                         """
 const isSeen = one => { const { left, right, width, height } = one.getBoundingClientRect(); return left >= 0 && right <= innerWidth && width > 20 && height > 10; };

@@ -42,7 +42,7 @@ def try_players(driver: Driver, path: Path, haul: bytes) -> None:
         rings = (
             f"The ring is around the {around}."
             if many == 1
-            else f"{many} rings are around each {around}."
+            else f"Each of the {many} {plural_of(around, code)} has a ring."
         )
         count.equal(
             f"soup {number} at its end, with {code}",
@@ -81,6 +81,16 @@ def try_players(driver: Driver, path: Path, haul: bytes) -> None:
         "but census says 1: this player is wrong" in text(driver, ".player output"),
         text(driver, ".player output"),
     )
+
+
+def plural_of(label: str, code: str) -> str:
+    """Returns what several objects are called: the plural of a name, if it has one."""
+    if label == code or re.search(r"[0-9]| and ", label):
+        return "objects with this code"
+    for end, plural in (("loaf", "loaves"), ("fly", "flies"), ("ry", "ries")):
+        if label.endswith(end):
+            return label.removesuffix(end) + plural
+    return f"{label}s"
 
 
 def play_to_end(driver: Driver, code: str, number: str) -> None:

@@ -15,14 +15,19 @@ from functools import cache
 from importlib.resources import files
 from typing import IO
 
-from haul.census.client import check_ending
+from haul.census.client import FAILED, Ended, check_ending
 
 # What the launcher does with the program.
 CENSUS, FIND = "census", "find"
 # mutant: equal because the size of a read doesn't change what is printed
 BYTES_AT_A_TIME = 65_536
+# How many bytes a program may print, and for each soup that it takes; how many it may write to
+# standard error, beside lines of progress.
+MOST_PRINTED, BYTES_OF_A_SOUP, MOST_COMPLAINED = 2**26, 4096, 2**20
 # A program whose streams are closed is waited for so long at a time.
 SECONDS_TO_END = 0.05
+# The starter of a program has so long for ending all that the program has started.
+MOST_SECONDS_TO_END = 2.0
 # The line of progress of `census take`.
 PROGRESS = re.compile(rb"([0-9]{1,8}) of [0-9]{1,8} soups")
 
@@ -56,12 +61,17 @@ class StreamWaiter:
 class BackgroundProgram:
     """A program that runs, with the text that it has printed on a pipe so far."""
 
+    # How many bytes it may print.
+    most_printed = MOST_PRINTED
+
     def __init__(
         self, waiter: StreamWaiter, how: str, words: list[str], stderr: int | None
     ) -> None:
         """Starts a program by `launcher.py`, with `CENSUS` or `FIND`. Raises `OSError` if that
         fails."""
-        starts = [sys.executable, "-I", "-S", "-c", read_launcher(), how, str(os.getpid())]
+        # Without a PATH, Python may not know where it is.
+        python = sys.executable or os.readlink("/proc/self/exe")
+        starts = [python, "-I", "-S", "-c", read_launcher(), how, str(os.getpid())]
         self.waiter = waiter
         # Ctrl-C mustn't end it before it is in its own session. The starter drops a Ctrl-C that
         # came until then.
@@ -77,6 +87,8 @@ class BackgroundProgram:
         finally:
             signal.pthread_sigmask(signal.SIG_SETMASK, mask)
         self.printed, self.complained = bytearray(), bytearray()
+        # The stream on which the program wrote more than it may; none if it didn't.
+        self.flooded: str | None = None
         # How many of the two streams are open.
         self.open = 0
         for stream, text in (
@@ -91,12 +103,24 @@ class BackgroundProgram:
         def read() -> None:
             piece = os.read(stream.fileno(), BYTES_AT_A_TIME)
             text.extend(piece)
+            self.refuse_floods()
             if not piece:
                 self.waiter.remove(stream)
                 stream.close()
                 self.open -= 1
 
         return read
+
+    def refuse_floods(self) -> None:
+        """Kills a program that has written too much. What it wrote is given up."""
+        for text, most, stream in (
+            (self.printed, self.most_printed, "output"),
+            (self.complained, MOST_COMPLAINED, "error"),
+        ):
+            if len(text) > most:
+                self.flooded = self.flooded or stream
+                self.kill()
+                text.clear()
 
     def is_ended(self) -> bool:
         """Checks whether the program has ended and all that it printed has been read."""
@@ -110,7 +134,12 @@ class BackgroundProgram:
         return self.open == 0 and self.process.returncode is not None
 
     def kill(self) -> None:
-        """Kills all processes of the session."""
+        """Kills all processes that the program has started. The starter does that, and then it is
+        killed itself."""
+        if self.process.poll() is None:
+            self.process.terminate()
+            with suppress(subprocess.TimeoutExpired):
+                self.process.wait(MOST_SECONDS_TO_END)
         with suppress(ProcessLookupError, PermissionError):
             os.killpg(self.process.pid, signal.SIGKILL)
 
@@ -127,8 +156,15 @@ class BackgroundProgram:
 class BackgroundTake(BackgroundProgram):
     """A call of `census take`."""
 
-    def __init__(self, waiter: StreamWaiter, words: list[str]) -> None:
+    def __init__(self, waiter: StreamWaiter, words: list[str], soups: int = 0) -> None:
+        """Starts a call that takes this number of soups."""
+        self.most_printed = MOST_PRINTED + BYTES_OF_A_SOUP * soups
         super().__init__(waiter, CENSUS, words, subprocess.PIPE)
+
+    def refuse_floods(self) -> None:
+        # Lines of progress don't count.
+        self.soups()
+        super().refuse_floods()
 
     def soups(self) -> int:
         """Returns how many soups it has run so far, by its line of progress."""
@@ -144,6 +180,8 @@ class BackgroundTake(BackgroundProgram):
 
     def haul_text(self) -> bytes:
         """Returns what was printed. Raises `Ended` if the program failed."""
+        if self.flooded is not None:
+            raise Ended(FAILED, f"census wrote too much to its standard {self.flooded}")
         complaint = bytes(self.complained).rpartition(b"\r")[2]
         if PROGRESS.match(complaint):
             # It was killed, and its line of progress is still there.

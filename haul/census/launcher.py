@@ -5,10 +5,12 @@ usage: python3 -I -S -c TEXT HOW PARENT PROGRAM [ARGUMENT ..]
 
 It runs in a session of its own, and PARENT is the process that started it. `HOW` is one of two:
 
-    census    becomes PROGRAM, which the system kills if the thread that started it ends
+    census    runs PROGRAM, and ends as it did
     find      runs PROGRAM with standard input and output closed, and prints `done` or what went
-              wrong. At the end, or if `haul` ends, all processes of the session are killed, so
-              nothing that PROGRAM has started goes on.
+              wrong
+
+At the end, or if `haul` ends, all processes that PROGRAM has started are killed, so none of them
+goes on, even in a session of its own.
 """
 
 from __future__ import annotations
@@ -19,10 +21,18 @@ import sys
 # Other modules are imported only where they are needed, since `signal` takes longer than all the
 # rest, and `haul` imports this module too.
 SIGKILL = 9
-# Of the system's call `prctl`: which signal comes when the parent ends.
+# Options of the system's call `prctl`. This one: which signal comes when the parent ends.
 PR_SET_PDEATHSIG = 1
+# What descendants of the process leave when they end becomes its child.
+PR_SET_CHILD_SUBREAPER = 36
 # Why a program can't be started if there is none; FAILED is the status with any other reason.
-NOT_THERE = (FileNotFoundError, NotADirectoryError, PermissionError)
+NOT_THERE = (
+    "No such file or directory",
+    "Not a directory",
+    "Permission denied",
+    "Operation not permitted",
+    "Exec format error",
+)
 # mutant: equal because `haul` ends with 5 for each status that `census` doesn't have
 USAGE, FAILED = 2, 5
 DONE = "done"
@@ -43,60 +53,123 @@ def drop_interrupts() -> None:
 
 def end_with(parent: int, number: int) -> None:
     """Asks for a signal when the parent ends. Ends at once if it has ended already."""
-    import ctypes
-
-    ctypes.CDLL(None).prctl(PR_SET_PDEATHSIG, number)
+    call_prctl(PR_SET_PDEATHSIG, number)
     if os.getppid() != parent:
         os._exit(FAILED)
 
 
+def call_prctl(option: int, value: int) -> None:
+    import ctypes
+
+    ctypes.CDLL(None).prctl(option, value)
+
+
 def run_census(parent: int, words: list[str]) -> None:
-    end_with(parent, SIGKILL)
-    try:
-        os.execvp(words[0], words)
-    except OSError as error:
-        is_missing = isinstance(error, NOT_THERE) or error.strerror == "Exec format error"
+    ended, why = run_program(parent, words, closes_streams=False)
+    if why:
+        name = os.fsencode(words[0])
+        is_missing = why in NOT_THERE
         os.write(
             2,
-            os.fsencode(
-                f"no census at {words[0]}\n" if is_missing else f"{words[0]}: {error.strerror}\n"
-            ),
+            b"no census at " + name + b"\n" if is_missing else name + b": " + why.encode() + b"\n",
         )
         os._exit(USAGE if is_missing else FAILED)
+    if ended < 0:
+        import _signal
 
-
-def end_session() -> None:
-    """Kills all processes of this session, this one too."""
-    os.killpg(os.getpgrp(), SIGKILL)
+        # `haul` says by which signal the program was ended.
+        if -ended != SIGKILL:
+            _signal.signal(-ended, _signal.SIG_DFL)
+        os.kill(os.getpid(), -ended)
+    os._exit(ended)
 
 
 def run_find(parent: int, words: list[str]) -> None:
-    import signal
+    ended, why = run_program(parent, words, closes_streams=True)
+    print(why or how_ended(ended), flush=True)
+    end_session()
 
-    signal.signal(signal.SIGTERM, lambda _number, _frame: end_session())
-    end_with(parent, signal.SIGTERM)
+
+def run_program(parent: int, words: list[str], closes_streams: bool) -> tuple[int, str]:
+    """Runs a program to its end, and then ends all processes that it has left, also those in
+    sessions of their own. Returns its exit status, or less than 0 for a signal, and why it can't be
+    started. Ends with all of them if the parent ends, or if SIGTERM asks for that."""
+    import _signal
+
+    # What a process of the program leaves when it ends becomes a child of this one.
+    call_prctl(PR_SET_CHILD_SUBREAPER, 1)
+    _signal.signal(_signal.SIGTERM, lambda _number, _frame: end_session())
+    end_with(parent, _signal.SIGTERM)
     itself = os.getpid()
     # It is closed when the program begins. If it can't, the reason is written to it first.
     reason, writing = os.pipe()
     program = os.fork()
     if program == 0:
-        end_with(itself, SIGKILL)
-        os.close(0)
-        os.close(1)
-        # Python ignores these two, and what it starts would as well.
-        for number in (signal.SIGPIPE, signal.SIGXFSZ):
-            signal.signal(number, signal.SIG_DFL)
-        try:
-            os.execvp(words[0], words)
-        except OSError as error:
-            os.write(writing, (error.strerror or "can't be started").encode())
-        os._exit(FAILED)
+        _signal.signal(_signal.SIGTERM, _signal.SIG_DFL)
+        become(itself, writing, words, closes_streams)
     os.close(writing)
     with open(reason, encoding="utf-8") as pipe:
         why = pipe.read()
+    if not closes_streams and not why:
+        # Only the program has them, so `haul` sees when it closes them.
+        os.close(1)
+        os.close(2)
     _, ended = os.waitpid(program, 0)
-    print(why or how_ended(os.waitstatus_to_exitcode(ended)), flush=True)
-    end_session()
+    end_descendants()
+    return os.waitstatus_to_exitcode(ended), why
+
+
+def become(parent: int, writing: int, words: list[str], closes_streams: bool) -> None:
+    """Becomes a program. If that fails, writes why."""
+    import _signal
+
+    end_with(parent, SIGKILL)
+    if closes_streams:
+        os.close(0)
+        os.close(1)
+    # Python ignores these two, and what it starts would as well.
+    for number in (_signal.SIGPIPE, _signal.SIGXFSZ):
+        _signal.signal(number, _signal.SIG_DFL)
+    try:
+        os.execvp(words[0], words)
+    except OSError as error:
+        os.write(writing, (error.strerror or "can't be started").encode())
+    os._exit(FAILED)
+
+
+def end_session() -> None:
+    """Kills all descendants, and then all processes of this session, this one too."""
+    end_descendants()
+    os.killpg(os.getpgrp(), SIGKILL)
+
+
+def end_descendants() -> None:
+    """Kills all children, and what becomes a child of this process by that, until none is left."""
+    while True:
+        for child in list_children():
+            try:
+                os.kill(child, SIGKILL)
+            except (ProcessLookupError, PermissionError):
+                pass
+        try:
+            os.waitpid(-1, 0)
+        except ChildProcessError:
+            return
+
+
+def list_children() -> list[int]:
+    """Returns the processes whose parent is this one."""
+    parent = str(os.getpid())
+    found = []
+    for name in os.listdir("/proc"):
+        if name.isdigit():
+            try:
+                with open(f"/proc/{name}/stat", encoding="utf-8", errors="replace") as file:
+                    if file.read().rpartition(")")[2].split()[1] == parent:
+                        found.append(int(name))
+            except OSError:
+                pass
+    return found
 
 
 def how_ended(status: int) -> str:

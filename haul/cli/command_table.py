@@ -15,6 +15,7 @@ from haul.cli.index_commands import run_index
 from haul.cli.shared_options import CENSUS, FORMS
 from haul.cli.soup_commands import CELLS, RLE, SOUP, SOUPS
 from haul.cli.values import (
+    read_as_census,
     read_code,
     read_count,
     read_kinds,
@@ -81,7 +82,9 @@ SEARCH = Command(
             "begin FILE with this seed; '' is the empty seed (default: a random seed)",
             read_seed,
         ),
-        option("--first", "N", "begin FILE with soup N (default: 0)", read_within(0, NUMBER_LIMIT)),
+        option(
+            "--first", "N", "begin FILE with soup N (default: 0)", read_as_census(0, NUMBER_LIMIT)
+        ),
         option(
             "--rule",
             "RULE",
@@ -93,7 +96,7 @@ SEARCH = Command(
                 f"--{name}",
                 "N",
                 f"begin FILE with this {name}, {least} to {most} (default: {standard})",
-                read_within(least, most),
+                read_as_census(least, most),
             )
             for name, (least, most), standard in zip(
                 Profile._fields, (PERIOD, (0, MOST_HORIZON), STRIDE, LIMIT), STANDARD, strict=True

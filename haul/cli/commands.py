@@ -221,6 +221,7 @@ def run_soups(asked: argparse.Namespace, streams: Streams) -> int:
             for report in reports.read(stream, format_place(name)):
                 settling.add(report)
                 soups.add(report)
+    reports.tell_skipped()
     streams.terminal.show_progress("")
     table = soups.table(reports.job, settling)
     form = table.csv if asked.csv else table.json if asked.json else table.text

@@ -3,11 +3,12 @@
 from __future__ import annotations
 
 import argparse
-from typing import Any
+from typing import Any, NoReturn
 
 from haul import VERSION
 from haul.cli.arguments import Argument, Command
 from haul.cli.command_table import COMMANDS
+from haul.terminal import escape_controls
 
 DESCRIPTION = """\
 Searches for rare objects, checks, joins, compares and shows hauls, and converts patterns from and to RLE.
@@ -47,8 +48,15 @@ def parse_arguments(words: list[str]) -> argparse.Namespace:
     return asked
 
 
-def make_parser() -> argparse.ArgumentParser:
-    parser = argparse.ArgumentParser(
+class Parser(argparse.ArgumentParser):
+    """A parser whose complaints have no control characters of the arguments."""
+
+    def error(self, message: str) -> NoReturn:
+        super().error(escape_controls(message))
+
+
+def make_parser() -> Parser:
+    parser = Parser(
         prog="haul",
         description=DESCRIPTION,
         epilog=EXAMPLES,

@@ -3,14 +3,15 @@ with them."""
 
 from __future__ import annotations
 
+import _thread
 import os
+import select
 import signal
 import sys
-import threading
 from collections.abc import Callable
 from typing import NoReturn
 
-from haul.census.children import NoThread, children, start_thread
+from haul.census.children import NoThread, children
 from haul.cli.main import describe_error
 from haul.cli.main import main as run
 from haul.cli.statuses import FAILED, NO_MEMORY
@@ -20,6 +21,8 @@ from haul.terminal import Terminal
 ENDING = (signal.SIGINT, signal.SIGTERM, signal.SIGHUP)
 # What is told in place of a signal when the work is done. No signal has this number.
 IS_DONE = 0
+# What is told when the work begins. It begins within this time, if there is memory.
+HAS_BEGUN, SECONDS_TO_BEGIN = 128, 10.0
 
 
 def run_heeding_signals(work: Callable[[], int]) -> int:
@@ -41,12 +44,13 @@ def run_heeding_signals(work: Callable[[], int]) -> int:
 
     def do() -> None:
         nonlocal status
+        os.write(writing, bytes([HAS_BEGUN]))
         try:
             status = work()
         finally:
             os.write(writing, bytes([IS_DONE]))
 
-    start_thread(threading.Thread(target=do, daemon=True))
+    begin_thread(do, reading)
     # mutant: equal because only the first byte counts
     came = os.read(reading, 1)[0]
     while came != IS_DONE and children.stopping is not None and children.stopping.came(came):
@@ -58,6 +62,23 @@ def run_heeding_signals(work: Callable[[], int]) -> int:
         signal.signal(came, signal.SIG_DFL)
         os.kill(os.getpid(), came)
     return status
+
+
+def begin_thread(do: Callable[[], None], reading: int) -> None:
+    """Starts a thread that writes a byte to a pipe when it has begun. Raises `MemoryError` if it
+    doesn't: a thread for which there is no memory ends without a word, and Python's own way of
+    starting one would wait for it forever."""
+    try:
+        _thread.start_new_thread(do, ())
+    except RuntimeError as error:
+        raise NoThread(str(error)) from None
+    if not select.select([reading], [], [], SECONDS_TO_BEGIN)[0]:
+        raise MemoryError
+    came = os.read(reading, 1)[0]
+    if came != HAS_BEGUN:
+        # A signal was faster, and nothing has been started that it has to end.
+        signal.signal(came, signal.SIG_DFL)
+        os.kill(os.getpid(), came)
 
 
 def open_streams() -> None:
@@ -85,6 +106,8 @@ def main() -> NoReturn:
         )
     except NoThread as error:
         status = fail(str(error), NO_MEMORY)
+    except MemoryError:
+        status = fail("out of memory", NO_MEMORY)
     except OSError as error:
         status = fail(describe_error(error), FAILED)
     # Python's own end would write once more what couldn't be written.

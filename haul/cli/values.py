@@ -38,6 +38,13 @@ def read_within(least: int, most: int) -> Callable[[str], int]:
     return read
 
 
+def read_as_census(least: int, most: int) -> Callable[[str], int]:
+    """Returns what reads a number from `least` to `most` as `census` does, which lets a `+` stand
+    before it."""
+    read = read_within(least, most)
+    return lambda text: read(text.removeprefix("+"))
+
+
 def read_seed(text: str) -> str:
     if not SEED.fullmatch(b"seed=" + text.encode("utf-8", "surrogateescape")):
         raise argparse.ArgumentTypeError("no seed, which is at most 64 bytes, each from ! to ~")

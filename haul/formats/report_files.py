@@ -3,6 +3,7 @@ right isn't checked."""
 
 from __future__ import annotations
 
+import errno
 from collections.abc import Iterator
 from typing import IO
 
@@ -12,6 +13,10 @@ from haul.terminal import Terminal
 
 # A line of progress is written after this many lines.
 LINES_BETWEEN_PROGRESS = 10_000
+# After so many lines that are skipped, the others are only counted.
+MOST_TOLD = 1000
+# An input has at most this number of bytes, as for `census gather`.
+INPUT_LIMIT = 2**32
 
 
 class Reports:
@@ -23,6 +28,8 @@ class Reports:
         self.job: Job | None = None
         self.soups: set[int] = set()
         self.lines = 0
+        # How many lines were skipped, of which the first ones are told.
+        self.skipped = 0
 
     def read(self, stream: IO[bytes], place: str) -> Iterator[Report]:
         """Yields each report that has the job of the first one, unless its soup has been read
@@ -35,23 +42,39 @@ class Reports:
             try:
                 report = read_report_line(line)
             except BadLine as bad:
-                self.terminal.complain(f"{place}line {number}: {bad}")
+                self.skip(f"{place}line {number}: {bad}")
                 continue
             self.job = self.job or report.job
             if report.job != self.job:
-                self.terminal.complain(f"{place}line {number}: other job")
+                self.skip(f"{place}line {number}: other job")
             elif report.soup not in self.soups:
                 self.soups.add(report.soup)
                 yield report
 
+    def skip(self, why: str) -> None:
+        """Tells of a line that is skipped, unless too many have been told."""
+        self.skipped += 1
+        if self.skipped <= MOST_TOLD:
+            self.terminal.complain(why)
+
+    def tell_skipped(self) -> None:
+        """Says how many lines were skipped that weren't told."""
+        if self.skipped > MOST_TOLD:
+            self.terminal.complain(f"{self.skipped - MOST_TOLD} more lines are skipped")
+
 
 def split_lines(stream: IO[bytes]) -> Iterator[bytes]:
     """Yields the lines of an input without their line feeds. A line that is too long is cut to one
-    byte more than is allowed."""
+    byte more than is allowed. Raises `OSError` if the input is too long."""
+    size = 0
     # mutant: equal because what is longer is refused, however much of it is read
     while line := stream.readline(LINE_LIMIT + 1):
+        size += len(line)
+        if size > INPUT_LIMIT:
+            raise OSError(errno.EFBIG, f"input longer than {INPUT_LIMIT} bytes")
         yield line.removesuffix(b"\n")
         # mutant: equal because only the last line lacks its line feed
         while len(line) > LINE_LIMIT and not line.endswith(b"\n"):
             # mutant: equal because what is longer is refused, however much of it is read
             line = stream.readline(LINE_LIMIT + 1)
+            size += len(line)

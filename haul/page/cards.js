@@ -17,18 +17,19 @@ const linkTo = (object, text) => `<a href="${addressOf(object.code)}">${text}</a
 // ---- A bar for each haul that is compared. The longest one on a card is that of the haul with the most.
 const letterOf = haul => `<span class="letter" data-haul="${haul.letter}">${haul.letter}</span>`;
 const intervalWords = ends => ends ? `, 95 % interval ${figure(ends[0])} to ${figure(ends[1])}` : '';
+const UNIT = '<span class="per">per million soups</span>';
 const MARK = '<b class="differs">*<span class="hidden"> differs from A</span></b>';
 const bar = (way, haul) => {
   const { letter, place: at } = haul, rate = way.rates[at], mark = differs(way, at) ? MARK : '';
   const title = `${letter}: ${perMillion(rate)}${intervalWords(intervalOf(way, at))}`;
   return `<span class="rate" title="${title}">${letterOf(haul)}`
     + `<span class="track"><span class="bar" data-haul="${letter}" style="width:${(rate / (way.rate || 1) * 100).toFixed(1)}%"></span></span>`
-    + `<span class="number">${figure(rate * PER)}${mark}</span></span>`;
+    + `<span class="number${rate ? '' : ' zero'}">${figure(rate * PER)}${mark}</span></span>`;
 };
 const bars = way => `<span class="bars">${hauls.map(haul => bar(way, haul)).join('')}</span>`;
 
 const counts = way => {
-  if (isCompared) return bars(way);
+  if (isCompared) return bars(way) + UNIT;
   const [total] = way.totals;
   return `<span class="counts"><span class="total">${whole(total)}<span class="unit"> ${noun(total, 'object')}</span></span>`
     + `<span class="often">${oftenWords(total, hauls[0].soups)}</span></span>`;

@@ -33,9 +33,10 @@ const percent = share => `${(share * 100).toFixed(2)}%`;
 // ---- The most frequent objects: totals of the haul, or rates of hauls that are compared
 const valueOf = (object, at) => isCompared ? wayOf(object).rates[at] * PER : Number(wayOf(object).totals[at]);
 const ranking = () => [...objects.values()].filter(object => !object.isLeftOut[wayName()]).sort((a, b) => byFrequency(a, b) || byCode(a, b));
+// On a linear axis a bar, and on a logarithmic one, where a length means nothing, a dot at its end.
 const barOf = (object, axis, { letter, place: at }) => {
   const value = valueOf(object, at), width = value ? `max(2px, ${percent(axis.at(value))})` : 0;
-  return `<span class="bar" data-haul="${letter}" style="width:${width}"></span>`;
+  return `<span class="bar${value ? '' : ' absent'}" data-haul="${letter}" style="width:${width}"></span>`;
 };
 const barsOf = (object, axis) => {
   const label = `<span class="label">${escaped(nameOf(object))}</span>`;
@@ -60,7 +61,7 @@ const frequencyChart = ranked => {
   const head = `The ${shown.length} most frequent${choice.parts === '1' ? ', parts counted' : ''}`;
   const unit = isCompared ? 'Objects per million soups' : 'Number of objects';
   return `<figure><figcaption>${head}${axisSwitch()}</figcaption>`
-    + `<div class="frequencies" role="list">${shown.map(object => barsOf(object, axis)).join('')}</div>`
+    + `<div class="frequencies ${choice.axis}" role="list">${shown.map(object => barsOf(object, axis)).join('')}</div>`
     + `<div class="marks" aria-hidden="true"><span></span><span class="track">${marks}</span><span class="value"></span></div>`
     + `<p class="note">${unit}, ${choice.axis === 'log' ? 'logarithmic' : 'linear'} axis.</p></figure>`;
 };

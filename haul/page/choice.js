@@ -12,7 +12,9 @@ const decoded = text => { try { return decodeURIComponent(text); } catch { retur
 
 // Reads the address. A value that isn't known is passed over.
 const readAddress = () => {
-  const [code, ...words] = location.hash.slice(1).split('&');
+  const pieces = location.hash.slice(1).split('&');
+  // No code has a `=`, so a first piece with one is a choice.
+  const code = pieces[0].includes('=') ? '' : pieces.shift(), words = pieces;
   const given = Object.fromEntries(words.map(word => [word.split('=')[0], decoded(word.slice(word.indexOf('=') + 1))]));
   for (const [name, first] of Object.entries(FIRST_CHOICE)) choice[name] = given[name] ?? first;
   for (const [name, values] of [['sort', SORTS.map(([sort]) => sort)], ['view', ['gallery', 'table']], ['axis', ['log', 'linear']]])

@@ -56,18 +56,15 @@ const phasesBlock = (object, haul) => {
   const phases = known ? known.phases : [cells], title = `${nameOf(object)}, ${kindWords(object)}`;
   const picture = cells ? pictureOf(phases, LARGE_SIDE, title) : pictureOfObject(object, LARGE_SIDE);
   const facts = factsOf(object, known) + partsOf(object, haul) + (object.rarity && fact('in the reference', object.rarity)) + (isCompared ? '' : totalsOf(object, haul));
-  return `<div class="large"><div class="frame">${picture}</div>${phases.length > 1 ? PHASE_BUTTONS : ''}</div><dl class="facts">${facts}</dl>`;
+  const large = `<div class="large"><div class="frame">${picture}</div>${phases.length > 1 ? PHASE_BUTTONS : ''}</div>`;
+  return { large, facts: `<dl class="facts">${facts}</dl>` };
 };
 const grouped = (values, textOf) => {
   const groups = new Map();
   for (const value of values) groups.set(textOf(value), [...groups.get(textOf(value)) ?? [], value]);
   return groups;
 };
-const blocks = object => {
-  const having = hauls.filter(haul => object.made[haul.place] !== null), groups = grouped(having, haul => phasesBlock(object, haul));
-  const head = some => groups.size > 1 ? `<h3>${some.map(letterOf).join(' ')} ${some[0].rule}</h3>` : '';
-  return [...groups].map(([html, some]) => `<section class="phases-of">${head(some)}${html}</section>`).join('');
-};
+const columns = (left, right) => `<div class="columns"><div>${left}</div><div>${right}</div></div>`;
 const rates = object => !isCompared ? ''
   : hauls.map(haul => `<h3>${letterOf(haul)} ${haul.rule}</h3><dl class="facts">${totalsOf(object, haul)}</dl>`).join('');
 
@@ -114,8 +111,17 @@ const objectHead = object => {
     + `<nav>${stepLink(object, -1, 'Previous', '‹')}${stepLink(object, 1, 'Next', '›')}`
     + '<button type="button" data-act="close" aria-label="Close">×</button></nav></header>';
 };
-const objectBody = object => '<div class="body">' + blocks(object) + actions(object)
-  + rleBlock(object) + rates(object) + soupList(object) + '</div>';
+// Two columns if there is room. An object with one block has its picture at the left, and all else at the right.
+const objectBody = object => {
+  const having = hauls.filter(haul => object.made[haul.place] !== null), below = actions(object) + rleBlock(object);
+  const groups = [...grouped(having, haul => JSON.stringify(phasesBlock(object, haul)))].map(([text, some]) => ({ ...JSON.parse(text), some }));
+  if (groups.length === 1) {
+    const [{ large, facts }] = groups;
+    return `<div class="body">${columns(large + below, facts + rates(object) + soupList(object))}</div>`;
+  }
+  const block = ({ large, facts, some }) => `<section class="phases-of"><h3>${some.map(letterOf).join(' ')} ${some[0].rule}</h3>${columns(large, facts)}</section>`;
+  return `<div class="body">${groups.map(block).join('')}${columns(below + rates(object), soupList(object))}</div>`;
+};
 
 // Copies a text, and says so beside the button. If the browser doesn't copy, the text is selected there.
 const copy = async (text, what, button) => {
@@ -151,6 +157,8 @@ const showPlayer = object => {
     + '<p>In a shell, this command runs the soup with Gokzerd’s verified program <code>census</code>, and prints when it settles and what it '
     + `leaves: <code class="command">${escaped(commandOf(soup))}</code></p>`;
   player = new Player(box.querySelector('.player'), soup, object);
+  if (isToPlay) player.start();
+  isToPlay = false;
   box.scrollIntoView({ block: 'nearest' });
 };
 
@@ -186,6 +194,26 @@ dialog.addEventListener('close', () => {
   writeAddress();
 });
 
+// The arrow keys go through the objects, except where they do something else.
+const STEPS_OF_KEYS = { ArrowLeft: -1, ArrowRight: 1 };
+dialog.addEventListener('keydown', event => {
+  const step = STEPS_OF_KEYS[event.key], isTaken = event.target.closest('canvas, select, textarea');
+  if (!step || isTaken || event.altKey || event.ctrlKey || event.metaKey || event.shiftKey) return;
+  const other = neighbour(objects.get(open.code), step);
+  if (!other) return;
+  event.preventDefault();
+  location.hash = addressOf(other.code);
+});
+
+// A soup that is clicked plays at once, unless the reader wants no motion.
+let isToPlay = false;
+document.addEventListener('click', event => {
+  const link = event.target.closest?.('a[href*="&soup="]');
+  if (!link || stillness.matches) return;
+  isToPlay = link.hash !== location.hash;
+  if (!isToPlay) player?.start();
+});
+
 let shownCode = '';
 const showObject = () => {
   const object = objects.get(open.code);
@@ -200,6 +228,7 @@ const showObject = () => {
       svg.closest('.large').querySelector('[data-act=phases]').textContent = watched.has(svg) ? 'Pause' : 'Play';
     });
     if (!dialog.open) dialog.showModal();
+    dialog.style.setProperty('--head', `${dialog.firstChild.offsetHeight}px`);
     dialog.scrollTop = 0;
     byId('object-name').focus();
   }

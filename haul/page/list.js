@@ -25,9 +25,10 @@ class LongList {
     this.chunks.slice(0, FIRST).forEach(chunk => this.fill(chunk));
   }
 
-  // One chunk is filled or emptied in each frame, so that no frame takes long.
+  // One chunk is filled or emptied in each frame, so that no frame takes long. At first all chunks are told of, and few of them wait.
   turn({ target: { chunk }, isIntersecting }) {
     chunk.isNear = isIntersecting;
+    if (chunk.isNear === chunk.isFilled) { this.waiting.delete(chunk); return; }
     this.waiting.add(chunk);
     if (this.waiting.size === 1) requestAnimationFrame(() => this.turnOne());
   }

@@ -17,17 +17,20 @@ from haul.views.rates import bound_rarity
 
 KINDS = {"s": "still life", "p": "oscillator of period", "q": "spaceship of period"}
 CATAGOLUE = "https://catagolue.hatsya.com"
+# The rows of the table. A browser takes long for more of them.
+MOST_ROWS = 1000
 
 
 def write_table(sides: Sides) -> Iterator[str]:
     """Yields the table, row by row, with each object that has a place on the page."""
     letters = [f" in {side.letter}" if len(sides.all) > 1 else "" for side in sides.all]
+    style = "all compared" if len(sides.all) > 1 else "all"
     heads = ["Picture", "Name and code", "What it is", "Cells"]
     for letter in letters:
         heads += [f"Total{letter}", f"How often{letter}", f"Sample soups{letter}"]
-    yield f'<p>{describe_omissions(sides)}</p>\n<div class="scroll"><table class="all"><thead><tr>'
+    yield f'<p>{describe_omissions(sides)}</p>\n<div class="scroll"><table class="{style}"><thead><tr>'
     yield "".join(f'<th scope="col">{head}</th>' for head in heads) + "</tr></thead><tbody>\n"
-    for code in sides.codes:
+    for code in sides.codes[:MOST_ROWS]:
         yield write_row(sides, code)
     yield "</tbody></table></div>\n"
 
@@ -38,6 +41,11 @@ def describe_omissions(sides: Sides) -> str:
     text = f"{len(sides.codes):,} of {kinds:,} distinct objects, the most frequent first."
     if kinds > len(sides.codes):
         text += f" Of the others there are fewer than {sides.least:,}."
+    if len(sides.codes) > MOST_ROWS:
+        text += (
+            f" This table has the first {MOST_ROWS:,} of them. <code>haul table</code> lists all "
+            "objects of a haul."
+        )
     return text
 
 

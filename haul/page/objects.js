@@ -35,6 +35,9 @@ const objects = new Map(data.objects.map(one => [one.code, objectOf(one)]));
 // How many of some things have each key.
 const tallied = (some, keyOf) => some.reduce((tally, one) => tally.set(keyOf(one), (tally.get(keyOf(one)) ?? 0) + 1), new Map());
 const nameOf = object => object.label || object.code;
+// The plural of a name. A label that is made from parts, or a code, has none.
+const pluralOf = ({ isNamed, label }) => !isNamed ? 'objects with this code' : label.replace(/loaf$/, 'loave').replace(/([^aeiou])y$/, '$1ie')
+  .replace(/(s|x|z|ch|sh)$/, '$1e').replace(/$/, 's');
 
 // ---- How often an object is found in a haul. A haul doesn't say how many soups have one, so of that there is only a bound.
 const oneIn = (total, soups) => Math.max(1, Math.floor(soups / Number(total)));

@@ -29,6 +29,9 @@ const chips = () => {
   const byParts = choice.parts === '1';
   return kindChips() + haulChips() + check('strict', 'Strict only', choice.strict === '1', byParts) + check('parts', 'Count parts', byParts);
 };
+// How many choices behind the button of a telephone aren't the first ones.
+const FILTERS = ['kind', 'period', 'strict', 'parts', 'in', 'sort', 'view'];
+const countFilters = () => FILTERS.filter(name => choice[name] !== FIRST_CHOICE[name]).length;
 const showControls = () => {
   const focused = document.activeElement?.closest?.('#chips') ? document.activeElement : null;
   const wanted = focused?.name ? `input[name=${focused.name}]` : `[data-name="${focused?.dataset.name}"][data-value="${focused?.dataset.value}"]`;
@@ -37,6 +40,7 @@ const showControls = () => {
   if (byId('query').value !== choice.q) byId('query').value = choice.q;
   byId('sort').value = choice.sort;
   for (const radio of controls.elements.view) radio.checked = radio.value === choice.view;
+  byId('filter').lastChild.textContent = countFilters() || '';
 };
 const sumOf = some => some.reduce((sum, object) => sum + wayOf(object).total, 0n);
 const COMPARED = ' Bars: objects per million soups; * differs from A (p < 0.001).';
@@ -69,9 +73,9 @@ const show = () => { showControls(); showList(); refreshCharts(); };
 const choose = changes => {
   Object.assign(choice, changes);
   writeAddress();
-  const isBelow = byId('objects').getBoundingClientRect().top < 0;
+  const isBelow = byId('found').getBoundingClientRect().top < controls.offsetHeight;
   show();
-  if (isBelow) byId('objects').scrollIntoView();
+  if (isBelow) byId('found').scrollIntoView();
 };
 
 const toggled = (text, value) => {
@@ -89,6 +93,9 @@ controls.addEventListener('change', ({ target }) => {
   if (target.name === 'strict' || target.name === 'parts') choose({ [target.name]: target.checked ? '1' : '0' });
   else if (target.name === 'view') choose({ view: target.value });
   else if (target.id === 'sort') choose({ sort: target.value });
+});
+byId('filter').addEventListener('click', ({ currentTarget: button }) => {
+  button.setAttribute('aria-expanded', button.getAttribute('aria-expanded') === 'false');
 });
 controls.addEventListener('submit', event => event.preventDefault());
 byId('query').addEventListener('input', event => choose({ q: event.target.value }));
@@ -123,17 +130,28 @@ const start = () => {
   showList();
   startCharts();
   showObject();
-  if (open.unknown) byId('objects').scrollIntoView();
+  if (open.unknown) byId('found').scrollIntoView();
 };
 let width = innerWidth;
-addEventListener('resize', () => { if (innerWidth !== width) { width = innerWidth; showList(); refreshCharts(); } });
+// On paper the list has all objects, whatever the width.
+addEventListener('resize', () => { if (innerWidth !== width && !matchMedia('print').matches) { width = innerWidth; showList(); refreshCharts(); } });
 addEventListener('hashchange', () => {
   const before = choiceText();
   readAddress();
   if (choiceText() !== before) show(); else showCount();
-  if (open.unknown) byId('objects').scrollIntoView();
+  if (open.unknown) byId('found').scrollIntoView();
   showObject();
 });
-addEventListener('beforeprint', () => list.fillAll());
-addEventListener('afterprint', () => showList());
+// On paper, all objects and the charts are there.
+let wereChartsOpen = false;
+addEventListener('beforeprint', () => {
+  wereChartsOpen = byId('charts').open;
+  byId('charts').open = true;
+  refreshCharts();
+  list.fillAll();
+});
+addEventListener('afterprint', () => {
+  byId('charts').open = wereChartsOpen;
+  showList();
+});
 start();

@@ -42,7 +42,7 @@ const watched = new Map();
 const showPhase = (svg, phase) => {
   const paths = svg.dataset.phases.split('|'), said = svg.closest('.large')?.querySelector('.phase');
   svg.querySelector('.live').setAttribute('d', paths[phase % paths.length]);
-  if (said) said.textContent = `phase ${phase % paths.length} of 0 to ${paths.length - 1}`;
+  if (said) said.textContent = `phase ${phase % paths.length} (0 to ${paths.length - 1})`;
 };
 const watch = svg => { if (svg?.dataset.phases && !stillness.matches) watched.set(svg, 0); };
 const unwatch = svg => { if (watched.delete(svg)) showPhase(svg, 0); };

@@ -91,7 +91,7 @@ const saidBy = (soup, evolution) => {
 };
 const ringWords = (object, count) => {
   if (!count) return ` The page doesn’t find ${nameOf(object)} in it.`;
-  return count === 1 ? ` The ring is around the ${nameOf(object)}.` : ` ${count} rings are around each ${nameOf(object)}.`;
+  return count === 1 ? ` The ring is around the ${nameOf(object)}.` : ` Each of the ${count} ${pluralOf(object)} has a ring.`;
 };
 const noEnd = soup => {
   if (soup.ends) return '';
@@ -143,6 +143,7 @@ class Player {
     acts[act]?.();
   }
 
+  start() { if (!this.isPlaying()) this.press('play'); }
   zoom(factor) { this.view.zoom(factor); this.draw(); }
   fit(isOfAsh) { Object.assign(this.view, { fits: true, isOfAsh }); this.draw(true); }
 

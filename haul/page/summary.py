@@ -19,6 +19,12 @@ MOST_RANGES = 12
 NO_NUMBER = "–"
 COUNTED = "the formally verified program <code>census</code> counted the objects that they left"
 
+# What facts on hauls that are compared mean, whatever their profiles.
+MEANINGS = {
+    "of these strict": "not made of smaller objects",
+    "settled for good": "proved to be at rest forever",
+}
+
 NOTES = """\
 <p>An object is <em>strict</em> if it doesn't consist of smaller objects that would do the same each by itself, as the two blocks of a
 bi-block would. The parts are found by a definition of this project, not by apgsearch's code. Names are those of LifeWiki. A haul doesn't
@@ -81,7 +87,12 @@ def write_comparison(sides: Sides) -> str:
     """Writes the facts on hauls that are compared, in a table with a row for each."""
     # mutant: equal because all have facts of the same names
     first = sides.all[0]
-    heads = ["Haul", *(name for name, _, _ in list_tiles(first)), "seed", "numbers"]
+    heads = [
+        "Haul",
+        *(f"{name}{explain(name)}" for name, _, _ in list_tiles(first)),
+        "seed",
+        "numbers",
+    ]
     rows = [
         [
             write_rule(side),
@@ -101,6 +112,11 @@ def write_comparison(sides: Sides) -> str:
         f'{COUNTED}.</p>\n<div class="scroll" tabindex="0" role="region" aria-label="The hauls">'
         f'<table class="hauls"><thead><tr>{head}</tr></thead><tbody>\n{body}</tbody></table></div>\n'
     )
+
+
+def explain(name: str) -> str:
+    """Writes what a fact means, if that isn't plain."""
+    return f"<small>{MEANINGS[name]}</small>" if name in MEANINGS else ""
 
 
 def write_rule(side: Side) -> str:
@@ -166,7 +182,7 @@ def list_tiles(side: Side) -> list[tuple[str, str, str]]:
         (
             "settled for good",
             f"{haul.for_good:,}",
-            f"at rest forever; the other {others:,} for at least "
+            f"proved to be at rest forever; the other {others:,} for at least "
             f"{write_count(profile.horizon, 'generation')}",
         ),
     ]

@@ -30,7 +30,7 @@ from haul.plurals import write_count
 from haul.census.background import BackgroundTake, StreamWaiter
 from haul.search.find_calls import FindCalls
 from haul.search.finds import Finder
-from haul.search.keeper import Keeper
+from haul.search.keeper import Displaced, Keeper
 from haul.search.status_line import Status, StatusLine, format_duration
 from haul.search.stopping import Stopping
 
@@ -159,7 +159,9 @@ class Search:
         if count <= 0 or self.stopping.finishes:
             return None
         words = list_take_arguments(self.job, [(self.next, count)], self.plan.workers, True)
-        batch = Batch(self.next, count, BackgroundTake(self.waiter, [self.census.path, *words]))
+        batch = Batch(
+            self.next, count, BackgroundTake(self.waiter, [self.census.path, *words], count)
+        )
         self.next += count
         self.begun += count
         return batch
@@ -217,11 +219,18 @@ class Search:
         self.stopping.is_writing = True
         try:
             self.keeper.write(self.joining.result())
+        except Displaced:
+            self.look_at_kept()
+            raise
         finally:
             self.stopping.is_writing = False
         self.kept_at = time.monotonic()
         self.latest_writing = self.kept_at - began
         self.writing += self.latest_writing
+        self.look_at_kept()
+
+    def look_at_kept(self) -> None:
+        """Has the objects of batches that were written looked at for finds."""
         for codes in self.unkept:
             self.finder.add(codes)
         self.unkept.clear()

@@ -354,8 +354,11 @@ class NoThreads(unittest.TestCase):
         ):
             with self.subTest(words=words):
                 few = (
-                    f"import runpy, sys, threading; start, left = threading.Thread.start, [0] * {least}\n"
+                    f"import _thread, runpy, sys, threading; start, left = threading.Thread.start, [0] * {least}\n"
                     "def start_few(thread):\n    if not left: raise RuntimeError('no thread')\n    left.pop(); start(thread)\n"
+                    "begin = _thread.start_new_thread\n"
+                    "def begin_few(*words):\n    if not left: raise RuntimeError('no thread')\n    left.pop(); return begin(*words)\n"
+                    "_thread.start_new_thread = begin_few\n"
                     f"threading.Thread.start = start_few; sys.argv[0] = {HAUL!r}; runpy.run_path({HAUL!r}, run_name='__main__')"
                 )
                 self.assertEqual(

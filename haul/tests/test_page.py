@@ -80,7 +80,7 @@ until they had settled, and the formally verified program <code>census</code> co
 <dl class="tiles"><div><dt>soups</dt><dd>8</dd></div><div><dt>objects</dt><dd>113</dd></div><div><dt>objects per soup</dt><dd>14.12</dd></div>\
 <div><dt>distinct objects</dt><dd>4</dd></div><div><dt>of these strict<small>not made of smaller objects</small></dt><dd>2</dd></div>\
 <div><dt>unsettled soups<small>not at rest by generation 30,300</small></dt><dd>1</dd></div>\
-<div><dt>settled for good<small>at rest forever; the other 5 for at least 512 generations</small></dt><dd>2</dd></div></dl>
+<div><dt>settled for good<small>proved to be at rest forever; the other 5 for at least 512 generations</small></dt><dd>2</dd></div></dl>
 <div class="more"><details><summary>How to verify it</summary>
 <p>If the haul of this page is in the file <code>all.haul</code>, <code>haul check all.haul</code> runs the whole census again and compares, \
 and <code>haul check --samples all.haul</code> runs only the sample soups.</p>
