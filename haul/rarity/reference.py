@@ -8,6 +8,7 @@ from dataclasses import dataclass
 from functools import cache
 from hashlib import sha256
 from importlib.resources import files
+from pathlib import Path
 
 from haul.formats.haul import Job
 from haul.formats.profile import STANDARD
@@ -50,7 +51,15 @@ def is_covered(job: Job) -> bool:
 @cache
 def load_reference() -> Reference:
     """Returns the table by parts. Raises `BadTable` if it is damaged."""
-    return parse_reference(files("haul").joinpath("reference").joinpath(FILE).read_bytes())
+    return parse_reference(read_reference())
+
+
+def read_reference() -> bytes:
+    """Reads the table: that in the package if `haul` is packed, or that of the checkout."""
+    packed = files("haul").joinpath("reference").joinpath(FILE)
+    if packed.is_file():
+        return packed.read_bytes()
+    return (Path(__file__).resolve().parents[2] / "reference" / FILE).read_bytes()
 
 
 def parse_reference(text: bytes) -> Reference:

@@ -40,7 +40,7 @@ class Bytes(unittest.TestCase):
             for file in (TOP / "haul").rglob("*")
             if file.is_file() and not {"tests", "__pycache__", "reference"} & {*file.parts}
         ]
-        tables = (TOP / "haul" / "reference").iterdir()
+        tables = (TOP / "reference").iterdir()
         own += [file for file in tables if file.name != "README.md"]
         self.assertEqual(
             names, ["__main__.py", *sorted(file.relative_to(TOP).as_posix() for file in own)]
