@@ -40,11 +40,10 @@ class Bytes(unittest.TestCase):
             for file in (TOP / "haul").rglob("*")
             if file.is_file() and not {"tests", "__pycache__", "reference"} & {*file.parts}
         ]
-        tables = (TOP / "reference").iterdir()
-        own += [file for file in tables if file.name != "README.md"]
-        self.assertEqual(
-            names, ["__main__.py", *sorted(file.relative_to(TOP).as_posix() for file in own)]
-        )
+        tables = [file.name for file in (TOP / "reference").iterdir() if file.name != "README.md"]
+        wanted = [file.relative_to(TOP).as_posix() for file in own]
+        wanted += [f"haul/reference/{name}" for name in tables]
+        self.assertEqual(names, ["__main__.py", *sorted(wanted)])
         for name in (
             "haul/tests/called.py",
             "haul/formats/__pycache__/haul.cpython-311.pyc",
@@ -61,7 +60,9 @@ class Bytes(unittest.TestCase):
         archive = zipfile.ZipFile(io.BytesIO(self.FILE))
         self.assertIsNone(archive.testzip())
         for entry in archive.infolist()[1:]:
-            self.assertEqual(archive.read(entry), (TOP / entry.filename).read_bytes())
+            packed = entry.filename.startswith("haul/reference/")
+            file = entry.filename.removeprefix("haul/") if packed else entry.filename
+            self.assertEqual(archive.read(entry), (TOP / file).read_bytes())
         for entry in archive.infolist():
             self.assertEqual(
                 (
