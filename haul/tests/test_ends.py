@@ -527,6 +527,7 @@ class Calls(unittest.TestCase):
         """Not even if there is no program."""
         with tempfile.TemporaryDirectory() as folder:
             shutil.copytree(TOP / "haul", Path(folder, "haul"))
+            shutil.copytree(TOP / "reference", Path(folder, "reference"))
             Path(folder, "bin").mkdir()
             shutil.copy(HAUL, Path(folder, "bin", "haul"))
             Path(folder, "a").write_bytes(taken(40))

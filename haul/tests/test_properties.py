@@ -222,6 +222,7 @@ class Shown(unittest.TestCase):
                 )
 
     def test_four_thousand(self) -> None:
+        """The table has the thousand most frequent objects."""
         codes = [f"xs4_{number:04}" for number in range(4000)]
         haul = Haul(
             Job("", "b3s23", Profile(1, 1, 1, 0)),
@@ -233,7 +234,8 @@ class Shown(unittest.TestCase):
             samples={code: [0] for code in codes},
         )
         self.assertEqual(
-            [row.cells[1].split()[-1] for row in table_of(page(haul, 0)).rows], codes[::-1]
+            [row.cells[1].split()[-1] for row in table_of(page(haul, 0)).rows],
+            codes[:-1001:-1],
         )
 
 

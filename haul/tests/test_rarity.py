@@ -4,7 +4,6 @@ from __future__ import annotations
 
 import math
 import unittest
-from importlib.resources import files
 
 from haul.formats.tables import BadTable
 from haul.rarity.equal_rates import compute_p_value
@@ -15,6 +14,7 @@ from haul.rarity.reference import (
     find_occurrence,
     load_reference,
     parse_reference,
+    read_reference,
 )
 from haul.tests.called import TOP, run
 
@@ -108,7 +108,7 @@ class TheReference(unittest.TestCase):
         )
 
     def test_a_changed_digit_in_each_column(self) -> None:
-        right = files("haul").joinpath("reference").joinpath("parts.tsv").read_bytes()
+        right = read_reference()
         heads, row, *rows = right.split(b"\n")
         for column in range(5):
             fields = row.split(b"\t")

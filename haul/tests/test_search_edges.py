@@ -23,7 +23,7 @@ class Programs(Searches):
     def test_finds_in_another_session(self) -> None:
         program = self.stub("cd ..; setsid -f sleep 77.5 < /dev/null > /dev/null 2>&1", "finder")
         self.file.write_bytes(census("take", "--first=23000", "--count=1"))
-        status, told, errors = self.search("--until", "500", "--finds", program)
+        status, told, errors = self.search("--until", "500", "--rarer", "10000", "--finds", program)
         self.assertEqual((status, errors), (0, ""))
         self.assertNotEqual(told, "")
         self.assertEqual(self.sleeping("77.5"), [])
