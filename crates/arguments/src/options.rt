@@ -13,6 +13,8 @@ pub enum ValueKind {
     Flag,
     /// A number from the first to the second number, in decimal digits, perhaps after a `+`.
     Number(u64, u64),
+    /// A number as for `Number`, or none: the option may be left out, and has no default.
+    OptionalNumber(u64, u64),
 }
 
 /// Where an argument is expected.
@@ -33,7 +35,7 @@ pub struct Parameter {
     pub place: Place,
     /// The kind of its value.
     pub kind: ValueKind,
-    /// The value if it isn't given. Without a default it is required, unless it is a flag.
+    /// The value if it isn't given. Without a default it is required, unless it is a flag or an optional number.
     pub default: Option<&'static str>,
     /// The heading under which help shows it, or `None` for the list of the other options.
     pub heading: Option<&'static str>,
@@ -217,4 +219,16 @@ pub const PROGRESS: Parameter = Parameter {
     heading: None,
     help: "Shows the progress on standard error, even if it isn't a terminal. The\n\
          line is wiped at the end",
+};
+
+/// The generation from which a checkpoint is late.
+pub const REPORT_FROM: Parameter = Parameter {
+    name: "report-from",
+    place: Place::Named("GENERATION"),
+    kind: ValueKind::OptionalNumber(0, 100_001),
+    default: None,
+    heading: None,
+    help: "Also writes the report lines of soups that settle at GENERATION or later\n\
+         or not at all to standard error, from 0 to 100001: 0 reports each soup,\n\
+         100001 only unsettled ones",
 };

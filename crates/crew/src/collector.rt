@@ -46,10 +46,13 @@ pub fn collect<R: Wait, H: ProgressObserver>(
             break;
         }
         match belt.receive(rt, pass) {
-            Note::Report(report) => match offer(haul, report) {
-                Ok(()) => {}
-                Err(error) => answered = Err(error),
-            },
+            Note::Report(report) => {
+                observer.report(&report);
+                match offer(haul, report) {
+                    Ok(()) => {}
+                    Err(error) => answered = Err(error),
+                }
+            }
             Note::Done { .. } => left -= 1,
         }
     }
