@@ -436,7 +436,7 @@ never_stopped may_stop plan reader bytes status output errors never ends = recor
     go (Err (WriteFailed error)) (inl is) =
         let (made, right, prefix, diagnostics) = is.left in
         inl (record { left = (made, never_less may_stop plan made never right, prefix, diagnostics); cut = is.cut; fine = is.fine })
-    go (Err (WriteFailed error)) (inr is) = absurd is.tells
+    go (Err (WriteFailed error)) (inr is) = absurd is.told
 
 -- ---- the same without a behaviour of commands
 

@@ -24,7 +24,7 @@ pub trait ProgressObserver {
 
     /// Called for each report that a worker has sent, before it is offered to the haul.
     fn report(&mut self, _report: &Report)
-        ensures { hears self.old (report.now ∷ []) self.new }
+        ensures { hears self.old (_report.now ∷ []) self.new }
     {}
 
     /// Called from time to time: `count` soups of the haul have been taken so far.
