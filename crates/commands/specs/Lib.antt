@@ -7,6 +7,7 @@ pub mod LateReports
 pub mod Lines
 pub mod LinesSoFar
 pub mod PutLaws
+pub mod ReportSteps
 pub mod Reporting
 pub mod SoupSets
 pub mod Stopped

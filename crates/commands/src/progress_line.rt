@@ -9,6 +9,7 @@
 ghost use Rattle.std.specs.Prelude.{◌≡◌, None, false};
 
 use crew::progress_observer::ProgressObserver;
+use haul_core::report::Report;
 use memory::OutOfMemory;
 use plane_core::output::Out;
 use std::alloc::Global;
@@ -137,6 +138,8 @@ impl<W: Write, C: Clock> ProgressObserver for ProgressLine<W, C> {
     fn started(&mut self, workers: u8) {
         self.at_work = workers;
     }
+
+    fn report(&mut self, _report: &Report) {}
 
     fn taken(&mut self, count: u64)
         ensures unbegun { self.old.latest ≡ None → self.new ≡ self.old }

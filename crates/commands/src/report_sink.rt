@@ -6,9 +6,13 @@
 //!                                                         └── failed: no gate lets a worker begin
 //! ```
 
-ghost use Rattle.std.specs.Prelude.{◌≡◌, false};
+ghost use Rattle.std.proofs.Common.{◌∙◌, subst};
+ghost use Rattle.std.specs.Prelude.{◌≡◌, false, refl};
 ghost use Rattle.haul_core.specs.ReportLines.{report_text};
+ghost use Rattle.haul_core.specs.Reports.{IsReport};
 ghost use Rattle.plane_core.specs.Outputs.{Writes};
+ghost use Rattle.commands.specs.LateReports.{PutsReports, is_late};
+ghost use Rattle.commands.specs.PutLaws.{puts_more, puts_none};
 
 use arrayvec::ArrayVec;
 use crew::gate::{Gate, Stop};
@@ -45,7 +49,7 @@ impl<'a> Gate for FaultGate<'a> {
 
 /// An observer that writes the line of each late report, and passes the progress on.
 #[derive(Drop)]
-pub(crate) struct ReportSink<'a, E: Write, H> {
+pub(crate) struct ReportSink<'a, 's, E: Write, H> {
     /// The generation from which a checkpoint is late.
     pub(crate) from: u32,
     /// Where the lines are written.
@@ -53,12 +57,16 @@ pub(crate) struct ReportSink<'a, E: Write, H> {
     /// Receives the progress.
     pub(crate) progress: &'a mut H,
     /// Set once a write has failed.
-    pub(crate) has_failed: &'a AtomicBool,
+    pub(crate) has_failed: &'s AtomicBool,
     /// The witness of the write that failed.
     pub(crate) fault: Option<WriteError>,
 }
 
-impl<'a, E: Write, H: ProgressObserver> ProgressObserver for ReportSink<'a, E, H> {
+impl<'a, 's, E: Write, H: ProgressObserver> ProgressObserver for ReportSink<'a, 's, E, H> {
+    ghost hears = { λ s reports t. (t.errors.ghost_name ≡ s.errors.ghost_name)
+        × (t.progress.ghost_name ≡ s.progress.ghost_name) × (t.from ≡ s.from)
+        × PutsReports E.contents s.from s.errors.now t.errors.now reports };
+
     fn begin(&mut self, whole: u64, workers: u8) {
         self.progress.begin(whole, workers);
     }
@@ -68,17 +76,16 @@ impl<'a, E: Write, H: ProgressObserver> ProgressObserver for ReportSink<'a, E, H
     }
 
     fn report(&mut self, report: &Report) {
-        if self.fault.is_some() || !is_late(report, self.from) {
+        let is_late = is_late(report, self.from);
+        if !is_late {
+            return;
+        }
+        if self.errors.failed() {
             return;
         }
         self.progress.pause();
-        match put_line(report, self.errors) {
-            Ok(()) => {}
-            Err(error) => {
-                self.fault = Some(error);
-                self.has_failed.store(true, Ordering::SeqCst);
-            }
-        }
+        self.fault = put_line(report, self.errors).err();
+        self.has_failed.store(self.fault.is_some(), Ordering::SeqCst);
         self.progress.resume();
     }
 
@@ -90,13 +97,22 @@ impl<'a, E: Write, H: ProgressObserver> ProgressObserver for ReportSink<'a, E, H
         self.progress.end();
     }
 
-    ghost hears_none = { λ _. tt };
+    ghost hears_none = { λ s. (refl, refl, refl, puts_none E.contents s.from s.errors.now) };
 
-    ghost hears_more = { λ _ _ _ _ _ _ _. tt };
+    ghost hears_more = { λ s m t xs ys p q. (
+        q.0 ∙ p.0,
+        q.1 ∙ p.1,
+        q.2 ∙ p.2,
+        puts_more E.contents s.from s.errors.now m.errors.now t.errors.now xs ys p.3
+            (subst (λ n. PutsReports E.contents n m.errors.now t.errors.now ys) p.2 q.3),
+    ) };
 }
 
-/// Checks whether a soup is unsettled, or settled at generation `from` or later.
-fn is_late(report: &Report, from: u32) -> bool {
+/// Checks whether the soup of a report is unsettled, or its checkpoint is `from` or later.
+fn is_late(report: &Report, from: u32) -> bool
+    ensures late { result ≡ is_late from report.now.finding }
+    ensures right { IsReport report.now }
+{
     match report.finding() {
         Finding::Settled { checkpoint, .. } => *checkpoint >= from,
         Finding::Unsettled => true,

@@ -23,9 +23,8 @@ pub trait ProgressObserver {
     {}
 
     /// Called for each report that a worker has sent, before it is offered to the haul.
-    fn report(&mut self, _report: &Report)
-        ensures { hears self.old (_report.now ∷ []) self.new }
-    {}
+    fn report(&mut self, report: &Report)
+        ensures { hears self.old (report.now ∷ []) self.new };
 
     /// Called from time to time: `count` soups of the haul have been taken so far.
     fn taken(&mut self, count: u64)
@@ -54,6 +53,8 @@ pub trait ProgressObserver {
 pub struct NoObserver;
 
 impl ProgressObserver for NoObserver {
+    fn report(&mut self, _report: &Report) {}
+
     fn taken(&mut self, _count: u64) {}
 
     ghost hears_none = { λ _. tt };
