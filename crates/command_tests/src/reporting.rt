@@ -114,7 +114,12 @@ fn tells_that_the_haul_is_cut_after_all_lines(rt: HostRuntime) {
     assert!(rt; left.status == Status::Failed);
     assert!(rt; left.output.taken.as_slice() == &THREE[..11]);
     assert!(rt; left.errors.taken.as_slice().starts_with(LINES));
-    assert!(rt; left.errors.taken.as_slice().ends_with(b"soup=2 unsettled\ncensus: write failed\n"));
+    assert!(rt;
+        left.errors
+            .taken
+            .as_slice()
+            .ends_with(b"soup=2 unsettled\ncensus: write failed\n")
+    );
 }
 
 // The clock ticks at the beginning, and before each of the five tellings of the progress: at 0, 100, 200 milliseconds
