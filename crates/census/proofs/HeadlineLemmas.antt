@@ -17,9 +17,9 @@ use Rattle.requests.specs.declared.plan.Plan.{Plan}
 use Rattle.requests.specs.declared.profile_numbers.ProfileNumbers.{ProfileNumbers}
 use Rattle.survey_core.specs.Profiles.{Settling}
 use Rattle.survey_core.specs.Seeds.{is_invisible, most_bytes, seed_read, seed_with_fault}
-use Rattle.pattern_commands.specs.declared.complaint.Complaint.{Complaint}
-use Rattle.pattern_commands.specs.declared.complaint.Complaint.TheVariants.{Refused, TooLong}
-use Rattle.pattern_commands.specs.declared.refusal.Refusal.TheVariants.{HorizonBelowPeriod}
+use Rattle.pattern_commands.specs.declared.ending.complaint.Complaint.{Complaint}
+use Rattle.pattern_commands.specs.declared.ending.complaint.Complaint.TheVariants.{Refused, TooLong}
+use Rattle.pattern_commands.specs.declared.ending.refusal.Refusal.TheVariants.{HorizonBelowPeriod}
 use Rattle.pattern_commands.specs.Answers.{IsRightGiven, given}
 use Rattle.pattern_commands.specs.Behaviours.{Made}
 use Rattle.pattern_commands.specs.Inputs.{pattern_complaint, pattern_of, rule_complaint, rule_named}

@@ -1,6 +1,6 @@
 -- How a request was done, by how its command ended.
 use Rattle.std.proofs.Common.{◌≡◌, ℕ, List, Option, subst}
-use Rattle.pattern_commands.specs.declared.status.Status.{Status}
+use Rattle.pattern_commands.specs.declared.ending.status.Status.{Status}
 use Rattle.pattern_commands.specs.Ends.{Ends}
 use Rattle.pattern_commands.specs.Streams.{Stream}
 use Rattle.pattern_commands.specs.Behaviours.{Behaviour}

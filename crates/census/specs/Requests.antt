@@ -1,9 +1,9 @@
 -- The behaviour of each request, and how doing it may end.
 use Rattle.std.specs.Prelude.{◌≡◌, ◌⊎◌, ℕ, Bool, true, false, List, [], None, Option, Some, IsSomeAnd}
 use Rattle.memory.specs.Witness.{out_of_memory}
-use Rattle.pattern_commands.specs.declared.complaint.Complaint.TheVariants as complaint
-use Rattle.pattern_commands.specs.declared.status.Status.{Status}
-use Rattle.pattern_commands.specs.declared.status.Status.TheVariants.{Memory, Refused}
+use Rattle.pattern_commands.specs.declared.ending.complaint.Complaint.TheVariants as complaint
+use Rattle.pattern_commands.specs.declared.ending.status.Status.{Status}
+use Rattle.pattern_commands.specs.declared.ending.status.Status.TheVariants.{Memory, Refused}
 use Rattle.pattern_commands.specs.Answers.{IsInput}
 use Rattle.pattern_commands.specs.Complaints.{complaint_line}
 use Rattle.pattern_commands.specs.Ends.{Ends}

@@ -6,7 +6,7 @@ use crate::streams::{
     FaultyReader, FaultyWriter, Left, quick_writer, reader, reader_by, slow_writer,
 };
 use commands::gather::do_gather;
-use pattern_commands::status::Status;
+use pattern_commands::ending::status::Status;
 use plane_core::output::Out;
 use requests::plan::Plan;
 use requests::profile_numbers::ProfileNumbers;

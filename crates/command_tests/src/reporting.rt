@@ -6,7 +6,7 @@ use crate::streams::{FaultyWriter, Left, quick_writer, slow_writer};
 use commands::machine::Machine;
 use commands::reporting::do_take_reporting;
 use crew::progress_observer::{NoObserver, ProgressObserver};
-use pattern_commands::status::Status;
+use pattern_commands::ending::status::Status;
 use plane_core::output::Out;
 use std::sync::Wait;
 use std::thread::Threads;

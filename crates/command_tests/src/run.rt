@@ -1,11 +1,11 @@
 //! Tests of `run`.
 
 use crate::streams::{FaultyReader, FaultyWriter, Left, quick_writer, reader, slow_writer};
+use pattern_commands::ending::status::Status;
 use pattern_commands::output::send_buffered;
 use pattern_commands::run::do_run;
 use pattern_commands::show::do_show;
 use pattern_commands::sizes::do_sizes;
-use pattern_commands::status::Status;
 use plane_core::output::Out;
 use requests::form::PatternForm;
 use std::alloc::Global;

@@ -1,5 +1,5 @@
 //! Streams that have a fault, and what a command leaves on them.
-use pattern_commands::status::Status;
+use pattern_commands::ending::status::Status;
 use plane_core::output::Out;
 use std::alloc::Global;
 use std::io::{self, ErrorKind, Read, Write};

@@ -9,7 +9,7 @@ use commands::machine::Machine;
 use commands::take::do_take_with;
 use crew::gate::{Gate, OpenGate, Stop};
 use crew::progress_observer::{NoObserver, ProgressObserver};
-use pattern_commands::status::Status;
+use pattern_commands::ending::status::Status;
 use plane_core::output::Out;
 use std::sync::Wait;
 use std::sync::atomic::{AtomicU64, Ordering};

@@ -2,7 +2,7 @@
 
 use crate::gather::plan_of;
 use commands::work::do_work;
-use pattern_commands::status::Status;
+use pattern_commands::ending::status::Status;
 use plane_core::output::Out;
 use std::alloc::Global;
 use std::io::{self, ErrorKind, Write};

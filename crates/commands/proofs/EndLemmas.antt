@@ -15,12 +15,12 @@ use Rattle.haul_core.specs.HaulTexts.{haul_text}
 use Rattle.haul_core.specs.Keeping.{numbers_in}
 use Rattle.haul_core.specs.Missing.{missing_of}
 use Rattle.ranges.specs.RangeLists.{IsListText}
-use Rattle.pattern_commands.specs.declared.complaint.Complaint.{Complaint}
-use Rattle.pattern_commands.specs.declared.complaint.Complaint.TheVariants.{Refused, Memory, ReadFailed, TooLong, WriteFailed}
+use Rattle.pattern_commands.specs.declared.ending.complaint.Complaint.{Complaint}
+use Rattle.pattern_commands.specs.declared.ending.complaint.Complaint.TheVariants.{Refused, Memory, ReadFailed, TooLong, WriteFailed}
 use Rattle.requests.specs.declared.plan.Plan.{Plan}
-use Rattle.pattern_commands.specs.declared.refusal.Refusal.{Refusal}
+use Rattle.pattern_commands.specs.declared.ending.refusal.Refusal.{Refusal}
 use Rattle.requests.specs.declared.soup_set.SoupSet.{SoupSet}
-use Rattle.pattern_commands.specs.declared.status.Status.TheVariants as statuses
+use Rattle.pattern_commands.specs.declared.ending.status.Status.TheVariants as statuses
 use Rattle.pattern_commands.specs.Answers.{IsInput, NeedsMemory}
 use Rattle.pattern_commands.specs.Complaints.{status_of}
 use Rattle.pattern_commands.specs.Ends.{status_after}

@@ -6,8 +6,8 @@ use Rattle.std.proofs.lemmas.List.Elements.{All-append, All-head, All-nil, All-p
 use Rattle.std.proofs.KnownBytes.{Consumes-kept, Consumes-nil, Consumes-trans, prepend_known-read}
 use Rattle.std.specs.Io.KnownBytes.{Consumes, IsAtEnd, Keeps, prepend_known}
 use Rattle.pattern_commands.specs.Answers.{IsInput}
-use Rattle.pattern_commands.specs.declared.complaint.Complaint.{Complaint}
-use Rattle.pattern_commands.specs.declared.complaint.Complaint.TheVariants.{Refused, Memory, ReadFailed, TooLong, WriteFailed}
+use Rattle.pattern_commands.specs.declared.ending.complaint.Complaint.{Complaint}
+use Rattle.pattern_commands.specs.declared.ending.complaint.Complaint.TheVariants.{Refused, Memory, ReadFailed, TooLong, WriteFailed}
 use Rattle.std.specs.Prelude.{IfErr, OnErr}
 use Rattle.pattern_commands.specs.declared.input.InputError.{InputError}
 use Rattle.pattern_commands.specs.Inputs.{HasReadAtMost, input_complaint}

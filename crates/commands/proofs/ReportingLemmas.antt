@@ -10,10 +10,10 @@ use Rattle.crew.specs.Takes.{HasHeardCrew}
 use Rattle.haul_core.specs.declared.book.census.Census.{Census}
 use Rattle.haul_core.specs.Keeping.{numbers_in}
 use Rattle.haul_core.specs.Missing.{AreAll, IsComplete, missing_of}
-use Rattle.pattern_commands.specs.declared.complaint.Complaint.{Complaint}
-use Rattle.pattern_commands.specs.declared.complaint.Complaint.TheVariants.{Refused, Memory, ReadFailed, TooLong, WriteFailed}
-use Rattle.pattern_commands.specs.declared.status.Status.{Status}
-use Rattle.pattern_commands.specs.declared.status.Status.TheVariants as statuses
+use Rattle.pattern_commands.specs.declared.ending.complaint.Complaint.{Complaint}
+use Rattle.pattern_commands.specs.declared.ending.complaint.Complaint.TheVariants.{Refused, Memory, ReadFailed, TooLong, WriteFailed}
+use Rattle.pattern_commands.specs.declared.ending.status.Status.{Status}
+use Rattle.pattern_commands.specs.declared.ending.status.Status.TheVariants as statuses
 use Rattle.pattern_commands.specs.Complaints.{status_of}
 use Rattle.pattern_commands.specs.Ends.{Ends, status_after}
 use Rattle.pattern_commands.specs.Reached.{Outcome, Reaches}

@@ -1,9 +1,9 @@
 -- What holds of each complaint with which a command ends.
 use Rattle.std.proofs.Common.{◌≡◌, ◌≢◌, ℕ, List, Result, Ok, Err}
 use Rattle.std.specs.Prelude.{IfErr}
-use Rattle.pattern_commands.specs.declared.complaint.Complaint.{Complaint}
-use Rattle.pattern_commands.specs.declared.status.Status.TheVariants.{Refused}
-use Rattle.pattern_commands.specs.declared.complaint.Complaint.TheVariants as complaint
+use Rattle.pattern_commands.specs.declared.ending.complaint.Complaint.{Complaint}
+use Rattle.pattern_commands.specs.declared.ending.status.Status.TheVariants.{Refused}
+use Rattle.pattern_commands.specs.declared.ending.complaint.Complaint.TheVariants as complaint
 use Rattle.survey_core.specs.declared.job.Job.{Job}
 use Rattle.pattern_commands.specs.Complaints.{status_of}
 use Rattle.pattern_commands.specs.Streams.{Stream}

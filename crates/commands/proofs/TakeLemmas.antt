@@ -30,15 +30,15 @@ use Rattle.ranges.specs.RangeListFaults.{IsFirstListFault}
 use Rattle.ranges.specs.Ranges.{AreSmall, IsNormalForm, is_in}
 use Rattle.crew.specs.Workers.{StopsAt}
 use Rattle.crew.specs.Takes.{was_missing}
-use Rattle.pattern_commands.specs.declared.complaint.Complaint.{Complaint}
-use Rattle.pattern_commands.specs.declared.complaint.Complaint.TheVariants.{Refused, Memory, ReadFailed, TooLong, WriteFailed}
+use Rattle.pattern_commands.specs.declared.ending.complaint.Complaint.{Complaint}
+use Rattle.pattern_commands.specs.declared.ending.complaint.Complaint.TheVariants.{Refused, Memory, ReadFailed, TooLong, WriteFailed}
 use Rattle.requests.specs.declared.plan.Plan.{Plan}
-use Rattle.pattern_commands.specs.declared.refusal.Refusal.{Refusal}
-use Rattle.pattern_commands.specs.declared.refusal.Refusal.TheVariants.{BadRule, BirthZero, HorizonBelowPeriod}
-use Rattle.pattern_commands.specs.declared.refusal.Refusal.TheVariants.{SeedBadByte, SeedTooLong}
+use Rattle.pattern_commands.specs.declared.ending.refusal.Refusal.{Refusal}
+use Rattle.pattern_commands.specs.declared.ending.refusal.Refusal.TheVariants.{BadRule, BirthZero, HorizonBelowPeriod}
+use Rattle.pattern_commands.specs.declared.ending.refusal.Refusal.TheVariants.{SeedBadByte, SeedTooLong}
 use Rattle.requests.specs.declared.soup_set.SoupSet.{SoupSet}
-use Rattle.pattern_commands.specs.declared.status.Status.{Status}
-use Rattle.pattern_commands.specs.declared.status.Status.TheVariants as statuses
+use Rattle.pattern_commands.specs.declared.ending.status.Status.{Status}
+use Rattle.pattern_commands.specs.declared.ending.status.Status.TheVariants as statuses
 use Rattle.pattern_commands.specs.Answers.{NeedsMemory, Right, given, IsRightGiven, output_text}
 use Rattle.pattern_commands.specs.Complaints.{status_of}
 use Rattle.pattern_commands.specs.Ends.{Ends, status_after}

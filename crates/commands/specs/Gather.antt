@@ -2,7 +2,7 @@
 use Rattle.std.specs.Prelude.{◌≡◌, ◌≤◌, ◌⊎◌, ◌^◌, ℕ, Bool, true, false, List, [], Option, Ok, Err, is_ok, length}
 use Rattle.std.specs.Io.KnownBytes.{prepend_known}
 use Rattle.haul_core.specs.Books.{Terms}
-use Rattle.pattern_commands.specs.declared.complaint.Complaint.TheVariants.{Memory, ReadFailed, TooLong}
+use Rattle.pattern_commands.specs.declared.ending.complaint.Complaint.TheVariants.{Memory, ReadFailed, TooLong}
 use Rattle.pattern_commands.specs.Behaviours.{Behaviour}
 use Rattle.requests.specs.declared.plan.Plan.{Plan}
 use Rattle.pattern_commands.specs.Reached.{Outcome}

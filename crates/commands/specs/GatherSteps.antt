@@ -3,8 +3,8 @@ use Rattle.std.specs.Prelude.{◌≡◌, ◌≤◌, ◌^◌, ℕ, true, false, L
 use Rattle.std.specs.Io.KnownBytes.{Consumes, prepend_known}
 use Rattle.plane_core.specs.Outputs.{Output}
 use Rattle.haul_core.specs.Books.{Held, Terms}
-use Rattle.pattern_commands.specs.declared.complaint.Complaint.{Complaint}
-use Rattle.pattern_commands.specs.declared.complaint.Complaint.TheVariants.{Refused, Memory, ReadFailed, TooLong, WriteFailed}
+use Rattle.pattern_commands.specs.declared.ending.complaint.Complaint.{Complaint}
+use Rattle.pattern_commands.specs.declared.ending.complaint.Complaint.TheVariants.{Refused, Memory, ReadFailed, TooLong, WriteFailed}
 use Rattle.pattern_commands.specs.Answers.{IsInput}
 use Rattle.pattern_commands.specs.Streams.{Stream, Has}
 use Rattle.commands.specs.declared.lines.LineEnd.{LineEnd}

@@ -1,8 +1,8 @@
 -- The lines of an input, and how one is read.
 use Rattle.std.specs.Prelude.{◌≡◌, ◌≢◌, ◌<◌, ◌≤◌, ◌==◌, ◌+◌, ◌^◌, ◌++◌, ℕ, List, [], ◌∷◌, All, IfSome, Option, None, Some, length, take, if◌then◌else◌}
 use Rattle.std.specs.Io.KnownBytes.{Consumes, IsAtEnd}
-use Rattle.pattern_commands.specs.declared.complaint.Complaint.{Complaint}
-use Rattle.pattern_commands.specs.declared.complaint.Complaint.TheVariants.{ReadFailed}
+use Rattle.pattern_commands.specs.declared.ending.complaint.Complaint.{Complaint}
+use Rattle.pattern_commands.specs.declared.ending.complaint.Complaint.TheVariants.{ReadFailed}
 use Rattle.commands.specs.declared.lines.LineEnd.{LineEnd}
 use Rattle.commands.specs.declared.lines.LineEnd.TheVariants.{Feed, Input}
 use Rattle.commands.specs.declared.lines.LineRead.{LineRead}

@@ -5,8 +5,8 @@ use Rattle.haul_core.specs.Keeping.{numbers_in}
 use Rattle.haul_core.specs.Missing.{AreAll, IsComplete}
 use Rattle.plane_core.specs.Outputs.{Output}
 use Rattle.crew.specs.Takes.{HasHeardCrew}
-use Rattle.pattern_commands.specs.declared.complaint.Complaint.{Complaint}
-use Rattle.pattern_commands.specs.declared.complaint.Complaint.TheVariants.{Refused, Memory, ReadFailed, TooLong, WriteFailed}
+use Rattle.pattern_commands.specs.declared.ending.complaint.Complaint.{Complaint}
+use Rattle.pattern_commands.specs.declared.ending.complaint.Complaint.TheVariants.{Refused, Memory, ReadFailed, TooLong, WriteFailed}
 use Rattle.commands.specs.LateReports.{PutsReports}
 
 -- why a haul isn't printed, given whether a write of a line has failed: memory ran out, and none has, or one may have

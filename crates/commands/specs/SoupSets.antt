@@ -5,11 +5,11 @@ use Rattle.ranges.specs.declared.range.Range.{Range}
 use Rattle.ranges.specs.RangeLists.{FitU64, IsListText, list_text}
 use Rattle.ranges.specs.RangeListFaults.{IsFirstListFault}
 use Rattle.ranges.specs.Ranges.{AreSmall, Overlap}
-use Rattle.pattern_commands.specs.declared.complaint.Complaint.{Complaint}
-use Rattle.pattern_commands.specs.declared.complaint.Complaint.TheVariants.{Refused, Memory, ReadFailed, TooLong, WriteFailed}
+use Rattle.pattern_commands.specs.declared.ending.complaint.Complaint.{Complaint}
+use Rattle.pattern_commands.specs.declared.ending.complaint.Complaint.TheVariants.{Refused, Memory, ReadFailed, TooLong, WriteFailed}
 use Rattle.requests.specs.declared.plan.Plan.{Plan}
-use Rattle.pattern_commands.specs.declared.refusal.Refusal.{Refusal}
-use Rattle.pattern_commands.specs.declared.refusal.Refusal.TheVariants.{BadList, RangeTooLarge, RangesOverlap}
+use Rattle.pattern_commands.specs.declared.ending.refusal.Refusal.{Refusal}
+use Rattle.pattern_commands.specs.declared.ending.refusal.Refusal.TheVariants.{BadList, RangeTooLarge, RangesOverlap}
 use Rattle.requests.specs.declared.soup_set.SoupSet.{SoupSet}
 use Rattle.pattern_commands.specs.Answers.{Right, given}
 use Rattle.pattern_commands.specs.Inputs.{rule_named}

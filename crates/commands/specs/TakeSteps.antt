@@ -10,8 +10,8 @@ use Rattle.ranges.specs.RangeLists.{IsListText}
 use Rattle.ranges.specs.Ranges.{AreSmall, IsNormalForm, Overlap, is_in}
 use Rattle.crew.specs.Workers.{StopsAt}
 use Rattle.crew.specs.Takes.{was_missing}
-use Rattle.pattern_commands.specs.declared.complaint.Complaint.{Complaint}
-use Rattle.pattern_commands.specs.declared.complaint.Complaint.TheVariants.{Refused, Memory, ReadFailed, TooLong, WriteFailed}
+use Rattle.pattern_commands.specs.declared.ending.complaint.Complaint.{Complaint}
+use Rattle.pattern_commands.specs.declared.ending.complaint.Complaint.TheVariants.{Refused, Memory, ReadFailed, TooLong, WriteFailed}
 use Rattle.requests.specs.declared.plan.Plan.{Plan}
 use Rattle.requests.specs.declared.soup_set.SoupSet.{SoupSet}
 use Rattle.pattern_commands.specs.Answers.{NeedsMemory, Right}

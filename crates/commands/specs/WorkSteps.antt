@@ -6,7 +6,7 @@ use Rattle.ranges.specs.Ranges.{IsNormalForm}
 use Rattle.haul_core.specs.Missing.{numbers_of}
 use Rattle.haul_core.specs.ReportLines.{report_text}
 use Rattle.haul_core.specs.Reports.{Reported}
-use Rattle.pattern_commands.specs.declared.complaint.Complaint.TheVariants.{Refused, Memory, ReadFailed, TooLong, WriteFailed}
+use Rattle.pattern_commands.specs.declared.ending.complaint.Complaint.TheVariants.{Refused, Memory, ReadFailed, TooLong, WriteFailed}
 use Rattle.pattern_commands.specs.Streams.{Stream, Has, HasPrefix}
 use Rattle.pattern_commands.specs.TextSteps.{TextOutcome}
 use Rattle.requests.specs.declared.plan.Plan.{Plan}

@@ -12,8 +12,8 @@ ghost use Rattle.pattern_commands.specs.Streams.{stream};
 
 use haul_core::book::haul::Haul;
 use haul_core::book::haul_text::write_haul;
-use pattern_commands::complaint::Complaint;
-use pattern_commands::status::Status;
+use pattern_commands::ending::complaint::Complaint;
+use pattern_commands::ending::status::Status;
 use plane_core::output::Out;
 use std::io::Write;
 

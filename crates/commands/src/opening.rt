@@ -13,9 +13,9 @@ ghost use Rattle.commands.specs.TakeSteps.{IsOpened, IsOpenedFor, StopsOpening, 
 
 use haul_core::book::haul::{Haul, OpenError};
 use memory::OutOfMemory;
-use pattern_commands::complaint::Complaint;
+use pattern_commands::ending::complaint::Complaint;
+use pattern_commands::ending::refusal::Refusal;
 use pattern_commands::profile::profile_named;
-use pattern_commands::refusal::Refusal;
 use plane_core::plane::rule::Rule;
 use ranges::range::Range;
 use requests::plan::Plan;

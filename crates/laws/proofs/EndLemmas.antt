@@ -5,9 +5,9 @@ use Rattle.survey_core.specs.declared.job.Job.{Job}
 use Rattle.pattern_commands.specs.Ends.{Outcome, Reaches, status_after}
 use Rattle.pattern_commands.specs.Status.{has_printed}
 use Rattle.pattern_commands.specs.Streams.{Stream}
-use Rattle.pattern_commands.specs.declared.complaint.Complaint.TheVariants as complaint
-use Rattle.pattern_commands.specs.declared.status.Status.{Status}
-use Rattle.pattern_commands.specs.declared.status.Status.TheVariants.{Done}
+use Rattle.pattern_commands.specs.declared.ending.complaint.Complaint.TheVariants as complaint
+use Rattle.pattern_commands.specs.declared.ending.status.Status.{Status}
+use Rattle.pattern_commands.specs.declared.ending.status.Status.TheVariants.{Done}
 use Rattle.commands.specs.Gather.{gather_behaviour}
 use Rattle.laws.specs.Gathering.{GatherPrintsCorrectLines, PrintsCorrectLines}
 use Rattle.laws.specs.SplitWork.{HasWholeText, IsAccepted, IsInSet, IsWorkedOn, SplitWorkEnds}

@@ -27,7 +27,7 @@ use Rattle.commands.specs.GatheredLines.{Claims, ComesOf, Faulty, Front, Gathere
 use Rattle.commands.specs.Gathering.{IsGathered, IsHaulOver, gather_opens}
 use Rattle.commands.specs.SoupSets.{job_named}
 use Rattle.requests.specs.declared.plan.Plan.{Plan}
-use Rattle.pattern_commands.specs.declared.complaint.Complaint.{Complaint}
+use Rattle.pattern_commands.specs.declared.ending.complaint.Complaint.{Complaint}
 use Rattle.commands.specs.Lines.{input_lines}
 use Rattle.pattern_commands.specs.Behaviours.{Made}
 use Rattle.laws.specs.Gathering.{GatherTellsCorrectLines, IsCorrectFor, TellsCorrectLines}

@@ -14,8 +14,8 @@ use Rattle.pattern_commands.specs.Behaviours.{Made}
 use Rattle.pattern_commands.specs.Ends.{Ends}
 use Rattle.pattern_commands.specs.Status.{has_printed}
 use Rattle.pattern_commands.specs.Streams.{Has, Stream}
-use Rattle.pattern_commands.specs.declared.status.Status.{Status}
-use Rattle.pattern_commands.specs.declared.status.Status.TheVariants.{Done}
+use Rattle.pattern_commands.specs.declared.ending.status.Status.{Status}
+use Rattle.pattern_commands.specs.declared.ending.status.Status.TheVariants.{Done}
 use Rattle.commands.specs.Gather.{gather_behaviour}
 use Rattle.commands.specs.Gathering.{gather_opens, gather_right}
 use Rattle.commands.specs.GatheredLines.{Claims}

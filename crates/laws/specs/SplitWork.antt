@@ -7,12 +7,12 @@ use Rattle.ranges.specs.Ranges.{AreSmall, Overlap, is_in}
 use Rattle.requests.specs.declared.plan.Plan.{Plan}
 use Rattle.requests.specs.declared.soup_set.SoupSet.{SoupSet}
 use Rattle.pattern_commands.specs.Behaviours.{Made}
-use Rattle.pattern_commands.specs.declared.complaint.Complaint.{Complaint}
+use Rattle.pattern_commands.specs.declared.ending.complaint.Complaint.{Complaint}
 use Rattle.pattern_commands.specs.Profiles.{AreInRange}
 use Rattle.pattern_commands.specs.Ends.{Ends}
 use Rattle.pattern_commands.specs.Streams.{Has, Stream}
-use Rattle.pattern_commands.specs.declared.status.Status.{Status}
-use Rattle.pattern_commands.specs.declared.status.Status.TheVariants.{Done, Failed, Memory}
+use Rattle.pattern_commands.specs.declared.ending.status.Status.{Status}
+use Rattle.pattern_commands.specs.declared.ending.status.Status.TheVariants.{Done, Failed, Memory}
 use Rattle.commands.specs.Gather.{gather_behaviour}
 use Rattle.commands.specs.Gathering.{gather_right}
 use Rattle.commands.specs.Lines.{input_lines}

@@ -16,8 +16,8 @@ use Rattle.plane_core.specs.declared.plaintext.PlaintextFault.{PlaintextFault}
 use Rattle.plane_core.specs.declared.plaintext.PlaintextFault.TheVariants as plaintext_fault
 use Rattle.plane_core.specs.plane.Rules.{rule_read}
 use Rattle.plane_core.specs.Plaintext.{pattern}
-use Rattle.pattern_commands.specs.declared.complaint.Complaint.{Complaint}
-use Rattle.pattern_commands.specs.declared.complaint.Complaint.TheVariants.{Refused, Memory, ReadFailed, TooLong, WriteFailed}
+use Rattle.pattern_commands.specs.declared.ending.complaint.Complaint.{Complaint}
+use Rattle.pattern_commands.specs.declared.ending.complaint.Complaint.TheVariants.{Refused, Memory, ReadFailed, TooLong, WriteFailed}
 use Rattle.pattern_commands.specs.declared.input.InputError.{InputError}
 use Rattle.pattern_commands.specs.declared.input.InputError.TheVariants as input_error
 use Rattle.pattern_commands.specs.Answers.{IsInput, Right}

@@ -7,10 +7,10 @@ use Rattle.plane_core.specs.plane.Rules.{Numbers}
 use Rattle.survey_core.specs.declared.finding.Finding.{Finding}
 use Rattle.survey_core.specs.Findings.{IsFinding}
 use Rattle.survey_core.specs.Profiles.{Settling}
-use Rattle.pattern_commands.specs.declared.complaint.Complaint.{Complaint}
+use Rattle.pattern_commands.specs.declared.ending.complaint.Complaint.{Complaint}
 use Rattle.requests.specs.declared.profile_numbers.ProfileNumbers.{ProfileNumbers}
-use Rattle.pattern_commands.specs.declared.complaint.Complaint.TheVariants.{Refused}
-use Rattle.pattern_commands.specs.declared.refusal.Refusal.TheVariants.{HorizonBelowPeriod}
+use Rattle.pattern_commands.specs.declared.ending.complaint.Complaint.TheVariants.{Refused}
+use Rattle.pattern_commands.specs.declared.ending.refusal.Refusal.TheVariants.{HorizonBelowPeriod}
 use Rattle.pattern_commands.specs.TextSteps.{ReachesText}
 use Rattle.pattern_commands.specs.Inputs.{pattern_of, rule_named}
 use Rattle.pattern_commands.specs.Name.{finding_text, name_right}

@@ -9,7 +9,7 @@ use Rattle.code_core.specs.declared.reader.WechslerError.TheVariants.{Fault, Mem
 use Rattle.code_core.specs.declared.reader.WechslerFault.{WechslerFault}
 use Rattle.code_core.specs.declared.reader.WechslerFault.TheVariants.{TooLong, BadByte, ShortRun, Empty}
 use Rattle.code_core.specs.Reading.{wechsler_read}
-use Rattle.pattern_commands.specs.declared.complaint.Complaint.{Complaint}
+use Rattle.pattern_commands.specs.declared.ending.complaint.Complaint.{Complaint}
 use Rattle.pattern_commands.specs.Answers.{only}
 use Rattle.pattern_commands.specs.PatternText.{pattern_text}
 use Rattle.pattern_commands.specs.Show.{reader_complaint, show_answer, text_in, wechsler_complaint}

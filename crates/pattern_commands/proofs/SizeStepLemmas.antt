@@ -10,8 +10,8 @@ use Rattle.plane_core.specs.plane.Rules.{Numbers}
 use Rattle.plane_core.proofs.lemmas.OutputLemmas.{Appends-append, Appends-nil, AppendsPrefix-append, AppendsPrefix-longer}
 use Rattle.plane_core.proofs.lemmas.plane.GenerationLemmas.{after-none}
 use Rattle.plane_core.proofs.lemmas.plane.RunLemmas.{after-plus}
-use Rattle.pattern_commands.specs.declared.complaint.Complaint.{Complaint}
-use Rattle.pattern_commands.specs.declared.complaint.Complaint.TheVariants.{Refused, Memory, ReadFailed, TooLong, WriteFailed}
+use Rattle.pattern_commands.specs.declared.ending.complaint.Complaint.{Complaint}
+use Rattle.pattern_commands.specs.declared.ending.complaint.Complaint.TheVariants.{Refused, Memory, ReadFailed, TooLong, WriteFailed}
 use Rattle.pattern_commands.specs.declared.sizes.size.Size.{Size}
 use Rattle.pattern_commands.specs.Answers.{Answer, only, output_text}
 use Rattle.pattern_commands.specs.SizeSteps.{PutsLines, RunApart, advanced, later_sizes, pattern_size, sized_line}

@@ -1,9 +1,9 @@
 -- Answers: what a command writes, or why it doesn't.
 use Rattle.std.specs.Prelude.{◌≡◌, ℕ, List, [], Option, Result, Ok, Err, IfSome}
 use Rattle.std.specs.Result.{result_unwrap_or}
-use Rattle.pattern_commands.specs.declared.complaint.Complaint.{Complaint}
-use Rattle.pattern_commands.specs.declared.complaint.Complaint.TheVariants.{Refused, TooLong}
-use Rattle.pattern_commands.specs.declared.refusal.Refusal.TheVariants.{RangeTooLarge, RangesOverlap}
+use Rattle.pattern_commands.specs.declared.ending.complaint.Complaint.{Complaint}
+use Rattle.pattern_commands.specs.declared.ending.complaint.Complaint.TheVariants.{Refused, TooLong}
+use Rattle.pattern_commands.specs.declared.ending.refusal.Refusal.TheVariants.{RangeTooLarge, RangesOverlap}
 
 -- what a command that prints only a text writes to standard output, if memory lasts and no stream fails, or its
 -- complaint

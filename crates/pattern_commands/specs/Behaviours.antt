@@ -1,7 +1,7 @@
 -- What commands produce, and what they may do to their streams.
 use Rattle.std.specs.Prelude.{◌≡◌, ℕ, Bool, List, [], Option, Result, Ok, Err}
 use Rattle.std.specs.Io.KnownBytes.{Appends}
-use Rattle.pattern_commands.specs.declared.complaint.Complaint.{Complaint}
+use Rattle.pattern_commands.specs.declared.ending.complaint.Complaint.{Complaint}
 use Rattle.pattern_commands.specs.Answers.{NeedsMemory, Right}
 use Rattle.pattern_commands.specs.Streams.{Stream}
 

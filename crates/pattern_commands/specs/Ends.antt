@@ -1,8 +1,8 @@
 -- How every command ends.
 pub use Rattle.pattern_commands.specs.Reached.{Outcome, Reaches}
 use Rattle.std.specs.Prelude.{◌≡◌, ℕ, zero, suc, true, false, List, [], Option, Ok, Err}
-use Rattle.pattern_commands.specs.declared.status.Status.{Status}
-use Rattle.pattern_commands.specs.declared.status.Status.TheVariants as statuses
+use Rattle.pattern_commands.specs.declared.ending.status.Status.{Status}
+use Rattle.pattern_commands.specs.declared.ending.status.Status.TheVariants as statuses
 use Rattle.pattern_commands.specs.Complaints.{complaint_line, missing_line, status_of}
 use Rattle.pattern_commands.specs.Streams.{Stream, Has, HasLine}
 use Rattle.pattern_commands.specs.Behaviours.{Behaviour}

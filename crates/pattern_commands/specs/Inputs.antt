@@ -15,9 +15,9 @@ use Rattle.plane_core.specs.plane.Generations.{lies_within}
 use Rattle.plane_core.specs.Plaintext.{pattern}
 use Rattle.ranges.specs.declared.range_list.ListError.{ListError}
 use Rattle.ranges.specs.declared.range_list.ListError.TheVariants as list_error
-use Rattle.pattern_commands.specs.declared.complaint.Complaint.{Complaint}
-use Rattle.pattern_commands.specs.declared.complaint.Complaint.TheVariants.{Refused, Memory, ReadFailed, TooLong, WriteFailed}
-use Rattle.pattern_commands.specs.declared.refusal.Refusal.TheVariants.{BadByte, PatternTooLarge, BadRule, BirthZero, BadList}
+use Rattle.pattern_commands.specs.declared.ending.complaint.Complaint.{Complaint}
+use Rattle.pattern_commands.specs.declared.ending.complaint.Complaint.TheVariants.{Refused, Memory, ReadFailed, TooLong, WriteFailed}
+use Rattle.pattern_commands.specs.declared.ending.refusal.Refusal.TheVariants.{BadByte, PatternTooLarge, BadRule, BirthZero, BadList}
 use Rattle.pattern_commands.specs.declared.input.InputError.{InputError}
 use Rattle.pattern_commands.specs.declared.input.InputError.TheVariants as input_error
 

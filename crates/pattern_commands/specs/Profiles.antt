@@ -1,10 +1,10 @@
 -- Profiles, from the numbers that a call gives.
 use Rattle.std.specs.Prelude.{◌≤◌, Result, Ok, Err, nat_le, if◌then◌else◌}
 use Rattle.survey_core.specs.Profiles.{Settling}
-use Rattle.pattern_commands.specs.declared.complaint.Complaint.{Complaint}
-use Rattle.pattern_commands.specs.declared.complaint.Complaint.TheVariants.{Refused}
+use Rattle.pattern_commands.specs.declared.ending.complaint.Complaint.{Complaint}
+use Rattle.pattern_commands.specs.declared.ending.complaint.Complaint.TheVariants.{Refused}
 use Rattle.requests.specs.declared.profile_numbers.ProfileNumbers.{ProfileNumbers}
-use Rattle.pattern_commands.specs.declared.refusal.Refusal.TheVariants.{HorizonBelowPeriod}
+use Rattle.pattern_commands.specs.declared.ending.refusal.Refusal.TheVariants.{HorizonBelowPeriod}
 
 -- each of the four numbers is in its range
 pub record AreInRange (numbers : ProfileNumbers) : Type 0 where

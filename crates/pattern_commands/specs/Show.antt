@@ -10,9 +10,9 @@ use Rattle.code_core.specs.declared.reader.WechslerFault.TheVariants as fault
 use Rattle.code_core.specs.declared.reader.WechslerError.{WechslerError}
 use Rattle.code_core.specs.declared.reader.WechslerError.TheVariants as error
 use Rattle.code_core.specs.Reading.{wechsler_read}
-use Rattle.pattern_commands.specs.declared.complaint.Complaint.{Complaint}
-use Rattle.pattern_commands.specs.declared.complaint.Complaint.TheVariants.{Refused, Memory}
-use Rattle.pattern_commands.specs.declared.refusal.Refusal.TheVariants.{CodeBadByte, CodeEmpty, CodeShortRun, CodeTooLong, NotACode}
+use Rattle.pattern_commands.specs.declared.ending.complaint.Complaint.{Complaint}
+use Rattle.pattern_commands.specs.declared.ending.complaint.Complaint.TheVariants.{Refused, Memory}
+use Rattle.pattern_commands.specs.declared.ending.refusal.Refusal.TheVariants.{CodeBadByte, CodeEmpty, CodeShortRun, CodeTooLong, NotACode}
 use Rattle.pattern_commands.specs.Answers.{Answer, given, only}
 use Rattle.pattern_commands.specs.PatternText.{pattern_text}
 use Rattle.pattern_commands.specs.Behaviours.{Behaviour, text_behaviour}

@@ -6,8 +6,8 @@ use Rattle.plane_core.specs.plane.Bounds.{box_of}
 use Rattle.plane_core.specs.plane.Cells.{has}
 use Rattle.plane_core.specs.plane.Generations.{after}
 use Rattle.plane_core.specs.plane.Rules.{Numbers}
-use Rattle.pattern_commands.specs.declared.complaint.Complaint.{Complaint}
-use Rattle.pattern_commands.specs.declared.complaint.Complaint.TheVariants.{Refused, Memory, ReadFailed, TooLong, WriteFailed}
+use Rattle.pattern_commands.specs.declared.ending.complaint.Complaint.{Complaint}
+use Rattle.pattern_commands.specs.declared.ending.complaint.Complaint.TheVariants.{Refused, Memory, ReadFailed, TooLong, WriteFailed}
 use Rattle.pattern_commands.specs.declared.sizes.size.Size.{Size}
 use Rattle.pattern_commands.specs.Sizes.{sides, size_line, after_space}
 use Rattle.pattern_commands.specs.Streams.{Stream, Has, HasPrefix}

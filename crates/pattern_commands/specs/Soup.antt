@@ -6,9 +6,9 @@ use Rattle.survey_core.specs.declared.seed.SeedFault.{SeedFault}
 use Rattle.survey_core.specs.declared.seed.SeedFault.TheVariants as error
 use Rattle.survey_core.specs.Seeds.{seed_read}
 use Rattle.survey_core.specs.Soups.{soup}
-use Rattle.pattern_commands.specs.declared.complaint.Complaint.{Complaint}
-use Rattle.pattern_commands.specs.declared.complaint.Complaint.TheVariants.{Refused}
-use Rattle.pattern_commands.specs.declared.refusal.Refusal.TheVariants.{SeedBadByte, SeedTooLong}
+use Rattle.pattern_commands.specs.declared.ending.complaint.Complaint.{Complaint}
+use Rattle.pattern_commands.specs.declared.ending.complaint.Complaint.TheVariants.{Refused}
+use Rattle.pattern_commands.specs.declared.ending.refusal.Refusal.TheVariants.{SeedBadByte, SeedTooLong}
 use Rattle.pattern_commands.specs.Answers.{Answer, given, only}
 use Rattle.pattern_commands.specs.PatternText.{pattern_text}
 use Rattle.pattern_commands.specs.Behaviours.{Behaviour, text_behaviour}

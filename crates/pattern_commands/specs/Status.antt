@@ -1,7 +1,7 @@
 -- The exit codes.
 use Rattle.std.specs.Prelude.{ℕ, Bool, true, false}
-use Rattle.pattern_commands.specs.declared.status.Status.{Status}
-use Rattle.pattern_commands.specs.declared.status.Status.TheVariants.{Done, Usage, Refused, Memory, Failed, Incomplete}
+use Rattle.pattern_commands.specs.declared.ending.status.Status.{Status}
+use Rattle.pattern_commands.specs.declared.ending.status.Status.TheVariants.{Done, Usage, Refused, Memory, Failed, Incomplete}
 
 -- the exit code of a status
 abbrev pub exit_code : Status → ℕ

@@ -1,7 +1,7 @@
 -- Steps of the commands that print only a text.
 use Rattle.std.specs.Prelude.{◌≡◌, Bool, true, false, ℕ, List, [], Result, Ok, Err}
-use Rattle.pattern_commands.specs.declared.complaint.Complaint.{Complaint}
-use Rattle.pattern_commands.specs.declared.complaint.Complaint.TheVariants.{Refused, Memory, ReadFailed, TooLong, WriteFailed}
+use Rattle.pattern_commands.specs.declared.ending.complaint.Complaint.{Complaint}
+use Rattle.pattern_commands.specs.declared.ending.complaint.Complaint.TheVariants.{Refused, Memory, ReadFailed, TooLong, WriteFailed}
 use Rattle.pattern_commands.specs.Answers.{Answer, NeedsMemory, Right, output_text}
 use Rattle.pattern_commands.specs.Reached.{Outcome}
 use Rattle.pattern_commands.specs.Streams.{Stream, Has, HasPrefix}

@@ -6,8 +6,17 @@ ghost use Rattle.pattern_commands.specs.Ends.{HasLast, status_after};
 ghost use Rattle.pattern_commands.specs.Streams.{stream, HasLine};
 ghost use Rattle.pattern_commands.specs.TextSteps.{none_missing};
 
-use crate::complaint::{Complaint, put_missing};
-use crate::status::Status;
+/// Why a command didn't do all that was asked.
+pub mod complaint;
+/// The last line of standard error.
+mod error_line;
+/// Why a text was refused.
+pub mod refusal;
+/// How a command ended, as a shell sees it.
+pub mod status;
+
+use crate::ending::complaint::{Complaint, put_missing};
+use crate::ending::status::Status;
 use plane_core::output::Out;
 use std::io::Write;
 

@@ -8,7 +8,7 @@ ghost use Rattle.pattern_commands.specs.Answers.{IsInput};
 ghost use Rattle.pattern_commands.specs.Inputs.{HasReadAtMost, LiesWithin999, Reads, pattern_of};
 ghost use Rattle.pattern_commands.specs.declared.input.InputError.TheVariants.{TooLong};
 
-use crate::complaint::Complaint;
+use crate::ending::complaint::Complaint;
 use crate::read_error::ReadError;
 use memory::OutOfMemory;
 use plane_core::plane::pattern::Pattern;

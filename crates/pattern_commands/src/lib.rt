@@ -5,12 +5,10 @@
 //! crate `commands` above, which shares the complaints, the statuses and the endings.
 #![tactic(auto)]
 
-/// Why a command didn't do all that was asked.
-pub mod complaint;
-/// How a command ends: its last line on standard error, and its status.
-pub mod ending;
 /// The coordinates of live cells.
 mod coordinates;
+/// How a command ends: its last line on standard error, and its status.
+pub mod ending;
 /// Inputs that are read completely.
 pub mod input;
 /// `name`: when a pattern settles, and of which objects it then consists.
@@ -23,8 +21,6 @@ mod pattern_text;
 pub mod profile;
 /// A failed read.
 pub mod read_error;
-/// Why a text was refused, and its line.
-pub mod refusal;
 /// `run`: a pattern after a number of generations.
 pub mod run;
 /// `show`: the object of a code.
@@ -33,7 +29,5 @@ pub mod show;
 pub mod sizes;
 /// `soup`: a random start pattern.
 pub mod soup;
-/// How a command ended, as a shell sees it.
-pub mod status;
 /// `--version`: the program's name and version.
 pub mod version;

@@ -19,11 +19,11 @@ ghost use Rattle.pattern_commands.specs.Profiles.{AreInRange, profile_named};
 ghost use Rattle.pattern_commands.specs.Streams.{stream};
 ghost use Rattle.pattern_commands.specs.TextSteps.{ReachesText};
 
-use crate::complaint::Complaint;
+use crate::ending::complaint::Complaint;
+use crate::ending::status::Status;
 use crate::ending::tell_end_of_text;
 use crate::input::read_pattern;
 use crate::profile::profile_named;
-use crate::status::Status;
 use code_core::apgcode::Apgcode;
 use code_core::decimal::put_number;
 use plane_core::output::{Out, WriteError};

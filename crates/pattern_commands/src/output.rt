@@ -7,8 +7,8 @@ ghost use Rattle.pattern_commands.specs.Complaints.{write_failed_line};
 ghost use Rattle.pattern_commands.specs.Status.{has_printed};
 ghost use Rattle.pattern_commands.specs.Streams.{stream, HasLine};
 
-use crate::complaint::Complaint;
-use crate::status::Status;
+use crate::ending::complaint::Complaint;
+use crate::ending::status::Status;
 use arrayvec::ArrayVec;
 use plane_core::output::{Out, WriteError};
 use std::alloc::Global;

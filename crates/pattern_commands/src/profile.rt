@@ -3,8 +3,8 @@
 ghost use Rattle.std.specs.Prelude.{◌≡◌};
 ghost use Rattle.pattern_commands.specs.Profiles.{AreInRange, profile_named};
 
-use crate::complaint::Complaint;
-use crate::refusal::Refusal;
+use crate::ending::complaint::Complaint;
+use crate::ending::refusal::Refusal;
 use requests::profile_numbers::ProfileNumbers;
 use survey_core::profile::{Profile, ProfileError};
 

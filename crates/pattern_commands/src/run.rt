@@ -18,11 +18,11 @@ ghost use Rattle.pattern_commands.specs.Run.{run_answer, run_behaviour};
 ghost use Rattle.pattern_commands.specs.Streams.{stream};
 ghost use Rattle.pattern_commands.specs.TextSteps.{ReachesText};
 
-use crate::complaint::Complaint;
+use crate::ending::complaint::Complaint;
+use crate::ending::status::Status;
 use crate::ending::tell_end_of_text;
 use crate::input::read_pattern;
 use crate::pattern_text::put_pattern;
-use crate::status::Status;
 use plane_core::generation::StepError;
 use plane_core::output::Out;
 use plane_core::plane::pattern::Pattern;

@@ -16,11 +16,11 @@ ghost use Rattle.pattern_commands.specs.Show.{is_kind, is_number, is_prefix, par
 ghost use Rattle.pattern_commands.specs.Streams.{stream};
 ghost use Rattle.pattern_commands.specs.TextSteps.{ReachesText};
 
-use crate::complaint::Complaint;
+use crate::ending::complaint::Complaint;
+use crate::ending::refusal::Refusal;
+use crate::ending::status::Status;
 use crate::ending::tell_end_of_text;
 use crate::pattern_text::put_pattern;
-use crate::refusal::Refusal;
-use crate::status::Status;
 use code_core::reader::read_wechsler;
 use plane_core::output::Out;
 use requests::form::PatternForm;

@@ -21,13 +21,13 @@ mod parts;
 mod size;
 mod stretch;
 
-use crate::complaint::Complaint;
+use crate::ending::complaint::Complaint;
+use crate::ending::status::Status;
 use crate::ending::tell_end_of_text;
 use crate::input::read_pattern;
 use crate::run::generation_after;
 use crate::sizes::size::Size;
 use crate::sizes::stretch::put_stretch;
-use crate::status::Status;
 use plane_core::output::Out;
 use plane_core::plane::pattern::Pattern;
 use plane_core::plane::rule::Rule;

@@ -9,10 +9,10 @@ ghost use Rattle.pattern_commands.specs.Soup.{soup_answer, soup_behaviour};
 ghost use Rattle.pattern_commands.specs.Streams.{stream};
 ghost use Rattle.pattern_commands.specs.TextSteps.{ReachesText};
 
-use crate::complaint::Complaint;
+use crate::ending::complaint::Complaint;
+use crate::ending::status::Status;
 use crate::ending::tell_end_of_text;
 use crate::pattern_text::put_pattern;
-use crate::status::Status;
 use plane_core::output::Out;
 use plane_core::plane::rule::Rule;
 use requests::form::PatternForm;

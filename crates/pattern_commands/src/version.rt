@@ -8,9 +8,9 @@ ghost use Rattle.pattern_commands.specs.Streams.{stream};
 ghost use Rattle.pattern_commands.specs.TextSteps.{ReachesText};
 ghost use Rattle.pattern_commands.specs.Version.{version_answer, version_behaviour};
 
-use crate::complaint::Complaint;
+use crate::ending::complaint::Complaint;
+use crate::ending::status::Status;
 use crate::ending::tell_end_of_text;
-use crate::status::Status;
 use plane_core::output::Out;
 use std::io::Write;
 

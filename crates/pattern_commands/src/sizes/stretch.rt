@@ -6,7 +6,7 @@ ghost use Rattle.plane_core.specs.plane.Rules.{Numbers};
 ghost use Rattle.pattern_commands.specs.SizeSteps.{PutsLines, RunApart, advanced, later_sizes, pattern_size};
 ghost use Rattle.pattern_commands.specs.Streams.{stream};
 
-use crate::complaint::Complaint;
+use crate::ending::complaint::Complaint;
 use crate::sizes::parts::{advance_each, boards_for, size_together};
 use crate::sizes::size::Size;
 use memory::OutOfMemory;
