@@ -1,6 +1,6 @@
 -- Counting objects by their codes, and multiples of their periods.
 use Rattle.std.proofs.Common.{◌≡◌, ◌∙◌, ap, sym, refl, subst, ℕ, ◌+◌, ◌*◌, ◌/◌, ◌%◌, ◌<◌, ◌≤◌, ◌↔◌, add-zero, zero-add, mul_comm, nat_eq, Bool, true}
-use Rattle.std.proofs.Common.{false, sum, IsTrue, cond, List, [], ◌∷◌, ◌++◌, take, get_or, count_by, length, None, Option, Some, IfSome, unwrap_or, arith}
+use Rattle.std.proofs.Common.{false, sum, IsTrue, inl, inr, ◌≢◌, cond, List, [], ◌∷◌, ◌++◌, take, get_or, count_by, length, None, Option, Some, IfSome, unwrap_or, arith}
 use Rattle.std.proofs.Common.{if◌then◌else◌}
 use Rattle.std.specs.BTreeMap.{BTreeMap, IsOrdered, insert_entry}
 use Rattle.std.specs.Cmp.Lexicographic.{nat_list_cmp_total, slice_cmp}
@@ -13,15 +13,17 @@ use Rattle.std.proofs.lemmas.Iterator.Adapters.{option_map_id}
 use Rattle.std.specs.Ordering.{is_eq, nat_cmp, ordering_reverse}
 use Rattle.std.specs.declared.cmp.Ordering.{Ordering}
 use Rattle.std.specs.declared.cmp.Ordering.TheVariants.{Less, Equal, Greater}
+use Prim.Native.Nat.{◌∣◌}
 use Rattle.std.proofs.lemmas.Bool.Decides.{Decides-eqb}
 use Rattle.std.proofs.lemmas.List.{length-append, take_more}
 use Rattle.std.proofs.lemmas.List.Sums.{sum_by-append}
 use Rattle.std.proofs.lemmas.Map.Views.{All-found}
-use Rattle.std.proofs.Math.Nat.{div-add-mod, mul-mod_left}
+use Rattle.std.proofs.Math.Nat.{div-add-mod, dvd-mod_iff, dvd-mul_left, dvd_iff_mod-eq-zero, mod-lt, mul-mod_left}
 use Rattle.plane_core.specs.declared.plane.cell.Cell.{Cell}
+use Rattle.plane_core.proofs.lemmas.plane.CaseLemmas.{same_or_not}
 use Rattle.plane_core.specs.plane.Rules.{Numbers}
 use Rattle.code_core.specs.Names.{IsCode}
-use Rattle.survey_core.specs.shapes.Objects.{AreObjects, CountsAreSome, IsMultiple, IsOneMore, count_of, is_code}
+use Rattle.survey_core.specs.shapes.Objects.{AreObjects, CountsAreSome, IsCommonMultiple, IsLeastCommonMultiple, IsMultiple, IsOneMore, count_of, is_code}
 
 -- a multiple of n is what n divides without a rest
 pub multiple_then : (m n : ℕ) → IsTrue (nat_eq (m % n) 0) ↔ IsMultiple m n
@@ -36,6 +38,29 @@ never_of_none m n some none (k, is) = none_left k m n some none is
   where
     none_left : (k m n : ℕ) → 1 ≤ m → n ≡ 0 → m ≡ k * n → ⊥
     none_left k m n some none is = grind (arith, some, none, is)
+
+divides : (m n : ℕ) → IsMultiple m n → n ∣ m
+divides m n (k, is) = subst (λ (x : ℕ). n ∣ x) (sym is) (dvd-mul_left n k)
+
+divided : (m n : ℕ) → n ∣ m → IsMultiple m n
+divided m n d = (multiple_then m n).0 ((Decides-eqb (m % n) 0).1 ((dvd_iff_mod-eq-zero n).0 d))
+
+-- every common multiple is a multiple of the least one
+pub multiple_of_least : (objects : List (List ℕ × ℕ)) (l m : ℕ) → IsLeastCommonMultiple objects l → IsCommonMultiple objects m
+    → IsMultiple m l
+multiple_of_least objects l m is common = divided m l ((dvd_iff_mod-eq-zero l).1 none)
+  where
+    -- otherwise the remainder would be a smaller one
+    smaller : (m % l ≢ 0) → IsCommonMultiple objects (m % l)
+    smaller some = record {
+      some = omega (arith, some);
+      each = λ i d low. divided (m % l) _ ((dvd-mod_iff _ (divides l _ (is.common.each i d low))).1 (divides m _ (common.each i d low)));
+    }
+    none : m % l ≡ 0
+    none = elim (same_or_not (m % l) 0) [
+      | inl zero ↦ zero
+      | inr some ↦ absurd (let low = is.least (m % l) (smaller some) in let high = mod-lt m is.common.some in omega (arith, low, high))
+    ]
 
 -- ---- codes
 
