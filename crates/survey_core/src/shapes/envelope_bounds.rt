@@ -97,7 +97,13 @@ pub(crate) fn stay_apart(horizon: u32, one: &EnvelopeBounds, other: &EnvelopeBou
 fn are_still_and_apart(one: &EnvelopeBounds, other: &EnvelopeBounds) -> bool
     ensures { IsTrue result → (horizon : ℕ) → StayApart horizon one.now other.now }
 {
-    is_still(one) && is_still(other) && are_boxes_apart(one.bounds, other.bounds)
+    if !is_still(one) {
+        return false;
+    }
+    if !is_still(other) {
+        return false;
+    }
+    are_boxes_apart(one.bounds, other.bounds)
 }
 
 /// Checks whether both are still lives. They never change, so they stay apart even if their boxes overlap.

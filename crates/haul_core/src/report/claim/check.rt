@@ -68,7 +68,13 @@ impl Claim {
         }
         // For the prover: a finding that differs from the soup's shows that the claim is wrong.
         findings_are_determined();
-        let report = match Report::make_with_surveyor(alloc, surveyor, job, self.worker, self.number) {
+        let report = match Report::make_with_surveyor(
+            alloc,
+            surveyor,
+            job,
+            self.worker,
+            self.number,
+        ) {
             Ok(report) => report,
             Err(ReportError::Memory(error)) => return Err((self, CheckError::Memory(error))),
             Err(ReportError::BadWorker) => unreachable!(),
