@@ -23,7 +23,6 @@ use crate::ending::status::Status;
 use crate::ending::tell_end_of_text;
 use crate::input::read_pattern;
 use crate::pattern_text::put_pattern;
-use plane_core::generation::StepError;
 use plane_core::output::Out;
 use plane_core::plane::pattern::Pattern;
 use plane_core::plane::rule::Rule;
@@ -110,7 +109,6 @@ pub(crate) fn generation_after(
 {
     match pattern.run(alloc, rule, generations) {
         Ok(later) => Ok(later),
-        Err(StepError::Edge) => unreachable!(),
-        Err(StepError::Memory(error)) => Err(Complaint::Memory(error)),
+        Err(error) => Err(Complaint::Memory(error.refusal())),
     }
 }

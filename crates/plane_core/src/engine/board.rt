@@ -45,11 +45,23 @@ const LARGE_WORD_COLUMNS: usize = 65;
 /// word columns would share a place in the processor's cache.
 const LARGE_ROWS: usize = 4168;
 
+/// The first column of a large board whose word columns, without the last one, are around the origin.
+const LARGE_LEFT: i32 = -32 * (LARGE_WORD_COLUMNS as i32 - 1);
+
+/// The first row of a large board around the origin.
+const LARGE_TOP: i32 = -(LARGE_ROWS as i32) / 2;
+
 /// The word columns of a small board, whose words are cleared quickly: 8, and one more.
 const SMALL_WORD_COLUMNS: usize = 9;
 
 /// The rows of a small board: 512, and 72 more.
 const SMALL_ROWS: usize = 584;
+
+/// The first column of a small board around the origin.
+const SMALL_LEFT: i32 = -32 * (SMALL_WORD_COLUMNS as i32 - 1);
+
+/// The first row of a small board around the origin.
+const SMALL_TOP: i32 = -(SMALL_ROWS as i32) / 2;
 
 /// The most generations for which a board gets room around a pattern.
 const MOST_AROUND: u32 = 1000;
@@ -111,26 +123,26 @@ impl Drop for Board {
 }
 
 impl Board {
-    /// Makes an empty board around the origin, for patterns that are shown one after another. It has 4,096 columns, one
+    /// Makes an empty large board around the origin, for patterns that are shown one after another. It has 4,096 columns, one
     /// more word column, and 4,168 rows.
     ///
     /// # Errors
     ///
     /// `OutOfMemory` if memory runs out.
-    pub fn new(alloc: Global, rule: &Rule) -> Result<Board, OutOfMemory>
+    pub fn large(alloc: Global, rule: &Rule) -> Result<Board, OutOfMemory>
         ensures rule { IfOk result (λ board. board.rule ≡ rule.now) }
         ensures cells { IfOk result (λ board. board.cells ≡ []) }
     {
         let at = Frame {
-            left: -2048,
-            top: -2084,
+            left: LARGE_LEFT,
+            top: LARGE_TOP,
             word_columns: LARGE_WORD_COLUMNS,
             rows: LARGE_ROWS,
         };
         Board::blank(alloc, rule, at)
     }
 
-    /// Makes an empty board as `new` does, with 512 columns, one more word column, and 584 rows. This is fifty times as
+    /// Makes an empty board as `large` does, with 512 columns, one more word column, and 584 rows. This is fifty times as
     /// fast.
     ///
     /// # Errors
@@ -141,8 +153,8 @@ impl Board {
         ensures cells { IfOk result (λ board. board.cells ≡ []) }
     {
         let at = Frame {
-            left: -256,
-            top: -292,
+            left: SMALL_LEFT,
+            top: SMALL_TOP,
             word_columns: SMALL_WORD_COLUMNS,
             rows: SMALL_ROWS,
         };

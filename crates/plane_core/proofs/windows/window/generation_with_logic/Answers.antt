@@ -4,7 +4,7 @@ use Rattle.plane_core.proofs.lemmas.windows.WindowLemmas.{AreAbove, AreHere, Are
 use Rattle.plane_core.proofs.lemmas.windows.WindowLemmas.{made_next, made_more, made_to_next, all_made}
 use Rattle.std.proofs.Common.{sym}
 use Rattle.plane_core.proofs.lemmas.plane.OrderLemmas.{below_same, last_low, last_next}
-use Rattle.plane_core.proofs.windows.window.generation_by.Goals as goal
+use Rattle.plane_core.proofs.windows.window.generation_with_logic.Goals as goal
 
 pub loop-k-init : goal.loop-k-init
 loop-k-init g c =

@@ -7,7 +7,7 @@ use Rattle.plane_core.specs.one_sided.RestlessClusters.{HasRestlessCluster}
 use Rattle.plane_core.proofs.lemmas.engine.LeapLemmas.{window_shown}
 use Rattle.plane_core.proofs.lemmas.plane.RunLemmas.{in_order-after}
 use Rattle.plane_core.proofs.lemmas.plane.OrderLemmas.{some_of}
-use Rattle.plane_core.proofs.engine.board.Board.rules_out_rest_by.Goals as goal
+use Rattle.plane_core.proofs.engine.board.Board.try_boxes.Goals as goal
 
 pub returns-then-tries-eq0 : goal.returns-then-tries-eq0
 returns-then-tries-eq0 c = λ e. absurd (false≢true e)

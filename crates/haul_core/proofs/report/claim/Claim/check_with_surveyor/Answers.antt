@@ -3,8 +3,8 @@ use Rattle.haul_core.specs.ClaimChecks.{Agrees, IsFoundFor}
 use Rattle.survey_core.specs.Jobs.{same_job}
 use Rattle.haul_core.specs.LawfulClaims.{Claimed}
 use Rattle.haul_core.proofs.CheckLemmas.{IsMade, agrees_if_confirmed, confirmed, found_for, one_report}
-use Rattle.haul_core.proofs.report.claim.Claim.check_by.Goals as goal
-use Rattle.haul_core.proofs.report.claim.Claim.check_by.Goals.{In-Ok}
+use Rattle.haul_core.proofs.report.claim.Claim.check_with_surveyor.Goals as goal
+use Rattle.haul_core.proofs.report.claim.Claim.check_with_surveyor.Goals.{In-Ok}
 
 -- the report is made of what the claim names
 is_made : (c : In-Ok) → IsMade c.args.self c.args.job.now c.in-Ok.report

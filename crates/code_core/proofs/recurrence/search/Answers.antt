@@ -4,7 +4,7 @@ use Rattle.plane_core.specs.plane.Generations.{touches_edge}
 use Rattle.code_core.specs.Recurrences.{Recurs}
 use Rattle.code_core.proofs.RecurrenceLemmas.{ends_at_once, ends_by_memory, ends_found, ends_refused, ends_without, follows-none, follows-more}
 use Rattle.code_core.proofs.RecurrenceLemmas.{inside_then, recurs_then, step_refused}
-use Rattle.code_core.proofs.cycle.search.Goals as goal
+use Rattle.code_core.proofs.recurrence.search.Goals as goal
 
 pub returns-then-touches_edge : goal.returns-then-touches_edge
 returns-then-touches_edge c =

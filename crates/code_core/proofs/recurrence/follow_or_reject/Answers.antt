@@ -1,6 +1,6 @@
 use Rattle.std.proofs.Common.{◌∙◌, arith, sym}
 use Rattle.code_core.proofs.RecurrenceLemmas.{ends_at_once, ends_without}
-use Rattle.code_core.proofs.cycle.follow_or_reject.Goals as goal
+use Rattle.code_core.proofs.recurrence.follow_or_reject.Goals as goal
 
 pub returns-then-touches_edge : goal.returns-then-touches_edge
 returns-then-touches_edge c =

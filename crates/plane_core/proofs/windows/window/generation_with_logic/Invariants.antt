@@ -1,6 +1,6 @@
 use Rattle.std.proofs.Common.{◌-◌}
 use Rattle.plane_core.proofs.lemmas.windows.WindowLemmas.{AreMadeTo}
-use Rattle.plane_core.proofs.windows.window.generation_by.Given as goal
+use Rattle.plane_core.proofs.windows.window.generation_with_logic.Given as goal
 
 abbrev pub invariant-loop-k : goal.invariant-loop-k
 invariant-loop-k g l = AreMadeTo (g.A.CellLogic.rule l.rule) g.row.N l.initial.window l.window l.up l.here l.k
