@@ -128,6 +128,17 @@ CHECK = Command(
             "run only the soups that are listed under @SAMPLE_SOUPIDS, and check that each leaves its "
             "object; this says nothing about the totals",
         ),
+        flag(
+            "--totals",
+            "for a haul of apgsearch: take the census of as many soups of its seed, and list the codes "
+            "whose totals by parts are others",
+        ),
+        option(
+            "--first",
+            "N",
+            "with --totals: the number of the first soup (default: 0)",
+            read_as_census(0, NUMBER_LIMIT),
+        ),
         option(
             "--random",
             "N",

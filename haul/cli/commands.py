@@ -11,18 +11,19 @@ from haul.cli.index_commands import run_index_check
 from haul.cli.statuses import DONE, NOT_RIGHT, REFUSED
 from haul.cli.streams import Refused, Streams, format_place
 from haul.formats.field_reader import BadHaul
+from haul.formats.haul import Haul
 from haul.formats.haul_reader import read_hauls
 from haul.formats.haul_writer import format_haul
 from haul.formats.index import is_index
 from haul.formats.plaintext import BadPlaintext, is_plaintext, read_plaintext
-from haul.formats.report_files import Reports
+from haul.formats.report_files import BadLines, Reports
 from haul.formats.rle import BadRle, format_rle, read_rle
 from haul.formats.rules import LIFE, parse_rule
+from haul.hauls.apgsearch_check import ApgsearchCheck, CantCheck
 from haul.hauls.by_parts import Objects
 from haul.hauls.check import find_wrong_samples, list_differences, retake
 from haul.hauls.file_choice import FileChoice
 from haul.hauls.join import CantJoin, Joining
-from haul.life.catagolue_soups import BadSample, format_soups
 from haul.life.generations import read_rule
 from haul.life.parts import Separator
 from haul.page.document import make_page
@@ -86,14 +87,45 @@ def find_worst_status(statuses: list[int]) -> int:
 def check_haul(asked: argparse.Namespace, streams: Streams, name: str | None) -> list[str]:
     """Returns what `haul check` says of a haul."""
     haul = streams.read_haul(name)
+    if haul.apgsearch:
+        return check_apgsearch_haul(asked, streams, haul, name)
+    if asked.totals:
+        raise Refused(f"{format_place(name)}--totals is for hauls of apgsearch")
     census = Census(asked.census, streams.terminal)
     if asked.samples:
         wrong = list(find_wrong_samples(census, haul))
     elif haul.soups != haul.size():
-        raise Refused("haul with missing soups")
+        raise Refused(
+            f"{format_place(name)}haul with missing soups, which can't be taken again; --samples "
+            "runs its sample soups"
+        )
     else:
         wrong = list(list_differences(haul, retake(census, haul, asked.workers)))
     return wrong or [RIGHT]
+
+
+def check_apgsearch_haul(
+    asked: argparse.Namespace, streams: Streams, haul: Haul, name: str | None
+) -> list[str]:
+    """Returns what `haul check` says of a haul of apgsearch, by its samples or by its totals."""
+    if not asked.samples and not asked.totals:
+        raise Refused(
+            f"{format_place(name)}a haul of apgsearch doesn't name its soups: --samples runs its "
+            "sample soups, and --totals takes a census of as many soups"
+        )
+    try:
+        check = ApgsearchCheck(Census(asked.census, streams.terminal), haul)
+        if asked.totals:
+            return list(check.find_other_totals(asked.first or 0, asked.workers)) or [RIGHT]
+        unchecked = check.list_unchecked()
+        if unchecked:
+            streams.terminal.complain(
+                f"{format_place(name)}not checked, since census doesn't count such objects: "
+                f"{' '.join(unchecked)}"
+            )
+        return list(check.find_wrong_samples()) or [RIGHT]
+    except CantCheck as why:
+        raise Refused(f"{format_place(name)}{why}") from None
 
 
 def run_join(asked: argparse.Namespace, streams: Streams) -> int:
@@ -121,11 +153,11 @@ def run_join(asked: argparse.Namespace, streams: Streams) -> int:
 
 
 def run_compare(asked: argparse.Namespace, streams: Streams) -> int:
+    by_parts = not asked.whole
     objects = [
-        Objects(streams.read_haul(name), streams.terminal)
+        Objects(read_counted_haul(streams, name, by_parts), streams.terminal)
         for name in (asked.a, asked.b, *asked.more)
     ]
-    by_parts = not asked.whole
     hauls = [one.by_parts() if by_parts else one.haul for one in objects]
     codes = rank_codes(hauls, asked.least, asked.rare)
     has_intervals = len(hauls) > 2 or asked.intervals or asked.per is not None or asked.rare
@@ -140,9 +172,20 @@ def run_compare(asked: argparse.Namespace, streams: Streams) -> int:
     return DONE
 
 
+def read_counted_haul(streams: Streams, name: str | None, counts_parts: bool) -> Haul:
+    """Reads a haul whose objects are counted by their parts or whole."""
+    haul = streams.read_haul(name)
+    if haul.apgsearch and not counts_parts:
+        raise Refused(
+            f"{format_place(name)}the totals of apgsearch are by parts already, so --whole and "
+            "--strict are only for hauls of census"
+        )
+    return haul
+
+
 def run_table(asked: argparse.Namespace, streams: Streams) -> int:
-    objects = Objects(streams.read_haul(asked.file), streams.terminal)
     counts_parts = not (asked.whole or asked.strict)
+    objects = Objects(read_counted_haul(streams, asked.file, counts_parts), streams.terminal)
     haul = objects.by_parts() if counts_parts else objects.haul
     has_rarity = counts_parts and is_covered(haul.job)
     lines = choose_rows(
@@ -202,14 +245,6 @@ def run_rle(asked: argparse.Namespace, streams: Streams) -> int:
     return DONE
 
 
-def run_soup(asked: argparse.Namespace, streams: Streams) -> int:
-    try:
-        streams.write_lines(list(format_soups(asked.samples)))
-    except BadSample as bad:
-        raise Refused(str(bad)) from None
-    return DONE
-
-
 def run_soups(asked: argparse.Namespace, streams: Streams) -> int:
     reports, settling, soups = (
         Reports(streams.terminal),
@@ -218,9 +253,12 @@ def run_soups(asked: argparse.Namespace, streams: Streams) -> int:
     )
     for name in asked.files or [None]:
         with streams.open_input(name) as stream:
-            for report in reports.read(stream, format_place(name)):
-                settling.add(report)
-                soups.add(report)
+            try:
+                for report in reports.read(stream, format_place(name)):
+                    settling.add(report)
+                    soups.add(report)
+            except BadLines as bad:
+                raise Refused(str(bad)) from None
     reports.tell_skipped()
     streams.terminal.show_progress("")
     table = soups.table(reports.job, settling)

@@ -21,6 +21,10 @@ def find_fault_of_search(asked: argparse.Namespace) -> str | None:
 def find_fault_of_check(asked: argparse.Namespace) -> str | None:
     if asked.choice is not None and asked.random is None:
         return "--choice needs --random"
+    if asked.first is not None and not asked.totals:
+        return "--first needs --totals"
+    if asked.samples and asked.totals:
+        return "--samples doesn't go with --totals"
     if asked.files and is_index(asked.files[0]):
         return find_fault_of_index_check(asked)
     if asked.random is not None and asked.random > len(asked.files):
@@ -29,8 +33,9 @@ def find_fault_of_check(asked: argparse.Namespace) -> str | None:
 
 
 def find_fault_of_index_check(asked: argparse.Namespace) -> str | None:
-    if asked.samples:
-        return f"--samples needs hauls, and {asked.files[0]} is an index, which has no samples"
+    if asked.samples or asked.totals:
+        option = "--samples" if asked.samples else "--totals"
+        return f"{option} needs hauls, and {asked.files[0]} is an index, which has no samples"
     if asked.random is not None and len(asked.files) > 1:
         return "--random draws parts of the index, so no haul can be given beside it"
     return None

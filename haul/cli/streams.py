@@ -9,7 +9,7 @@ from typing import BinaryIO, TextIO
 
 from haul.formats.field_reader import BadHaul
 from haul.formats.haul import Haul
-from haul.formats.haul_reader import read_one_haul
+from haul.formats.haul_reader import read_any_haul
 from haul.terminal import Terminal
 
 # A pattern has at most this number of bytes, as in `census`.
@@ -38,12 +38,19 @@ class Streams:
                 yield file
 
     def read_haul(self, name: str | None) -> Haul:
-        """Reads the only haul of a file. Raises `Refused` if the file isn't one haul."""
+        """Reads the only haul of a file, which may be one of apgsearch. Raises `Refused` if the file
+        isn't one haul."""
         with self.open_input(name) as stream:
             try:
-                return read_one_haul(stream)
+                haul = read_any_haul(stream)
             except BadHaul as bad:
                 raise Refused(f"{format_place(name)}{bad}") from None
+        if haul.said_objects not in (None, haul.objects()):
+            self.terminal.complain(
+                f"{format_place(name)}@NUM_OBJECTS is {haul.said_objects}, and the objects of the "
+                f"table are {haul.objects()}"
+            )
+        return haul
 
     def read_pattern(self, name: str | None) -> bytes:
         """Reads the text of a pattern. Raises `OSError` if it is too long."""

@@ -5,6 +5,7 @@ from __future__ import annotations
 import argparse
 from collections.abc import Callable
 
+from haul.formats.rules import parse_rule
 from haul.formats.syntax import CODE, RULE, SEED
 from haul.names.objects import find_code_of_name
 
@@ -87,7 +88,18 @@ def read_code(text: str) -> str:
     return text
 
 
-def read_rule_value(text: str) -> str:
-    if not RULE.fullmatch(text.encode("utf-8", "surrogateescape")):
-        raise argparse.ArgumentTypeError(f"{text} is no rule, as b3s23 is one")
-    return text
+class RuleValue(str):
+    """A rule as `census` takes it, and as it was given."""
+
+    given: str
+
+
+def read_rule_value(text: str) -> RuleValue:
+    """Reads a rule such as `b36s23`, `B36/S23` or `HighLife`."""
+    is_usual = RULE.fullmatch(text.encode("utf-8", "surrogateescape"))
+    rule = text if is_usual else parse_rule(text)
+    if rule is None:
+        raise argparse.ArgumentTypeError(f"{text} is no rule, as b3s23, B3/S23 and Life are")
+    value = RuleValue(rule)
+    value.given = text
+    return value

@@ -14,6 +14,7 @@ from haul.formats.codes import read_drawing, read_kind
 from haul.life.apgcodes import find_code, read_wechsler
 from haul.life.blocks import Blocks, Run
 from haul.life.cells import Cells, move_to_corner
+from haul.life.clusters import is_cluster
 from haul.life.generations import MOST_PERIOD, Recurrence, Rule, find_recurrence
 
 # Of an object with more islands only the separation into single islands is tried: there are too
@@ -74,6 +75,13 @@ class Separator:
             assert recurrence is not None
             self.known[shape] = find_code(recurrence)
         return self.known[shape]
+
+
+def is_counted(rule: Rule, code: str) -> bool:
+    """Checks whether `census` counts objects of a code that is drawn: in some phase, the cells of
+    the object are one cluster."""
+    recurrence = read_object(rule, code)
+    return recurrence is not None and any(map(is_cluster, recurrence.phases))
 
 
 def read_object(rule: Rule, code: str) -> Recurrence | None:

@@ -87,7 +87,7 @@ def describe_frequency(soups: int, total: int) -> str:
 def link_soup(side: Side, number: int) -> str:
     """Returns the address of Catagolue's page of a soup."""
     job = side.haul.job
-    return f"{CATAGOLUE}/hashsoup/C1/{quote(job.seed, safe='')}{number}/{job.rule}"
+    return f"{CATAGOLUE}/hashsoup/{quote(job.symmetry, safe='')}/{quote(job.seed, safe='')}{number}/{job.rule}"
 
 
 def link_code(code: str, rule: str) -> str:

@@ -45,7 +45,7 @@ NONE = Entry(0, 0, 0)
 
 def is_covered(job: Job) -> bool:
     """Checks whether the reference says how rare the objects of a job are."""
-    return job.rule == LIFE and job.profile == STANDARD
+    return job == Job(job.seed, LIFE, STANDARD)
 
 
 @cache
