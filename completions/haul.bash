@@ -11,7 +11,7 @@ _haul() {
     # After an option that takes a value, only its values are proposed.
     case $before in
         =) return ;;
-        --until | --part | --workers | --rarer | --seed | --first | --rule | --period | --horizon | --stride | --limit | --random | --choice | --least | --top | --kind | --play | --longest | --code) return ;;
+        --until | --part | --workers | --rarer | --seed | --first | --rule | --period | --horizon | --stride | --limit | --random | --choice | --least | --top | --kind | --play | --separate | --longest | --code) return ;;
         --per)
             mapfile -t COMPREPLY < <(compgen -W 'million soup' -- "$word")
             return
@@ -23,14 +23,14 @@ _haul() {
     esac
     case ${COMP_WORDS[1]} in
         search) options='--until --part --workers --rarer --finds --seed --first --rule --period --horizon --stride --limit --census --help' ;;
-        check) options='--workers --samples --random --choice --census --help' ;;
+        check) options='--workers --samples --totals --first --random --choice --census --help' ;;
         index) options='--help' ;;
         join) options='--help' ;;
         compare) options='--least --intervals --per --rare --parts --whole --csv --json --help' ;;
         table) options='--top --rare --kind --period --strict --parts --whole --csv --json --help' ;;
         rarity) options='--help' ;;
         page) options='--least --play --census --help' ;;
-        soup) options='--help' ;;
+        soup) options='--rle --separate --help' ;;
         soups) options='--longest --unsettled --code --exact --csv --json --census --help' ;;
         cells) options='--help' ;;
         rle) options='--rule --help' ;;

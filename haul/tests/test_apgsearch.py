@@ -67,9 +67,11 @@ class Apgsearch(unittest.TestCase):
         self.assertEqual((rows["PATHOLOGICAL"]["one_in"], rows[GROWTH]["one_in_low"]), ("", ""))
         lines = run("table", self.file)[1].splitlines()
         self.assertEqual(lines[3].split()[4:7], ["-", "-", "-"])
-        told = json.loads(run("table", "--json", self.file)[1])
-        self.assertEqual((told["symmetry"], told["apgsearch"]), ("C1", "v5.4-ll2.2"))
-        self.assertEqual((told["unsettled"], told["ranges"], told["profile"]), (None, None, None))
+        facts = json.loads(run("table", "--json", self.file)[1])
+        self.assertEqual((facts["symmetry"], facts["apgsearch"]), ("C1", "v5.4-ll2.2"))
+        self.assertEqual(
+            (facts["unsettled"], facts["ranges"], facts["profile"]), (None, None, None)
+        )
 
     def test_variations(self) -> None:
         """Carriage returns, blank lines and unknown lines change nothing."""
