@@ -19,6 +19,7 @@ use crate::options;
 use crate::request::Request;
 use crate::values::{is_given, number_found, text_found};
 use clap::ArgMatches;
+use requests::form::{PatternForm, RunForm};
 use requests::plan::Plan;
 use requests::profile_numbers::ProfileNumbers;
 use requests::soup_set::SoupSet;
@@ -74,11 +75,35 @@ pub(crate) fn run_request<'a>(found: &ArgMatches<'a>) -> Option<Request<'a>>
     ensures ranges { IfSome result AreInTheirRanges }
 {
     let generations = number_found(found, &options::GENERATIONS)?;
+    let form = run_form_in(found, generations)?;
     let rule = text_found(found, &options::RULE)?;
     Some(Request::Run {
         generations: generations as u32,
+        form,
         rule,
     })
+}
+
+/// Returns what `run` prints up to generation `last`, or `None` if the options contradict each other: sizes from a
+/// generation after the last, or sizes and coordinates.
+fn run_form_in(found: &ArgMatches<'_>, last: u64) -> Option<RunForm> {
+    let form = pattern_form_in(found);
+    let Some(from) = number_found(found, &options::SIZES) else {
+        return Some(RunForm::Pattern(form));
+    };
+    match form {
+        PatternForm::Plaintext if from <= last => Some(RunForm::Sizes { from: from as u32 }),
+        _ => None,
+    }
+}
+
+/// Returns the form in which a pattern is printed.
+fn pattern_form_in(found: &ArgMatches<'_>) -> PatternForm {
+    if is_given(found, &options::COORDINATES) {
+        PatternForm::Coordinates
+    } else {
+        PatternForm::Plaintext
+    }
 }
 
 /// Returns the request of `name`, or `None` if a value is missing.
@@ -96,7 +121,10 @@ pub(crate) fn show_request<'a>(found: &ArgMatches<'a>) -> Option<Request<'a>>
     ensures { result ≡ show_request (rows_of (found_of found.now)) }
 {
     let code = text_found(found, &options::CODE)?;
-    Some(Request::Show { code })
+    Some(Request::Show {
+        code,
+        form: pattern_form_in(found),
+    })
 }
 
 /// Returns the request of `soup`, or `None` if a value is missing.
@@ -106,7 +134,11 @@ pub(crate) fn soup_request<'a>(found: &ArgMatches<'a>) -> Option<Request<'a>>
 {
     let number = number_found(found, &options::NUMBER)?;
     let seed = text_found(found, &options::SEED)?;
-    Some(Request::Soup { seed, number })
+    Some(Request::Soup {
+        seed,
+        number,
+        form: pattern_form_in(found),
+    })
 }
 
 /// Returns the request of `take`, or `None` if a value is missing.

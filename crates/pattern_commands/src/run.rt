@@ -20,11 +20,13 @@ ghost use Rattle.pattern_commands.specs.TextSteps.{ReachesText};
 use crate::complaint::Complaint;
 use crate::ending::tell_end_of_text;
 use crate::input::read_pattern;
+use crate::pattern_text::put_pattern;
 use crate::status::Status;
 use plane_core::generation::StepError;
 use plane_core::output::Out;
 use plane_core::plane::pattern::Pattern;
 use plane_core::plane::rule::Rule;
+use requests::form::PatternForm;
 use std::alloc::Global;
 use std::io::{Read, Write};
 
@@ -43,6 +45,7 @@ use std::io::{Read, Write};
 pub fn do_run<R: Read, W: Write, E: Write>(
     alloc: Global,
     generations: u32,
+    form: PatternForm,
     rule_text: &str,
     input: &mut R,
     output: &mut Out<W>,
@@ -59,7 +62,7 @@ pub fn do_run<R: Read, W: Write, E: Write>(
     ensures little { HasReadAtMost (2 ^ 24 + 2 ^ 16) (R.remaining input.old) (R.remaining input.new) }
     ensures no_memory { result ≡ Status.Memory → output.new ≡ output.old }
 {
-    let outcome = run(alloc, generations, rule_text, input, output);
+    let outcome = run(alloc, generations, form, rule_text, input, output);
     tell_end_of_text(outcome, errors)
 }
 
@@ -67,6 +70,7 @@ pub fn do_run<R: Read, W: Write, E: Write>(
 fn run<R: Read, W: Write>(
     alloc: Global,
     generations: u32,
+    form: PatternForm,
     rule_text: &str,
     input: &mut R,
     output: &mut Out<W>,
@@ -86,13 +90,13 @@ fn run<R: Read, W: Write>(
     let rule = Rule::read(rule_text)?;
     let pattern = read_pattern(alloc, input)?;
     let pattern = generation_after(alloc, &pattern, &rule, generations)?;
-    pattern.write_plaintext(output)?;
+    put_pattern(&pattern, form, output)?;
     Ok(())
 }
 
 /// Returns the pattern after `generations` generations. This fails only if memory runs out, because a pattern that was
 /// read is too near the origin to reach the edge of the plane in that time.
-fn generation_after(
+pub(crate) fn generation_after(
     alloc: Global,
     pattern: &Pattern,
     rule: &Rule,

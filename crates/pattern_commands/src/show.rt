@@ -18,10 +18,12 @@ ghost use Rattle.pattern_commands.specs.TextSteps.{ReachesText};
 
 use crate::complaint::Complaint;
 use crate::ending::tell_end_of_text;
+use crate::pattern_text::put_pattern;
 use crate::refusal::Refusal;
 use crate::status::Status;
 use code_core::reader::read_wechsler;
 use plane_core::output::Out;
+use requests::form::PatternForm;
 use std::alloc::Global;
 use std::io::Write;
 
@@ -39,6 +41,7 @@ use std::io::Write;
 pub fn do_show<W: Write, E: Write>(
     alloc: Global,
     code: &str,
+    form: PatternForm,
     output: &mut Out<W>,
     errors: &mut Out<E>,
 ) -> Status
@@ -49,12 +52,17 @@ pub fn do_show<W: Write, E: Write>(
     ensures untouched { result ≡ Status.Refused → output.new ≡ output.old }
     ensures no_memory { result ≡ Status.Memory → output.new ≡ output.old }
 {
-    let outcome = show(alloc, code, output);
+    let outcome = show(alloc, code, form, output);
     tell_end_of_text(outcome, errors)
 }
 
 /// Reads the pattern of a code, and writes it.
-fn show<W: Write>(alloc: Global, code: &str, output: &mut Out<W>) -> Result<(), Complaint>
+fn show<W: Write>(
+    alloc: Global,
+    code: &str,
+    form: PatternForm,
+    output: &mut Out<W>,
+) -> Result<(), Complaint>
     requires { output.old.failed ≡ false }
     ensures reached { ReachesText false true (only (show_answer code.now)) result
         (stream W.contents output.old output.new) }
@@ -64,7 +72,7 @@ fn show<W: Write>(alloc: Global, code: &str, output: &mut Out<W>) -> Result<(), 
 {
     let text = text_in(code)?;
     let pattern = read_wechsler(alloc, text)?;
-    pattern.write_plaintext(output)?;
+    put_pattern(&pattern, form, output)?;
     Ok(())
 }
 

@@ -11,9 +11,11 @@ ghost use Rattle.pattern_commands.specs.TextSteps.{ReachesText};
 
 use crate::complaint::Complaint;
 use crate::ending::tell_end_of_text;
+use crate::pattern_text::put_pattern;
 use crate::status::Status;
 use plane_core::output::Out;
 use plane_core::plane::rule::Rule;
+use requests::form::PatternForm;
 use std::alloc::Global;
 use std::io::Write;
 use survey_core::job::Job;
@@ -34,6 +36,7 @@ pub fn do_soup<W: Write, E: Write>(
     alloc: Global,
     seed_text: &str,
     number: u64,
+    form: PatternForm,
     output: &mut Out<W>,
     errors: &mut Out<E>,
 ) -> Status
@@ -46,7 +49,7 @@ pub fn do_soup<W: Write, E: Write>(
     ensures untouched { result ≡ Status.Refused → output.new ≡ output.old }
     ensures no_memory { result ≡ Status.Memory → output.new ≡ output.old }
 {
-    let outcome = put_soup(alloc, seed_text, number, output);
+    let outcome = put_soup(alloc, seed_text, number, form, output);
     tell_end_of_text(outcome, errors)
 }
 
@@ -55,6 +58,7 @@ fn put_soup<W: Write>(
     alloc: Global,
     seed_text: &str,
     number: u64,
+    form: PatternForm,
     output: &mut Out<W>,
 ) -> Result<(), Complaint>
     requires { output.old.failed ≡ false }
@@ -72,6 +76,6 @@ fn put_soup<W: Write>(
         rule: Rule::life(),
     };
     let pattern = soup(alloc, &job, number)?;
-    pattern.write_plaintext(output)?;
+    put_pattern(&pattern, form, output)?;
     Ok(())
 }
