@@ -8,7 +8,7 @@
 //! 2 2
 //! ```
 
-ghost use Rattle.std.specs.Prelude.{false, flat_map};
+ghost use Rattle.std.specs.Prelude.{◌≡◌, false};
 ghost use Rattle.plane_core.specs.Outputs.{Writes};
 ghost use Rattle.pattern_commands.specs.Coordinates.{coordinates, coordinate_line};
 

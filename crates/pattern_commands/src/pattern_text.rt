@@ -1,6 +1,6 @@
 //! A pattern as a text, in one of its forms.
 
-ghost use Rattle.std.specs.Prelude.{false};
+ghost use Rattle.std.specs.Prelude.{◌≡◌, false};
 ghost use Rattle.plane_core.specs.Outputs.{Writes};
 ghost use Rattle.pattern_commands.specs.PatternText.{pattern_text};
 

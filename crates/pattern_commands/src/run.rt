@@ -1,18 +1,19 @@
-//! `run`: the pattern of the input after a number of generations, as plaintext.
+//! `run`: the pattern of the input after a number of generations, as plaintext or as coordinates.
 //!
 //! ```text
-//! rule ── input ── pattern ── run ── plaintext
+//! rule ── input ── pattern ── run ── text
 //!   │       │                  │
 //!   └───────┴─ refused         └─ out of memory
 //! ```
 
 ghost use Rattle.std.specs.Prelude.{◌≡◌, ◌≤◌, ◌+◌, ◌^◌, ℕ, List, false, is_ok, IsErr, IfOk, IfErr, true};
 ghost use Rattle.memory.specs.Witness.{out_of_memory};
-ghost use Rattle.plane_core.specs.plane.Generations.{after};
+ghost use Rattle.plane_core.specs.plane.Generations.{after, lies_within};
 ghost use Rattle.pattern_commands.specs.Answers.{IsInput, only};
 ghost use Rattle.pattern_commands.specs.Complaints.{status_of};
 ghost use Rattle.pattern_commands.specs.Ends.{Ends};
-ghost use Rattle.pattern_commands.specs.Inputs.{HasReadAtMost, LiesWithin999, rule_named};
+ghost use Rattle.plane_core.specs.plane.Cells.{plane_bound};
+ghost use Rattle.pattern_commands.specs.Inputs.{HasReadAtMost, rule_named};
 ghost use Rattle.pattern_commands.specs.Run.{run_answer, run_behaviour};
 ghost use Rattle.pattern_commands.specs.Streams.{stream};
 ghost use Rattle.pattern_commands.specs.TextSteps.{ReachesText};
@@ -30,7 +31,8 @@ use requests::form::PatternForm;
 use std::alloc::Global;
 use std::io::{Read, Write};
 
-/// Reads a plaintext pattern, runs it for `generations` generations of a rule, and writes the result as plaintext.
+/// Reads a plaintext pattern, runs it for `generations` generations of a rule, and writes the result in a form. The
+/// coordinates are those of the input, whose first row and column are 0.
 ///
 /// `generations` is at most 100,000. A pattern of at most 1,000 by 1,000 cells takes far longer to reach the edge of
 /// the plane, because its box grows by at most one cell per side and generation. No earlier write to either writer may
@@ -55,7 +57,7 @@ pub fn do_run<R: Read, W: Write, E: Write>(
     requires output { output.old.failed ≡ false }
     requires errors { errors.old.failed ≡ false }
     ensures ends { (bytes : List ℕ) × IsInput (R.remaining input.old) bytes
-        × Ends (run_behaviour rule_text.now generations) (R.remaining input.old) bytes result
+        × Ends (run_behaviour form rule_text.now generations) (R.remaining input.old) bytes result
         (stream W.contents output.old output.new) (stream E.contents errors.old errors.new) }
     ensures rule_first { IsErr (rule_named rule_text.now) → (result ≡ Status.Refused) × (input.new ≡ input.old) }
     ensures untouched { result ≡ Status.Refused → output.new ≡ output.old }
@@ -78,7 +80,7 @@ fn run<R: Read, W: Write>(
     requires generations { generations ≤ 100000 }
     requires output { output.old.failed ≡ false }
     ensures reached { (bytes : List ℕ) × IsInput (R.remaining input.old) bytes
-        × ReachesText (is_ok (rule_named rule_text.now)) true (only (run_answer rule_text.now generations bytes)) result
+        × ReachesText (is_ok (rule_named rule_text.now)) true (only (run_answer form rule_text.now generations bytes)) result
         (stream W.contents output.old output.new) }
     ensures rule_first { IfErr (rule_named rule_text.now) (λ complaint.
         (result ≡ Err complaint) × (input.new ≡ input.old)) }
@@ -94,16 +96,15 @@ fn run<R: Read, W: Write>(
     Ok(())
 }
 
-/// Returns the pattern after `generations` generations. This fails only if memory runs out, because a pattern that was
-/// read is too near the origin to reach the edge of the plane in that time.
+/// Returns the pattern after `generations` generations. This fails only if memory runs out, because the pattern is too
+/// far from the edge of the plane to reach it in that time.
 pub(crate) fn generation_after(
     alloc: Global,
     pattern: &Pattern,
     rule: &Rule,
     generations: u32,
 ) -> Result<Pattern, Complaint>
-    requires generations { generations ≤ 100000 }
-    requires small { LiesWithin999 pattern.now }
+    requires far { (reach : ℕ) × (lies_within reach pattern.now ≡ true) × (reach + generations ≤ plane_bound) }
     ensures ok { IfOk result (λ later. later ≡ after rule.now pattern.now generations) }
     ensures err { IfErr result (λ complaint. complaint ≡ Complaint.Memory out_of_memory) }
 {

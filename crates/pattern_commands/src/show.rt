@@ -1,8 +1,8 @@
-//! `show`: the object of a code, as plaintext.
+//! `show`: the object of a code, as plaintext or as coordinates.
 //!
 //! ```text
 //! xp2_7 ── cut at the first _ ──┬─ xp2    a kind and a number, or the code is refused
-//!                               └─ 7 ── read_wechsler ── pattern ── plaintext
+//!                               └─ 7 ── read_wechsler ── pattern ── text
 //! ```
 
 ghost use Rattle.std.specs.Prelude.{◌≡◌, ℕ, List, Option, Some, IfErr, IfOk, false, option_map, true};
@@ -27,7 +27,7 @@ use requests::form::PatternForm;
 use std::alloc::Global;
 use std::io::Write;
 
-/// Writes the object of a code as plaintext.
+/// Writes the object of a code in a form. Its coordinates count from the corner of the code's text.
 ///
 /// A code is a text in extended Wechsler format, with or without a prefix. A prefix is `xs`, `xp` or `xq`, a number and
 /// `_`. The number isn't checked. No earlier write to either writer may have failed. `census show CODE` is this call
@@ -47,7 +47,7 @@ pub fn do_show<W: Write, E: Write>(
 ) -> Status
     requires output { output.old.failed ≡ false }
     requires errors { errors.old.failed ≡ false }
-    ensures ends { (reader : Option (List ℕ)) (bytes : List ℕ) → Ends (show_behaviour code.now) reader bytes result
+    ensures ends { (reader : Option (List ℕ)) (bytes : List ℕ) → Ends (show_behaviour form code.now) reader bytes result
         (stream W.contents output.old output.new) (stream E.contents errors.old errors.new) }
     ensures untouched { result ≡ Status.Refused → output.new ≡ output.old }
     ensures no_memory { result ≡ Status.Memory → output.new ≡ output.old }
@@ -64,7 +64,7 @@ fn show<W: Write>(
     output: &mut Out<W>,
 ) -> Result<(), Complaint>
     requires { output.old.failed ≡ false }
-    ensures reached { ReachesText false true (only (show_answer code.now)) result
+    ensures reached { ReachesText false true (only (show_answer form code.now)) result
         (stream W.contents output.old output.new) }
     ensures untouched { IfErr result (λ complaint. status_of complaint ≡ Status.Refused → output.new ≡ output.old) }
     ensures no_memory { IfErr result (λ complaint. complaint ≡ Complaint.Memory out_of_memory

@@ -6,6 +6,18 @@
 //!   └───────┴─ refused         └─ out of memory
 //! ```
 
+ghost use Rattle.std.specs.Prelude.{◌≡◌, ◌+◌, ◌-◌, ◌≤◌, ◌^◌, ℕ, List, false, is_ok, IsErr, IfErr, IfOk, true};
+ghost use Rattle.plane_core.specs.plane.Generations.{lies_within};
+ghost use Rattle.pattern_commands.specs.Answers.{IsInput, only};
+ghost use Rattle.pattern_commands.specs.Complaints.{status_of};
+ghost use Rattle.pattern_commands.specs.Ends.{Ends};
+ghost use Rattle.pattern_commands.specs.Inputs.{HasReadAtMost, LiesWithin999, rule_named};
+ghost use Rattle.pattern_commands.specs.SizeSteps.{Leaves, later_sizes};
+ghost use Rattle.pattern_commands.specs.Sizes.{sizes_answer, sizes_behaviour, sizes_text};
+ghost use Rattle.pattern_commands.specs.Streams.{stream};
+ghost use Rattle.pattern_commands.specs.TextSteps.{ReachesText};
+
+mod parts;
 mod size;
 mod stretch;
 
@@ -14,23 +26,25 @@ use crate::ending::tell_end_of_text;
 use crate::input::read_pattern;
 use crate::run::generation_after;
 use crate::sizes::size::Size;
-use crate::sizes::stretch::size_stretch;
+use crate::sizes::stretch::put_stretch;
 use crate::status::Status;
-use plane_core::output::{Out, WriteError};
+use plane_core::output::Out;
 use plane_core::plane::pattern::Pattern;
 use plane_core::plane::rule::Rule;
 use std::alloc::Global;
 use std::io::{Read, Write};
 
-/// The most generations of a stretch. In a longer one, parts of the pattern would have to be farther apart.
-const STRETCH: usize = 32;
+/// The most generations of a stretch. In a longer one, parts of the pattern would have to be farther apart, and then
+/// fewer parts get a board of their own.
+const STRETCH: u32 = 32;
 
-/// Reads a plaintext pattern, and writes a line for each generation from `from` to `generations`: its number, its
-/// population, and the left, top, right and bottom side of its bounding box.
+/// Reads a plaintext pattern, and writes a line for each generation from `from` to `last`: its number, its population,
+/// and the left, top, right and bottom side of its bounding box. The coordinates are those of the input, whose first row
+/// and column are 0.
 ///
-/// `from` is at most `generations`, which is at most 100,000. No earlier write to either writer may have failed. The
-/// rule is read first. If it is refused, nothing of the input is read. The lines are written while the pattern runs, and
-/// the memory doesn't depend on their number. `census run N --sizes FROM` is this call with the standard streams.
+/// `from` is at most `last`, which is at most 100,000. No earlier write to either writer may have failed. The rule is
+/// read first. If it is refused, nothing of the input is read. The lines are written while the pattern runs, so the
+/// memory doesn't depend on their number. `census run N --sizes FROM` is this call with the standard streams.
 ///
 /// # Errors
 ///
@@ -40,13 +54,24 @@ const STRETCH: usize = 32;
 pub fn do_sizes<R: Read, W: Write, E: Write>(
     alloc: Global,
     from: u32,
-    generations: u32,
+    last: u32,
     rule_text: &str,
     input: &mut R,
     output: &mut Out<W>,
     errors: &mut Out<E>,
-) -> Status {
-    let outcome = put_sizes(alloc, from, generations, rule_text, input, output);
+) -> Status
+    requires order { from ≤ last }
+    requires generations { last ≤ 100000 }
+    requires output { output.old.failed ≡ false }
+    requires errors { errors.old.failed ≡ false }
+    ensures ends { (bytes : List ℕ) × IsInput (R.remaining input.old) bytes
+        × Ends (sizes_behaviour rule_text.now from last) (R.remaining input.old) bytes result
+        (stream W.contents output.old output.new) (stream E.contents errors.old errors.new) }
+    ensures rule_first { IsErr (rule_named rule_text.now) → (result ≡ Status.Refused) × (input.new ≡ input.old) }
+    ensures untouched { result ≡ Status.Refused → output.new ≡ output.old }
+    ensures little { HasReadAtMost (2 ^ 24 + 2 ^ 16) (R.remaining input.old) (R.remaining input.new) }
+{
+    let outcome = put_sizes(alloc, from, last, rule_text, input, output);
     tell_end_of_text(outcome, errors)
 }
 
@@ -54,16 +79,46 @@ pub fn do_sizes<R: Read, W: Write, E: Write>(
 fn put_sizes<R: Read, W: Write>(
     alloc: Global,
     from: u32,
-    generations: u32,
+    last: u32,
     rule_text: &str,
     input: &mut R,
     output: &mut Out<W>,
-) -> Result<(), Complaint> {
+) -> Result<(), Complaint>
+    requires order { from ≤ last }
+    requires generations { last ≤ 100000 }
+    requires output { output.old.failed ≡ false }
+    ensures reached { (bytes : List ℕ) × IsInput (R.remaining input.old) bytes
+        × ReachesText (is_ok (rule_named rule_text.now)) false (only (sizes_answer rule_text.now from last bytes)) result
+        (stream W.contents output.old output.new) }
+    ensures rule_first { IfErr (rule_named rule_text.now) (λ complaint.
+        (result ≡ Err complaint) × (input.new ≡ input.old)) }
+    ensures untouched { IfErr result (λ complaint. status_of complaint ≡ Status.Refused → output.new ≡ output.old) }
+    ensures little { HasReadAtMost (2 ^ 24 + 2 ^ 16) (R.remaining input.old) (R.remaining input.new) }
+{
     let rule = Rule::read(rule_text)?;
     let pattern = read_pattern(alloc, input)?;
-    let pattern = generation_after(alloc, &pattern, &rule, from)?;
+    put_sizes_of(alloc, &rule, &pattern, from, last, output)
+}
+
+/// Runs the pattern, and writes the lines of generations `from` to `last`.
+fn put_sizes_of<W: Write>(
+    alloc: Global,
+    rule: &Rule,
+    pattern: &Pattern,
+    from: u32,
+    last: u32,
+    output: &mut Out<W>,
+) -> Result<(), Complaint>
+    requires small { LiesWithin999 pattern.now }
+    requires order { from ≤ last }
+    requires generations { last ≤ 100000 }
+    requires output { output.old.failed ≡ false }
+    ensures { Leaves (λ _. sizes_text rule.now pattern.now from (last + 1 - from))
+        (sizes_text rule.now pattern.now from (last + 1 - from)) result (stream W.contents output.old output.new) }
+{
+    let pattern = generation_after(alloc, pattern, rule, from)?;
     Size::of(&pattern).put_line(from, output)?;
-    put_later_sizes(alloc, &rule, pattern, from, generations, output)
+    put_later_sizes(alloc, rule, pattern, from, last, output)
 }
 
 /// Writes the lines of the generations after generation `from`, of which this is the pattern, up to generation `last`.
@@ -74,46 +129,50 @@ fn put_later_sizes<W: Write>(
     from: u32,
     last: u32,
     output: &mut Out<W>,
-) -> Result<(), Complaint> {
-    let mut sizes = [Size::none(); STRETCH];
+) -> Result<(), Complaint>
+    requires near { lies_within (999 + from) pattern ≡ true }
+    requires order { from ≤ last }
+    requires generations { last ≤ 100000 }
+    requires output { output.old.failed ≡ false }
+    ensures { Leaves (λ _. later_sizes rule.now pattern from (last - from)) (later_sizes rule.now pattern from (last - from))
+        result (stream W.contents output.old output.new) }
+{
     let mut pattern = pattern;
     let mut generation = from;
     while generation < last {
-        let count = STRETCH.min((last - generation) as usize);
-        let (later, made) = advance(alloc, rule, &pattern, &mut sizes[..count])?;
-        put_lines(generation, &sizes[..made], output)?;
-        pattern = later;
-        generation += made as u32;
+        let most = (last - generation).min(STRETCH);
+        let made = put_next_sizes(alloc, rule, &pattern, generation, most, output)?;
+        pattern = generation_after(alloc, &pattern, rule, made)?;
+        generation += made;
     }
     Ok(())
 }
 
-/// Advances the pattern by one generation for each place of the list, or by a single one. Returns the pattern and the
-/// number of generations, whose sizes are at the front of the list.
-fn advance(
+/// Writes the lines of the generations after generation `generation`, of which this is the pattern, and returns their
+/// number, which is from 1 to `most`.
+fn put_next_sizes<W: Write>(
     alloc: Global,
     rule: &Rule,
     pattern: &Pattern,
-    sizes: &mut [Size],
-) -> Result<(Pattern, usize), Complaint> {
-    if let Some(later) = size_stretch(alloc, rule, pattern, sizes)? {
-        return Ok((later, sizes.len()));
+    generation: u32,
+    most: u32,
+    output: &mut Out<W>,
+) -> Result<u32, Complaint>
+    requires near { lies_within (999 + generation) pattern.now ≡ true }
+    requires some { 1 ≤ most }
+    requires most { most ≤ 1000 }
+    requires generation { generation + most ≤ 100000 }
+    requires output { output.old.failed ≡ false }
+    ensures some { IfOk result (λ made. 1 ≤ made) }
+    ensures made { IfOk result (λ made. made ≤ most) }
+    ensures lines { Leaves (later_sizes rule.now pattern.now generation)
+        (later_sizes rule.now pattern.now generation most) result (stream W.contents output.old output.new) }
+{
+    let made = put_stretch(alloc, rule, pattern, generation, most, output)?;
+    if made > 0 {
+        return Ok(made);
     }
     let next = generation_after(alloc, pattern, rule, 1)?;
-    sizes[0] = Size::of(&next);
-    Ok((next, 1))
-}
-
-/// Writes the lines of the generations after `generation`, which have these sizes.
-fn put_lines<W: Write>(
-    generation: u32,
-    sizes: &[Size],
-    output: &mut Out<W>,
-) -> Result<(), WriteError> {
-    let mut generation = generation;
-    for size in sizes {
-        generation += 1;
-        size.put_line(generation, output)?;
-    }
-    Ok(())
+    Size::of(&next).put_line(generation + 1, output)?;
+    Ok(1)
 }

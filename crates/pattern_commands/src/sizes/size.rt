@@ -1,8 +1,11 @@
 //! The size of a pattern, and its line.
 
-ghost use Rattle.std.specs.Prelude.{◌≡◌, false, IfSome};
+ghost use Rattle.std.specs.Prelude.{◌≡◌, ◌++◌, [], false, IfSome, List};
 ghost use Rattle.plane_core.specs.Outputs.{Writes};
-ghost use Rattle.pattern_commands.specs.Sizes.{are_joined, no_size, size_of, sides, sized_line};
+ghost use Rattle.plane_core.specs.declared.plane.cell.Cell.{Cell};
+ghost use Rattle.plane_core.specs.plane.Bounds.{box_of};
+ghost use Rattle.pattern_commands.specs.SizeSteps.{size_of, sized_line};
+ghost use Rattle.pattern_commands.specs.Sizes.{sides};
 
 use code_core::decimal::put_number;
 use plane_core::output::{Out, WriteError};
@@ -21,7 +24,9 @@ pub(crate) struct Size {
 
 impl Size {
     /// Returns the size of the empty pattern.
-    pub(crate) fn none() -> Size {
+    pub(crate) fn none() -> Size
+        ensures { result ≡ size_of [] }
+    {
         Size {
             population: 0,
             bounds: None,
@@ -29,15 +34,20 @@ impl Size {
     }
 
     /// Returns the size of the pattern.
-    pub(crate) fn of(pattern: &Pattern) -> Size {
+    pub(crate) fn of(pattern: &Pattern) -> Size
+        ensures { result ≡ size_of pattern.now }
+    {
         Size {
             population: pattern.population(),
             bounds: pattern.bounds(),
         }
     }
 
-    /// Returns the size of two patterns together that share no cell, or `None` if their cells are too many to count.
-    pub(crate) fn joined(self, other: Size) -> Option<Size> {
+    /// Returns the size of two lists of cells in a row, or `None` if they have more cells than can be counted.
+    pub(crate) fn joined(self, other: Size) -> Option<Size>
+        ensures { IfSome result (λ size. (cells others : List Cell) → self ≡ size_of cells → other ≡ size_of others
+            → size ≡ size_of (cells ++ others)) }
+    {
         let population = self.population.checked_add(other.population)?;
         Some(Size {
             population,
@@ -51,29 +61,38 @@ impl Size {
         generation: u32,
         output: &mut Out<W>,
     ) -> Result<(), WriteError>
+        requires { output.old.failed ≡ false }
+        ensures { Writes W.contents output.old output.new result (sized_line generation self) }
     {
         put_number(output, b"", generation)?;
         put_number(output, b" ", self.population)?;
-        if let Some(bounds) = self.bounds {
-            put_sides(bounds, output)?;
-        }
+        put_sides(self.bounds, output)?;
         output.put(b"\n")
     }
 }
 
-/// Returns the smallest box around both boxes, of which either may be missing.
+/// Returns the smallest box around the cells of two boxes, either of which may have none.
 fn joined(one: Option<Bounds>, other: Option<Bounds>) -> Option<Bounds>
+    ensures { (cells others : List Cell) → one ≡ box_of cells → other ≡ box_of others
+        → result ≡ box_of (cells ++ others) }
 {
-    match (one, other) {
-        (Some(one), Some(other)) => Some(one.joined(other)),
-        (Some(only), None) | (None, Some(only)) => Some(only),
-        (None, None) => None,
+    match one {
+        None => other,
+        Some(one) => match other {
+            None => Some(one),
+            Some(other) => Some(one.joined(other)),
+        },
     }
 }
 
-/// Writes the four sides of a box, each after a space.
-fn put_sides<W: Write>(bounds: Bounds, output: &mut Out<W>) -> Result<(), WriteError>
+/// Writes the four sides of a box, each after a space, or nothing if there is no box.
+fn put_sides<W: Write>(bounds: Option<Bounds>, output: &mut Out<W>) -> Result<(), WriteError>
+    requires { output.old.failed ≡ false }
+    ensures { Writes W.contents output.old output.new result (sides bounds) }
 {
+    let Some(bounds) = bounds else {
+        return Ok(());
+    };
     put_number(output, b" ", bounds.left)?;
     put_number(output, b" ", bounds.top)?;
     put_number(output, b" ", bounds.right)?;
