@@ -3,4 +3,7 @@ pub mod CoordinateLemmas
 pub mod NameLemmas
 pub mod ShowLemmas
 pub mod SizeLemmas
+pub mod SizeLoopLemmas
+pub mod SizePartLemmas
+pub mod SizeStepLemmas
 pub mod TextLemmas
