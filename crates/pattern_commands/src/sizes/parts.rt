@@ -78,23 +78,11 @@ fn push_board(
         → boards.new.items ≡ boards.old.items ++ record { rule = rule.now; cells = part.now } ∷ []) }
 {
     let part = pattern_of(alloc, part)?;
-    let Some(board) = around(alloc, rule, &part, generations)? else {
+    let Some(board) = Board::around(alloc, rule, &part, generations)? else {
         return Ok(false);
     };
     boards.push(board)?;
     Ok(true)
-}
-
-fn around(
-    _alloc: Global,
-    _rule: &Rule,
-    _pattern: &Pattern,
-    _generations: u32,
-) -> Result<Option<Board>, OutOfMemory>
-    ensures rule { IfOk result (λ made. IfSome made (λ board. board.rule ≡ _rule.now)) }
-    ensures cells { IfOk result (λ made. IfSome made (λ board. board.cells ≡ _pattern.now)) }
-{
-    Ok(None)
 }
 
 /// Returns the pattern of these cells.
