@@ -146,8 +146,9 @@ ask_for_their_values = record {
   soup = asks_for table.soup_command (inr (inr (inr (inl refl)))) _ (λ uses all. let (n, (seed, more)) = all in λ i.
       soup_from (number_of (n i)) (text_of (seed i)));
   take = asks_for table.take_command (inr (inr (inr (inr (inl refl))))) _ (λ uses all.
-      let (plan, (workers, (progress, more))) = plan_taken uses (rows_for table.take_command uses) (table.workers ∷ table.progress ∷ []) all in
-      λ i. take_from (flag_of (progress i)) (plan i) (number_of (workers i)));
+      let (plan, (workers, (progress, (from, more)))) =
+      plan_taken uses (rows_for table.take_command uses) (table.workers ∷ table.progress ∷ table.report_from ∷ []) all in
+      λ i. take_from (flag_of (progress i)) (number_of (from i)) (plan i) (number_of (workers i)));
   work = asks_for table.work_command (inr (inr (inr (inr (inr (inl refl)))))) _ (λ uses all.
       let (plan, (worker, more)) = plan_taken uses (rows_for table.work_command uses) (table.worker ∷ []) all in
       λ i. work_from (plan i) (number_of (worker i)));

@@ -7,7 +7,7 @@ use Rattle.clap.specs.Words.{Text}
 use Rattle.arguments.specs.declared.request.Request.{Request}
 use Rattle.arguments.specs.declared.request.Request.TheVariants.{Run, Name, Show, Soup, Take, Work, Gather, Version}
 use Rattle.arguments.specs.Entries.{Command}
-use Rattle.arguments.specs.GivenValues.{number_given, plan_given, profile_given, text_given}
+use Rattle.arguments.specs.GivenValues.{number_given, number_if_given, plan_given, profile_given, text_given}
 use Rattle.arguments.specs.LawfulUses.{AreUses, IsIn, IsOutOfRange, IsShort, IsUnknown, IsUse, lacks_some}
 use Rattle.arguments.specs.Requests.{asked_by}
 use Rattle.arguments.specs.Table.{commands}
@@ -28,7 +28,7 @@ pub record AskForTheirValues : Type 0 where
   pub show : AsksFor table.show_command (λ uses. Show (text_given table.code uses))
   pub soup : AsksFor table.soup_command (λ uses. Soup (text_given table.seed uses) (number_given table.number uses))
   pub take : AsksFor table.take_command
-      (λ uses. Take (plan_given uses) (number_given table.workers uses) (is_used table.progress.name uses))
+      (λ uses. Take (plan_given uses) (number_given table.workers uses) (is_used table.progress.name uses) (number_if_given table.report_from uses))
   pub work : AsksFor table.work_command (λ uses. Work (plan_given uses) (number_given table.worker uses))
   pub gather : AsksFor table.gather_command (λ uses. Gather (plan_given uses) (number_given table.workers uses))
 

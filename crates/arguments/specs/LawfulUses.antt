@@ -1,5 +1,5 @@
 -- Which arguments, with which values, a command takes, and which it refuses.
-use Rattle.std.specs.Prelude.{◌≡◌, ◌⊎◌, ◌≤◌, ◌&&◌, ℕ, Bool, false, not, List, [], ◌∷◌, Option, Some, ⊤, codes, is_some, slice_get}
+use Rattle.std.specs.Prelude.{◌≡◌, ◌⊎◌, ◌≤◌, ◌&&◌, ℕ, Bool, false, true, not, List, [], ◌∷◌, Option, Some, ⊤, codes, is_some, slice_get}
 use Rattle.std.specs.List.{list_any}
 use Rattle.std.specs.Str.{bytes_eq, chars}
 use Rattle.std.specs.Str.Parse.{IsNumeral, digits_value, starts_with_minus, without_leading_plus}

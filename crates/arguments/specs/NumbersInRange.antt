@@ -1,9 +1,10 @@
 -- The numbers of a request are in the ranges of their arguments.
+use Rattle.std.specs.Prelude.{IfSome}
 use Rattle.requests.specs.declared.plan.Plan.{Plan}
 use Rattle.requests.specs.declared.profile_numbers.ProfileNumbers.{ProfileNumbers}
 use Rattle.arguments.specs.declared.request.Request.{Request}
 use Rattle.arguments.specs.declared.request.Request.TheVariants.{Run, Name, Show, Soup, Take, Work, Gather, Version}
-use Rattle.arguments.specs.Table.{count, first, generations, horizon, limit, number, period, stride, worker, workers}
+use Rattle.arguments.specs.Table.{count, first, generations, horizon, limit, number, period, report_from, stride, worker, workers}
 use Rattle.arguments.specs.Values.{IsInRange}
 
 -- each number of a profile is in the range of its argument
@@ -25,7 +26,7 @@ AreInTheirRanges (Run n _) = IsInRange generations.kind n
 AreInTheirRanges (Name profile _) = AreProfileNumbers profile
 AreInTheirRanges (Show _) = Unit {0}
 AreInTheirRanges (Soup _ n) = IsInRange number.kind n
-AreInTheirRanges (Take plan n _) = ArePlanNumbers plan × IsInRange workers.kind n
+AreInTheirRanges (Take plan n _ from) = ArePlanNumbers plan × IsInRange workers.kind n × IfSome from (IsInRange report_from.kind)
 AreInTheirRanges (Work plan n) = ArePlanNumbers plan × IsInRange worker.kind n
 AreInTheirRanges (Gather plan n) = ArePlanNumbers plan × IsInRange workers.kind n
 AreInTheirRanges Version = Unit {0}

@@ -6,7 +6,7 @@ use Rattle.requests.specs.declared.profile_numbers.ProfileNumbers.{ProfileNumber
 use Rattle.arguments.specs.declared.request.Request.{Request}
 use Rattle.arguments.specs.declared.request.Request.TheVariants.{Run, Name, Show, Soup, Take, Work, Gather}
 use Rattle.arguments.specs.Plans.{plan_in, profile_in}
-use Rattle.arguments.specs.Table.{code, generations, number, progress, rule, seed, worker, workers}
+use Rattle.arguments.specs.Table.{code, generations, number, progress, report_from, rule, seed, worker, workers}
 use Rattle.arguments.specs.Values.{is_given, number_found, text_found}
 
 -- the request of each command, if its values were found
@@ -26,9 +26,9 @@ abbrev pub soup_from : Option ℕ → Option Text → Option Request
 soup_from (Some n) (Some seed) = Some (Soup seed n)
 soup_from _ _ = None
 
-abbrev pub take_from : Bool → Option Plan → Option ℕ → Option Request
-take_from asked (Some plan) (Some workers) = Some (Take plan workers asked)
-take_from asked _ _ = None
+abbrev pub take_from : Bool → Option ℕ → Option Plan → Option ℕ → Option Request
+take_from asked from (Some plan) (Some workers) = Some (Take plan workers asked from)
+take_from asked from _ _ = None
 
 abbrev pub work_from : Option Plan → Option ℕ → Option Request
 work_from (Some plan) (Some worker) = Some (Work plan worker)
@@ -52,7 +52,7 @@ abbrev pub soup_request : List Row → Option Request
 soup_request rows = soup_from (number_found number rows) (text_found seed rows)
 
 abbrev pub take_request : List Row → Option Request
-take_request rows = take_from (is_given progress rows) (plan_in rows) (number_found workers rows)
+take_request rows = take_from (is_given progress rows) (number_found report_from rows) (plan_in rows) (number_found workers rows)
 
 abbrev pub work_request : List Row → Option Request
 work_request rows = work_from (plan_in rows) (number_found worker rows)

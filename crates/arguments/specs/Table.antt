@@ -2,7 +2,7 @@
 use Rattle.std.specs.Prelude.{List, [], ◌∷◌, codes}
 use Rattle.arguments.specs.Entries.{Command}
 pub use Rattle.arguments.specs.Options.{also, code, count, first, generations, horizon, limit, number, period, progress}
-pub use Rattle.arguments.specs.Options.{rule, seed, stride, worker, workers}
+pub use Rattle.arguments.specs.Options.{report_from, rule, seed, stride, worker, workers}
 
 abbrev pub run_command : Command
 run_command = record { name = codes "run"; parameters = generations ∷ rule ∷ [] }
@@ -19,7 +19,7 @@ soup_command = record { name = codes "soup"; parameters = number ∷ seed ∷ []
 abbrev pub take_command : Command
 take_command = record {
   name = codes "take";
-  parameters = seed ∷ first ∷ count ∷ also ∷ period ∷ horizon ∷ stride ∷ limit ∷ rule ∷ workers ∷ progress ∷ [];
+  parameters = seed ∷ first ∷ count ∷ also ∷ period ∷ horizon ∷ stride ∷ limit ∷ rule ∷ workers ∷ progress ∷ report_from ∷ [];
 }
 
 abbrev pub work_command : Command

@@ -2,7 +2,7 @@
 
 use crate::options::{
     ALSO, CODE, COORDINATES, COUNT, FIRST, GENERATIONS, HORIZON, LIMIT, NUMBER, PERIOD, PROGRESS,
-    Parameter, REPORTERS, RULE, SEED, SIZES, STRIDE, WORKER, WORKERS,
+    Parameter, REPORT_FROM, REPORTERS, RULE, SEED, SIZES, STRIDE, WORKER, WORKERS,
 };
 
 /// A command of the program.
@@ -85,7 +85,18 @@ pub const TAKE: CommandRow = CommandRow {
          If it is interrupted, all work is lost. `haul search` keeps its haul in a file.",
     after_help: "Example: census take --seed abc --count 100",
     parameters: &[
-        SEED, FIRST, COUNT, ALSO, PERIOD, HORIZON, STRIDE, LIMIT, RULE, WORKERS, PROGRESS,
+        SEED,
+        FIRST,
+        COUNT,
+        ALSO,
+        PERIOD,
+        HORIZON,
+        STRIDE,
+        LIMIT,
+        RULE,
+        WORKERS,
+        PROGRESS,
+        REPORT_FROM,
     ],
 };
 

@@ -243,3 +243,15 @@ pub const PROGRESS: Parameter = Parameter {
     help: "Shows the progress on standard error, even if it isn't a terminal. The\n\
          line is wiped at the end",
 };
+
+/// The generation from which a checkpoint is late.
+pub const REPORT_FROM: Parameter = Parameter {
+    name: "report-from",
+    place: Place::Named("GENERATION"),
+    kind: ValueKind::OptionalNumber(0, 100_001),
+    default: None,
+    heading: None,
+    help: "Also writes the report lines of soups that settle at GENERATION or later\n\
+         or not at all to standard error, from 0 to 100001: 0 reports each soup,\n\
+         100001 only unsettled ones",
+};

@@ -12,8 +12,8 @@ ghost use Rattle.arguments.specs.NumbersInRange.{AreInTheirRanges, ArePlanNumber
 ghost use Rattle.arguments.specs.Plans.{plan_in, profile_in, set_in};
 ghost use Rattle.arguments.specs.Reading.{gather_request, name_request, run_request, show_request, soup_request};
 ghost use Rattle.arguments.specs.Reading.{take_request, work_request};
-ghost use Rattle.arguments.specs.Table.{count, first};
-ghost use Rattle.arguments.specs.Values.{IsInRange};
+ghost use Rattle.arguments.specs.Table.{count, first, report_from};
+ghost use Rattle.arguments.specs.Values.{IsInRange, number_found};
 
 use crate::options;
 use crate::request::Request;
@@ -152,7 +152,17 @@ pub(crate) fn take_request<'a>(found: &ArgMatches<'a>) -> Option<Request<'a>>
         plan,
         workers: workers as u8,
         progress: is_given(found, &options::PROGRESS),
+        report_from: report_from_in(found),
     })
+}
+
+/// Returns the generation from which on checkpoints are late, or `None` if it isn't given.
+fn report_from_in(found: &ArgMatches<'_>) -> Option<u32>
+    ensures generation { result ≡ number_found report_from (rows_of (found_of found.now)) }
+    ensures range { IfSome result (IsInRange report_from.kind) }
+{
+    let generation = number_found(found, &options::REPORT_FROM)?;
+    Some(generation as u32)
 }
 
 /// Returns the request of `work`, or `None` if a value is missing.

@@ -33,11 +33,13 @@ pub enum Request<'a> {
         number: u64,
         form: PatternForm,
     },
-    /// The haul of all soups of a plan, taken with this number of workers, and whether a progress line is asked for.
+    /// The haul of all soups of a plan, taken with this number of workers; whether a progress line is asked for; and the
+    /// generation from which on checkpoints are late, if late soups are to be reported.
     Take {
         plan: Plan<'a>,
         workers: u8,
         progress: bool,
+        report_from: Option<u32>,
     },
     /// The report lines of this worker for all soups of a plan.
     Work {

@@ -22,6 +22,7 @@ use arguments::request::Request;
 use commands::gather::do_gather;
 use commands::machine::Machine;
 use commands::progress_line::ProgressLine;
+use commands::reporting::do_take_reporting;
 use commands::take::do_take;
 use commands::work::do_work;
 use pattern_commands::complaint::Complaint;
@@ -131,9 +132,13 @@ fn do_request<T: Threads + Wait + Sync, R: Read, W: Write, E: Write, P: Write, C
             plan,
             workers,
             progress,
+            report_from,
         } => {
             machine.observer.ask(*progress);
-            do_take(machine, plan, *workers, output)
+            match report_from {
+                Some(from) => do_take_reporting(machine, plan, *workers, *from, output),
+                None => do_take(machine, plan, *workers, output),
+            }
         }
         Request::Work { plan, worker } => {
             do_work(machine.alloc, plan, *worker, output, &mut machine.errors)
