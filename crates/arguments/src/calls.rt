@@ -31,7 +31,8 @@ use std::convert::AsStr;
 const NOT_UNDERSTOOD: &str = "error: the words are not understood";
 
 /// The usage text if `clap` finds no fault, and yet there is no request: only options of `run` can contradict each other.
-const CONTRADICTION: &str = "error: `--sizes` can't be used with `--coordinates`, and its FROM is at most N\n\n\
+const CONTRADICTION: &str =
+    "error: `--sizes` can't be used with `--coordinates`, and its FROM is at most N\n\n\
     For more information, try '--help'.";
 
 /// Why arguments give no request.
