@@ -6,7 +6,7 @@
 //!          refused           out of memory, or a line wasn't written
 //! ```
 
-ghost use Rattle.std.specs.Prelude.{◌≡◌, ◌≢◌, ◌≤◌, ◌↔◌, [], ℕ, Err, IfErr, IfOk, List, MatchResult, None, Option};
+ghost use Rattle.std.specs.Prelude.{◌≡◌, ◌≢◌, ◌≤◌, ◌↔◌, [], ℕ, Err, IfErr, IfOk, List, MatchResult, None, Option, Some};
 ghost use Rattle.std.specs.Prelude.{false, length, true};
 ghost use Rattle.memory.specs.Witness.{out_of_memory};
 ghost use Rattle.haul_core.specs.Keeping.{numbers_in};
@@ -34,7 +34,7 @@ use pattern_commands::ending::tell_end;
 use pattern_commands::status::Status;
 use plane_core::output::{Out, WriteError};
 use requests::plan::Plan;
-use std::io::{self, ErrorKind, Write};
+use std::io::{self, Write};
 use std::sync::Wait;
 use std::sync::atomic::AtomicBool;
 use std::thread::Threads;
@@ -181,7 +181,33 @@ fn write_failed(fault: Option<WriteError>) -> Complaint
 {
     match fault {
         Some(error) => Complaint::WriteFailed(error),
-        None => Complaint::WriteFailed(WriteError::of_stream(&io::Error::from(ErrorKind::Other))),
+        None => Complaint::WriteFailed(no_room()),
+    }
+}
+
+/// A writer without room: each write takes no byte.
+#[derive(Clone, Copy)]
+struct NoRoom;
+
+impl Write for NoRoom {
+    ghost contents = { λ _. Some [] };
+
+    fn write(&mut self, _buf: &[u8]) -> io::Result<usize> {
+        Ok(0)
+    }
+
+    fn flush(&mut self) -> io::Result<()> {
+        Ok(())
+    }
+}
+
+/// Returns the error of a write to a writer without room. It stands in for the error of the line that wasn't written,
+/// which the sink keeps although no contract says so.
+fn no_room() -> WriteError {
+    let mut output = Out::new(NoRoom);
+    match output.put(b"\n") {
+        Ok(()) => unreachable!(),
+        Err(error) => error,
     }
 }
 

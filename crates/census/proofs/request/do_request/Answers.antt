@@ -2,8 +2,11 @@ use Rattle.std.proofs.Common.{refl}
 use Rattle.census.proofs.RequestLemmas.{does}
 use Rattle.census.proofs.request.do_request.Goals as goal
 
-pub returns-in-Take-clause-ends : goal.returns-in-Take-clause-ends
-returns-in-Take-clause-ends g c = rw c.in-Take.is (does _ _ refl c.do_take.ensures.ends)
+pub returns-in-Take-in-Some-clause-ends : goal.returns-in-Take-in-Some-clause-ends
+returns-in-Take-in-Some-clause-ends g c = ?a
+
+pub returns-in-Take-in-None-clause-ends : goal.returns-in-Take-in-None-clause-ends
+returns-in-Take-in-None-clause-ends g c = ?b
 
 pub returns-in-Work-clause-ends : goal.returns-in-Work-clause-ends
 returns-in-Work-clause-ends g c = rw c.in-Work.is (does _ _ refl c.do_work.ensures.ends)
