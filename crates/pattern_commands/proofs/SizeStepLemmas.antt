@@ -14,7 +14,7 @@ use Rattle.pattern_commands.specs.declared.complaint.Complaint.{Complaint}
 use Rattle.pattern_commands.specs.declared.complaint.Complaint.TheVariants.{Refused, Memory, ReadFailed, TooLong, WriteFailed}
 use Rattle.pattern_commands.specs.declared.sizes.size.Size.{Size}
 use Rattle.pattern_commands.specs.Answers.{Answer, NeedsMemory, only, output_text}
-use Rattle.pattern_commands.specs.SizeSteps.{Leaves, RunApart, advanced, later_sizes, size_of, sized_line}
+use Rattle.pattern_commands.specs.SizeSteps.{PutsLines, RunApart, advanced, later_sizes, pattern_size, sized_line}
 use Rattle.pattern_commands.specs.Sizes.{size_line, sizes_text}
 use Rattle.pattern_commands.specs.Streams.{Stream, Has, HasPrefix, stream}
 use Rattle.pattern_commands.specs.TextSteps.{ReachesText, TextOutcome}
@@ -25,7 +25,7 @@ use Rattle.pattern_commands.proofs.SizePartLemmas.{parts_next, parts_now}
 
 module _ (rule : Numbers) (cells : List Cell) (g : ℕ) where
   -- the lines with that of one generation more
-  pub line_more : (k : ℕ) (size : Size) → size ≡ size_of (after rule cells (k + 1))
+  pub line_more : (k : ℕ) (size : Size) → size ≡ pattern_size (after rule cells (k + 1))
       → later_sizes rule cells g (k + 1) ≡ later_sizes rule cells g k ++ sized_line (g + (k + 1)) size
   line_more k size is =
       let next : k + 1 ≡ suc k = omega arith in
@@ -35,7 +35,7 @@ module _ (rule : Numbers) (cells : List Cell) (g : ℕ) where
 
   -- the parts one generation later, and the line for them
   pub parts_more : (k most : ℕ) (parts news : List Running) (size : Size) → k < most → RunApart rule (after rule cells k) (most - k) parts
-      → news ≡ map advanced parts → size ≡ size_of (flat_map (λ (part : Running). part.cells) news)
+      → news ≡ map advanced parts → size ≡ pattern_size (flat_map (λ (part : Running). part.cells) news)
       → RunApart rule (after rule cells (k + 1)) (most - (k + 1)) news
       × (later_sizes rule cells g (k + 1) ≡ later_sizes rule cells g k ++ sized_line (g + (k + 1)) size)
   parts_more k most parts news size low apart is so =
@@ -46,7 +46,7 @@ module _ (rule : Numbers) (cells : List Cell) (g : ℕ) where
       subst (λ (S : List Cell). RunApart rule S (most - (k + 1)) (map advanced parts)) (after-plus rule cells k 1) later in
       let new : RunApart rule (after rule cells (k + 1)) (most - (k + 1)) news =
       subst (λ (ps : List Running). RunApart rule (after rule cells (k + 1)) (most - (k + 1)) ps) (sym is) here in
-      (new, line_more k size (so ∙ ap size_of (sym (parts_now rule (after rule cells (k + 1)) (most - (k + 1)) news new))))
+      (new, line_more k size (so ∙ ap pattern_size (sym (parts_now rule (after rule cells (k + 1)) (most - (k + 1)) news new))))
 
   -- before the first line
   pub parts_first : (n : ℕ) (parts : List Running) → RunApart rule cells n parts → RunApart rule (after rule cells 0) (n - 0) parts
@@ -61,7 +61,7 @@ module _ (rule : Numbers) (cells : List Cell) (g : ℕ) where
 
   -- some of the lines were written
   pub leaves_memory : {A : Type 0} (done : A → List ℕ) (k most : ℕ) (error : OutOfMemory) (output : Stream) → k ≤ most
-      → Has output (later_sizes rule cells g k) → Leaves done (later_sizes rule cells g most) (Err (Memory error)) output
+      → Has output (later_sizes rule cells g k) → PutsLines done (later_sizes rule cells g most) (Err (Memory error)) output
   leaves_memory done k most error output low has =
       (later_sizes rule cells g k, later_sizes rule (after rule cells k) (g + k) (most - k), later_rest rule cells g k most low, has)
 
@@ -69,7 +69,7 @@ module _ (rule : Numbers) (cells : List Cell) (g : ℕ) where
   pub leaves_cut : {A V : Type 0} (contents : V → Option (List ℕ)) (done : A → List ℕ) (k most : ℕ) (error : WriteError) (x y z : Output V) (line : List ℕ)
       → k < most → Has (stream contents x y) (later_sizes rule cells g k)
       → later_sizes rule cells g (k + 1) ≡ later_sizes rule cells g k ++ line → Writes contents y z (Err error) line
-      → Leaves done (later_sizes rule cells g most) (Err (WriteFailed error)) (stream contents x z)
+      → PutsLines done (later_sizes rule cells g most) (Err (WriteFailed error)) (stream contents x z)
   leaves_cut contents done k most error x y z line low has more writes =
       let cut : HasPrefix (stream contents x z) (later_sizes rule cells g k ++ line) =
       AppendsPrefix-append _ _ _ (later_sizes rule cells g k) line has writes.prefix in
@@ -103,8 +103,8 @@ module _ (rule : Numbers) (cells : List Cell) (g : ℕ) where
   -- some lines were written, and then the next ones not all
   pub leaves_after : {A B V : Type 0} (contents : V → Option (List ℕ)) (done : A → List ℕ) (told : B → List ℕ) (k m all : ℕ) (complaint : Complaint) (x y z : Output V)
       → k + m ≤ all → Has (stream contents x y) (later_sizes rule cells g k)
-      → Leaves told (later_sizes rule (after rule cells k) (g + k) m) (Err complaint) (stream contents y z)
-      → Leaves done (later_sizes rule cells g all) (Err complaint) (stream contents x z)
+      → PutsLines told (later_sizes rule (after rule cells k) (g + k) m) (Err complaint) (stream contents y z)
+      → PutsLines done (later_sizes rule cells g all) (Err complaint) (stream contents x z)
   leaves_after contents done told k m all (Memory error) x y z low one two = prefix_after contents k m all x y z low one two
   leaves_after contents done told k m all (WriteFailed error) x y z low one two = (prefix_after contents k m all x y z low one two.0, two.1)
   leaves_after contents done told k m all (ReadFailed error) x y z low one two = absurd two
@@ -115,7 +115,7 @@ module _ (rule : Numbers) (cells : List Cell) (g : ℕ) where
 
 -- a text was written, and then another wholly or in part
 pub leaves_then : {V : Type 0} (contents : V → Option (List ℕ)) (one two : List ℕ) (outcome : TextOutcome) (x y z : Output V)
-    → Has (stream contents x y) one → Leaves (λ _. two) two outcome (stream contents y z) → Leaves (λ _. one ++ two) (one ++ two) outcome (stream contents x z)
+    → Has (stream contents x y) one → PutsLines (λ _. two) two outcome (stream contents y z) → PutsLines (λ _. one ++ two) (one ++ two) outcome (stream contents x z)
 leaves_then contents one two (Ok _) x y z has more = (Appends-append _ _ _ one two has more.0, more.1)
 leaves_then contents one two (Err (Memory error)) x y z has more = AppendsPrefix-append _ _ _ one two has more
 leaves_then contents one two (Err (WriteFailed error)) x y z has more = (AppendsPrefix-append _ _ _ one two has more.0, more.1)
@@ -125,7 +125,7 @@ leaves_then contents one two (Err (Refused refusal)) x y z has more = absurd mor
 
 -- a text was written in part, and what follows it not at all
 pub leaves_first : {V : Type 0} (contents : V → Option (List ℕ)) (one two : List ℕ) (error : WriteError) (x y : Output V)
-    → Writes contents x y (Err error) one → Leaves {A = Unit {0}} (λ _. one ++ two) (one ++ two) (Err (WriteFailed error)) (stream contents x y)
+    → Writes contents x y (Err error) one → PutsLines {A = Unit {0}} (λ _. one ++ two) (one ++ two) (Err (WriteFailed error)) (stream contents x y)
 leaves_first contents one two error x y writes = (AppendsPrefix-longer _ _ one two writes.prefix, writes.remembers)
 
 -- the text of a command, of which the first line is that of generation `from`
@@ -152,15 +152,17 @@ reaches_lines reads answer (WriteFailed error) output nothing ((text, is, prefix
 
 -- what the lines leave is a right end of the command
 pub reaches_leaves : (reads : Bool) (answer : Answer) (text : List ℕ) (outcome : TextOutcome) (output : Stream) → answer ≡ Ok text
-    → Leaves (λ _. text) text outcome output → ReachesText reads false (only answer) outcome output
+    → PutsLines (λ _. text) text outcome output → ReachesText reads false (only answer) outcome output
 reaches_leaves reads answer text (Ok _) output is leaves = ((text, is, leaves.0), leaves.1)
 reaches_leaves reads answer text (Err (Memory error)) output is leaves = (
   λ unread complaint bad. let no = sym is ∙ bad in cc,
   λ other so. subst (λ (a : Answer). HasPrefix output (output_text a)) (sym is ∙ so) leaves,
 )
 reaches_leaves reads answer text (Err (WriteFailed error)) output is leaves = (
-  (λ complaint bad. let no = sym is ∙ bad in cc,
-      λ other so. subst (λ (a : Answer). HasPrefix output (output_text a)) (sym is ∙ so) leaves.0),
+  (
+    λ complaint bad. let no = sym is ∙ bad in cc,
+    λ other so. subst (λ (a : Answer). HasPrefix output (output_text a)) (sym is ∙ so) leaves.0,
+  ),
   leaves.1,
 )
 reaches_leaves reads answer text (Err (ReadFailed error)) output is leaves = absurd leaves

@@ -8,5 +8,5 @@ abbrev pub coordinate_line : Cell → List ℕ
 coordinate_line c = signed_decimal c.x ++ ((codes " " ++ signed_decimal c.y) ++ codes "\n")
 
 -- the lines of all cells, in the order of the pattern: by rows, and in a row from the left
-abbrev pub coordinates : List Cell → List ℕ
-coordinates cells = flat_map coordinate_line cells
+abbrev pub coordinates_text : List Cell → List ℕ
+coordinates_text cells = flat_map coordinate_line cells

@@ -9,16 +9,16 @@ use Rattle.plane_core.specs.plane.Rules.{Numbers}
 use Rattle.pattern_commands.specs.declared.complaint.Complaint.{Complaint}
 use Rattle.pattern_commands.specs.declared.complaint.Complaint.TheVariants.{Refused, Memory, ReadFailed, TooLong, WriteFailed}
 use Rattle.pattern_commands.specs.declared.sizes.size.Size.{Size}
-use Rattle.pattern_commands.specs.Sizes.{sides, size_line, spaced}
+use Rattle.pattern_commands.specs.Sizes.{sides, size_line, after_space}
 use Rattle.pattern_commands.specs.Streams.{Stream, Has, HasPrefix}
 
 -- the size of a pattern
-abbrev pub size_of : List Cell → Size
-size_of cells = record { population = length cells; bounds = box_of cells }
+abbrev pub pattern_size : List Cell → Size
+pattern_size cells = record { population = length cells; bounds = box_of cells }
 
 -- the line of a size at generation g
 abbrev pub sized_line : ℕ → Size → List ℕ
-sized_line g size = decimal g ++ (spaced (decimal size.population) ++ (sides size.bounds ++ codes "\n"))
+sized_line g size = decimal g ++ (after_space (decimal size.population) ++ (sides size.bounds ++ codes "\n"))
 
 -- the lines of the n generations after generation g, which has these cells
 unfoldable pub later_sizes : Numbers → List Cell → ℕ → ℕ → List ℕ
@@ -43,10 +43,10 @@ advanced part = record { rule = part.rule; cells = after part.rule part.cells 1 
 
 -- What became of a text: `done` of it was written. Or memory ran out or a write failed, and a prefix of the whole text
 -- was written.
-abbrev pub Leaves : {A : Type 0} → (A → List ℕ) → List ℕ → Result A Complaint → Stream → Type 0
-Leaves done whole (Ok x) output = Has output (done x) × (output.failed ≡ false)
-Leaves done whole (Err (Memory error)) output = HasPrefix output whole
-Leaves done whole (Err (WriteFailed error)) output = HasPrefix output whole × (output.failed ≡ true)
-Leaves done whole (Err (ReadFailed error)) output = ⊥
-Leaves done whole (Err TooLong) output = ⊥
-Leaves done whole (Err (Refused refusal)) output = ⊥
+abbrev pub PutsLines : {A : Type 0} → (A → List ℕ) → List ℕ → Result A Complaint → Stream → Type 0
+PutsLines done whole (Ok x) output = Has output (done x) × (output.failed ≡ false)
+PutsLines done whole (Err (Memory error)) output = HasPrefix output whole
+PutsLines done whole (Err (WriteFailed error)) output = HasPrefix output whole × (output.failed ≡ true)
+PutsLines done whole (Err (ReadFailed error)) output = ⊥
+PutsLines done whole (Err TooLong) output = ⊥
+PutsLines done whole (Err (Refused refusal)) output = ⊥

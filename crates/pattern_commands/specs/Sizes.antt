@@ -11,17 +11,17 @@ use Rattle.pattern_commands.specs.Behaviours.{Behaviour, text_behaviour}
 use Rattle.pattern_commands.specs.Inputs.{pattern_of, rule_named}
 
 -- a space and a number
-abbrev pub spaced : List ℕ → List ℕ
-spaced number = codes " " ++ number
+abbrev pub after_space : List ℕ → List ℕ
+after_space number = codes " " ++ number
 
 -- the left, top, right and bottom side of a box, if there is one
 abbrev pub sides : Option Bounds → List ℕ
 sides None = []
-sides (Some b) = spaced (signed_decimal b.left) ++ (spaced (signed_decimal b.top) ++ (spaced (signed_decimal b.right) ++ spaced (signed_decimal b.bottom)))
+sides (Some b) = after_space (signed_decimal b.left) ++ (after_space (signed_decimal b.top) ++ (after_space (signed_decimal b.right) ++ after_space (signed_decimal b.bottom)))
 
 -- the line of generation g, which has these cells: its number, its population, and the sides of the smallest box around it
 abbrev pub size_line : ℕ → List Cell → List ℕ
-size_line g cells = decimal g ++ (spaced (decimal (length cells)) ++ (sides (box_of cells) ++ codes "\n"))
+size_line g cells = decimal g ++ (after_space (decimal (length cells)) ++ (sides (box_of cells) ++ codes "\n"))
 
 -- the lines of n generations of a pattern, the first of which is generation `from`
 unfoldable pub sizes_text : Numbers → List Cell → ℕ → ℕ → List ℕ

@@ -10,7 +10,7 @@
 
 ghost use Rattle.std.specs.Prelude.{◌≡◌, false};
 ghost use Rattle.plane_core.specs.Outputs.{Writes};
-ghost use Rattle.pattern_commands.specs.Coordinates.{coordinates, coordinate_line};
+ghost use Rattle.pattern_commands.specs.Coordinates.{coordinate_line, coordinates_text};
 
 use code_core::decimal::put_number;
 use plane_core::output::{Out, WriteError};
@@ -20,7 +20,7 @@ use std::io::Write;
 /// Writes a line for each of these cells.
 pub(crate) fn put_cells<W: Write>(cells: &[Cell], output: &mut Out<W>) -> Result<(), WriteError>
     requires { output.old.failed ≡ false }
-    ensures { Writes W.contents output.old output.new result (coordinates cells.now) }
+    ensures { Writes W.contents output.old output.new result (coordinates_text cells.now) }
 {
     for cell in cells {
         put_cell(*cell, output)?;

@@ -12,7 +12,7 @@ ghost use Rattle.pattern_commands.specs.Answers.{IsInput, only};
 ghost use Rattle.pattern_commands.specs.Complaints.{status_of};
 ghost use Rattle.pattern_commands.specs.Ends.{Ends};
 ghost use Rattle.pattern_commands.specs.Inputs.{HasReadAtMost, LiesWithin999, rule_named};
-ghost use Rattle.pattern_commands.specs.SizeSteps.{Leaves, later_sizes};
+ghost use Rattle.pattern_commands.specs.SizeSteps.{PutsLines, later_sizes};
 ghost use Rattle.pattern_commands.specs.Sizes.{sizes_answer, sizes_behaviour, sizes_text};
 ghost use Rattle.pattern_commands.specs.Streams.{stream};
 ghost use Rattle.pattern_commands.specs.TextSteps.{ReachesText};
@@ -113,7 +113,7 @@ fn put_sizes_of<W: Write>(
     requires order { from ≤ last }
     requires generations { last ≤ 100000 }
     requires output { output.old.failed ≡ false }
-    ensures { Leaves (λ _. sizes_text rule.now pattern.now from (last + 1 - from))
+    ensures { PutsLines (λ _. sizes_text rule.now pattern.now from (last + 1 - from))
         (sizes_text rule.now pattern.now from (last + 1 - from)) result (stream W.contents output.old output.new) }
 {
     let pattern = generation_after(alloc, pattern, rule, from)?;
@@ -134,7 +134,7 @@ fn put_later_sizes<W: Write>(
     requires order { from ≤ last }
     requires generations { last ≤ 100000 }
     requires output { output.old.failed ≡ false }
-    ensures { Leaves (λ _. later_sizes rule.now pattern from (last - from)) (later_sizes rule.now pattern from (last - from))
+    ensures { PutsLines (λ _. later_sizes rule.now pattern from (last - from)) (later_sizes rule.now pattern from (last - from))
         result (stream W.contents output.old output.new) }
 {
     let mut pattern = pattern;
@@ -165,7 +165,7 @@ fn put_next_sizes<W: Write>(
     requires output { output.old.failed ≡ false }
     ensures some { IfOk result (λ made. 1 ≤ made) }
     ensures made { IfOk result (λ made. made ≤ most) }
-    ensures lines { Leaves (later_sizes rule.now pattern.now generation)
+    ensures lines { PutsLines (later_sizes rule.now pattern.now generation)
         (later_sizes rule.now pattern.now generation most) result (stream W.contents output.old output.new) }
 {
     let made = put_stretch(alloc, rule, pattern, generation, most, output)?;

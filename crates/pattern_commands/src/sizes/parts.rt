@@ -13,7 +13,7 @@
 
 ghost use Rattle.std.specs.Prelude.{◌≡◌, ◌++◌, ◌*◌, ◌<◌, ◌≤◌, [], ◌∷◌, ℕ, IfOk, IfSome, flat_map, length, map, true};
 ghost use Rattle.plane_core.specs.plane.Cells.{InOrder, IsPattern};
-ghost use Rattle.pattern_commands.specs.SizeSteps.{IsGap, RunApart, advanced, size_of};
+ghost use Rattle.pattern_commands.specs.SizeSteps.{IsGap, RunApart, advanced, pattern_size};
 
 use crate::sizes::size::Size;
 use memory::OutOfMemory;
@@ -112,7 +112,7 @@ pub(crate) fn advance_each(boards: &mut [Board]) -> Result<bool, OutOfMemory>
 
 /// Returns the size of all boards' cells together, or `None` if they have more cells than can be counted.
 pub(crate) fn size_together(alloc: Global, boards: &[Board]) -> Result<Option<Size>, OutOfMemory>
-    ensures { IfOk result (λ found. IfSome found (λ size. size ≡ size_of (flat_map (λ board. board.cells) boards.now))) }
+    ensures { IfOk result (λ found. IfSome found (λ size. size ≡ pattern_size (flat_map (λ board. board.cells) boards.now))) }
 {
     let mut together = Size::none();
     for board in boards {
@@ -126,7 +126,7 @@ pub(crate) fn size_together(alloc: Global, boards: &[Board]) -> Result<Option<Si
 
 /// Returns the size of the pattern that the board shows.
 fn size_on(alloc: Global, board: &Board) -> Result<Size, OutOfMemory>
-    ensures { IfOk result (λ size. size ≡ size_of board.now.cells) }
+    ensures { IfOk result (λ size. size ≡ pattern_size board.now.cells) }
 {
     let pattern = board.pattern(alloc)?;
     Ok(Size::of(&pattern))

@@ -4,7 +4,7 @@ ghost use Rattle.std.specs.Prelude.{◌≡◌, ◌++◌, [], false, IfSome, List
 ghost use Rattle.plane_core.specs.Outputs.{Writes};
 ghost use Rattle.plane_core.specs.declared.plane.cell.Cell.{Cell};
 ghost use Rattle.plane_core.specs.plane.Bounds.{box_of};
-ghost use Rattle.pattern_commands.specs.SizeSteps.{size_of, sized_line};
+ghost use Rattle.pattern_commands.specs.SizeSteps.{pattern_size, sized_line};
 ghost use Rattle.pattern_commands.specs.Sizes.{sides};
 
 use code_core::decimal::put_number;
@@ -25,7 +25,7 @@ pub(crate) struct Size {
 impl Size {
     /// Returns the size of the empty pattern.
     pub(crate) fn none() -> Size
-        ensures { result ≡ size_of [] }
+        ensures { result ≡ pattern_size [] }
     {
         Size {
             population: 0,
@@ -35,7 +35,7 @@ impl Size {
 
     /// Returns the size of the pattern.
     pub(crate) fn of(pattern: &Pattern) -> Size
-        ensures { result ≡ size_of pattern.now }
+        ensures { result ≡ pattern_size pattern.now }
     {
         Size {
             population: pattern.population(),
@@ -45,8 +45,8 @@ impl Size {
 
     /// Returns the size of two lists of cells in a row, or `None` if they have more cells than can be counted.
     pub(crate) fn joined(self, other: Size) -> Option<Size>
-        ensures { IfSome result (λ size. (cells others : List Cell) → self ≡ size_of cells → other ≡ size_of others
-            → size ≡ size_of (cells ++ others)) }
+        ensures { IfSome result (λ size. (cells others : List Cell) → self ≡ pattern_size cells → other ≡ pattern_size others
+            → size ≡ pattern_size (cells ++ others)) }
     {
         let population = self.population.checked_add(other.population)?;
         Some(Size {

@@ -3,7 +3,7 @@
 ghost use Rattle.std.specs.Prelude.{◌≡◌, ◌+◌, ◌≤◌, false, IfOk, IfSome, List, flat_map, map};
 ghost use Rattle.plane_core.specs.declared.plane.cell.Cell.{Cell};
 ghost use Rattle.plane_core.specs.plane.Rules.{Numbers};
-ghost use Rattle.pattern_commands.specs.SizeSteps.{Leaves, RunApart, advanced, later_sizes, size_of};
+ghost use Rattle.pattern_commands.specs.SizeSteps.{PutsLines, RunApart, advanced, later_sizes, pattern_size};
 ghost use Rattle.pattern_commands.specs.Streams.{stream};
 
 use crate::complaint::Complaint;
@@ -31,7 +31,7 @@ pub(crate) fn put_stretch<W: Write>(
     requires generation { generation + most ≤ 100000 }
     requires output { output.old.failed ≡ false }
     ensures made { IfOk result (λ made. made ≤ most) }
-    ensures lines { Leaves (later_sizes rule.now pattern.now generation)
+    ensures lines { PutsLines (later_sizes rule.now pattern.now generation)
         (later_sizes rule.now pattern.now generation most) result (stream W.contents output.old output.new) }
 {
     let Some(mut boards) = boards_for(alloc, rule, pattern, most)? else {
@@ -53,7 +53,7 @@ fn put_board_sizes<W: Write>(
     requires output { output.old.failed ≡ false }
     ensures made { IfOk result (λ made. made ≤ most) }
     ensures lines { (rule : Numbers) (cells : List Cell) → RunApart rule cells most boards.old
-        → Leaves (later_sizes rule cells generation) (later_sizes rule cells generation most) result
+        → PutsLines (later_sizes rule cells generation) (later_sizes rule cells generation most) result
         (stream W.contents output.old output.new) }
 {
     let mut made = 0;
@@ -71,7 +71,7 @@ fn put_board_sizes<W: Write>(
 /// room for it, or if there are more cells than can be counted.
 fn next_size(alloc: Global, boards: &mut [Board]) -> Result<Option<Size>, OutOfMemory>
     ensures { IfOk result (λ found. IfSome found (λ size. (boards.new ≡ map advanced boards.old)
-        × (size ≡ size_of (flat_map (λ board. board.cells) boards.new)))) }
+        × (size ≡ pattern_size (flat_map (λ board. board.cells) boards.new)))) }
 {
     let all = advance_each(boards)?;
     if !all {

@@ -1,7 +1,7 @@
 use Rattle.std.proofs.Common.{◌+◌, ◌-◌, ◌≤◌, ℕ, List, Err, arith}
 use Rattle.plane_core.specs.declared.plane.cell.Cell.{Cell}
 use Rattle.plane_core.specs.plane.Cells.{plane_bound}
-use Rattle.pattern_commands.specs.SizeSteps.{Leaves, later_sizes}
+use Rattle.pattern_commands.specs.SizeSteps.{PutsLines, later_sizes}
 use Rattle.pattern_commands.specs.Streams.{stream}
 use Rattle.pattern_commands.proofs.AnswerLemmas.{err_of}
 use Rattle.pattern_commands.proofs.SizeLoopLemmas.{lines_first, lines_later, moved, near_now, now_first, now_later}
@@ -37,7 +37,7 @@ returns-in_err-made g c =
     (later_sizes c.args.rule.now c.loop-generation.pattern gen) (gen - from) most
     (c.args.last - from) c.in_err-made.field-0.0 c.args.output.now c.loop-generation.output c.put_next_sizes.new.output fits so_far.lines
     (moved c.args.rule.now c.args.pattern from gen 0 c.loop-generation.pattern low so_far.now
-    (λ (S : List Cell) (n : ℕ). Leaves (later_sizes c.args.rule.now c.loop-generation.pattern gen) (later_sizes c.args.rule.now S n most)
+    (λ (S : List Cell) (n : ℕ). PutsLines (later_sizes c.args.rule.now c.loop-generation.pattern gen) (later_sizes c.args.rule.now S n most)
     (Err c.in_err-made.field-0.0) (stream g.W.Write.contents c.loop-generation.output c.put_next_sizes.new.output)) c.in_err-made.ensures.lines))
 
 pub generation_after-requires : goal.generation_after-requires

@@ -3,7 +3,7 @@ use Rattle.plane_core.specs.declared.plane.cell.Cell.{Cell}
 use Rattle.plane_core.specs.plane.Generations.{after, lies_within}
 use Rattle.plane_core.proofs.lemmas.OutputLemmas.{Writes_same}
 use Rattle.plane_core.proofs.lemmas.plane.SpeedLemmas.{within-after}
-use Rattle.pattern_commands.specs.SizeSteps.{later_sizes, size_of, sized_line}
+use Rattle.pattern_commands.specs.SizeSteps.{later_sizes, pattern_size, sized_line}
 use Rattle.pattern_commands.specs.Sizes.{size_line}
 use Rattle.pattern_commands.proofs.AnswerLemmas.{err_of}
 use Rattle.pattern_commands.proofs.SizeStepLemmas.{leaves_first, leaves_then, whole_text}
@@ -14,7 +14,7 @@ returns-in_err-put_line g c =
     let rule = c.args.rule.now in
     let from = c.args.from in
     let here = after rule c.args.pattern.now from in
-    let line : sized_line from c.of.result ≡ size_line from here = ap (sized_line from) (c.of.ensures ∙ ap size_of c.in_ok-pattern.ensures.ok) in
+    let line : sized_line from c.of.result ≡ size_line from here = ap (sized_line from) (c.of.ensures ∙ ap pattern_size c.in_ok-pattern.ensures.ok) in
     rw (err_of _ _ c.from_residual-in_err-put_line.ensures.1, whole_text rule c.args.pattern.now from c.args.last c.requires.order)
     (leaves_first g.W.Write.contents (size_line from here) (later_sizes rule here from (c.args.last - from)) _ c.args.output.now c.put_line.new.output
     (Writes_same line c.in_err-put_line.ensures))
@@ -28,7 +28,7 @@ returns g c =
     let rule = c.args.rule.now in
     let from = c.args.from in
     let here = after rule c.args.pattern.now from in
-    let line : sized_line from c.of.result ≡ size_line from here = ap (sized_line from) (c.of.ensures ∙ ap size_of c.in_ok-pattern.ensures.ok) in
+    let line : sized_line from c.of.result ≡ size_line from here = ap (sized_line from) (c.of.ensures ∙ ap pattern_size c.in_ok-pattern.ensures.ok) in
     rw (whole_text rule c.args.pattern.now from c.args.last c.requires.order)
     (leaves_then g.W.Write.contents (size_line from here) (later_sizes rule here from (c.args.last - from)) c.put_later_sizes.result c.args.output.now
     c.put_line.new.output c.put_later_sizes.new.output (Writes_same line c.in_ok-put_line.ensures).whole

@@ -9,8 +9,10 @@ pub loop-made-init : goal.loop-made-init
 loop-made-init g c = record {
   most = omega arith;
   fine = c.requires.output;
-  lines = λ rule cells apart. (has_first rule cells c.args.generation g.W.Write.contents c.args.output.now,
-      parts_first rule cells c.args.generation c.args.most c.args.boards.now apart);
+  lines = λ rule cells apart. (
+    has_first rule cells c.args.generation g.W.Write.contents c.args.output.now,
+    parts_first rule cells c.args.generation c.args.most c.args.boards.now apart,
+  );
 }
 
 pub returns-in_err-size-clause-lines : goal.returns-in_err-size-clause-lines

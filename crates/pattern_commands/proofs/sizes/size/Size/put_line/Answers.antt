@@ -1,11 +1,11 @@
 use Rattle.std.proofs.Common.{◌++◌, codes, decimal}
 use Rattle.plane_core.proofs.lemmas.OutputLemmas.{Writes_then, Writes_stops}
-use Rattle.pattern_commands.specs.Sizes.{sides, spaced}
+use Rattle.pattern_commands.specs.Sizes.{sides, after_space}
 use Rattle.pattern_commands.proofs.sizes.size.Size.put_line.Goals as goal
 
 pub returns-in_err-put_number : goal.returns-in_err-put_number
 returns-in_err-put_number g c =
-    Writes_stops (spaced (decimal c.args.self.population) ++ (sides c.args.self.bounds ++ codes "\n")) c.from_residual.ensures.0 c.in_err-put_number.ensures
+    Writes_stops (after_space (decimal c.args.self.population) ++ (sides c.args.self.bounds ++ codes "\n")) c.from_residual.ensures.0 c.in_err-put_number.ensures
 
 pub returns-in_err-put_number-2 : goal.returns-in_err-put_number-2
 returns-in_err-put_number-2 g c =
