@@ -36,7 +36,7 @@ use std::io::{Read, Write};
 
 /// The most generations of a stretch. In a longer one, parts of the pattern would have to be farther apart, and then
 /// fewer parts get a board of their own.
-const STRETCH: u32 = 32;
+const STRETCH: u32 = 16;
 
 /// Reads a plaintext pattern, and writes a line for each generation from `from` to `last`: its number, its population,
 /// and the left, top, right and bottom side of its bounding box. The coordinates are those of the input, whose first row
