@@ -244,14 +244,14 @@ pub const PROGRESS: Parameter = Parameter {
          line is wiped at the end",
 };
 
-/// The generation from which a checkpoint is late.
+/// The generation from which on a checkpoint is late, if late soups are to be reported.
 pub const REPORT_FROM: Parameter = Parameter {
     name: "report-from",
     place: Place::Named("GENERATION"),
     kind: ValueKind::OptionalNumber(0, 100_001),
     default: None,
     heading: None,
-    help: "Also writes the report lines of soups that settle at GENERATION or later\n\
-         or not at all to standard error, from 0 to 100001: 0 reports each soup,\n\
-         100001 only unsettled ones",
+    help: "Writes the report lines of late soups to standard error while it runs: of\n\
+         unsettled ones, and of those that settle at GENERATION or later. It is\n\
+         from 0 to 100001: 0 reports every soup, 100001 only unsettled ones",
 };

@@ -85,7 +85,8 @@ impl<'a, 's, E: Write, H: ProgressObserver> ProgressObserver for ReportSink<'a, 
         }
         self.progress.pause();
         self.fault = put_line(report, self.errors).err();
-        self.has_failed.store(self.fault.is_some(), Ordering::SeqCst);
+        self.has_failed
+            .store(self.fault.is_some(), Ordering::SeqCst);
         self.progress.resume();
     }
 
@@ -100,11 +101,11 @@ impl<'a, 's, E: Write, H: ProgressObserver> ProgressObserver for ReportSink<'a, 
     ghost hears_none = { λ s. (refl, refl, refl, puts_none E.contents s.from s.errors.now) };
 
     ghost hears_more = { λ s m t xs ys p q. (
-        q.0 ∙ p.0,
-        q.1 ∙ p.1,
-        q.2 ∙ p.2,
-        puts_more E.contents s.from s.errors.now m.errors.now t.errors.now xs ys p.3
-            (subst (λ n. PutsReports E.contents n m.errors.now t.errors.now ys) p.2 q.3),
+      q.0 ∙ p.0,
+      q.1 ∙ p.1,
+      q.2 ∙ p.2,
+      puts_more E.contents s.from s.errors.now m.errors.now t.errors.now xs ys p.3
+          (subst (λ n. PutsReports E.contents n m.errors.now t.errors.now ys) p.2 q.3),
     ) };
 }
 

@@ -373,7 +373,7 @@ module _ {may_stop lets : ℕ → ℕ → Type 0} (shared : Shared) (workers : �
       at_place at =
           let is : slice_index missing at.0 ≡ n = get_or_default missing at.0 0 n at.1 ∙ at.2 in
           let each : All (λ (s : WorkerResult). sum_by (on (slice_index missing at.0)) (notes_of s.sender.number new.receiver.got)
-              ≤ count_by (nat_eq at.0) s.pass.numbers) ran.results =
+          ≤ count_by (nat_eq at.0) s.pass.numbers) ran.results =
           λ k d lt. of_worker_once shared new.receiver.got rise at.0 at.1 (get_or ran.results k d) (ran.left k d lt).worked (all_whole k d lt) in
           let long : length ran.results ≡ workers =
           sym (length-map ran.results (λ (s : WorkerResult). s.sender.number)) ∙ ap length all_numbers ∙ length-range_with_len 1 workers in
@@ -383,9 +383,9 @@ module _ {may_stop lets : ℕ → ℕ → Type 0} (shared : Shared) (workers : �
           let passes : drew ≡ count_by (nat_eq at.0) (drawn_by_all (map (λ (s : WorkerResult). s.pass) ran.results)) =
           ap (λ (l : List Drawn). count_by (nat_eq at.0) (drawn_by_all l)) ran.passes in
           let all : up_to (on (slice_index missing at.0)) (0 + length ran.results) new.receiver.got
-              ≤ up_to (on (slice_index missing at.0)) 0 new.receiver.got + drew =
+          ≤ up_to (on (slice_index missing at.0)) 0 new.receiver.got + drew =
           subst (λ (m : ℕ). up_to (on (slice_index missing at.0)) (0 + length ran.results) new.receiver.got
-              ≤ up_to (on (slice_index missing at.0)) 0 new.receiver.got + m) (sym passes)
+          ≤ up_to (on (slice_index missing at.0)) 0 new.receiver.got + m) (sym passes)
           (of_workers (on (slice_index missing at.0)) at.0 new.receiver.got ran.results 0 numbers each) in
           let none = up_to_none (on (slice_index missing at.0)) new.receiver.got (λ k d lt. (all_senders k d lt).0) in
           let whole = up_to_all (on (slice_index missing at.0)) workers new.receiver.got (λ k d lt. (all_senders k d lt).1)
