@@ -1,5 +1,5 @@
 -- The size of two lists of cells in a row, and the lines of sizes.
-use Rattle.std.proofs.Common.{◌≡◌, ◌∙◌, ◌+◌, ◌-◌, ◌≤◌, ◌++◌, ℕ, ℤ, zero, suc, List, [], ◌∷◌, Option, None, Some, append-nil, append_assoc, ap, arith, length, refl, sym}
+use Rattle.std.proofs.Common.{◌≡◌, ◌∙◌, ◌+◌, ◌-◌, ◌≤◌, ◌++◌, ℕ, ℤ, zero, suc, List, [], ◌∷◌, Option, None, Some, append-nil, append_assoc, ap, arith, refl, sym}
 use Rattle.std.proofs.lemmas.Int.{clamps, ints}
 use Rattle.std.specs.Int.{int_max, int_min}
 use Rattle.plane_core.specs.declared.plane.bounds.Bounds.{Bounds}

@@ -9,7 +9,6 @@ use Rattle.plane_core.proofs.lemmas.plane.RunLemmas.{after-plus}
 use Rattle.plane_core.proofs.lemmas.plane.SpeedLemmas.{within-after}
 use Rattle.pattern_commands.specs.SizeSteps.{later_sizes}
 use Rattle.pattern_commands.specs.Streams.{Has, stream}
-use Rattle.pattern_commands.proofs.SizeLemmas.{later_none}
 use Rattle.pattern_commands.proofs.SizeStepLemmas.{has_after, has_first}
 
 module _ (rule : Numbers) (cells : List Cell) (from : ℕ) where

@@ -6,13 +6,13 @@ use Rattle.std.specs.declared.cmp.Ordering.TheVariants.{Less}
 use Rattle.std.proofs.Math.Seq.{take-add}
 use Rattle.std.proofs.lemmas.Bool.{cases_Bool, false≢true}
 use Rattle.std.proofs.lemmas.Int.{ints}
-use Rattle.std.proofs.lemmas.List.{drop_all, drop_more, get_or_at, length-map, length-take-le, map_more, set_at, take_all, take_more, take-append-drop}
+use Rattle.std.proofs.lemmas.List.{drop_more, get_or_at, length-map, length-take-le, map_more, set_at, take-append-drop}
 use Rattle.std.proofs.lemmas.List.Concat.{flat_map-append}
 use Rattle.std.proofs.lemmas.List.Quantifiers.{position-Some}
 use Rattle.std.proofs.lemmas.List.Sums.{AllPass-from_list_all}
 use Rattle.plane_core.specs.declared.plane.cell.Cell.{Cell}
 use Rattle.plane_core.specs.engine.Boards.{Running}
-use Rattle.plane_core.specs.plane.Cells.{InOrder, IsPattern, cell_cmp, distance, has, king_distance, off_plane, on_plane, set_of}
+use Rattle.plane_core.specs.plane.Cells.{InOrder, IsPattern, cell_cmp, distance, has, king_distance, off_plane, on_plane}
 use Rattle.plane_core.specs.plane.Generations.{after, next}
 use Rattle.plane_core.specs.plane.Rules.{Numbers}
 use Rattle.plane_core.proofs.lemmas.engine.FillLemmas.{has-at}
@@ -220,14 +220,3 @@ part_advanced list now i d later low is so =
     ∙ set_at (map advanced (take i list)) (get_or list i d) (drop (i + 1) list) (advanced (get_or list i d)) i (prefix list i low)
     ∙ sym (append_assoc (map advanced (take i list)) (advanced (get_or list i d) ∷ []) (drop (i + 1) list))
     ∙ ap (λ (all : List Running). all ++ drop (i + 1) list) (sym (map_more advanced list i d low))
-
-pub all_advanced : (list now : List Running) (i : ℕ) → length list ≤ i → now ≡ map advanced (take i list) ++ drop i list → now ≡ map advanced list
-all_advanced list now i end is = is ∙ (λ j. map advanced (take_all i list end j) ++ drop_all i list end j) ∙ append-nil (map advanced list)
-
--- the cells of one part more
-pub cells_more : (list : List Running) (i : ℕ) (d : Running) → i < length list
-    → flat_map (λ (p : Running). p.cells) (take (i + 1) list) ≡ flat_map (λ (p : Running). p.cells) (take i list) ++ (get_or list i d).cells
-cells_more list i d low =
-    ap (flat_map (λ (p : Running). p.cells)) (take_more list i d low)
-    ∙ flat_map-append (λ (p : Running). p.cells) (take i list) (get_or list i d ∷ [])
-    ∙ ap (λ (cells : List Cell). flat_map (λ (p : Running). p.cells) (take i list) ++ cells) (append-nil (get_or list i d).cells)

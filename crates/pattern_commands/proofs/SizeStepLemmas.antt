@@ -1,5 +1,5 @@
 -- The lines of sizes, one after another, and how a call ends that writes them.
-use Rattle.std.proofs.Common.{◌≡◌, ◌∙◌, ◌+◌, ◌-◌, ◌<◌, ◌≤◌, ◌++◌, ℕ, suc, Bool, true, false, List, [], ◌∷◌, Option, Result, Ok, Err, ap, append-nil, arith, flat_map, map, refl, subst, sym}
+use Rattle.std.proofs.Common.{◌≡◌, ◌∙◌, ◌+◌, ◌-◌, ◌<◌, ◌≤◌, ◌++◌, ℕ, suc, Bool, true, false, List, [], Option, Ok, Err, ap, arith, flat_map, map, refl, subst, sym}
 use Rattle.memory.specs.declared.OutOfMemory.{OutOfMemory}
 use Rattle.plane_core.specs.declared.output.WriteError.{WriteError}
 use Rattle.plane_core.specs.declared.plane.cell.Cell.{Cell}
@@ -13,7 +13,7 @@ use Rattle.plane_core.proofs.lemmas.plane.RunLemmas.{after-plus}
 use Rattle.pattern_commands.specs.declared.complaint.Complaint.{Complaint}
 use Rattle.pattern_commands.specs.declared.complaint.Complaint.TheVariants.{Refused, Memory, ReadFailed, TooLong, WriteFailed}
 use Rattle.pattern_commands.specs.declared.sizes.size.Size.{Size}
-use Rattle.pattern_commands.specs.Answers.{Answer, NeedsMemory, only, output_text}
+use Rattle.pattern_commands.specs.Answers.{Answer, only, output_text}
 use Rattle.pattern_commands.specs.SizeSteps.{PutsLines, RunApart, advanced, later_sizes, pattern_size, sized_line}
 use Rattle.pattern_commands.specs.Sizes.{size_line, sizes_text}
 use Rattle.pattern_commands.specs.Streams.{Stream, Has, HasPrefix, stream}
@@ -149,22 +149,3 @@ reaches_lines reads answer (WriteFailed error) output nothing ((text, is, prefix
   (λ complaint bad. let no = sym is ∙ bad in cc, λ other so. ([], other, refl, nothing)),
   cut,
 )
-
--- what the lines leave is a right end of the command
-pub reaches_leaves : (reads : Bool) (answer : Answer) (text : List ℕ) (outcome : TextOutcome) (output : Stream) → answer ≡ Ok text
-    → PutsLines (λ _. text) text outcome output → ReachesText reads false (only answer) outcome output
-reaches_leaves reads answer text (Ok _) output is leaves = ((text, is, leaves.0), leaves.1)
-reaches_leaves reads answer text (Err (Memory error)) output is leaves = (
-  λ unread complaint bad. let no = sym is ∙ bad in cc,
-  λ other so. subst (λ (a : Answer). HasPrefix output (output_text a)) (sym is ∙ so) leaves,
-)
-reaches_leaves reads answer text (Err (WriteFailed error)) output is leaves = (
-  (
-    λ complaint bad. let no = sym is ∙ bad in cc,
-    λ other so. subst (λ (a : Answer). HasPrefix output (output_text a)) (sym is ∙ so) leaves.0,
-  ),
-  leaves.1,
-)
-reaches_leaves reads answer text (Err (ReadFailed error)) output is leaves = absurd leaves
-reaches_leaves reads answer text (Err TooLong) output is leaves = absurd leaves
-reaches_leaves reads answer text (Err (Refused refusal)) output is leaves = absurd leaves

@@ -1,5 +1,4 @@
 use Rattle.std.proofs.Common.{◌++◌, ◌+◌, drop, flat_map, get_or, pos, sym}
-use Rattle.plane_core.specs.declared.plane.cell.Cell.{Cell}
 use Rattle.plane_core.proofs.lemmas.OutputLemmas.{Writes_same, Writes_then, Writes_stops}
 use Rattle.pattern_commands.specs.Coordinates.{coordinate_line}
 use Rattle.pattern_commands.proofs.CoordinateLemmas.{lines_next}

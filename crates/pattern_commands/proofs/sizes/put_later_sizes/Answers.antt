@@ -1,6 +1,5 @@
 use Rattle.std.proofs.Common.{◌+◌, ◌-◌, ◌≤◌, ℕ, List, Err, arith}
 use Rattle.plane_core.specs.declared.plane.cell.Cell.{Cell}
-use Rattle.plane_core.specs.plane.Cells.{plane_bound}
 use Rattle.pattern_commands.specs.SizeSteps.{PutsLines, later_sizes}
 use Rattle.pattern_commands.specs.Streams.{stream}
 use Rattle.pattern_commands.proofs.AnswerLemmas.{err_of}

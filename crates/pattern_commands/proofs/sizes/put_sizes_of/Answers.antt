@@ -1,6 +1,5 @@
-use Rattle.std.proofs.Common.{◌≡◌, ◌∙◌, ◌-◌, List, ap, subst, sym, true}
-use Rattle.plane_core.specs.declared.plane.cell.Cell.{Cell}
-use Rattle.plane_core.specs.plane.Generations.{after, lies_within}
+use Rattle.std.proofs.Common.{◌≡◌, ◌∙◌, ◌-◌, ap}
+use Rattle.plane_core.specs.plane.Generations.{after}
 use Rattle.plane_core.proofs.lemmas.OutputLemmas.{Writes_same}
 use Rattle.plane_core.proofs.lemmas.plane.SpeedLemmas.{within-after}
 use Rattle.pattern_commands.specs.SizeSteps.{later_sizes, pattern_size, sized_line}
