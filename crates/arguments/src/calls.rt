@@ -30,7 +30,8 @@ use std::convert::AsStr;
 /// The usage text if the text of `clap`'s error is empty.
 const NOT_UNDERSTOOD: &str = "error: the words are not understood";
 
-/// The usage text if `clap` finds no fault, and yet there is no request: only options of `run` can contradict each other.
+/// The usage text if `clap` finds no fault, and yet there is no request. Only options of `run` can contradict each
+/// other.
 const CONTRADICTION: &str =
     "error: `--sizes` can't be used with `--coordinates`, and its FROM is at most N\n\n\
     For more information, try '--help'.";
