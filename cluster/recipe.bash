@@ -51,6 +51,8 @@ read_words() {
         case $word in
             --first | --first=* | --worker | --worker=* | --also | --also=* | --count | --count=*)
                 refuse "${word%%=*} can't be given here: the parts say it themselves" ;;
+            --report-from | --report-from=*)
+                refuse "--report-from can't be given here: a part has lines or a haul, and not both" ;;
         esac
     done
     "$census" "${tried[@]}" "$@" > /dev/null || exit

@@ -234,7 +234,7 @@ def table(commands: list[Command]) -> str:
             value = f" {option.value}" if option.value else ""
             default = (
                 "required"
-                if option.value and option.default is None
+                if option.value and option.default is None and not option.optional
                 else ""
                 if option.default is None
                 else f"`{option.default}`"

@@ -32,6 +32,8 @@ class Option:
     several: bool = False
     # Options that can't be given together with this one.
     excludes: tuple[str, ...] = ()
+    # It may be left out, although it has a value and no default.
+    optional: bool = False
 
     @property
     def short(self) -> str:
@@ -89,6 +91,7 @@ def census_options() -> dict[str, Option]:
                 "place": rf"Place::Named\({STRING}\)",
                 "default": rf"default: Some\({STRING}\)",
                 "help": rf"help: {STRING}",
+                "optional": r"ValueKind::(Optional\w+)",
             }.items()
         }
         own, place, default, said = (
@@ -98,7 +101,12 @@ def census_options() -> dict[str, Option]:
         assert own and said
         value = own if place is None else place
         found[name] = Option(
-            own, value, " ".join(text_of(said).split()), default, flag=place is not None
+            own,
+            value,
+            " ".join(text_of(said).split()),
+            default,
+            flag=place is not None,
+            optional=parts["optional"] is not None,
         )
     return found
 

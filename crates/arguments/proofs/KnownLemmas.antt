@@ -103,12 +103,14 @@ abbrev pub taken : ValueKind → Option Row → Value
 taken kind.Text row = text (option_and_then (λ (r : Row). slice_get r.values 0) row)
 taken kind.Flag row = flag (option_map_or (λ t. bytes_eq t (codes "true")) (option_and_then (λ (r : Row). slice_get r.values 0) row) false)
 taken (kind.Number least most) row = number (option_and_then (at_least least) (option_and_then (number_named most) (option_and_then row_text row)))
+taken (kind.OptionalNumber least most) row = number (option_and_then (at_least least) (option_and_then (number_named most) (option_and_then row_text row)))
 
 -- where the argument has this value, or the flag is used or not
 abbrev pub given : ValueKind → Text → Bool → Value
 given kind.Text v used = text (Some v)
 given kind.Flag v used = flag used
 given (kind.Number least most) v used = number (Some (digits_value 10 v))
+given (kind.OptionalNumber least most) v used = number (cond used (Some (digits_value 10 v)) None)
 
 -- the row of the default of an argument
 abbrev pub default_row : Rule → Row

@@ -14,7 +14,7 @@ use Rattle.clap.specs.declared.builder.value_parser.ValueParser.{ValueParser}
 use Rattle.clap.specs.declared.builder.value_parser.ValueParser.TheVariants as parser
 use Rattle.arguments.specs.declared.options.ValueKind.{ValueKind}
 use Rattle.arguments.specs.declared.options.ValueKind.TheVariants as kind
-use Rattle.arguments.specs.LawfulUses.{IsNotOfKind, IsNumberFromTo, IsOfKind}
+use Rattle.arguments.specs.LawfulUses.{IsNoNumber, IsNotOfKind, IsNumberFromTo, IsOfKind}
 use Rattle.arguments.specs.Values.{at_least, number_named, within}
 
 digits-Decides : (ds : List ℕ) → Decides (list_all (λ d. nat_lt (digit_value d) 10) ds) (AllDigits 10 ds)
@@ -38,22 +38,33 @@ abbrev pub parser_for : ValueKind → ValueParser
 parser_for kind.Text = parser.String
 parser_for kind.Flag = parser.Bool
 parser_for (kind.Number least most) = parser.Unsigned least most
+parser_for (kind.OptionalNumber least most) = parser.Unsigned least most
 
 -- the limit of a kind is small enough for the code
 abbrev pub is_small : ValueKind → Bool
 is_small (kind.Number least most) = nat_lt most (2 ^ 64)
+is_small (kind.OptionalNumber least most) = nat_lt most (2 ^ 64)
 is_small _ = true
+
+number_accepted : (least most : ℕ) (v : Text) → nat_lt most (2 ^ 64) ≡ true → IsNumberFromTo least most v
+    → Accepts false (parser.Unsigned least most) v
+number_accepted least most v small h =
+    let fits = ltb-true most (2 ^ 64) small in
+    rw (no_sign v h.numeral).1 (h.numeral, omega arith, h.low, h.high)
 
 pub kind_accepted : (k : ValueKind) (v : Text) → is_small k ≡ true → IsOfKind k v → Accepts false (parser_for k) v
 kind_accepted kind.Text v small h = tt
 kind_accepted kind.Flag v small h = rw h refl
-kind_accepted (kind.Number least most) v small h =
-    let fits = ltb-true most (2 ^ 64) small in
-    rw (no_sign v h.numeral).1 (h.numeral, omega arith, h.low, h.high)
+kind_accepted (kind.Number least most) v small h = number_accepted least most v small h
+kind_accepted (kind.OptionalNumber least most) v small h = number_accepted least most v small h
+
+number_refused : (least most : ℕ) (v : Text) → IsNoNumber least most v → Accepts false (parser.Unsigned least most) v → ⊥
+number_refused least most v h a =
+    let is = rw h.1 at a in h.2 (record { numeral = is.0; low = is.2; high = is.3 })
 
 pub kind_refused : (k : ValueKind) (v : Text) → IsNotOfKind k v → Accepts false (parser_for k) v → ⊥
-kind_refused (kind.Number least most) v h a =
-    let is = rw h.1 at a in h.2 (record { numeral = is.0; low = is.2; high = is.3 })
+kind_refused (kind.Number least most) v h a = number_refused least most v h a
+kind_refused (kind.OptionalNumber least most) v h a = number_refused least most v h a
 kind_refused _ v h a = h
 
 -- ---- what is read of a number

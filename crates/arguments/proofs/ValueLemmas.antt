@@ -73,6 +73,7 @@ value_taken : (k : ValueKind) (name v : Text) → IsOfKind k v
 value_taken kind.Text name v h = refl
 value_taken kind.Flag name v h = ap (λ t. flag (bytes_eq t (codes "true"))) h
 value_taken (kind.Number least most) name v h = ap number (number_read least most v h)
+value_taken (kind.OptionalNumber least most) name v h = ap number (number_read least most v h)
 
 -- what holds of each thing in a list that fails a test
 each_failing : {X : Type 0} (P : X → Type 0) (p : X → Bool) (xs : List X) → list_any p xs ≡ false → ((x : X) → IsIn x xs → p x ≡ false → P x)

@@ -28,6 +28,7 @@ abbrev pub rule_by : Entry → ValueKind → Rule
 rule_by entry kind.Text = placed entry
 rule_by entry kind.Flag = record (new_rule entry.name) { long = Some entry.name; action = Some SetTrue }
 rule_by entry (kind.Number least most) = record (placed entry) { parser = Some (Unsigned least most) }
+rule_by entry (kind.OptionalNumber least most) = record (named entry) { parser = Some (Unsigned least most) }
 
 -- the argument of a row, as `clap` knows it
 abbrev pub rule_in : Entry → Rule

@@ -53,6 +53,10 @@ option name kind default = record { name = name; is_named = true; kind = kind; d
 abbrev pub required : Text → ValueKind → Entry
 required name kind = record { name = name; is_named = true; kind = kind; default = None }
 
+-- `--name`, which may be left out
+abbrev pub optional : Text → ValueKind → Entry
+optional name kind = record { name = name; is_named = true; kind = kind; default = None }
+
 -- a flag: `--name` without a value
 abbrev pub flag : Text → Entry
 flag name = record { name = name; is_named = true; kind = kind.Flag; default = None }

@@ -1,5 +1,5 @@
 -- Which arguments, with which values, a command takes, and which it refuses.
-use Rattle.std.specs.Prelude.{◌≡◌, ◌⊎◌, ◌≤◌, ◌&&◌, ℕ, Bool, false, not, List, [], ◌∷◌, Option, Some, ⊤, codes, is_some, slice_get}
+use Rattle.std.specs.Prelude.{◌≡◌, ◌⊎◌, ◌≤◌, ◌&&◌, ℕ, Bool, false, true, not, List, [], ◌∷◌, Option, Some, ⊤, codes, is_some, slice_get}
 use Rattle.std.specs.List.{list_any}
 use Rattle.std.specs.Str.{bytes_eq, chars}
 use Rattle.std.specs.Str.Parse.{IsNumeral, digits_value, starts_with_minus, without_leading_plus}
@@ -8,7 +8,7 @@ use Rattle.clap.specs.Lexer.{long_of, short_of}
 use Rattle.arguments.specs.declared.options.ValueKind.{ValueKind}
 use Rattle.arguments.specs.declared.options.ValueKind.TheVariants as kind
 use Rattle.arguments.specs.Entries.{Command, Entry}
-use Rattle.arguments.specs.Uses.{Stands, Use, entry_in, is_flag, is_used, value_in}
+use Rattle.arguments.specs.Uses.{Stands, Use, entry_in, is_used, value_in}
 
 -- x is in the list
 abbrev pub IsIn : {X : Type 0} → X → List X → Type 0
@@ -24,6 +24,7 @@ pub record IsNumberFromTo (least most : ℕ) (text : Text) : Type 0 where
 -- the value is of this kind
 abbrev pub IsOfKind : ValueKind → Text → Type 0
 IsOfKind (kind.Number least most) value = IsNumberFromTo least most value
+IsOfKind (kind.OptionalNumber least most) value = IsNumberFromTo least most value
 IsOfKind kind.Flag value = value ≡ codes "true"
 IsOfKind kind.Text value = ⊤
 
@@ -38,9 +39,15 @@ abbrev pub AreUses : Command → List Use → Type 0
 AreUses command [] = ⊤
 AreUses command (u ∷ more) = IsUse command u × (is_used (entry_in u).name more ≡ false) × AreUses command more
 
--- an argument without a default must be given, unless it is a flag
+-- an argument of this kind may be left out, even without a default
+abbrev pub may_lack : ValueKind → Bool
+may_lack kind.Flag = true
+may_lack (kind.OptionalNumber least most) = true
+may_lack _ = false
+
+-- an argument without a default must be given, unless its kind may be left out
 abbrev pub is_required : Entry → Bool
-is_required entry = not (is_flag entry.kind) && not (is_some entry.default)
+is_required entry = not (may_lack entry.kind) && not (is_some entry.default)
 
 -- a required argument is missing
 abbrev pub lacks_some : Command → List Use → Bool
@@ -56,6 +63,7 @@ IsNoNumber least most text =
 -- the value of a numeric argument has no sign, and isn't a number in its range
 abbrev pub IsNotOfKind : ValueKind → Text → Type 0
 IsNotOfKind (kind.Number least most) value = IsNoNumber least most value
+IsNotOfKind (kind.OptionalNumber least most) value = IsNoNumber least most value
 IsNotOfKind _ value = ⊥
 
 -- an argument of the command, with a value that is out of its range

@@ -1,7 +1,7 @@
 -- The rows of the table: the arguments of the program's commands.
 use Rattle.std.specs.Prelude.{◌-◌, ◌^◌, ℕ, [], codes}
 use Rattle.arguments.specs.declared.options.ValueKind.TheVariants as kind
-use Rattle.arguments.specs.Entries.{Entry, flag, option, position, required}
+use Rattle.arguments.specs.Entries.{Entry, flag, option, optional, position, required}
 
 -- the most workers that a haul may have, and so the highest number of a worker
 abbrev pub most_workers : ℕ
@@ -13,6 +13,12 @@ most_first = 2 ^ 40
 
 abbrev pub generations : Entry
 generations = position (codes "N") (kind.Number 0 100000)
+
+abbrev pub coordinates : Entry
+coordinates = flag (codes "coordinates")
+
+abbrev pub sizes : Entry
+sizes = optional (codes "sizes") (kind.OptionalNumber 0 100000)
 
 abbrev pub code : Entry
 code = position (codes "CODE") kind.Text
@@ -55,3 +61,6 @@ worker = required (codes "worker") (kind.Number 1 most_workers)
 
 abbrev pub progress : Entry
 progress = flag (codes "progress")
+
+abbrev pub report_from : Entry
+report_from = optional (codes "report-from") (kind.OptionalNumber 0 100001)

@@ -32,6 +32,7 @@ abbrev pub number_by : ValueKind → Text → List Row → Option ℕ
 number_by kind.Text id rows = None
 number_by kind.Flag id rows = None
 number_by (kind.Number least most) id rows = option_and_then (at_least least) (number_up_to most id rows)
+number_by (kind.OptionalNumber least most) id rows = option_and_then (at_least least) (number_up_to most id rows)
 
 -- the number that was found for an argument
 abbrev pub number_found : Entry → List Row → Option ℕ
@@ -50,3 +51,4 @@ abbrev pub IsInRange : ValueKind → ℕ → Type 0
 IsInRange kind.Text n = ⊥
 IsInRange kind.Flag n = ⊥
 IsInRange (kind.Number least most) n = (least ≤ n) × (n ≤ most)
+IsInRange (kind.OptionalNumber least most) n = (least ≤ n) × (n ≤ most)

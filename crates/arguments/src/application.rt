@@ -161,6 +161,9 @@ fn parameter<'a>(alloc: Global, row: &Parameter) -> Arg<'a>
         ValueKind::Number(least, most) => {
             with_value(alloc, row).value_parser(ValueParser::unsigned(least, most))
         }
+        ValueKind::OptionalNumber(least, most) => {
+            with_place(alloc, row).value_parser(ValueParser::unsigned(least, most))
+        }
     }
 }
 

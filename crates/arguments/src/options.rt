@@ -13,6 +13,8 @@ pub enum ValueKind {
     Flag,
     /// A number from the first to the second number, in decimal digits, perhaps after a `+`.
     Number(u64, u64),
+    /// A number as for `Number`, or none: the option may be left out, and has no default.
+    OptionalNumber(u64, u64),
 }
 
 /// Where an argument is expected.
@@ -33,7 +35,7 @@ pub struct Parameter {
     pub place: Place,
     /// The kind of its value.
     pub kind: ValueKind,
-    /// The value if it isn't given. Without a default it is required, unless it is a flag.
+    /// The value if it isn't given. Without a default it is required, unless it is a flag or an optional number.
     pub default: Option<&'static str>,
     /// The heading under which help shows it, or `None` for the list of the other options.
     pub heading: Option<&'static str>,
@@ -58,6 +60,29 @@ pub const GENERATIONS: Parameter = Parameter {
     default: None,
     heading: None,
     help: "The number of generations to run, from 0 to 100000",
+};
+
+/// The flag that asks for the coordinates of the live cells.
+pub const COORDINATES: Parameter = Parameter {
+    name: "coordinates",
+    place: Place::Named(""),
+    kind: ValueKind::Flag,
+    default: None,
+    heading: None,
+    help: "Prints a line `X Y` for each live cell, row by row, in place of\n\
+         plaintext. The first column and the first row have the number 0",
+};
+
+/// The generation from which on `run` prints sizes.
+pub const SIZES: Parameter = Parameter {
+    name: "sizes",
+    place: Place::Named("FROM"),
+    kind: ValueKind::OptionalNumber(0, 100_000),
+    default: None,
+    heading: None,
+    help: "Prints the size of each generation from FROM to N, in place of the\n\
+         pattern: `G POPULATION LEFT TOP RIGHT BOTTOM`, or `G 0` if no cell is\n\
+         alive. FROM is from 0 to 100000, and at most N",
 };
 
 /// The code of an object.
@@ -217,4 +242,16 @@ pub const PROGRESS: Parameter = Parameter {
     heading: None,
     help: "Shows the progress on standard error, even if it isn't a terminal. The\n\
          line is wiped at the end",
+};
+
+/// The generation from which on a checkpoint is late, if late soups are to be reported.
+pub const REPORT_FROM: Parameter = Parameter {
+    name: "report-from",
+    place: Place::Named("GENERATION"),
+    kind: ValueKind::OptionalNumber(0, 100_001),
+    default: None,
+    heading: None,
+    help: "Writes the report lines of late soups to standard error while it runs: of\n\
+         unsettled ones, and of those that settle at GENERATION or later. It is\n\
+         from 0 to 100001: 0 reports every soup, 100001 only unsettled ones",
 };

@@ -17,7 +17,7 @@ pub fn number_found(found: &ArgMatches<'_>, row: &Parameter) -> Option<u64>
 {
     match row.kind {
         ValueKind::Text | ValueKind::Flag => None,
-        ValueKind::Number(least, most) => {
+        ValueKind::Number(least, most) | ValueKind::OptionalNumber(least, most) => {
             let number = number_up_to(found, row.name, most)?;
             if number < least {
                 return None;

@@ -13,6 +13,7 @@ use Rattle.survey_core.specs.declared.job.Job.{Job}
 use Rattle.survey_core.specs.declared.seed.SeedFault.{SeedFault}
 use Rattle.survey_core.specs.declared.finding.Finding.{Finding}
 use Rattle.survey_core.specs.Findings.{IsFinding}
+use Rattle.requests.specs.declared.plan.Plan.{Plan}
 use Rattle.requests.specs.declared.profile_numbers.ProfileNumbers.{ProfileNumbers}
 use Rattle.survey_core.specs.Profiles.{Settling}
 use Rattle.survey_core.specs.Seeds.{is_invisible, most_bytes, seed_read, seed_with_fault}
@@ -27,18 +28,18 @@ use Rattle.pattern_commands.specs.Profiles.{profile_named, settling}
 use Rattle.pattern_commands.specs.Soup.{seed_complaint, seed_named}
 use Rattle.pattern_commands.specs.Streams.{Stream}
 use Rattle.commands.specs.SoupSets.{job_named}
-use Rattle.commands.specs.Take.{PrintsCensus}
+use Rattle.commands.specs.Take.{PrintsCensus, take_right}
 use Rattle.commands.proofs.TakeLemmas.{prints_right}
 use Rattle.arguments.specs.declared.request.Request.{Request}
 use Rattle.arguments.specs.declared.request.Request.TheVariants.{Name, Take}
-use Rattle.arguments.specs.GivenValues.{number_given, plan_given, profile_given, text_given}
+use Rattle.arguments.specs.GivenValues.{number_given, number_if_given, plan_given, profile_given, text_given}
 use Rattle.arguments.specs.Requests.{Text, asked_by}
 use Rattle.arguments.specs.Table as table
 use Rattle.arguments.specs.Uses.{Use, is_used}
 use Rattle.arguments.proofs.LawLemmas.{ask_for_their_values}
 use Rattle.census.specs.Headline.{IsCall, IsCensusOfCall, IsFindingOf, IsJobOf, IsRuleOf, NamePrintsItsFinding, PrintsWhatIsAsked, TakePrintsItsCensus}
 use Rattle.census.specs.Program.{IsDone}
-use Rattle.census.specs.Requests.{right_for}
+use Rattle.census.specs.Requests.{right_for, take_behaviour_from}
 
 -- ---- what was read is what was written
 
@@ -124,14 +125,22 @@ right_of arguments reader before after errors missing request done asked =
     let same : done.request ≡ request = let both = sym done.asked ∙ asked in cc in
     subst (λ (r : Request). right_for r done.bytes (Ok done.made)) same done.right
 
+-- what is right for `take` is the same text, with reports or without
+take_right_of : (plan : Plan) (workers : ℕ) (from : Option ℕ) (bytes : List ℕ) (made : Made) → (take_behaviour_from plan workers from).right bytes (Ok made)
+    → take_right plan (Ok made.text)
+take_right_of plan workers None bytes made right = right.0
+take_right_of plan workers (Some from) bytes made right = right.0
+
 take_prints : (arguments : List Text) (reader before after : Option (List ℕ)) (errors : Stream) (missing : ℕ)
     → IsDone arguments reader before after errors missing → TakePrintsItsCensus arguments before after
 take_prints arguments reader before after errors missing done uses call =
-    let request = Take (plan_given uses) (number_given table.workers uses) (is_used table.progress.name uses) in
+    let from = number_if_given table.report_from uses in
+    let request = Take (plan_given uses) (number_given table.workers uses) (is_used table.progress.name uses) from in
     let asked : asked_by arguments ≡ Some request =
     ap asked_by call.spelled ∙ ask_for_their_values.take call.program uses call.permitted call.complete in
-    let right = right_of arguments reader before after errors missing request done asked in
-    let prints = prints_right (plan_given uses) done.made.text before after right.0 done.written in
+    let right = take_right_of (plan_given uses) (number_given table.workers uses) from done.bytes done.made
+    (right_of arguments reader before after errors missing request done asked) in
+    let prints = prints_right (plan_given uses) done.made.text before after right done.written in
     (prints.tells.census, census_of uses before after prints, subst (Appends before after) prints.tells.text_is prints.grown)
 
 -- the pattern of an input

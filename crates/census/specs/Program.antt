@@ -35,7 +35,7 @@ pub record HasTextAndLine (errors : Stream) (text line : List ℕ) : Type 0 wher
 
 -- What the arguments ask for was done: its text is right for this input, and was added to the writer completely.
 -- `missing` soups are missing, which is 0 except for `gather`. Standard error has the diagnostics of `gather` about
--- lines and missing soups.
+-- lines and missing soups, or the lines of late soups of `take`.
 pub record IsDone (arguments : List Text) (reader before after : Option (List ℕ)) (errors : Stream) (missing : ℕ) : Type 0 where
   pub request : Request
   pub asked : asked_by arguments ≡ Some request

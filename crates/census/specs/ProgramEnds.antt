@@ -29,7 +29,7 @@ pub record ProgramEnds {V : Type 0} (contents : V → Option (List ℕ)) (argume
     (back : Option V) (errors : Stream) (input : Type 0) : Type 0 where
   -- code 0: what the arguments ask for was done, and the writer has its whole text
   pub done : code ≡ 0 → IsSomeAnd back (λ writer. IsDone arguments reader (contents given) (contents writer) errors 0)
-  -- code 0: only `gather` writes to standard error
+  -- code 0: only `gather`, and `take` with `--report-from`, write to standard error
   pub silent : code ≡ 0 → IfSome (asked_by arguments) (λ request. tells_lines request ≡ false → Has errors [])
   -- code 6: what the arguments ask for was done, except that soups are missing
   pub incomplete : code ≡ 6 → IsSomeAnd back (λ writer. (less : ℕ) × IsDone arguments reader (contents given) (contents writer) errors (suc less))

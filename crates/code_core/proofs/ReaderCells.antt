@@ -14,8 +14,8 @@ use Rattle.std.proofs.lemmas.List.FromFn.{get_or-range_with_len, filter_of_map_r
 use Rattle.std.proofs.lemmas.List.Sums.{AllPass-from_list_all}
 use Rattle.plane_core.specs.declared.plane.cell.Cell.{Cell}
 use Rattle.plane_core.specs.plane.Cells.{cell_at, cell_cmp, on_plane, off_plane, put, set_of}
-use Rattle.code_core.specs.declared.token.Token.{Token}
-use Rattle.code_core.specs.declared.token.Token.TheVariants.{Column, Gap, NextStrip}
+use Rattle.code_core.specs.declared.reader.Token.{Token}
+use Rattle.code_core.specs.declared.reader.Token.TheVariants.{Column, Gap, NextStrip}
 use Rattle.code_core.specs.declared.reader.WechslerFault.TheVariants.{Empty}
 use Rattle.code_core.specs.Columns.{is_lit, lit_cells, cells_from, token_cells}
 use Rattle.code_core.specs.Tokens.{IsToken}

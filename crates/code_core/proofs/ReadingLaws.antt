@@ -8,7 +8,7 @@ use Rattle.std.proofs.lemmas.Bool.Decides.{nat_tests}
 use Rattle.std.proofs.lemmas.List.{take-append-drop, drop_more, drop_all, get_or-append-add}
 use Rattle.memory.specs.Witness.{out_of_memory}
 use Rattle.plane_core.specs.declared.plane.cell.Cell.{Cell}
-use Rattle.code_core.specs.declared.token.Token.{Token}
+use Rattle.code_core.specs.declared.reader.Token.{Token}
 use Rattle.code_core.specs.declared.reader.WechslerError.{WechslerError}
 use Rattle.code_core.specs.declared.reader.WechslerError.TheVariants.{Fault, Memory}
 use Rattle.code_core.specs.declared.reader.WechslerFault.{WechslerFault}

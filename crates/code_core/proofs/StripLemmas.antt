@@ -5,8 +5,8 @@ use Rattle.std.proofs.lemmas.Bool.{ne_eqb}
 use Rattle.std.specs.List.{flat_map, range_with_len}
 use Rattle.std.proofs.lemmas.List.{append_assoc, append-nil}
 use Rattle.plane_core.specs.declared.plane.cell.Cell.{Cell}
-use Rattle.code_core.specs.declared.token.Token.{Token}
-use Rattle.code_core.specs.declared.token.Token.TheVariants.{Column, Gap}
+use Rattle.code_core.specs.declared.reader.Token.{Token}
+use Rattle.code_core.specs.declared.reader.Token.TheVariants.{Column, Gap}
 use Rattle.code_core.specs.Columns.{column}
 use Rattle.code_core.specs.Texts.{before, strip, strip_tokens}
 use Rattle.code_core.specs.Tokens.{character, gap_text, spelling}

@@ -13,7 +13,7 @@ use Rattle.plane_core.proofs.lemmas.plane.OrientationLemmas.{has-map_from}
 use Rattle.plane_core.proofs.lemmas.plane.TransformLemmas.{in_order-shifted}
 use Rattle.plane_core.proofs.lemmas.plaintext.PlaintextBox.{within-box_of}
 use Rattle.plane_core.proofs.lemmas.plane.SetLemmas.{has-all, has-append, has-filter, has-head, is_set_of, or_right}
-use Rattle.code_core.specs.declared.token.Token.{Token}
+use Rattle.code_core.specs.declared.reader.Token.{Token}
 use Rattle.code_core.specs.Columns.{token_cells}
 use Rattle.code_core.specs.Texts.{HasTextShape, TextsHaveTheirShape, TextsSpellPatterns, boxed_text, fits_forty_square, text, tokens_of}
 use Rattle.code_core.proofs.StripLemmas.{spelled}

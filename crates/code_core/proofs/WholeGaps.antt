@@ -2,8 +2,8 @@
 use Rattle.std.proofs.Common.{ℕ, zero, suc, ◌+◌, ◌/◌, List, [], ◌∷◌, ◌++◌, map}
 use Rattle.std.specs.List.{AllByRecursion, range_with_len}
 use Rattle.plane_core.specs.declared.plane.cell.Cell.{Cell}
-use Rattle.code_core.specs.declared.token.Token.{Token}
-use Rattle.code_core.specs.declared.token.Token.TheVariants.{Column, Gap, NextStrip}
+use Rattle.code_core.specs.declared.reader.Token.{Token}
+use Rattle.code_core.specs.declared.reader.Token.TheVariants.{Column, Gap, NextStrip}
 use Rattle.code_core.specs.Texts.{BeginsWithColumn, GapsAreWhole, before, joined_strips, strip, strip_tokens, tokens_of}
 
 -- the gaps are whole, and there is one strip

@@ -6,8 +6,8 @@ use Rattle.plane_core.specs.declared.plane.bounds.Bounds.{Bounds}
 use Rattle.plane_core.specs.plane.Bounds.{box_of}
 use Rattle.plane_core.specs.plane.Cells.{cell_at, has, set_of}
 use Rattle.plane_core.specs.windows.Rows.{ShowsInAllRows}
-use Rattle.code_core.specs.declared.token.Token.{Token}
-use Rattle.code_core.specs.declared.token.Token.TheVariants.{Column, Gap, NextStrip}
+use Rattle.code_core.specs.declared.reader.Token.{Token}
+use Rattle.code_core.specs.declared.reader.Token.TheVariants.{Column, Gap, NextStrip}
 
 -- the value of some cells: the sum of 1 for the first, 2 for the next, then 4, 8 and so on, for those that are alive
 abbrev pub value_of : List Bool → ℕ

@@ -2,8 +2,8 @@
 use Rattle.std.specs.Prelude.{◌≡◌, ◌==◌, ◌+◌, ◌-◌, ℕ, not, List, [], ◌∷◌, length, Result, Ok, Err, nat_lt}
 use Rattle.std.specs.Prelude.{if◌then◌else◌}
 use Rattle.plane_core.specs.declared.plane.cell.Cell.{Cell}
-use Rattle.code_core.specs.declared.token.Token.{Token}
-use Rattle.code_core.specs.declared.token.Token.TheVariants.{Column, Gap, NextStrip}
+use Rattle.code_core.specs.declared.reader.Token.{Token}
+use Rattle.code_core.specs.declared.reader.Token.TheVariants.{Column, Gap, NextStrip}
 use Rattle.code_core.specs.declared.reader.WechslerFault.{WechslerFault}
 use Rattle.code_core.specs.declared.reader.WechslerFault.TheVariants.{TooLong, BadByte, ShortRun, Empty}
 use Rattle.code_core.specs.Columns.{token_cells}

@@ -3,7 +3,7 @@ use Rattle.std.specs.Prelude.{◌≡◌, ◌+◌, ◌<◌, ℕ, false, List, len
 use Rattle.plane_core.specs.declared.plane.cell.Cell.{Cell}
 use Rattle.plane_core.specs.plane.Bounds.{at_corner}
 use Rattle.plane_core.specs.plane.Cells.{InOrder}
-use Rattle.code_core.specs.declared.token.Token.{Token}
+use Rattle.code_core.specs.declared.reader.Token.{Token}
 use Rattle.code_core.specs.Texts.{text}
 use Rattle.code_core.specs.Tokens.{Spells, is_character}
 use Rattle.code_core.specs.Reading.{wechsler_read}

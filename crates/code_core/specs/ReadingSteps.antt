@@ -1,7 +1,7 @@
 -- How a reader goes through a text, token by token (LifeWiki, "Apgcode").
 use Rattle.std.specs.Prelude.{◌≡◌, ℕ, Bool, false, true, List, [], ◌∷◌, ◌++◌, Option, None, Some, if◌then◌else◌}
-use Rattle.code_core.specs.declared.token.Token.{Token}
-use Rattle.code_core.specs.declared.token.Token.TheVariants.{Column, Gap, NextStrip}
+use Rattle.code_core.specs.declared.reader.Token.{Token}
+use Rattle.code_core.specs.declared.reader.Token.TheVariants.{Column, Gap, NextStrip}
 use Rattle.code_core.specs.declared.reader.WechslerFault.{WechslerFault}
 use Rattle.code_core.specs.declared.reader.WechslerFault.TheVariants.{BadByte, ShortRun}
 use Rattle.code_core.specs.Tokens.{spelling, IsToken, is_character}

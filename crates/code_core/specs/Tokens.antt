@@ -1,8 +1,8 @@
 -- The pieces of a text in extended Wechsler format (LifeWiki, "Apgcode").
 use Rattle.std.specs.Prelude.{◌≡◌, ◌==◌, ◌+◌, ◌-◌, ◌≤◌, ℕ, Bool, ◌||◌, List, [], ◌∷◌, ◌++◌, All, codes, flat_map, nat_lt, if◌then◌else◌}
 use Rattle.std.specs.Char.{is_ascii_digit, is_ascii_lowercase}
-use Rattle.code_core.specs.declared.token.Token.{Token}
-use Rattle.code_core.specs.declared.token.Token.TheVariants.{Column, Gap, NextStrip}
+use Rattle.code_core.specs.declared.reader.Token.{Token}
+use Rattle.code_core.specs.declared.reader.Token.TheVariants.{Column, Gap, NextStrip}
 
 -- the byte is a character of a text: `0` to `9` or `a` to `z`
 unfoldable pub is_character : ℕ → Bool

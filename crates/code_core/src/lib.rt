@@ -3,8 +3,6 @@
 
 /// Apgcodes as values: their texts, kinds and numbers.
 pub mod apgcode;
-/// A pattern that is followed until it recurs.
-pub mod cycle;
 /// Numbers in decimal.
 pub mod decimal;
 mod image_rows;
@@ -12,8 +10,7 @@ mod image_rows;
 pub mod name;
 /// The pattern of an extended Wechsler text.
 pub mod reader;
-/// When and where a pattern recurs.
+/// How a pattern recurs, and its phases.
 pub mod recurrence;
-mod token;
 /// The extended Wechsler text of a pattern.
 pub mod wechsler;

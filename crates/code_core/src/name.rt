@@ -23,8 +23,7 @@ ghost use Rattle.code_core.specs.Least.{Among, IsImageAt, IsImageOf, IsNameBy, e
 ghost use Rattle.code_core.specs.Recurrences.{IsCycle, SearchEnds};
 
 use crate::apgcode::{Apgcode, Kind};
-use crate::cycle::{Cycle, follow_or_reject};
-use crate::recurrence::Recurrence;
+use crate::recurrence::{Cycle, Recurrence, follow_or_reject};
 use crate::wechsler::image_text;
 use memory::OutOfMemory;
 use plane_core::generation::StepError;
@@ -96,13 +95,6 @@ pub fn name_of(alloc: Global, pattern: &Pattern, cycle: &Cycle) -> Result<Apgcod
     ensures { IfOk result (λ code. (rule : Numbers) (limit : ℕ)
         → IsCycle rule pattern.now limit cycle.now.phases.items cycle.now.recurrence
         → IsCode rule pattern.now limit code) }
-{
-    name_by(alloc, pattern, cycle)
-}
-
-/// Returns the apgcode that a pattern with these phases has.
-fn name_by(alloc: Global, pattern: &Pattern, cycle: &Cycle) -> Result<Apgcode, OutOfMemory>
-    ensures { IfOk result (IsNameBy pattern.now cycle.now.phases.items cycle.now.recurrence) }
 {
     let least = least_text(alloc, cycle.phases.as_slice())?;
     let kind = kind_of(cycle.recurrence);

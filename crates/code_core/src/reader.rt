@@ -15,13 +15,12 @@ ghost use Rattle.code_core.specs.Tokens.{IsToken, Spells, is_character};
 ghost use Rattle.code_core.specs.Reading.{wechsler_pattern, wechsler_read, character_value, single, Says};
 ghost use Rattle.code_core.specs.ReadingFaults.{IsBadByte, IsShortRun, TextsAreRead};
 ghost use Rattle.code_core.specs.ReadingSteps.{Begins, IsStuck, fault_without_token, is_column};
-ghost use Rattle.code_core.specs.declared.token.Token.{Token};
+ghost use Rattle.code_core.specs.declared.reader.Token.{Token};
 ghost use Rattle.code_core.specs.declared.reader.WechslerFault.{WechslerFault};
 ghost use Rattle.code_core.specs.declared.reader.WechslerFault.TheVariants.{TooLong, BadByte, ShortRun, Empty};
 ghost use Rattle.code_core.specs.declared.reader.WechslerError.{WechslerError};
 ghost use Rattle.code_core.specs.declared.reader.WechslerError.TheVariants.{Memory};
 
-use crate::token::Token;
 use memory::OutOfMemory;
 use plane_core::plane::cell::Cell;
 use plane_core::plane::pattern::{FromCellsError, Pattern};
@@ -95,6 +94,17 @@ impl<E: Into<OutOfMemory>> From<E> for WechslerError {
     fn from(refused: E) -> WechslerError {
         WechslerError::Memory(refused.into())
     }
+}
+
+/// A piece of a text in extended Wechsler format.
+#[derive(Clone, Copy)]
+pub(crate) enum Token {
+    /// A column with a live cell, by its value from 1 to 31.
+    Column(u8),
+    /// A run of 1 to 39 empty columns.
+    Gap(u8),
+    /// The end of a strip and the beginning of the next.
+    NextStrip,
 }
 
 /// Returns the pattern of a text in extended Wechsler format (LifeWiki, "Apgcode"), with the top left cell of its first

@@ -7,6 +7,8 @@ mod gather;
 #[cfg(test)]
 mod progress;
 #[cfg(test)]
+mod reporting;
+#[cfg(test)]
 mod run;
 #[cfg(test)]
 mod streams;

@@ -150,7 +150,7 @@ gathers_on terms bytes reader left TooLong output errors long ends nothing = (
   record { reads = refl; begun = record { terms = terms; opened = refl; begun = (left, ends.0) }; nothing = nothing; fine = ends.1 },
 )
 gathers_on terms bytes reader left (WriteFailed error) output errors long ends nothing =
-    inr (record { tells = tt; nothing = nothing; cut = ends })
+    inr (record { told = ends; nothing = nothing })
 
 -- and there are some: where the input is too long, longer ones than may be read
 pub gathers_lines : (terms : Terms) (reader left : Option (List ℕ)) (complaint : Complaint) (output errors : Stream)
@@ -281,7 +281,7 @@ gathers_over plan workers bytes reader job terms outcome output errors named ove
     go (Err (WriteFailed error)) (inl is) =
         let (made, gathered, prefix, diagnostics) = is.left in
         inl (record { left = (made, right made gathered, prefix, diagnostics); cut = is.cut; fine = is.fine })
-    go (Err (WriteFailed error)) (inr is) = inr (record { tells = (terms, opens terms refl); nothing = is.nothing; cut = is.cut })
+    go (Err (WriteFailed error)) (inr is) = inr (record { told = ((terms, opens terms refl), is.told); nothing = is.nothing })
 
 -- ---- how far the input was read
 

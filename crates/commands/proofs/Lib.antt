@@ -2,9 +2,11 @@ pub mod AheadLemmas
 pub mod EndLemmas
 pub mod GatherLemmas
 mod GrownLemmas
+pub mod HeardLemmas
 pub mod LineLemmas
 pub mod NumberLemmas
 pub mod PieceLemmas
+pub mod ReportingLemmas
 pub mod StillLemmas
 pub mod TakeLemmas
 pub mod WorkLemmas

@@ -199,7 +199,7 @@ pub listed : (set : SoupSet) (ranges : List Range) → AreRangesOf set ranges �
 listed set ranges of = record { ranges = of.listed; fit = of.fit; spelled = of.spelled }
 
 -- memory that runs out over a haul that was opened stops the command
-Stops_memory : {workers : ℕ} (plan : Plan) (held : Held)
+pub Stops_memory : {workers : ℕ} (plan : Plan) (held : Held)
     → IsOpenedFor plan workers held → Stops (take_right plan) (Memory out_of_memory)
 Stops_memory plan held is =
     Stops_given plan TellsAll is.job (Memory out_of_memory) is.named (listed plan.set is.opened.ranges is.opened.named)
@@ -223,7 +223,7 @@ small_from ranges never = record {
 -- ---- a haul of which something was taken
 
 -- a missing number is one of the set
-in_set : (ranges normal : List Range) (taken : List (ℕ × ℕ)) (n : ℕ) → IsNormalForm ranges normal → Contains (missing_of normal taken) n
+pub in_set : (ranges normal : List Range) (taken : List (ℕ × ℕ)) (n : ℕ) → IsNormalForm ranges normal → Contains (missing_of normal taken) n
     → is_in ranges n ≡ true
 in_set ranges normal taken n form missing =
     sym (form.same n)
@@ -436,7 +436,7 @@ never_stopped may_stop plan reader bytes status output errors never ends = recor
     go (Err (WriteFailed error)) (inl is) =
         let (made, right, prefix, diagnostics) = is.left in
         inl (record { left = (made, never_less may_stop plan made never right, prefix, diagnostics); cut = is.cut; fine = is.fine })
-    go (Err (WriteFailed error)) (inr is) = absurd is.tells
+    go (Err (WriteFailed error)) (inr is) = absurd is.told
 
 -- ---- the same without a behaviour of commands
 
@@ -459,7 +459,7 @@ prints_right plan text before after right grown = go (job_named plan) refl right
     go (Err complaint) is right_for = cc
 
 -- no complaint has the status of a command that was done
-not_done : (complaint : Complaint) → status_of complaint ≡ statuses.Done → ⊥
+pub not_done : (complaint : Complaint) → status_of complaint ≡ statuses.Done → ⊥
 not_done (Refused refusal) is = cc
 not_done (Memory error) is = cc
 not_done (ReadFailed error) is = cc

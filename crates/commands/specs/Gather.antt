@@ -30,7 +30,7 @@ gather_behaviour plan workers = record {
   refuses = false;
   whole = true;
   begins = BeginsHaul (gather_opens plan workers);
-  may_tell = (terms : Terms) × gather_opens plan workers terms;
+  breaks_off = λ errors. ((terms : Terms) × gather_opens plan workers terms) × (errors.failed ≡ true);
 }
 
 -- the haul has these terms
@@ -45,7 +45,7 @@ haul_behaviour terms = record {
   refuses = false;
   whole = true;
   begins = BeginsHaul (IsSame terms);
-  may_tell = Unit {0};
+  breaks_off = λ errors. errors.failed ≡ true;
 }
 
 -- Gathering ended early at a place of its input, with an open haul. All lines before that place, except perhaps the

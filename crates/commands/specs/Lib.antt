@@ -3,8 +3,12 @@ pub mod Gather
 pub mod GatherSteps
 pub mod GatheredLines
 pub mod Gathering
+pub mod LateReports
 pub mod Lines
 pub mod LinesSoFar
+pub mod PutLaws
+pub mod ReportSteps
+pub mod Reporting
 pub mod SoupSets
 pub mod Stopped
 pub mod Take

@@ -329,7 +329,7 @@ fn checked_report(
         Err(LineError::BadLine { place }) => return Ok(Err(LineFault::BadLine { place })),
         Err(LineError::Memory(error)) => return Err(error),
     };
-    match claim.check_by(alloc, surveyor, job) {
+    match claim.check_with_surveyor(alloc, surveyor, job) {
         Ok(report) => Ok(Ok(report)),
         Err((_, CheckError::OtherJob)) => Ok(Err(LineFault::OtherJob)),
         Err((_, CheckError::Disagrees { .. })) => {

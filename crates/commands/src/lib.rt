@@ -21,6 +21,10 @@ pub mod machine;
 mod opening;
 /// The progress line.
 pub mod progress_line;
+/// The report lines of late soups.
+mod report_sink;
+/// `take` with report lines of late soups.
+pub mod reporting;
 /// `take`: the haul of a set of soups.
 pub mod take;
 /// `work`: the report lines of a set of soups.

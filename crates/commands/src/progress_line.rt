@@ -9,6 +9,7 @@
 ghost use Rattle.std.specs.Prelude.{◌≡◌, None, false};
 
 use crew::progress_observer::ProgressObserver;
+use haul_core::report::Report;
 use memory::OutOfMemory;
 use plane_core::output::Out;
 use std::alloc::Global;
@@ -35,6 +36,7 @@ pub struct ProgressLine<W: Write, C: Clock> {
     at_work: u8,
     started: Option<Instant>,
     latest: Option<Instant>,
+    count: u64,
     width: usize,
 }
 
@@ -54,6 +56,7 @@ impl<W: Write, C: Clock> ProgressLine<W, C> {
             at_work: 0,
             started: None,
             latest: None,
+            count: 0,
             width: 0,
         }
     }
@@ -68,6 +71,7 @@ impl<W: Write, C: Clock> ProgressLine<W, C> {
     /// Writes the line for `count` soups over the line before.
     fn show(&mut self, count: u64, now: Instant) {
         self.latest = Some(now);
+        self.count = count;
         if let Ok(line) = self.line(count, now) {
             self.width = self.width.max(line.len());
             self.put(line.as_str(), "");
@@ -135,6 +139,8 @@ impl<W: Write, C: Clock> ProgressObserver for ProgressLine<W, C> {
         self.at_work = workers;
     }
 
+    fn report(&mut self, _report: &Report) {}
+
     fn taken(&mut self, count: u64)
         ensures unbegun { self.old.latest ≡ None → self.new ≡ self.old }
     {
@@ -149,6 +155,24 @@ impl<W: Write, C: Clock> ProgressObserver for ProgressLine<W, C> {
         }
     }
 
+    /// Wipes the line.
+    fn pause(&mut self)
+        ensures unbegun { self.old.latest ≡ None → self.new ≡ self.old }
+    {
+        if self.latest.is_some() {
+            self.put("", "\r");
+        }
+    }
+
+    /// Writes the line again.
+    fn resume(&mut self)
+        ensures unbegun { self.old.latest ≡ None → self.new ≡ self.old }
+    {
+        if let Some(latest) = self.latest {
+            self.show(self.count, latest);
+        }
+    }
+
     fn end(&mut self)
         ensures unbegun { self.old.latest ≡ None → self.new ≡ self.old }
     {
@@ -156,4 +180,8 @@ impl<W: Write, C: Clock> ProgressObserver for ProgressLine<W, C> {
             self.put("", "\r");
         }
     }
+
+    ghost hears_none = { λ _. tt };
+
+    ghost hears_more = { λ _ _ _ _ _ _ _. tt };
 }

@@ -174,7 +174,7 @@ fn put_report<W: Write>(
     requires output { output.old.failed ≡ false }
     ensures { Puts (reports_on job.now worker (number ∷ [])) result (stream W.contents output.old output.new) }
 {
-    let report = match Report::make_by(alloc, surveyor, job, worker, number) {
+    let report = match Report::make_with_surveyor(alloc, surveyor, job, worker, number) {
         Ok(report) => report,
         Err(ReportError::Memory(error)) => return Err(Complaint::Memory(error)),
         Err(ReportError::BadWorker) => unreachable!(),

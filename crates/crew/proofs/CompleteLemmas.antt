@@ -8,7 +8,7 @@ use Rattle.std.proofs.Common.{◌&&◌, arith, cond, drop, get_or, length, map, 
 use Rattle.std.specs.Prelude.{None, count_by, slice_index}
 use Rattle.std.specs.List.{range_with_len}
 use Rattle.std.specs.List.Sorted.{IsStrictlyIncreasing}
-use Rattle.std.proofs.lemmas.Bool.{and_from, le-leb, lt-leb, lt-ltb, or_left, or_right}
+use Rattle.std.proofs.lemmas.Bool.{and_from, le-leb, lt-ltb, or_left, or_right}
 use Rattle.std.proofs.lemmas.List.{append-nil, length-append, length-map}
 use Rattle.std.proofs.lemmas.List.FromFn.{get_or-range_with_len, length-range_with_len}
 use Rattle.std.proofs.lemmas.List.Elements.{All-append, All-contains, All-filter, All-from_get_or, All-head, All-map, All-nil, All-tail}
@@ -37,6 +37,7 @@ use Rattle.crew.specs.CrewSteps.{HasRunAll}
 use Rattle.crew.specs.Takes.{was_missing}
 use Rattle.crew.proofs.CrewLemmas.{taken_stays}
 use Rattle.crew.proofs.ListLemmas.{all_left, all_right, all_unmap, at_place, count_all, count_append, count_cons, count_none, none_pass, part_all, range_within}
+use Rattle.crew.proofs.SenderSums.{up_to, up_to_all, up_to_more, up_to_none}
 use Rattle.crew.proofs.WorkerLemmas.{none_stopped}
 use Rattle.crew.proofs.TakeLemmas.{all_numbers, all_senders, all_whole, crew_part, each_worker, notes_are}
 
@@ -46,73 +47,30 @@ done_in notes = count_by is_done notes
 
 -- ---- one note 'done' of each worker was received
 
--- how many of these notes, of the workers up to this one, say that a worker is done
-abbrev up_to : ℕ → List (ℕ × Note) → ℕ
-up_to worker [] = 0
-up_to worker (m ∷ ms) = cond {A = ℕ} (nat_le m.0 worker) (cond {A = ℕ} (is_done m.1) 1 0) 0 + up_to worker ms
-
--- one worker more
-up_to_more : (worker : ℕ) (got : List (ℕ × Note)) → up_to (suc worker) got ≡ up_to worker got + done_in (notes_of (suc worker) got)
-up_to_more worker [] = refl
-up_to_more worker (m ∷ ms) =
-    let more = up_to_more worker ms in
-    let one : ℕ = cond {A = ℕ} (is_done m.1) 1 0 in
-    dite (ℕ_discrete (suc worker) m.0)
-    (λ same.
-    let now : cond {A = ℕ} (nat_le m.0 (suc worker)) one 0 ≡ one = ap (λ (b : Bool). cond {A = ℕ} b one 0) (le-leb m.0 (suc worker) (omega (arith, same))) in
-    let before : cond {A = ℕ} (nat_le m.0 worker) one 0 ≡ 0 = ap (λ (b : Bool). cond {A = ℕ} b one 0) (lt-leb m.0 worker (omega (arith, same))) in
-    let notes : done_in (notes_of (suc worker) (m ∷ ms)) ≡ one + done_in (notes_of (suc worker) ms) =
-    ap done_in (notes_first m.0 (suc worker) m.1 ms same) ∙ count_cons is_done m.1 (notes_of (suc worker) ms) in
-    omega (arith, more, now, before, notes))
-    (λ apart.
-    let notes : done_in (notes_of (suc worker) (m ∷ ms)) ≡ done_in (notes_of (suc worker) ms) =
-    ap done_in (notes_other m.0 (suc worker) m.1 ms apart) in
-    let both : cond {A = ℕ} (nat_le m.0 (suc worker)) one 0 ≡ cond {A = ℕ} (nat_le m.0 worker) one 0 =
-    ap (λ (b : Bool). cond {A = ℕ} b one 0)
-    (elim (dec_le m.0 worker) [
-      | yes le ↦ le-leb m.0 (suc worker) (omega (arith, le)) ∙ sym (le-leb m.0 worker le)
-      | no not_le ↦ lt-leb m.0 (suc worker) (omega (arith, not_le, apart)) ∙ sym (lt-leb m.0 worker (omega (arith, not_le)))
-    ]) in
-    omega (arith, more, notes, both))
-
-up_to_none : (got : List (ℕ × Note)) → All (λ m. 1 ≤ m.0) got → up_to 0 got ≡ 0
-up_to_none [] some = refl
-up_to_none (m ∷ ms) some =
-    let here : cond {A = ℕ} (nat_le m.0 0) (cond {A = ℕ} (is_done m.1) 1 0) 0 ≡ 0 =
-    ap (λ (b : Bool). cond {A = ℕ} b (cond {A = ℕ} (is_done m.1) 1 0) 0) (lt-leb m.0 0 (omega (arith, All-head (λ n. 1 ≤ n.0) m ms some))) in
-    let more = up_to_none ms (All-tail (λ n. 1 ≤ n.0) m ms some) in
-    omega (arith, here, more)
-
-up_to_all : (workers : ℕ) (got : List (ℕ × Note)) → All (λ m. m.0 ≤ workers) got → up_to workers got ≡ dones got
-up_to_all workers [] few = refl
-up_to_all workers (m ∷ ms) few =
-    let one : ℕ = cond {A = ℕ} (is_done m.1) 1 0 in
-    let here : cond {A = ℕ} (nat_le m.0 workers) one 0 ≡ one =
-    ap (λ (b : Bool). cond {A = ℕ} b one 0) (le-leb m.0 workers (All-head (λ n. n.0 ≤ workers) m ms few)) in
-    let more = up_to_all workers ms (All-tail (λ n. n.0 ≤ workers) m ms few) in
-    let both : dones (m ∷ ms) ≡ one + dones ms = count_cons (λ (n : ℕ × Note). is_done n.1) m ms in
-    omega (arith, here, more, both)
+-- 1 for a note that says that a worker is done
+abbrev once_done : Note → ℕ
+once_done note = cond {A = ℕ} (is_done note) 1 0
 
 -- at most one of each worker
-up_to_few : (workers : ℕ) (got : List (ℕ × Note)) → up_to 0 got ≡ 0
-    → ((w : ℕ) → 1 ≤ w → w ≤ workers → done_in (notes_of w got) ≤ 1) → up_to workers got ≤ workers
+up_to_few : (workers : ℕ) (got : List (ℕ × Note)) → up_to once_done 0 got ≡ 0
+    → ((w : ℕ) → 1 ≤ w → w ≤ workers → done_in (notes_of w got) ≤ 1) → up_to once_done workers got ≤ workers
 up_to_few zero got none each = omega (arith, none)
 up_to_few (suc n) got none each =
     let fewer = up_to_few n got none (λ w some le. each w some (omega (arith, le))) in
     let last = each (suc n) (omega arith) (omega arith) in
-    let more = up_to_more n got in
+    let more = up_to_more once_done n got in
     omega (arith, fewer, last, more)
 
 -- so as many as there are workers are one of each
-one_of_each : (workers : ℕ) (got : List (ℕ × Note)) → up_to 0 got ≡ 0
-    → ((w : ℕ) → 1 ≤ w → w ≤ workers → done_in (notes_of w got) ≤ 1) → up_to workers got ≡ workers
+one_of_each : (workers : ℕ) (got : List (ℕ × Note)) → up_to once_done 0 got ≡ 0
+    → ((w : ℕ) → 1 ≤ w → w ≤ workers → done_in (notes_of w got) ≤ 1) → up_to once_done workers got ≡ workers
     → (w : ℕ) → 1 ≤ w → w ≤ workers → done_in (notes_of w got) ≡ 1
 one_of_each zero got none each all w some le = absurd (omega (arith, some, le))
 one_of_each (suc n) got none each all w some le =
     let less : (v : ℕ) → 1 ≤ v → v ≤ n → done_in (notes_of v got) ≤ 1 = λ v from to. each v from (omega (arith, to)) in
     let fewer = up_to_few n got none less in
     let last = each (suc n) (omega arith) (omega arith) in
-    let more = up_to_more n got in
+    let more = up_to_more once_done n got in
     dite (ℕ_discrete w (suc n))
     (λ same. ap (λ (v : ℕ). done_in (notes_of v got)) same ∙ omega (arith, fewer, last, more, all))
     (λ apart. one_of_each n got none less (omega (arith, fewer, last, more, all)) w some (omega (arith, le, apart)))
@@ -223,9 +181,9 @@ module _ {may_stop lets : ℕ → ℕ → Type 0} {shared : Shared} (workers : �
 
   one_received : (worker : ℕ) → 1 ≤ worker → worker ≤ workers → done_in (notes_of worker got) ≡ 1
   one_received =
-      one_of_each workers got (up_to_none got (λ k d lt. (senders k d lt).0))
+      one_of_each workers got (up_to_none once_done got (λ k d lt. (senders k d lt).0))
       (each_worker (λ w. done_in (notes_of w got) ≤ 1) workers results numbers (λ k d lt. (all_heard k d lt).few))
-      (up_to_all workers got (λ k d lt. (senders k d lt).1) ∙ done)
+      (up_to_all once_done workers got (λ k d lt. (senders k d lt).1) ∙ done)
 
   one_of_result : All (λ (s : WorkerResult). done_in (notes_of s.sender.number got) ≡ 1) results
   one_of_result k d lt =

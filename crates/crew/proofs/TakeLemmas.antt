@@ -1,17 +1,17 @@
 -- From what each worker presented to what the haul has taken.
 use Rattle.std.proofs.Common.{◌≡◌, ◌≢◌, ◌≤◌, ◌+◌, ◌++◌, ◌∙◌, ℕ, zero, suc, Bool, cond, nat_eq, All, List, [], ◌∷◌, ap, arith, drop, filter, get_or, inl, inr}
 use Rattle.std.proofs.Common.{length, map, refl, subst, sym, ⊎_elim}
-use Rattle.std.specs.Prelude.{Contains, IfSome, Option, Some, slice_index}
+use Rattle.std.specs.Prelude.{Contains, IfSome, Option, Some, count_by, slice_index, sum_by}
 use Rattle.std.specs.List.Sorted.{IsStrictlyIncreasing}
 use Rattle.std.specs.List.{IsDistinct, range_with_len}
 use Rattle.std.proofs.lemmas.Bool.{eq-eqb, ne_eqb}
 use Rattle.std.proofs.lemmas.Grind.{flat_map-append}
-use Rattle.std.proofs.lemmas.List.{length-map, map-append}
+use Rattle.std.proofs.lemmas.List.{append-nil, get_or_default, length-map, map-append}
 use Rattle.std.proofs.lemmas.List.FromFn.{length-range_with_len}
 use Rattle.std.proofs.lemmas.List.Elements.{All-append, All-cons, All-head, All-map, All-nil, All-tail}
 use Rattle.std.proofs.lemmas.List.Kept.{AllPairs-from_increasing}
 use mathlib.Core.Logic.{dite}
-use native.Mathlib.Decide.{ℕ_discrete}
+use native.Mathlib.Decide.{dec_le, ℕ_discrete}
 use Rattle.atomic_table.specs.Seated.{TableId}
 use Rattle.survey_core.specs.declared.job.Job.{Job}
 use Rattle.haul_core.specs.Subsequences.{IsSubsequence}
@@ -19,11 +19,11 @@ use Rattle.haul_core.specs.Books.{Held, entry}
 use Rattle.haul_core.specs.Keeping.{numbers_in}
 use Rattle.haul_core.specs.Reports.{IsWorker, Reported}
 use Rattle.handover.specs.Belts.{IsWhole, Presented, Received, deaf, notes_of, silent}
-use Rattle.handover.specs.Tickets.{Drawn}
+use Rattle.handover.specs.Tickets.{Drawn, drawn_by_all}
 use Rattle.crew.specs.CrewSteps.{HasRunAll}
-use Rattle.crew.specs.Crews.{report_in, reports_in}
+use Rattle.crew.specs.Crews.{HasAdded, HasHeard, report_in, reports_in}
 use Rattle.crew.specs.Workers.{HasReported, IsOwnReport, Leaves, StopsAt, reported, sender_numbers}
-use Rattle.crew.specs.Takes.{HasTaken, taken_by, was_missing}
+use Rattle.crew.specs.Takes.{HasHeardCrew, HasTaken, taken_by, times_reported, was_missing}
 use Rattle.crew.specs.declared.note.Note.{Note}
 use Rattle.crew.specs.declared.note.Note.TheVariants.{Done, Report}
 use Rattle.crew.specs.declared.worker.WorkerResult.{WorkerResult}
@@ -31,8 +31,10 @@ use Rattle.crew.specs.declared.shared.Shared.{Shared}
 use Rattle.crew.specs.declared.take.Crew.{Crew}
 use Rattle.handover.proofs.BeltLemmas.{notes_first, notes_other}
 use Rattle.crew.proofs.CrewLemmas.{added_none}
-use Rattle.crew.proofs.ListLemmas.{Rises, all_left, all_part, all_right, all_unmap, at_places, distinct_right, in_range, range_within}
+use Rattle.crew.proofs.ListLemmas.{Rises, all_left, all_part, all_right, all_unmap, at_places, distinct_right, in_range, part_all, range_within}
 use Rattle.crew.proofs.ListLemmas.{rises_at, rises_left, rises_part}
+use Rattle.crew.proofs.OnceLemmas.{of_reported, of_worker_once, of_workers, on, times_received}
+use Rattle.crew.proofs.SenderSums.{up_to, up_to_all, up_to_none}
 use Rattle.crew.proofs.WorkerLemmas.{of_first_stopped}
 
 -- ---- what was received of one worker
@@ -231,6 +233,41 @@ taken_none lets workers held = record {
   in_order = λ w le ge i j d lt small. absurd (omega arith);
 }
 
+-- nothing was handed to an observer
+pub heard_nothing : (lets : ℕ → ℕ → Type 0) (workers : ℕ) (held : Held) (hears : List Reported → Type 0) → hears []
+    → HasHeardCrew lets workers held held hears
+heard_nothing lets workers held hears nothing = record {
+  reports = [];
+  heard = nothing;
+  job = All-nil (λ (r : Reported). r.job ≡ held.terms.job);
+  by_workers = All-nil (λ (r : Reported). (1 ≤ r.worker) × (r.worker ≤ workers));
+  missing = All-nil (λ (r : Reported). Contains (was_missing held) r.number);
+  let_in = All-nil (λ (r : Reported). lets r.worker r.number);
+  once = λ n. omega arith;
+  offers = [];
+  some = refl;
+  added = added_none held;
+}
+
+-- an observer with this relation was handed nothing before and after
+pub heard_between : {lets : ℕ → ℕ → Type 0} {workers : ℕ} {old new : Held} {O : Type 0} (hears : O → List Reported → O → Type 0)
+    → ((s m t : O) (xs ys : List Reported) → hears s xs m → hears m ys t → hears s (xs ++ ys) t) → (begun first last ended : O)
+    → hears begun [] first → HasHeardCrew lets workers old new (λ reports. hears first reports last) → hears last [] ended
+    → HasHeardCrew lets workers old new (λ reports. hears begun reports ended)
+heard_between hears hears_more begun first last ended before h after = record {
+  reports = h.reports;
+  heard = subst (λ (l : List Reported). hears begun l ended) (append-nil h.reports)
+      (hears_more begun last ended h.reports [] (hears_more begun first last [] h.reports before h.heard) after);
+  job = h.job;
+  by_workers = h.by_workers;
+  missing = h.missing;
+  let_in = h.let_in;
+  once = h.once;
+  offers = h.offers;
+  some = h.some;
+  added = h.added;
+}
+
 -- ---- what a crew begins with
 
 pub all_silent : (name : TableId) (numbers : List ℕ) → All (λ s. s ≡ silent {N = Note} name s.number) (map (silent {N = Note} name) numbers)
@@ -313,6 +350,74 @@ module _ {may_stop lets : ℕ → ℕ → Type 0} (shared : Shared) (workers : �
             (ap numbers_in c.added.taken ∙ map-append (λ (t : ℕ × ℕ). t.1) old.haul.taken (map entry c.part)) distinct);
         in_order = of.rises;
       })
+
+  -- no soup is reported twice
+  crew_once : ((t : ℕ) → count_by (nat_eq t) (drawn_by_all new.back.passes.items) ≤ 1) → (n : ℕ)
+      → times_reported n (reports_in ran.collected.notes) ≤ 1
+  crew_once drawn n =
+      elim (dec_le 1 (times_reported n reports)) [
+        | yes some ↦ at_place (of_reported (Contains missing) n reports (crew_part reports (part_all reports)).listed some)
+        | no none ↦ omega (arith, none)
+      ]
+    where
+      missing : List ℕ
+      missing = shared.missing.items
+
+      rise : Rises missing
+      rise = AllPairs-from_increasing missing up
+
+      reports : List Reported
+      reports = reports_in ran.collected.notes
+
+      at_place : Contains missing n → times_reported n reports ≤ 1
+      at_place at =
+          let is : slice_index missing at.0 ≡ n = get_or_default missing at.0 0 n at.1 ∙ at.2 in
+          let each : All (λ (s : WorkerResult). sum_by (on (slice_index missing at.0)) (notes_of s.sender.number new.receiver.got)
+          ≤ count_by (nat_eq at.0) s.pass.numbers) ran.results =
+          λ k d lt. of_worker_once shared new.receiver.got rise at.0 at.1 (get_or ran.results k d) (ran.left k d lt).worked (all_whole k d lt) in
+          let long : length ran.results ≡ workers =
+          sym (length-map ran.results (λ (s : WorkerResult). s.sender.number)) ∙ ap length all_numbers ∙ length-range_with_len 1 workers in
+          let numbers : map (λ (s : WorkerResult). s.sender.number) ran.results ≡ range_with_len (0 + 1) (length ran.results) =
+          all_numbers ∙ ap (range_with_len 1) (sym long) in
+          let drew : ℕ = count_by (nat_eq at.0) (drawn_by_all new.back.passes.items) in
+          let passes : drew ≡ count_by (nat_eq at.0) (drawn_by_all (map (λ (s : WorkerResult). s.pass) ran.results)) =
+          ap (λ (l : List Drawn). count_by (nat_eq at.0) (drawn_by_all l)) ran.passes in
+          let all : up_to (on (slice_index missing at.0)) (0 + length ran.results) new.receiver.got
+          ≤ up_to (on (slice_index missing at.0)) 0 new.receiver.got + drew =
+          subst (λ (m : ℕ). up_to (on (slice_index missing at.0)) (0 + length ran.results) new.receiver.got
+          ≤ up_to (on (slice_index missing at.0)) 0 new.receiver.got + m) (sym passes)
+          (of_workers (on (slice_index missing at.0)) at.0 new.receiver.got ran.results 0 numbers each) in
+          let none = up_to_none (on (slice_index missing at.0)) new.receiver.got (λ k d lt. (all_senders k d lt).0) in
+          let whole = up_to_all (on (slice_index missing at.0)) workers new.receiver.got (λ k d lt. (all_senders k d lt).1)
+          ∙ times_received (slice_index missing at.0) new.receiver.got in
+          let all_of : 0 + length ran.results ≡ workers = omega (arith, long) in
+          let last = ap (λ (w : ℕ). up_to (on (slice_index missing at.0)) w new.receiver.got) all_of in
+          let same = ap (λ (m : ℕ). times_reported m (reports_in new.receiver.got)) is
+          ∙ ap (λ (l : List (ℕ × Note)). times_reported n (reports_in l)) notes_are in
+          let few : drew ≤ 1 = drawn at.0 in
+          omega (arith, all, none, whole, last, same, few)
+
+  -- what an observer was handed
+  pub crew_heard : (held : Held) → held ≡ new.haul → shared.job ≡ old.haul.terms.job
+      → ((t : ℕ) → count_by (nat_eq t) (drawn_by_all new.back.passes.items) ≤ 1) → (hears : List Reported → Type 0)
+      → HasHeard old.receiver new.receiver hears → HasHeardCrew lets workers old.haul held hears
+  crew_heard held same of_haul drawn hears h =
+      let c = ran.collected in
+      let reports = reports_in c.notes in
+      let of = crew_part reports (part_all reports) in
+      let notes : h.notes ≡ c.notes = sym (h.got ∙ ap (λ (r : Received Note). r.got ++ h.notes) begun) ∙ notes_are in
+      record {
+        reports = reports;
+        heard = subst (λ (l : List (ℕ × Note)). hears (reports_in l)) notes h.heard;
+        job = subst (λ (j : Job). All (λ (r : Reported). r.job ≡ j) reports) of_haul of.of_job;
+        by_workers = of.by_workers;
+        missing = subst (λ (l : List ℕ). All (λ (r : Reported). Contains l r.number) reports) listed of.listed;
+        let_in = of.let_in;
+        once = crew_once drawn;
+        offers = c.part;
+        some = c.some;
+        added = subst (HasAdded c.part old.haul) (sym same) c.added;
+      }
 
   -- the worker that was stopped is one of the crew
   pub crew_within : (worker : ℕ) → new.stopped ≡ Some worker → (1 ≤ worker) × (worker ≤ workers)

@@ -85,3 +85,10 @@ pub record Collected (before after : Collector) (answered : Bool) : Type 0 where
   pub all : answered ≡ true → HasComeAll (reports_in notes) before.haul after.haul
   pub soups : answered ≡ true → All (HasSoupOf after.haul) (reports_in notes)
   pub lost : answered ≡ false → HasLost (reports_in notes) part before.haul
+
+-- Notes were received, and an observer was handed the reports among them, in order: `hears` is what is said of the
+-- reports that it was handed.
+pub record HasHeard (old new : Received Note) (hears : List Reported → Type 0) : Type 0 where
+  pub notes : List (ℕ × Note)
+  pub got : new.got ≡ old.got ++ notes
+  pub heard : hears (reports_in notes)

@@ -1,10 +1,11 @@
 -- What a crew takes for a haul.
-use Rattle.std.specs.Prelude.{◌≡◌, ◌<◌, ◌≤◌, ℕ, All, AllPairs, Contains, List, filter, map, nat_eq}
+use Rattle.std.specs.Prelude.{◌≡◌, ◌<◌, ◌≤◌, ℕ, All, AllPairs, Contains, List, count_by, filter, map, nat_eq}
 use Rattle.std.specs.List.{IsDistinct}
 use Rattle.haul_core.specs.Books.{Held, entry}
 use Rattle.haul_core.specs.Keeping.{numbers_in}
 use Rattle.haul_core.specs.Missing.{missing_of}
 use Rattle.haul_core.specs.Reports.{Reported}
+use Rattle.haul_core.specs.Subsequences.{IsSubsequence}
 use Rattle.crew.specs.Crews.{HasAdded}
 
 -- the numbers that were missing when the crew began
@@ -27,3 +28,22 @@ pub record HasTaken (lets : ℕ → ℕ → Type 0) (workers : ℕ) (old new : H
   pub let_in : All (λ r. lets r.worker r.number) offers
   pub once : IsDistinct nat_eq (numbers_in (map entry offers))
   pub in_order : (worker : ℕ) → 1 ≤ worker → worker ≤ workers → AllPairs (λ x y. x < y) (taken_by worker (map entry offers))
+
+-- how many of the reports are on the soup with this number
+abbrev pub times_reported : ℕ → List Reported → ℕ
+times_reported n reports = count_by (nat_eq n) (map (λ r. r.number) reports)
+
+-- An observer was handed reports of the crew's workers for the haul's job: `hears` is what is said of them. They are on
+-- missing numbers that the gate let these workers survey, no number twice. The haul has taken some of them, in this
+-- order.
+pub record HasHeardCrew (lets : ℕ → ℕ → Type 0) (workers : ℕ) (old new : Held) (hears : List Reported → Type 0) : Type 0 where
+  pub reports : List Reported
+  pub heard : hears reports
+  pub job : All (λ r. r.job ≡ old.terms.job) reports
+  pub by_workers : All (λ r. (1 ≤ r.worker) × (r.worker ≤ workers)) reports
+  pub missing : All (λ r. Contains (was_missing old) r.number) reports
+  pub let_in : All (λ r. lets r.worker r.number) reports
+  pub once : (n : ℕ) → times_reported n reports ≤ 1
+  pub offers : List Reported
+  pub some : IsSubsequence offers reports
+  pub added : HasAdded offers old new

@@ -8,7 +8,7 @@ ghost use Rattle.std.specs.Prelude.{◌≡◌, ◌∷◌, ◌⊎◌, [], List, N
 ghost use Rattle.haul_core.specs.Books.{StandsFor};
 ghost use Rattle.haul_core.specs.Refusals.{refusal_of};
 ghost use Rattle.haul_core.specs.declared.book.arrival.Arrival.{Arrival};
-ghost use Rattle.crew.specs.Crews.{Collected, HasAdded, HasComeAll, HasSoupOf, collector_with};
+ghost use Rattle.crew.specs.Crews.{Collected, HasAdded, HasComeAll, HasHeard, HasSoupOf, collector_with};
 
 use crate::note::Note;
 use crate::progress_observer::ProgressObserver;
@@ -20,7 +20,8 @@ use memory::OutOfMemory;
 use std::sync::Wait;
 
 /// Receives notes until `started` workers are done, and offers each report to the haul. A report that the haul refuses
-/// is dropped. Before each note and at the end, the observer receives the number of soups that the haul has taken.
+/// is dropped. Before each note and at the end, the observer receives the number of soups that the haul has taken, and it
+/// receives each report before the haul does.
 ///
 /// # Errors
 ///
@@ -35,8 +36,9 @@ pub fn collect<R: Wait, H: ProgressObserver>(
     observer: &mut H,
 ) -> Result<(), OutOfMemory>
     requires { pass.old.belt ≡ belt.now }
-    ensures { Collected (collector_with started pass.old haul.old) (collector_with 0 pass.new haul.new)
+    ensures collected { Collected (collector_with started pass.old haul.old) (collector_with 0 pass.new haul.new)
         (is_ok result) }
+    ensures heard { HasHeard pass.old pass.new (λ reports. H.hears observer.old reports observer.new) }
 {
     let mut left = started;
     let mut answered = Ok(());
@@ -46,10 +48,13 @@ pub fn collect<R: Wait, H: ProgressObserver>(
             break;
         }
         match belt.receive(rt, pass) {
-            Note::Report(report) => match offer(haul, report) {
-                Ok(()) => {}
-                Err(error) => answered = Err(error),
-            },
+            Note::Report(report) => {
+                observer.report(&report);
+                match offer(haul, report) {
+                    Ok(()) => {}
+                    Err(error) => answered = Err(error),
+                }
+            }
             Note::Done { .. } => left -= 1,
         }
     }

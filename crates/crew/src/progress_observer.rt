@@ -1,20 +1,51 @@
 //! Progress callbacks.
+ghost use Rattle.std.specs.Prelude.{◌++◌, ◌∷◌, [], List, ⊤};
+ghost use Rattle.haul_core.specs.Reports.{Reported};
 
-/// Callbacks that receive the progress of a haul.
+use haul_core::report::Report;
+
+/// Callbacks that receive the progress of a haul, and the workers' reports.
 ///
-/// Contracts hold for any observer, so it can't change what a call promises to return or to write to its output.
+/// Contracts hold for any observer, so it can't change what a call promises to return or to write to its output. What an
+/// observer does with reports is its own promise, [`hears`], and `take` says which reports it has received.
 pub trait ProgressObserver {
+    /// From one state to another, an observer has received these reports, in this order.
+    ghost hears: { Self → List Reported → Self → Type 0 } = { λ _ _ _. ⊤ };
+
     /// Called before the first soup: `workers` workers are to complete a haul over `whole` soups.
-    fn begin(&mut self, _whole: u64, _workers: u8) {}
+    fn begin(&mut self, _whole: u64, _workers: u8)
+        ensures { hears self.old [] self.new }
+    {}
 
     /// Called once after the threads were started: the system started `workers` of the workers.
-    fn started(&mut self, _workers: u8) {}
+    fn started(&mut self, _workers: u8)
+        ensures { hears self.old [] self.new }
+    {}
+
+    /// Called for each report that a worker has sent, before it is offered to the haul.
+    fn report(&mut self, report: &Report)
+        ensures { hears self.old (report.now ∷ []) self.new };
 
     /// Called from time to time: `count` soups of the haul have been taken so far.
-    fn taken(&mut self, count: u64);
+    fn taken(&mut self, count: u64)
+        ensures { hears self.old [] self.new };
+
+    /// Called before something else is written where the progress is shown.
+    fn pause(&mut self) {}
+
+    /// Called after that.
+    fn resume(&mut self) {}
 
     /// Called at the end: no more soups will be taken.
-    fn end(&mut self) {}
+    fn end(&mut self)
+        ensures { hears self.old [] self.new }
+    {}
+
+    /// An observer in one state has received nothing.
+    ghost hears_none: { (s : Self) → hears s [] s };
+
+    /// An observer that has received reports, and then others, has received them all.
+    ghost hears_more: { (s m t : Self) (xs ys : List Reported) → hears s xs m → hears m ys t → hears s (xs ++ ys) t };
 }
 
 /// Ignores all progress.
@@ -22,5 +53,11 @@ pub trait ProgressObserver {
 pub struct NoObserver;
 
 impl ProgressObserver for NoObserver {
+    fn report(&mut self, _report: &Report) {}
+
     fn taken(&mut self, _count: u64) {}
+
+    ghost hears_none = { λ _. tt };
+
+    ghost hears_more = { λ _ _ _ _ _ _ _. tt };
 }

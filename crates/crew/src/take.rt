@@ -10,16 +10,16 @@
 //!                                          worker 3 is back
 //! ```
 ghost use Rattle.std.specs.Prelude.{◌≡◌, ◌≢◌, ◌<◌, ◌≤◌, ◌↔◌, ℕ, All, Err, IfErr, IfOk, MatchResult, None, Some};
-ghost use Rattle.std.specs.Prelude.{false, is_ok, is_some, length, nat_eq, not, true, vec_capacity};
+ghost use Rattle.std.specs.Prelude.{count_by, false, is_ok, is_some, length, nat_eq, not, true, vec_capacity};
 ghost use Rattle.std.specs.List.{IsDistinct};
 ghost use Rattle.haul_core.specs.Keeping.{numbers_in};
 ghost use Rattle.haul_core.specs.Missing.{AreAll, IsComplete, missing_of};
 ghost use Rattle.haul_core.specs.Reports.{IsWorker};
 ghost use Rattle.handover.specs.Belts.{IsWhole, silent};
 ghost use Rattle.crew.specs.CrewSteps.{HasAddedEndpoint, HasRunAll, MayRun, cause_of, collector_of, stopped_with};
-ghost use Rattle.crew.specs.Crews.{Collected};
+ghost use Rattle.crew.specs.Crews.{Collected, HasHeard};
 ghost use Rattle.crew.specs.Workers.{Leaves, Returns, StopsAt, lacks_memory, was_started};
-ghost use Rattle.crew.specs.Takes.{HasTaken, was_missing};
+ghost use Rattle.crew.specs.Takes.{HasHeardCrew, HasTaken, was_missing};
 ghost use Rattle.handover.specs.Tickets.{AreAllBelow, drawn_by_all, fresh, how_many_heard};
 ghost use Rattle.crew.specs.declared.take.CrewError.TheVariants as CrewError;
 
@@ -74,8 +74,8 @@ impl fmt::Debug for CrewError {
 /// offered to the haul.
 ///
 /// `workers` is from 1 to the haul's number of workers. A worker asks the gate before each survey, and surveys nothing
-/// more once the gate stops it. The haul stays open. The observer is called in the thread that called `take`, and
-/// receives the number of soups that the haul has taken.
+/// more once the gate stops it. The haul stays open. The observer is called in the thread that called `take`. It receives
+/// the number of soups that the haul has taken, and each report before the haul does.
 ///
 /// # Errors
 ///
@@ -115,6 +115,11 @@ pub fn take<G: Gate + Sync, R: Threads + Wait + Sync, H: ProgressObserver>(
         → IfErr result (λ back. back.1 ≡ CrewError.Stopped worker → (1 ≤ worker) × (worker ≤ workers)) }
     ensures incomplete { IfErr result
         (λ back. back.1 ≢ CrewError.Closed → ¬ IsComplete back.0.terms.ranges back.0.taken) }
+    ensures heard { haul.closed ≡ false → MatchResult result
+        (λ done. HasHeardCrew (G.lets gate.now) workers haul done
+        (λ reports. H.hears observer.old reports observer.new))
+        (λ back. HasHeardCrew (G.lets gate.now) workers haul back.0
+        (λ reports. H.hears observer.old reports observer.new)) }
 {
     if haul.is_closed() {
         return Err((haul, CrewError::Closed));
@@ -150,6 +155,8 @@ fn complete_haul<G: Gate + Sync, R: Threads + Wait + Sync, H: ProgressObserver>(
     ensures within { (worker : ℕ)
         → result.1 ≡ Some (CrewError.Stopped worker) → (1 ≤ worker) × (worker ≤ workers) }
     ensures open { result.1 ≢ Some CrewError.Closed }
+    ensures heard { HasHeardCrew (G.lets gate.now) workers haul result.0
+        (λ reports. H.hears observer.old reports observer.new) }
 {
     if haul.is_complete() {
         return (haul, None);
@@ -187,20 +194,25 @@ fn run_in_scope<G: Gate + Sync, R: Threads + Wait + Sync, H: ProgressObserver>(
     observer: &mut H,
 ) -> Crew
     requires { MayRun shared.now crew }
-    ensures { HasRunAll (G.may_stop gate.now) (G.lets gate.now) shared.now crew result }
+    ensures all { HasRunAll (G.may_stop gate.now) (G.lets gate.now) shared.now crew result }
+    ensures heard { HasHeard crew.receiver result.receiver (λ reports. H.hears observer.old reports observer.new) }
 {
-    thread::scope(
+    let (crew, _observer) = thread::scope(
         thread::scope_env(),
         rt,
-        move |scope| -> Crew
+        move |scope| -> (Crew, &mut H)
             requires { MayRun shared.now crew }
-            ensures { HasRunAll (G.may_stop gate.entry.now) (G.lets gate.entry.now) shared.entry.now crew result }
+            ensures all { HasRunAll (G.may_stop gate.entry.now) (G.lets gate.entry.now) shared.entry.now crew result.0 }
+            ensures heard { HasHeard crew.receiver result.0.receiver
+                (λ reports. H.hears observer.entry.now reports result.1.now) }
+            ensures same { result.1.ghost_name ≡ observer.entry.ghost_name }
         {
             let mut crew = crew;
             run_crew(alloc, rt, scope, shared, gate, &mut crew, observer);
-            crew
+            (crew, observer)
         },
-    )
+    );
+    crew
 }
 
 /// Returns the haul of a crew whose workers are all back, and why soups may still be missing, or `None` if there is no
@@ -211,6 +223,7 @@ fn end_crew(shared: Shared, crew: Crew) -> (Haul, Option<CrewError>)
     requires receiver { crew.receiver.belt ≡ shared.belt }
     ensures drawn { length crew.back.passes.items ≡ shared.tickets.passes → 0 < how_many_heard crew.back.passes.items
         → AreAllBelow shared.tickets.count (drawn_by_all crew.back.passes.items) }
+    ensures once { (n : ℕ) → count_by (nat_eq n) (drawn_by_all crew.back.passes.items) ≤ 1 }
     ensures whole { All (IsWhole crew.receiver.got) crew.back.senders.items }
     ensures haul { result.0 ≡ crew.haul }
     ensures distinct { IsDistinct nat_eq (numbers_in crew.haul.taken) }
@@ -290,7 +303,9 @@ fn run_crew<'s, E, G: Gate + Sync, R: Threads + Wait + Sync, H: ProgressObserver
     observer: &mut H,
 )
     requires { MayRun shared.now crew.old }
-    ensures { HasRunAll (G.may_stop gate.now) (G.lets gate.now) shared.now crew.old crew.new }
+    ensures all { HasRunAll (G.may_stop gate.now) (G.lets gate.now) shared.now crew.old crew.new }
+    ensures heard { HasHeard crew.old.receiver crew.new.receiver
+        (λ reports. H.hears observer.old reports observer.new) }
 {
     let Some((pass, sender)) = crew.endpoints.remove_last() else {
         receive_all(rt, shared, crew, observer);
@@ -329,6 +344,8 @@ fn receive_all<R: Wait, H: ProgressObserver>(
     ensures back { crew.new.back ≡ crew.old.back }
     ensures stopped { crew.new.stopped ≡ crew.old.stopped }
     ensures away { crew.new.away ≡ crew.old.away }
+    ensures heard { HasHeard crew.old.receiver crew.new.receiver
+        (λ reports. H.hears observer.old reports observer.new) }
 {
     let away = crew.away;
     observer.started(away);

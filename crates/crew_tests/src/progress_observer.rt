@@ -5,6 +5,7 @@ use crate::left::go_on;
 use crate::small::{haul_of, small_job};
 use crew::gate::OpenGate;
 use crew::progress_observer::ProgressObserver;
+use haul_core::report::Report;
 use std::sync::Wait;
 use std::test::Fail;
 use std::thread::Threads;
@@ -25,7 +26,13 @@ impl ProgressObserver for Roll {
         self.started = workers;
     }
 
+    fn report(&mut self, _report: &Report) {}
+
     fn taken(&mut self, _count: u64) {}
+
+    ghost hears_none = { λ _. tt };
+
+    ghost hears_more = { λ _ _ _ _ _ _ _. tt };
 }
 
 /// Returns what an observer is told while `workers` workers take soups. It is told of none if the haul isn't complete.

@@ -99,7 +99,7 @@ impl Report {
         ensures bad_worker { IsErrOf result BadWorker ↔ ¬ IsWorker worker }
     {
         let mut surveyor = Surveyor::without_memo(alloc);
-        Report::make_by(alloc, &mut surveyor, job, worker, number)
+        Report::make_with_surveyor(alloc, &mut surveyor, job, worker, number)
     }
 
     /// Makes the same report as [`make`](Report::make), using a surveyor, which is faster. The surveyor may have
@@ -108,7 +108,7 @@ impl Report {
     /// # Errors
     ///
     /// Those of [`make`](Report::make).
-    pub fn make_by(
+    pub fn make_with_surveyor(
         alloc: Global,
         surveyor: &mut Surveyor,
         job: &Job,

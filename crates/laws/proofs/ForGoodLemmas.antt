@@ -42,17 +42,17 @@ after_periods rule cells p k back =
 
 pub at_rest_for_good : AtRestForGood
 at_rest_for_good rule profile cells clusters objects order low rest counted good = record {
-  apart = apart_forever rule cells clusters good.multiple good.common.some order (partition_law cells clusters rest.parts) each up_to;
+  apart = apart_forever rule cells clusters good.multiple good.least.common.some order (partition_law cells clusters rest.parts) each up_to;
   back = λ g. ap (after rule cells) (add_comm g good.multiple) ∙ sym (after-then rule cells good.multiple g)
       ∙ ap (λ (state : List Cell). after rule state g)
-      (whole_back rule cells clusters good.multiple good.common.some order (partition_law cells clusters rest.parts) each up_to);
+      (whole_back rule cells clusters good.multiple good.least.common.some order (partition_law cells clusters rest.parts) each up_to);
 }
   where
     each : All (λ part. after rule part good.multiple ≡ part) clusters
     each k d there =
         let found = of_clusters rule profile.period clusters objects counted
         (λ code. (kind_in code ≢ Ship) × IsMultiple good.multiple (period_in code))
-        (λ k d low. (good.none k d low, good.common.each k d low)) k d there in
+        (λ k d low. (good.none k d low, good.least.common.each k d low)) k d there in
         let still = stays_in_place found.1.recurrence
         (λ ship. found.2.0 (code_kind rule (get_or clusters k d) profile.period found.0 found.1 ∙ ship)) in
         let back : after rule (get_or clusters k d) (period_in found.0) ≡ get_or clusters k d =

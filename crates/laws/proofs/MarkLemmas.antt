@@ -213,8 +213,8 @@ module _ (rule : Numbers) (limit : ℕ) (clusters : List (List Cell)) (objects :
     stay_there horizon good = record {
       in_place = placed good.none;
       multiple = good.multiple;
-      common = common_there good.multiple good.common;
-      least = λ m common. good.least m (common_back (placed good.none) m common);
+      common = common_there good.multiple good.least.common;
+      least = λ m common. good.least.least m (common_back (placed good.none) m common);
       within = good.within;
     }
 
@@ -224,8 +224,10 @@ module _ (rule : Numbers) (limit : ℕ) (clusters : List (List Cell)) (objects :
           let placed = good.in_place k d there in
           (told (get_or clusters k d) code placed.0 (some k d there) named placed.1).0);
       multiple = good.multiple;
-      common = common_back good.in_place good.multiple good.common;
-      least = λ m common. good.least m (common_there m common);
+      least = record {
+        common = common_back good.in_place good.multiple good.common;
+        least = λ m common. good.least m (common_there m common);
+      };
       within = good.within;
     }
 

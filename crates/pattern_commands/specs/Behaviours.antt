@@ -3,6 +3,7 @@ use Rattle.std.specs.Prelude.{◌≡◌, ℕ, Bool, List, [], Option, Result, Ok
 use Rattle.std.specs.Io.KnownBytes.{Appends}
 use Rattle.pattern_commands.specs.declared.complaint.Complaint.{Complaint}
 use Rattle.pattern_commands.specs.Answers.{NeedsMemory, Right}
+use Rattle.pattern_commands.specs.Streams.{Stream}
 
 -- what a command produces: a text for standard output, diagnostics about its input for standard error, and the number
 -- of missing soups
@@ -36,8 +37,8 @@ pub record Behaviour : Type 1 where
   pub whole : Bool
   -- what the command may have added to standard error after a beginning of its input
   pub begins : (reader before after : Option (List ℕ)) → Type 0
-  -- diagnostics about the input may be added
-  pub may_tell : Type 0
+  -- what may have become of standard error if the diagnostics were not written completely
+  pub breaks_off : Stream → Type 0
 
 -- a text without diagnostics is right, if it is a right answer
 abbrev pub alone : Right → Makes
@@ -52,7 +53,7 @@ silent_behaviour reads whole right = record {
   refuses = reads;
   whole = whole;
   begins = λ reader before after. Appends before after [];
-  may_tell = ⊥;
+  breaks_off = λ errors. ⊥;
 }
 
 -- a command that writes a text

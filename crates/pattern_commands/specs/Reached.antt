@@ -59,11 +59,10 @@ pub record IsCutShort (behaviour : Behaviour) (bytes : List ℕ) (output errors 
   pub cut : output.failed ≡ true
   pub fine : errors.failed ≡ false
 
--- the diagnostics about the input were not written completely
+-- the diagnostics were not written completely
 pub record IsUntold (behaviour : Behaviour) (output errors : Stream) : Type 0 where
-  pub tells : behaviour.may_tell
+  pub told : behaviour.breaks_off errors
   pub nothing : Has output []
-  pub cut : errors.failed ≡ true
 
 -- What the streams have before the last line of standard error, for each outcome. A refusal has to be right, and so
 -- does the complaint that the input is too long.

@@ -20,4 +20,3 @@ pub(crate) mod lone_window;
 pub(crate) mod row_spans;
 pub(crate) mod window_difference;
 pub(crate) mod window_io;
-pub(crate) mod window_origin;

@@ -58,6 +58,19 @@ impl fmt::Debug for StepError {
     }
 }
 
+impl StepError {
+    /// Returns the witness of an error that isn't `Edge`. This is for callers whose cells are too far from the edge of the
+    /// plane to reach it.
+    pub fn refusal(self) -> OutOfMemory
+        requires inland { self ≢ StepError.Edge }
+    {
+        match self {
+            StepError::Memory(refused) => refused,
+            StepError::Edge => unreachable!(),
+        }
+    }
+}
+
 /// The most generations that are run on one board. Then the pattern is read back and a new board is made, so that the
 /// board never is much wider than the pattern.
 const STRETCH: u32 = 256;

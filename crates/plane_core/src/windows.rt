@@ -1,5 +1,6 @@
 //! Windows: pieces of the plane, 64 columns wide, stored in vectors of words. A rule is applied to whole vectors.
 
+pub(crate) mod geometry;
 pub(crate) mod lane_sums;
 pub(crate) mod row_packing;
 pub(crate) mod rule_logic;

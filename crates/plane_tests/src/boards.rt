@@ -34,7 +34,7 @@ const WAYS: [(Orientation, i32, i32); 8] = [
 /// A board of Life that shows the pattern, if it has room there.
 fn board_of(alloc: Global, pattern: &Pattern) -> Result<Board, OutOfMemory> {
     let life = Rule::life();
-    let mut board = Board::new(alloc, &life)?;
+    let mut board = Board::large(alloc, &life)?;
     let _shown = board.show(&life, pattern)?;
     Ok(board)
 }

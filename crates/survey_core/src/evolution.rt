@@ -140,7 +140,7 @@ fn from_list(
     ensures cells { IfOk result (λ evolution. kept rule.now evolution ≡ after rule.now pattern.now generations) }
 {
     pattern.recall_order();
-    let Some(board) = spare.board_with(alloc, rule, pattern)? else {
+    let Some(board) = spare.board_showing(alloc, rule, pattern)? else {
         let later = run_on(alloc, rule, generations, pattern)?;
         return Ok(Evolution::Listed(later));
     };

@@ -5,7 +5,6 @@ ghost use Rattle.plane_core.specs.plane.Generations.{after, lies_within, next};
 ghost use Rattle.survey_core.specs.UnderWay.{survey_reach};
 
 use memory::OutOfMemory;
-use plane_core::generation::StepError;
 use plane_core::plane::cell::Cell;
 use plane_core::plane::pattern::{FromCellsError, Pattern};
 use plane_core::plane::rule::Rule;
@@ -30,8 +29,7 @@ pub(crate) fn next(alloc: Global, rule: &Rule, pattern: &Pattern) -> Result<Patt
 {
     match pattern.step(alloc, rule) {
         Ok(later) => Ok(later),
-        Err(StepError::Memory(error)) => Err(error),
-        Err(StepError::Edge) => unreachable!(),
+        Err(error) => Err(error.refusal()),
     }
 }
 
@@ -48,8 +46,7 @@ pub(crate) fn run_on(
 {
     match pattern.run(alloc, rule, generations) {
         Ok(later) => Ok(later),
-        Err(StepError::Memory(error)) => Err(error),
-        Err(StepError::Edge) => unreachable!(),
+        Err(error) => Err(error.refusal()),
     }
 }
 

@@ -5,7 +5,6 @@ ghost use Rattle.std.specs.BTreeMap.{IsOrdered};
 ghost use Rattle.std.specs.Cmp.Lexicographic.{slice_cmp};
 ghost use Rattle.std.specs.Map.{lookup};
 ghost use Rattle.std.specs.Ordering.{nat_cmp};
-ghost use Rattle.std.specs.Slice.Iter.{iter_rest};
 ghost use Rattle.survey_core.specs.shapes.Objects.{is_code};
 ghost use Rattle.haul_core.specs.Rows.{AreInOrder};
 ghost use Rattle.haul_core.specs.RowSteps.{AreRowsFrom, row_from, with_objects};
@@ -19,7 +18,6 @@ use memory::OutOfMemory;
 use std::alloc::Global;
 use std::collections::BTreeMap;
 use std::marker::Model;
-use std::slice::Iter;
 
 /// The row of a code in a census.
 #[derive(Debug, Drop)]
@@ -56,13 +54,6 @@ impl Rows {
         ensures in_order { AreInOrder self.now }
     {
         self.rows.as_slice()
-    }
-
-    /// Returns an iterator over the rows, in ASCII order of their codes.
-    pub fn iter(&self) -> Iter<'_, Row>
-        ensures { iter_rest result ≡ self.now }
-    {
-        self.as_slice().iter()
     }
 
     /// Returns a row for each code with a total of at least 1.

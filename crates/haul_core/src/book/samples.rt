@@ -6,12 +6,10 @@
 //! ```
 
 ghost use Rattle.std.specs.Prelude.{◌≡◌, ◌≤◌, ◌++◌, ◌∷◌, [], take};
-ghost use Rattle.std.specs.Slice.Iter.{iter_rest};
 ghost use Rattle.haul_core.specs.SampleSteps.{with_each, with_number};
 ghost use Rattle.haul_core.specs.Samples.{IsAscending, LeastThreeAreDetermined};
 
 use std::marker::Model;
-use std::slice::Iter;
 
 /// The most samples of a code, enough to look at more than one.
 pub const MOST_SAMPLES: usize = 3;
@@ -42,13 +40,6 @@ impl Samples {
     {
         let Samples { numbers, count } = self;
         &numbers[..*count]
-    }
-
-    /// Returns an iterator over the numbers, ascending.
-    pub fn iter(&self) -> Iter<'_, u64>
-        ensures { iter_rest result ≡ self.now }
-    {
-        self.as_slice().iter()
     }
 
     /// Returns an empty list of samples.

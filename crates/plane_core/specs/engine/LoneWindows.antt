@@ -1,6 +1,6 @@
 -- Where the window is in which a small pattern is run.
 use Rattle.std.specs.Prelude.{◌≤◌, unsigned_abs}
-use Rattle.plane_core.specs.declared.engine.window_origin.WindowOrigin.{WindowOrigin}
+use Rattle.plane_core.specs.declared.engine.lone_window.WindowOrigin.{WindowOrigin}
 
 -- a window of 64 by 64 cells that is far from the edge of the plane
 pub record IsInland (p : WindowOrigin) : Type 0 where

@@ -14,7 +14,7 @@
 //! found once for each row, so that only columns are compared. What is too far to the left of a cell is skipped for the
 //! rest of its row. In its own row, a cell is joined with the cell just before it. If that cell is near, it has been
 //! joined with everything that is near both, so in the rows above at most one cell is usually left.
-ghost use Rattle.std.specs.Prelude.{◌≡◌, ◌≢◌, ◌+◌, ◌<◌, ◌<ℤ◌, ◌≤◌, ◌≤ℤ◌, ◌-◌, ℕ, true, IfOk, List, length, nat_le};
+ghost use Rattle.std.specs.Prelude.{◌≡◌, ◌≢◌, ◌+◌, ◌<◌, ◌<ℤ◌, ◌≤◌, ◌≤ℤ◌, ◌-◌, ℕ, ℤ, true, IfOk, List, length, nat_le};
 ghost use Rattle.std.specs.declared.cmp.Ordering.TheVariants.{Less};
 ghost use Rattle.plane_core.specs.plane.Cells.{IsPattern, cell_cmp, king_distance, on_plane};
 ghost use Rattle.plane_core.specs.clusters.UnionFind.{AreRowsAbove, IsForest, IsFresh, IsRow, Joined, JoinsAll};
@@ -108,8 +108,8 @@ fn rows_above(cells: &[Cell], place: usize, rows: RowsAbove) -> RowsAbove
     if cells[place - 1].y == cell.y {
         return rows;
     }
-    let begin = first_in_row(cells, rows.begin, place, cell.moved(-2, -2).y);
-    let end = first_in_row(cells, begin, place, cell.moved(-2, -1).y);
+    let begin = first_from::<Row>(cells, rows.begin, place, cell.moved(-2, -2).y);
+    let end = first_from::<Row>(cells, begin, place, cell.moved(-2, -1).y);
     RowsAbove {
         begin,
         above: RowPlaces {
@@ -120,18 +120,48 @@ fn rows_above(cells: &[Cell], place: usize, rows: RowsAbove) -> RowsAbove
     }
 }
 
-/// Returns the first place, from `from` to before `end`, whose cell is in row `y` or below it. Returns `end` if there is
-/// none.
-fn first_in_row(cells: &[Cell], from: usize, end: usize, y: i32) -> usize
+/// A coordinate of cells: the column or the row.
+trait Axis {
+    ghost coordinate: { Cell → ℤ };
+
+    /// Returns the coordinate of the cell.
+    fn of(cell: Cell) -> i32
+        ensures { result ≡ coordinate cell };
+}
+
+struct Column;
+
+struct Row;
+
+impl Axis for Column {
+    ghost coordinate = { λ c. c.x };
+
+    fn of(cell: Cell) -> i32 {
+        cell.x
+    }
+}
+
+impl Axis for Row {
+    ghost coordinate = { λ c. c.y };
+
+    fn of(cell: Cell) -> i32 {
+        cell.y
+    }
+}
+
+/// Returns the first place, from `from` to before `end`, whose cell has the coordinate `least` or a greater one. Returns
+/// `end` if there is none.
+#[inline(always)]
+fn first_from<A: Axis>(cells: &[Cell], from: usize, end: usize, least: i32) -> usize
     requires order { from ≤ end }
     requires end { end ≤ length cells.now }
     ensures low { from ≤ result }
     ensures high { result ≤ end }
-    ensures before { (k : ℕ) → from ≤ k → k < result → (cell_of cells.now k).y <ℤ y }
-    ensures at { result < end → y ≤ℤ (cell_of cells.now result).y }
+    ensures before { (k : ℕ) → from ≤ k → k < result → A.coordinate (cell_of cells.now k) <ℤ least }
+    ensures at { result < end → least ≤ℤ A.coordinate (cell_of cells.now result) }
 {
     let mut at = from;
-    while at < end && cells[at].y < y {
+    while at < end && A::of(cells[at]) < least {
         at += 1;
     }
     at
@@ -188,31 +218,14 @@ fn join_row(
         → NeedsJoin cells.now k place → Joined parents.new k place }
     ensures row { IsRow cells.now (record row { from = result }) place from }
 {
-    let first = skipped(cells, row.from, row.end, from.x);
-    let start = skipped(cells, first, row.end, fresh);
+    let first = first_from::<Column>(cells, row.from, row.end, from.x);
+    let start = first_from::<Column>(cells, first, row.end, fresh);
     let mut at = start;
     while at < row.end && cells[at].x <= to.x {
         join(parents, at, place);
         at += 1;
     }
     first
-}
-
-/// Returns the first place, from `from` to before `end`, whose cell is in column `x` or to the right of it. Returns
-/// `end` if there is none.
-fn skipped(cells: &[Cell], from: usize, end: usize, x: i32) -> usize
-    requires order { from ≤ end }
-    requires end { end ≤ length cells.now }
-    ensures low { from ≤ result }
-    ensures high { result ≤ end }
-    ensures before { (k : ℕ) → from ≤ k → k < result → (cell_of cells.now k).x <ℤ x }
-    ensures at { result < end → x ≤ℤ (cell_of cells.now result).x }
-{
-    let mut at = from;
-    while at < end && cells[at].x < x {
-        at += 1;
-    }
-    at
 }
 
 /// Joins the trees of two places: the later root then leads to the earlier one.

@@ -12,7 +12,7 @@
 //!              | +-------+ |     the one two before it.
 //!              +-----------+
 //! ```
-ghost use Rattle.std.specs.Prelude.{◌≡◌, [], IfOk, true, false};
+ghost use Rattle.std.specs.Prelude.{◌≡◌, [], IfOk, IfSome, true, false};
 ghost use Rattle.plane_core.specs.engine.Frames.{HasFewWords, IsFrame, LieOn, bounds_of};
 ghost use Rattle.plane_core.specs.windows.RuleLogic.{rule_of};
 ghost use Rattle.plane_core.specs.plane.Cells.{plane_bound};
@@ -45,11 +45,26 @@ const LARGE_WORD_COLUMNS: usize = 65;
 /// word columns would share a place in the processor's cache.
 const LARGE_ROWS: usize = 4168;
 
+/// The first column of a large board whose word columns, without the last one, are around the origin.
+const LARGE_LEFT: i32 = -32 * (LARGE_WORD_COLUMNS as i32 - 1);
+
+/// The first row of a large board around the origin.
+const LARGE_TOP: i32 = -(LARGE_ROWS as i32) / 2;
+
 /// The word columns of a small board, whose words are cleared quickly: 8, and one more.
 const SMALL_WORD_COLUMNS: usize = 9;
 
 /// The rows of a small board: 512, and 72 more.
 const SMALL_ROWS: usize = 584;
+
+/// The first column of a small board around the origin.
+const SMALL_LEFT: i32 = -32 * (SMALL_WORD_COLUMNS as i32 - 1);
+
+/// The first row of a small board around the origin.
+const SMALL_TOP: i32 = -(SMALL_ROWS as i32) / 2;
+
+/// The most generations for which a board gets room around a pattern.
+const MOST_AROUND: u32 = 1000;
 
 /// The number of cells for which a list has room from the start when a pattern is read. They take a kilobyte.
 const ROOM: usize = 128;
@@ -108,26 +123,26 @@ impl Drop for Board {
 }
 
 impl Board {
-    /// Makes an empty board around the origin, for patterns that are shown one after another. It has 4,096 columns, one
+    /// Makes an empty large board around the origin, for patterns that are shown one after another. It has 4,096 columns, one
     /// more word column, and 4,168 rows.
     ///
     /// # Errors
     ///
     /// `OutOfMemory` if memory runs out.
-    pub fn new(alloc: Global, rule: &Rule) -> Result<Board, OutOfMemory>
+    pub fn large(alloc: Global, rule: &Rule) -> Result<Board, OutOfMemory>
         ensures rule { IfOk result (λ board. board.rule ≡ rule.now) }
         ensures cells { IfOk result (λ board. board.cells ≡ []) }
     {
         let at = Frame {
-            left: -2048,
-            top: -2084,
+            left: LARGE_LEFT,
+            top: LARGE_TOP,
             word_columns: LARGE_WORD_COLUMNS,
             rows: LARGE_ROWS,
         };
         Board::blank(alloc, rule, at)
     }
 
-    /// Makes an empty board as `new` does, with 512 columns, one more word column, and 584 rows. This is fifty times as
+    /// Makes an empty board as `large` does, with 512 columns, one more word column, and 584 rows. This is fifty times as
     /// fast.
     ///
     /// # Errors
@@ -138,12 +153,38 @@ impl Board {
         ensures cells { IfOk result (λ board. board.cells ≡ []) }
     {
         let at = Frame {
-            left: -256,
-            top: -292,
+            left: SMALL_LEFT,
+            top: SMALL_TOP,
             word_columns: SMALL_WORD_COLUMNS,
             rows: SMALL_ROWS,
         };
         Board::blank(alloc, rule, at)
+    }
+
+    /// Makes a board that shows the pattern and has room for `generations` generations. Returns `None` if a board isn't
+    /// worth it, because it would have many more words than the pattern has cells, if the pattern is too near to the
+    /// edge of the plane, or if `generations` is over 1,000.
+    ///
+    /// # Errors
+    ///
+    /// `OutOfMemory` if memory runs out.
+    pub fn around(
+        alloc: Global,
+        rule: &Rule,
+        pattern: &Pattern,
+        generations: u32,
+    ) -> Result<Option<Board>, OutOfMemory>
+        ensures rule { IfOk result (λ made. IfSome made (λ board. board.rule ≡ rule.now)) }
+        ensures cells { IfOk result (λ made. IfSome made (λ board. board.cells ≡ pattern.now)) }
+    {
+        if generations > MOST_AROUND {
+            return Ok(None);
+        }
+        let Some(at) = Frame::round(pattern, generations) else {
+            return Ok(None);
+        };
+        let board = Board::lay(alloc, rule, at, pattern)?;
+        Ok(Some(board))
     }
 
     /// Makes a board with the frame `at` that shows the pattern.

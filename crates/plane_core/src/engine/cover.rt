@@ -24,13 +24,26 @@ ghost use Rattle.plane_core.specs.declared.plane.cell.Cell.{Cell};
 
 use crate::engine::leap_window::LeapWindow;
 use crate::plane::bounds::Bounds;
+use crate::windows::geometry::{self, LEAST_ROWS, MOST_ROWS};
 use memory::OutOfMemory;
 
 /// The number of rectangles, counted from the last, with which a box may be united.
 const UNITED_AT_ONCE: usize = 16;
 
-/// The most inner rows of a window. Larger windows would have larger boxes, and more of a box would be at rest.
-const INNER_ROWS: u32 = 48;
+/// The columns and rows on each side of a window that may be wrong after four generations.
+const MARGIN: i32 = geometry::MARGIN as i32;
+
+/// The columns of a window that are right after four generations.
+const INNER_COLUMNS: u32 = geometry::INNER_COLUMNS as u32;
+
+/// The columns from one window to the next, if they are side by side.
+const SPACING: i32 = INNER_COLUMNS as i32;
+
+/// The most rows of a window that are right after four generations.
+const MOST_INNER_ROWS: u32 = geometry::MOST_INNER_ROWS as u32;
+
+/// The rows of a window that are above and below its inner rows.
+const OUTER_ROWS: u32 = 2 * geometry::MARGIN as u32;
 
 /// The largest result of `slack`.
 const MOST_SLACK: u64 = 64;
@@ -70,10 +83,10 @@ fn unite(boxes: &[Bounds], rectangles: &mut Vec<Bounds>) -> Result<(), OutOfMemo
     let slack = slack(boxes.len());
     for bounds in boxes {
         let with_margin = Bounds {
-            left: bounds.left - 4,
-            top: bounds.top - 4,
-            right: bounds.right + 4,
-            bottom: bounds.bottom + 4,
+            left: bounds.left - MARGIN,
+            top: bounds.top - MARGIN,
+            right: bounds.right + MARGIN,
+            bottom: bounds.bottom + MARGIN,
         };
         let rectangle = absorbed(rectangles, with_margin, slack);
         rectangles.push(rectangle)?;
@@ -117,9 +130,9 @@ fn slack(boxes: usize) -> u64 {
 /// near the plane, so no difference wraps around.
 #[inline(always)]
 fn pays(one: Bounds, other: Bounds, slack: u64) -> bool {
-    let rows = INNER_ROWS as i32;
-    other.left.wrapping_sub(one.right) <= 56
-        && one.left.wrapping_sub(other.right) <= 56
+    let rows = MOST_INNER_ROWS as i32;
+    other.left.wrapping_sub(one.right) <= SPACING
+        && one.left.wrapping_sub(other.right) <= SPACING
         && other.top.wrapping_sub(one.bottom) <= rows
         && one.top.wrapping_sub(other.bottom) <= rows
         && cost_of(one.joined(other))
@@ -132,9 +145,9 @@ fn pays(one: Bounds, other: Bounds, slack: u64) -> bool {
 /// than it covers, and costs another 8 by itself. No branch depends on the rectangle.
 #[inline(always)]
 fn cost_of(rectangle: Bounds) -> u64 {
-    let across = rectangle.left.abs_diff(rectangle.right) / 56 + 1;
+    let across = rectangle.left.abs_diff(rectangle.right) / INNER_COLUMNS + 1;
     let length = rectangle.top.abs_diff(rectangle.bottom);
-    let down = length / INNER_ROWS + 1;
+    let down = length / MOST_INNER_ROWS + 1;
     u64::from(across) * (u64::from(length) + 20 * u64::from(down))
 }
 
@@ -147,12 +160,14 @@ fn window_rows(length: u32) -> u32
     ensures few { result ≤ 64 }
 {
     // Usually one window is high enough, and a division would take longer than the other steps together.
-    let inner = if length < INNER_ROWS {
+    let inner = if length < MOST_INNER_ROWS {
         length + 1
     } else {
-        length / (length / INNER_ROWS + 1) + 1
+        length / (length / MOST_INNER_ROWS + 1) + 1
     };
-    (inner.saturating_add(11) / 4 * 4).max(20).min(56)
+    (inner.saturating_add(OUTER_ROWS + 3) / 4 * 4)
+        .max(LEAST_ROWS as u32)
+        .min(MOST_ROWS as u32)
 }
 
 /// Lays windows over a rectangle. Usually one is enough.
@@ -164,7 +179,7 @@ fn lay(rectangle: Bounds, windows: &mut Vec<LeapWindow>) -> Result<(), OutOfMemo
 {
     let across = rectangle.left.abs_diff(rectangle.right);
     let down = rectangle.top.abs_diff(rectangle.bottom);
-    if across >= 56 || down >= INNER_ROWS {
+    if across >= INNER_COLUMNS || down >= MOST_INNER_ROWS {
         return lay_rows(rectangle, windows);
     }
     windows.push(one_window(rectangle, across, down))?;
@@ -184,8 +199,8 @@ fn one_window(rectangle: Bounds, across: u32, down: u32) -> LeapWindow
 {
     let rows = window_rows(down);
     LeapWindow {
-        left: rectangle.left - 4 - ((55 - across) / 2) as i32,
-        top: rectangle.top - 4 - ((rows - 9 - down) / 2) as i32,
+        left: rectangle.left - MARGIN - ((INNER_COLUMNS - 1 - across) / 2) as i32,
+        top: rectangle.top - MARGIN - ((rows - OUTER_ROWS - 1 - down) / 2) as i32,
         rows: rows as usize,
     }
 }
@@ -197,9 +212,9 @@ fn lay_rows(rectangle: Bounds, windows: &mut Vec<LeapWindow>) -> Result<(), OutO
     ensures kept { OnOk result ((c : Cell) → IsCovered windows.old.items c → IsCovered windows.new.items c) }
     ensures laid { OnOk result ((c : Cell) → IsWithin rectangle c → IsCovered windows.new.items c) }
 {
-    let across = side_by_side(rectangle.left, rectangle.right, 56);
+    let across = side_by_side(rectangle.left, rectangle.right, INNER_COLUMNS);
     let rows = window_rows(rectangle.top.abs_diff(rectangle.bottom));
-    let inner = rows - 8;
+    let inner = rows - OUTER_ROWS;
     let down = side_by_side(rectangle.top, rectangle.bottom, inner);
     let length = down.first.abs_diff(rectangle.bottom);
     let mut laid = 0;
@@ -224,10 +239,10 @@ fn lay_row(
     ensures laid { OnOk result ((c : Cell) → IsInRow across top rows c → IsCovered windows.new.items c) }
 {
     for i in 0..across.count {
-        let column = across.first + 56 * i as i32;
+        let column = across.first + SPACING * i as i32;
         windows.push(LeapWindow {
-            left: column - 4,
-            top: top - 4,
+            left: column - MARGIN,
+            top: top - MARGIN,
             rows,
         })?;
     }

@@ -36,7 +36,7 @@ pub(crate) struct Frame {
 
 /// The margin of a board: the number of columns and rows on each side of the box that its pattern may reach. A window
 /// that covers a cell begins at most 36 columns or rows before the cell, and ends at most as far past it.
-const MARGIN: u32 = 40;
+const BOARD_MARGIN: u32 = 40;
 
 /// The fewest columns and rows on each side of a pattern that is shown in the middle of a board.
 const ROOM: u32 = 200;
@@ -56,7 +56,7 @@ impl Frame {
         let Some(bounds) = pattern.bounds() else {
             return None;
         };
-        let margin = generations + MARGIN;
+        let margin = generations + BOARD_MARGIN;
         if farthest(bounds) > BOUND - margin - 64 {
             return None;
         }

@@ -23,10 +23,11 @@ use crate::engine::row_spans::{RowSpan, widen};
 use crate::engine::window_difference::difference_of;
 use crate::engine::window_io::{column_of, read_rows, row_of, write};
 use crate::plane::bounds::Bounds;
+use crate::windows::geometry::MARGIN;
 use crate::windows::row_packing::{packed, unpack};
 use crate::windows::rule_logic::RuleLogic;
 use crate::windows::rule_tables::{CellLogic, Life};
-use crate::windows::window::generations_by;
+use crate::windows::window::generations_with_logic;
 use memory::OutOfMemory;
 use std::simd::u64x4;
 
@@ -45,12 +46,12 @@ fn run<const N: usize, A: CellLogic>(
     ensures { IsRun N (A.rule rule.now) count window.old window.new result }
 {
     if count % 2 == 1 {
-        generations_by(window, rule, count);
+        generations_with_logic(window, rule, count);
         return difference_of(window, &[u64x4::splat(0); N]);
     }
-    generations_by(window, rule, count - 2);
+    generations_with_logic(window, rule, count - 2);
     let earlier = *window;
-    generations_by(window, rule, 2);
+    generations_with_logic(window, rule, 2);
     difference_of(window, &earlier)
 }
 
@@ -209,10 +210,10 @@ pub(crate) fn put_all(
         let window = windows[k];
         let x = column_of(at, window);
         let y = row_of(at, window);
-        let end = window.rows - 4;
+        let end = window.rows - MARGIN;
         write(words, at, x, y, end, &held[k]);
         let rows = RowSpan {
-            from: y + 4,
+            from: y + MARGIN,
             end: y + end,
         };
         let word_column = x / 64;

@@ -20,7 +20,6 @@ ghost use Rattle.plane_core.specs.declared.plane.cell.Cell.{Cell};
 use crate::engine::frame::{Frame, farthest};
 use crate::engine::listing::list;
 use crate::engine::row_spans::RowSpan;
-use crate::engine::window_origin::WindowOrigin;
 use crate::plane::cell::Cell;
 use crate::plane::coordinate::{apart, back};
 use crate::plane::pattern::Pattern;
@@ -38,6 +37,13 @@ const INLAND: u32 = 900_000;
 
 /// The number of cells for which there is room from the start when a pattern is listed.
 const ROOM: usize = 20;
+
+/// The first column and row of a window.
+#[derive(Clone, Copy)]
+pub(crate) struct WindowOrigin {
+    pub(crate) left: i32,
+    pub(crate) top: i32,
+}
 
 /// Returns the next generation of a pattern, or `None` if it is empty, too large for a window, or too far out.
 pub(crate) fn next_in_window(

@@ -15,7 +15,7 @@ ghost use Rattle.plane_core.specs.engine.WindowIo.{inner_mask};
 ghost use Rattle.plane_core.specs.engine.WindowDifferences.{DiffersOnlyIn};
 
 use crate::engine::difference_box::DifferenceMask;
-use crate::windows::window::INNER_COLUMNS;
+use crate::windows::geometry::{INNER_COLUMN_MASK, MARGIN};
 use crate::windows::window_queries::{either, in_any_lane};
 use std::simd::cmp::SimdPartialEq;
 use std::simd::u64x4;
@@ -25,7 +25,7 @@ use std::simd::u64x4;
 fn inner_if(inside: bool) -> u64
     ensures { IsTrue inside → result ≡ inner_mask }
 {
-    if inside { INNER_COLUMNS } else { 0 }
+    if inside { INNER_COLUMN_MASK } else { 0 }
 }
 
 /// Returns where two windows differ in vector `k`, within their inner parts. `one` and `other` are this vector of each.
@@ -38,10 +38,10 @@ fn differing<const N: usize>(one: u64x4, other: u64x4, k: usize) -> u64x4
 {
     (one ^ other)
         & u64x4::from_array([
-            inner_if(k >= 4),
-            INNER_COLUMNS,
-            INNER_COLUMNS,
-            inner_if(k + 4 < N),
+            inner_if(k >= MARGIN),
+            INNER_COLUMN_MASK,
+            INNER_COLUMN_MASK,
+            inner_if(k + MARGIN < N),
         ])
 }
 

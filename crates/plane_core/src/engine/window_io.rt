@@ -16,9 +16,9 @@ ghost use Rattle.plane_core.specs.engine.LeapWindows.{IsOnBoard};
 
 use crate::engine::frame::Frame;
 use crate::engine::leap_window::LeapWindow;
+use crate::windows::geometry::{INNER_COLUMN_MASK, MARGIN};
 use crate::windows::lane_sums::choice;
 use crate::windows::row_packing::{four_words, set_words};
-use crate::windows::window::INNER_COLUMNS;
 use std::simd::u64x4;
 
 /// Returns the column of the board in which a window begins.
@@ -178,13 +178,13 @@ fn write_row(words: &mut [u64], at: Frame, x: usize, y: usize, word: u64)
     put_word(
         words,
         i,
-        in_first(INNER_COLUMNS, shift),
+        in_first(INNER_COLUMN_MASK, shift),
         in_first(word, shift),
     );
     put_word(
         words,
         i + at.rows,
-        in_second(INNER_COLUMNS, shift),
+        in_second(INNER_COLUMN_MASK, shift),
         in_second(word, shift),
     );
 }
@@ -203,8 +203,13 @@ fn write_rows(words: &mut [u64], at: Frame, x: usize, y: usize, rows: &[u64; 64]
     let shift = x % 64;
     let first = in_first_of(rows, r, shift);
     let second = in_second_of(rows, r, shift);
-    put_words(words, i, in_first(INNER_COLUMNS, shift), first);
-    put_words(words, i + at.rows, in_second(INNER_COLUMNS, shift), second);
+    put_words(words, i, in_first(INNER_COLUMN_MASK, shift), first);
+    put_words(
+        words,
+        i + at.rows,
+        in_second(INNER_COLUMN_MASK, shift),
+        second,
+    );
 }
 
 /// Puts the inner part of a window back: the inner columns of its rows from 4 to before `end`. The window begins in
@@ -218,7 +223,7 @@ pub(crate) fn write(words: &mut [u64], at: Frame, x: usize, y: usize, end: usize
     requires few { end ≤ 64 }
     ensures { IsPutBack at x y end rows.now words.old words.new }
 {
-    let mut r = 4;
+    let mut r = MARGIN;
     while end - r >= 4 {
         write_rows(words, at, x, y + r, rows, r);
         r += 4;

@@ -8,8 +8,9 @@
 //! . . . . . O O O      . . . . . . 1 .
 //! ```
 use crate::one_sided::crop::{crop, uncrop};
+use crate::windows::geometry::INNER_COLUMN_MASK;
 use crate::windows::rule_logic::RuleLogic;
-use crate::windows::window::{INNER_COLUMNS, generations};
+use crate::windows::window::generations;
 use std::simd::u64x4;
 
 /// The columns in the middle of a window, where a changing cell is looked for first.
@@ -31,7 +32,7 @@ pub(crate) fn changing_cells(rows: &[u64; 64], rule: &RuleLogic) -> [u64; 64] {
     generations(&mut cells, rule, 2);
     for k in 0..8 {
         // The cells that are alive and differ two generations later.
-        cells[k] = window[k] & (window[k] ^ cells[k]) & u64x4::splat(INNER_COLUMNS);
+        cells[k] = window[k] & (window[k] ^ cells[k]) & u64x4::splat(INNER_COLUMN_MASK);
     }
     uncrop::<32, 8>(&cells, 16)
 }

@@ -15,6 +15,7 @@ ghost use Rattle.plane_core.specs.one_sided.RestlessClusters.{HasRestlessCluster
 use crate::engine::board::Board;
 use crate::engine::board::view::longer_side;
 use crate::one_sided::rules_out_rest::rules_out_rest;
+use crate::plane::bounds::Bounds;
 use crate::windows::row_packing::packed;
 use crate::windows::window::generations;
 
@@ -23,6 +24,25 @@ const SMALL: u32 = 6;
 
 /// The most boxes that are tried.
 const TRIES: u32 = 4;
+
+/// The size of an active box.
+#[derive(Clone, Copy, PartialEq, Eq)]
+enum BoxSize {
+    /// At most as large as the active box of a small oscillator.
+    Small,
+    Large,
+}
+
+impl BoxSize {
+    /// Returns the size of a box.
+    fn of(bounds: Bounds) -> BoxSize {
+        if longer_side(bounds) < SMALL {
+            BoxSize::Small
+        } else {
+            BoxSize::Large
+        }
+    }
+}
 
 /// A question about the pattern `ahead` generations later, 0 or 1: whether some cluster diverges within `horizon`
 /// generations, or doesn't recur within `period` generations.
@@ -48,15 +68,15 @@ impl Board {
             period,
         };
         let mut tries = TRIES;
-        if self.rules_out_rest_by(asked, true, &mut tries) {
+        if self.try_boxes(asked, BoxSize::Large, &mut tries) {
             return true;
         }
-        self.rules_out_rest_by(asked, false, &mut tries)
+        self.try_boxes(asked, BoxSize::Small, &mut tries)
     }
 
-    /// Tests the boxes that are large, or those that aren't, until no tries are left. A test looks at the view of a
-    /// box. If the view isn't on the board, the box only uses up a try.
-    fn rules_out_rest_by(&self, asked: RestQuestion, large: bool, tries: &mut u32) -> bool
+    /// Tests the boxes of one size until no tries are left. A test looks at the view of a box. If the view isn't on the
+    /// board, the box only uses up a try. `true` is a proof that the pattern isn't at rest, and `false` says nothing.
+    fn try_boxes(&self, asked: RestQuestion, size: BoxSize, tries: &mut u32) -> bool
         requires { asked.ahead ≤ 1 }
         ensures { IsTrue result → HasRestlessCluster self.now.rule
             (after self.now.rule self.now.cells asked.ahead) asked.horizon asked.period }
@@ -66,8 +86,7 @@ impl Board {
             if *tries == 0 {
                 return false;
             }
-            let is_large = longer_side(*bounds) >= SMALL;
-            if is_large != large {
+            if BoxSize::of(*bounds) != size {
                 continue;
             }
             *tries -= 1;

@@ -13,10 +13,22 @@ ghost use Rattle.std.specs.Int.{bit_at};
 ghost use Rattle.plane_core.specs.one_sided.Floods.{AreNear, HasGrown, IsClosed, IsFlooded, IsWellInside, LiesInside};
 ghost use Rattle.plane_core.specs.windows.Rows.{bit_in};
 
-use crate::windows::window::INNER_COLUMNS;
+use crate::windows::geometry::{INNER_COLUMN_MASK, MARGIN};
 
-/// The columns in which a window is right two generations after it was read, 2 to 61.
-const COLUMNS: u64 = 0x3fff_ffff_ffff_fffc;
+/// The columns and rows between two cells of a cluster, at most.
+const REACH: usize = 2;
+
+/// The rows of the window.
+const ROWS: usize = 64;
+
+/// The end of the rows that have a row at distance `REACH` below them.
+const END: usize = ROWS - REACH;
+
+/// The end of the rows and columns that are well inside the window.
+const INNER_END: usize = ROWS - MARGIN;
+
+/// A bit for each of the columns that have a column at distance `REACH` on both sides, 2 to 61.
+const COLUMN_MASK: u64 = 0x3fff_ffff_ffff_fffc;
 
 /// The most passes over the rows. A cluster that winds more is rejected.
 const ROUNDS: usize = 64;
@@ -26,13 +38,17 @@ const ROUNDS: usize = 64;
 pub(crate) fn flood(rows: &[u64; 64], flood: &mut [u64; 64], row: usize, column: u32) -> bool
     ensures { IsTrue result → IsFlooded rows.now flood.new row column }
 {
-    if row < 4 || row >= 60 || column < 4 || column >= 60 || (rows[row] >> column) & 1 == 0 {
+    let left = column as usize;
+    if row < MARGIN || row >= INNER_END || left < MARGIN || left >= INNER_END {
+        return false;
+    }
+    if (rows[row] >> column) & 1 == 0 {
         return false;
     }
     *flood = [0; 64];
     flood[row] = 1 << column;
-    let mut first = row - 2;
-    let mut end = row + 3;
+    let mut first = row - REACH;
+    let mut end = row + REACH + 1;
     for _ in 0..ROUNDS {
         end = grow_down(rows, flood, first, end);
         let grown = grow_up(rows, flood, first, end);
@@ -51,13 +67,13 @@ fn grow_down(rows: &[u64; 64], flood: &mut [u64; 64], first: usize, end: usize) 
     ensures grown { HasGrown rows.now flood.old flood.new }
     ensures low { result ≤ 62 }
 {
-    for r in first..62 {
+    for r in first..END {
         if r >= end && flood[r - 2] | flood[r - 1] == 0 {
             return r;
         }
         grow_row(rows, flood, r);
     }
-    62
+    END
 }
 
 /// The result of growing upwards: the new bits of all rows together, and the first row that may have a bit of the flood
@@ -75,13 +91,13 @@ fn grow_up(rows: &[u64; 64], flood: &mut [u64; 64], first: usize, end: usize) ->
     ensures low { 2 ≤ result.first }
 {
     let mut new = 0;
-    for r in (2..end).rev() {
+    for r in (REACH..end).rev() {
         if r < first && flood[r + 1] | flood[r + 2] == 0 {
             return Grown { new, first: r + 1 };
         }
         new |= grow_row(rows, flood, r);
     }
-    Grown { new, first: 2 }
+    Grown { new, first: REACH }
 }
 
 /// Grows the flood in row `r`. Returns the new bits.
@@ -93,7 +109,7 @@ fn grow_row(rows: &[u64; 64], flood: &mut [u64; 64], r: usize) -> u64
 {
     let here = flood[r];
     let near = near_rows(flood, r);
-    let grown = here | (beside(beside(near)) & rows[r] & COLUMNS);
+    let grown = here | (beside(beside(near)) & rows[r] & COLUMN_MASK);
     flood[r] = grown;
     grown ^ here
 }
@@ -124,7 +140,7 @@ fn lies_inside(flood: &[u64; 64]) -> bool
     ensures { IsTrue result → LiesInside flood.now }
 {
     let mut all = 0;
-    for r in 0..64 {
+    for r in 0..ROWS {
         all |= outside(flood[r], r);
     }
     all == 0
@@ -135,10 +151,10 @@ fn lies_inside(flood: &[u64; 64]) -> bool
 fn outside(word: u64, r: usize) -> u64
     ensures { (i : ℕ) → bit_at result i ≡ 0 → bit_at word i ≡ 1 → IsWellInside r i }
 {
-    if r < 4 || r >= 60 {
+    if r < MARGIN || r >= INNER_END {
         return word;
     }
-    word & !INNER_COLUMNS
+    word & !INNER_COLUMN_MASK
 }
 
 /// Checks whether the flood contains every live cell that is near it.
@@ -146,7 +162,7 @@ fn is_closed(rows: &[u64; 64], flood: &[u64; 64]) -> bool
     ensures { IsTrue result → IsClosed rows.now flood.now }
 {
     let mut all = 0;
-    for r in 2..62 {
+    for r in REACH..END {
         let cells = beside(beside(near_rows(flood, r))) & rows[r];
         all |= cells & (cells ^ flood[r]);
     }

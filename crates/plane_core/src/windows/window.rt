@@ -23,9 +23,6 @@ use crate::windows::rule_logic::RuleLogic;
 use crate::windows::rule_tables::{CellLogic, Life};
 use std::simd::u64x4;
 
-/// The mask of a window's inner columns, 4 to 59: after four generations, the other columns may be wrong.
-pub(crate) const INNER_COLUMNS: u64 = 0x0fff_ffff_ffff_fff0;
-
 /// Advances the window by one generation. Life has a loop of its own.
 #[inline(always)]
 pub(crate) fn generation<const N: usize>(window: &mut [u64x4; N], rule: &RuleLogic)
@@ -33,8 +30,8 @@ pub(crate) fn generation<const N: usize>(window: &mut [u64x4; N], rule: &RuleLog
     ensures { IsNextWindow (rule_of rule.now) N window.old window.new }
 {
     match rule {
-        RuleLogic::Life => generation_by(window, &Life),
-        RuleLogic::Any(rule) => generation_by(window, rule),
+        RuleLogic::Life => generation_with_logic(window, &Life),
+        RuleLogic::Any(rule) => generation_with_logic(window, rule),
     }
 }
 
@@ -42,7 +39,7 @@ pub(crate) fn generation<const N: usize>(window: &mut [u64x4; N], rule: &RuleLog
 /// they belong to. Three vectors are computed per iteration, so that no sums have to be moved from one register to
 /// another.
 #[inline(always)]
-fn generation_by<const N: usize, A: CellLogic>(window: &mut [u64x4; N], rule: &A)
+fn generation_with_logic<const N: usize, A: CellLogic>(window: &mut [u64x4; N], rule: &A)
     requires { 0 < N }
     ensures { IsNextWindow (A.rule rule.now) N window.old window.new }
 {
@@ -93,14 +90,14 @@ pub(crate) fn generations<const N: usize>(window: &mut [u64x4; N], rule: &RuleLo
     ensures { IsLaterWindow (rule_of rule.now) N window.old window.new count }
 {
     match rule {
-        RuleLogic::Life => generations_by(window, &Life, count),
-        RuleLogic::Any(rule) => generations_by(window, rule, count),
+        RuleLogic::Life => generations_with_logic(window, &Life, count),
+        RuleLogic::Any(rule) => generations_with_logic(window, rule, count),
     }
 }
 
 /// Advances the window by `count` generations.
 #[inline(always)]
-pub(crate) fn generations_by<const N: usize, A: CellLogic>(
+pub(crate) fn generations_with_logic<const N: usize, A: CellLogic>(
     window: &mut [u64x4; N],
     rule: &A,
     count: usize,
@@ -109,6 +106,6 @@ pub(crate) fn generations_by<const N: usize, A: CellLogic>(
     ensures { IsLaterWindow (A.rule rule.now) N window.old window.new count }
 {
     for _ in 0..count {
-        generation_by(window, rule);
+        generation_with_logic(window, rule);
     }
 }

@@ -68,11 +68,15 @@ pub record IsCommonMultiple (objects : List (List ℕ × ℕ)) (m : ℕ) : Type 
   pub some : 1 ≤ m
   pub each : All (λ object. IsMultiple m (period_in object.0)) objects
 
+-- m is the least common multiple of the periods of the objects
+pub record IsLeastCommonMultiple (objects : List (List ℕ × ℕ)) (m : ℕ) : Type 0 where
+  pub common : IsCommonMultiple objects m
+  pub least : (n : ℕ) → IsCommonMultiple objects n → m ≤ n
+
 -- Objects stay for good if none of them is a spaceship, and if the least common multiple of their periods is at most
 -- the horizon.
 pub record StayForGood (horizon : ℕ) (objects : List (List ℕ × ℕ)) : Type 0 where
   pub none : All (λ object. kind_in object.0 ≢ Ship) objects
   pub multiple : ℕ
-  pub common : IsCommonMultiple objects multiple
-  pub least : (m : ℕ) → IsCommonMultiple objects m → multiple ≤ m
+  pub least : IsLeastCommonMultiple objects multiple
   pub within : multiple ≤ horizon

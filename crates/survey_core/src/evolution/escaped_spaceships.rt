@@ -114,10 +114,7 @@ pub(crate) fn spaceship_of(
 /// within `SHORT` generations. This test is cheap and comes first, since few changing clusters are spaceships. A shape
 /// that the memo knows isn't run: it is mostly that of a spaceship that isn't ahead yet.
 fn is_unlikely(rule: &Rule, limit: u32, part: &Pattern, memo: &Memo) -> bool {
-    if memo.knows(rule, limit, part) {
-        return false;
-    }
-    part.surely_changes(rule, limit.min(SHORT))
+    !memo.knows(rule, limit, part) && part.surely_changes(rule, limit.min(SHORT))
 }
 
 /// Returns the orientation that turns the direction of a spaceship to the right and down.

@@ -48,7 +48,7 @@ impl SpareBoard {
     /// # Errors
     ///
     /// `OutOfMemory` if memory runs out while the pattern is laid on the board.
-    pub(crate) fn board_with(
+    pub(crate) fn board_showing(
         &mut self,
         alloc: Global,
         rule: &Rule,
@@ -60,7 +60,7 @@ impl SpareBoard {
         let kept = match (self.board.take(), self.size) {
             (Some(board), _) => Some(board),
             (None, Size::Small) => Board::small(alloc, rule).ok(),
-            (None, Size::Large) => Board::new(alloc, rule).ok(),
+            (None, Size::Large) => Board::large(alloc, rule).ok(),
         };
         let Some(mut board) = kept else {
             return Ok(None);

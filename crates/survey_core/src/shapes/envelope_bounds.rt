@@ -24,8 +24,7 @@ ghost use Rattle.plane_core.specs.declared.plane.cell.Cell.{Cell};
 ghost use Rattle.survey_core.specs.shapes.Envelopes.{IsStillLife, Serves, SpaceshipsMoveByCycles, StayApart, StayClear};
 ghost use Rattle.survey_core.specs.shapes.Envelopes.{gap_stays, gaps_of, is_clear, is_past};
 
-use code_core::cycle::Cycle;
-use code_core::recurrence::Recurrence;
+use code_core::recurrence::{Cycle, Recurrence};
 use plane_core::plane::bounds::Bounds;
 use plane_core::plane::pattern::Pattern;
 
@@ -111,10 +110,7 @@ fn are_still_and_apart(one: &EnvelopeBounds, other: &EnvelopeBounds) -> bool
 fn are_still_lives(one: &EnvelopeBounds, other: &EnvelopeBounds) -> bool
     ensures { IsTrue result → (horizon : ℕ) → StayApart horizon one.now other.now }
 {
-    if !is_still_life(one) {
-        return false;
-    }
-    is_still_life(other)
+    is_still_life(one) && is_still_life(other)
 }
 
 /// Checks whether the pattern is a still life.

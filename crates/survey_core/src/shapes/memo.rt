@@ -29,10 +29,9 @@ ghost use Rattle.survey_core.specs.UnderWay.{survey_reach};
 use crate::shapes::envelope_bounds::EnvelopeBounds;
 use crate::shapes::slot::slot_of;
 use code_core::apgcode::Apgcode;
-use code_core::cycle::{Cycle, follow};
 use code_core::name::{name, name_of};
+use code_core::recurrence::{Cycle, follow};
 use memory::OutOfMemory;
-use plane_core::generation::StepError;
 use plane_core::plane::bounds::Bounds;
 use plane_core::plane::pattern::Pattern;
 use plane_core::plane::rule::Rule;
@@ -354,8 +353,7 @@ pub(crate) fn code_of(
     match name(alloc, pattern, rule, limit) {
         Ok(Some(code)) => Ok(code),
         Ok(None) => unreachable!(),
-        Err(StepError::Memory(error)) => Err(error),
-        Err(StepError::Edge) => unreachable!(),
+        Err(error) => Err(error.refusal()),
     }
 }
 
@@ -376,7 +374,6 @@ fn cycle_of(
 {
     match follow(alloc, pattern, rule, limit) {
         Ok(found) => Ok(found),
-        Err(StepError::Memory(error)) => Err(error),
-        Err(StepError::Edge) => unreachable!(),
+        Err(error) => Err(error.refusal()),
     }
 }

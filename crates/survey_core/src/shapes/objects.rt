@@ -1,15 +1,14 @@
 //! The objects of a finding, counted: each apgcode once, in ASCII order, with its count.
-ghost use Rattle.std.specs.Prelude.{◌≡◌, ◌+◌, ◌<◌, ◌≤◌, ◌↔◌, ◌≢◌, [], ℕ, All, IfOk, IsTrue, List, length};
+ghost use Rattle.std.specs.Prelude.{◌≡◌, ◌+◌, ◌<◌, ◌≤◌, ◌↔◌, ◌≢◌, [], ℕ, All, IfNone, IfOk, IfSome, IsTrue, List, length};
 ghost use Rattle.std.specs.Prelude.{◌^◌, OnOk, sum, true};
 ghost use Rattle.std.specs.Map.{values_of};
-ghost use Rattle.std.specs.Slice.Iter.{iter_rest};
 ghost use Rattle.std.specs.Prelude.{unwrap_or};
 ghost use Rattle.plane_core.specs.plane.Generations.{lies_within};
 ghost use Rattle.code_core.specs.Apgcodes.{kind_in};
 ghost use Rattle.code_core.specs.Names.{IsCode};
 ghost use Rattle.code_core.specs.declared.apgcode.Kind.TheVariants.{Ship};
 ghost use Rattle.survey_core.specs.shapes.Objects.{AreObjects, AreObjectsOf, IsCommonMultiple, IsCounted, IsOneMore};
-ghost use Rattle.survey_core.specs.shapes.Objects.{StayForGood};
+ghost use Rattle.survey_core.specs.shapes.Objects.{IsLeastCommonMultiple, IsMultiple, StayForGood, period_in};
 ghost use Rattle.survey_core.specs.shapes.RecurringShapes.{RecursWithin};
 ghost use Rattle.survey_core.specs.UnderWay.{survey_reach};
 
@@ -21,7 +20,6 @@ use plane_core::plane::rule::Rule;
 use std::alloc::Global;
 use std::collections::BTreeMap;
 use std::marker::Model;
-use std::slice::Iter;
 
 /// The objects of a finding: their apgcodes in ASCII order, each once, with the number of objects that have it, at
 /// least 1.
@@ -48,13 +46,6 @@ impl Objects {
         ensures lawful { AreObjects self.now }
     {
         self.counted.as_slice()
-    }
-
-    /// Returns an iterator over the apgcodes in ASCII order, each with the number of objects that have it.
-    pub fn iter(&self) -> Iter<'_, (Apgcode, u64)>
-        ensures { iter_rest result ≡ self.now }
-    {
-        self.as_slice().iter()
     }
 
     /// Returns the objects of clusters that all recur within `limit` generations, 1 to 64.
@@ -87,15 +78,7 @@ impl Objects {
         ensures { IsTrue result ↔ StayForGood horizon self.now }
     {
         let objects = self.as_slice();
-        if !none_is_spaceship(objects) {
-            return false;
-        }
-        for below in 0..horizon {
-            if is_common_multiple(objects, below + 1) {
-                return true;
-            }
-        }
-        false
+        none_is_spaceship(objects) && common_period(objects, horizon).is_some()
     }
 }
 
@@ -154,22 +137,53 @@ fn none_is_spaceship(objects: &[(Apgcode, u64)]) -> bool
     true
 }
 
-/// Checks whether `multiple`, at least 1, is a multiple of the period of each object. The period of a still life is 1.
-fn is_common_multiple(objects: &[(Apgcode, u64)], multiple: u32) -> bool
-    requires { 1 ≤ multiple }
-    ensures { IsTrue result ↔ IsCommonMultiple objects.now multiple }
+/// Returns the least common multiple of the periods of the objects, or `None` if it is over `most`.
+fn common_period(objects: &[(Apgcode, u64)], most: u32) -> Option<u32>
+    ensures least { IfSome result (IsLeastCommonMultiple objects.now) }
+    ensures within { IfSome result (λ multiple. multiple ≤ most) }
+    ensures none { IfNone result ((m : ℕ) → IsCommonMultiple objects.now m → most < m) }
 {
+    if most == 0 {
+        return None;
+    }
+    let mut multiple = 1;
     for object in objects {
-        let period = match object.0.kind() {
-            Kind::Still => continue,
-            Kind::Oscillator | Kind::Ship => object.0.number(),
+        let Some(next) = joint_multiple(multiple, period_of(object), most) else {
+            return None;
         };
-        if period == 0 {
-            return false;
-        }
-        if u64::from(multiple) % period != 0 {
-            return false;
+        multiple = next;
+    }
+    Some(multiple)
+}
+
+/// Returns the period of an object, which is 1 for a still life.
+fn period_of(object: &(Apgcode, u64)) -> u64
+    ensures { result ≡ period_in object.now.0 }
+{
+    match object.0.kind() {
+        Kind::Still => 1,
+        Kind::Oscillator | Kind::Ship => object.0.number(),
+    }
+}
+
+/// Returns the least common multiple of `one` and `period`, or `None` if it is over `most`.
+fn joint_multiple(one: u32, period: u64, most: u32) -> Option<u32>
+    requires some { 1 ≤ one }
+    ensures some { IfSome result (λ multiple. 1 ≤ multiple) }
+    ensures of_one { IfSome result (λ multiple. IsMultiple multiple one) }
+    ensures of_period { IfSome result (λ multiple. IsMultiple multiple period) }
+    ensures least { IfSome result (λ multiple. (m : ℕ) → 1 ≤ m → IsMultiple m one → IsMultiple m period → multiple ≤ m) }
+    ensures within { IfSome result (λ multiple. multiple ≤ most) }
+    ensures none { IfNone result ((m : ℕ) → 1 ≤ m → IsMultiple m one → IsMultiple m period → most < m) }
+{
+    if period == 0 {
+        return None;
+    }
+    for below in 0..most / one {
+        let multiple = (below + 1) * one;
+        if u64::from(multiple) % period == 0 {
+            return Some(multiple);
         }
     }
-    true
+    None
 }

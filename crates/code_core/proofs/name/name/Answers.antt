@@ -1,5 +1,5 @@
 use Rattle.std.proofs.Common.{Ok, Some}
-use Rattle.code_core.specs.declared.cycle.Cycle.{Cycle}
+use Rattle.code_core.specs.declared.recurrence.Cycle.{Cycle}
 use Rattle.code_core.specs.Recurrences.{IsCycle, SearchEnds}
 use Rattle.code_core.proofs.RecurrenceLemmas.{found_as}
 use Rattle.code_core.proofs.name.name.Goals as goal

@@ -1,8 +1,8 @@
 use Rattle.std.proofs.Common.{◌∙◌, ◌+◌, ◌∷◌, List, ℕ, ap, subst, subst₂, sym}
 use Rattle.std.proofs.lemmas.Bool.{false≢true}
 use Rattle.code_core.specs.ReadingSteps.{Begins, IsStuck, has_character}
-use Rattle.code_core.specs.declared.token.Token.{Token}
-use Rattle.code_core.specs.declared.token.Token.TheVariants.{Gap}
+use Rattle.code_core.specs.declared.reader.Token.{Token}
+use Rattle.code_core.specs.declared.reader.Token.TheVariants.{Gap}
 use Rattle.code_core.proofs.TokenReading.{Begins_long_gap, Begins_single, no_character, stuck_at_end}
 use Rattle.code_core.proofs.reader.first_token.Goals as goal
 

@@ -7,8 +7,8 @@ use Rattle.crew.proofs.take.+run_crew.Goals as goal
 pub receive_all-requires : goal.receive_all-requires
 receive_all-requires g t c = c.requires.receiver
 
-pub returns-in_default : goal.returns-in_default
-returns-in_default g t c =
+pub returns-in_default-clause-all : goal.returns-in_default-clause-all
+returns-in_default-clause-all g t c =
     let all = c.receive_all.ensures in
     run_none c.args.crew.now c.receive_all.new.crew _ c.requires c.in_default.ensures.none all.collected
     (heard_if c.receive_all.new.crew.lacking) all.back all.stopped all.away
@@ -34,24 +34,24 @@ run_crew-requires-after_bounds g t c κs within =
     (one_at_most c.is_ok.result c.from-started.result c.from-started.ensures) c.requires c.in-Some.ensures.taken_out
 
 pub overflow_sub-crew : goal.overflow_sub-crew
-overflow_sub-crew g t c = not_more c.args.crew.now.away c.from-started.result c.run_crew.new.crew.away c.run_crew.ensures.away
+overflow_sub-crew g t c = not_more c.args.crew.now.away c.from-started.result c.run_crew.new.crew.away c.run_crew.ensures.all.away
 
 pub note_result-requires-clause-passes : goal.note_result-requires-clause-passes
 note_result-requires-clause-passes g t c =
     pass_room c.remove_last.new.self c.args.crew.now c.run_crew.new.crew (c.in-Some.pass, c.in-Some.sender)
-    c.from-started.result c.requires c.in-Some.ensures.taken_out c.run_crew.ensures
+    c.from-started.result c.requires c.in-Some.ensures.taken_out c.run_crew.ensures.all
 
 pub note_result-requires-clause-senders : goal.note_result-requires-clause-senders
 note_result-requires-clause-senders g t c =
     sender_room c.remove_last.new.self c.args.crew.now c.run_crew.new.crew (c.in-Some.pass, c.in-Some.sender)
-    c.from-started.result c.requires c.in-Some.ensures.taken_out c.run_crew.ensures
+    c.from-started.result c.requires c.in-Some.ensures.taken_out c.run_crew.ensures.all
 
-pub returns : goal.returns
-returns g t c =
+pub returns-clause-all : goal.returns-clause-all
+returns-clause-all g t c =
     let noted = c.note_result.ensures in
     run_more c.remove_last.new.self c.args.crew.now c.run_crew.new.crew c.note_result.new.crew
     (c.in-Some.pass, c.in-Some.sender) c.join_worker.result c.is_ok.result c.from-started.result c.in-Some.ensures.taken_out
-    c.run_crew.ensures
+    c.run_crew.ensures.all
     (subst (λ w. Leaves (g.G.Gate.may_stop c.args.gate.now) (g.G.Gate.lets c.args.gate.now) c.args.shared.now w c.join_worker.result)
     c.number-worker.ensures c.join_worker.ensures.left)
     (c.join_worker.ensures.started ∙ sym c.is_ok.ensures.value) c.from-started.ensures

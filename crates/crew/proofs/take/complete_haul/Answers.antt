@@ -5,7 +5,7 @@ use Rattle.crew.proofs.CompleteLemmas.{nothing_missing}
 use Rattle.handover.specs.Belts.{Received}
 use Rattle.crew.specs.declared.note.Note.{Note}
 use Rattle.crew.proofs.StepLemmas.{cause_none, cause_open, cause_stopped, ready_first}
-use Rattle.crew.proofs.TakeLemmas.{belts_of, crew_has_taken, crew_stops, crew_within, series_of_all}
+use Rattle.crew.proofs.TakeLemmas.{belts_of, crew_has_taken, crew_heard, crew_stops, crew_within, series_of_all}
 use Rattle.crew.proofs.take.complete_haul.Goals as goal
 
 pub run_in_scope-crew-requires-after_bounds : goal.run_in_scope-crew-requires-after_bounds
@@ -15,20 +15,20 @@ run_in_scope-crew-requires-after_bounds g c κs within =
     (ap (λ (r : Received Note). r.belt) setup.receiver) setup.back refl
 
 pub end_crew-requires-clause-passes : goal.end_crew-requires-clause-passes
-end_crew-requires-clause-passes g c = series_of_all c.run_in_scope-crew.ensures
+end_crew-requires-clause-passes g c = series_of_all c.run_in_scope-crew.ensures.all
 
 pub end_crew-requires-clause-senders : goal.end_crew-requires-clause-senders
-end_crew-requires-clause-senders g c = belts_of c.run_in_scope-crew.ensures
+end_crew-requires-clause-senders g c = belts_of c.run_in_scope-crew.ensures.all
 
 pub end_crew-requires-clause-receiver : goal.end_crew-requires-clause-receiver
 end_crew-requires-clause-receiver g c =
-    c.run_in_scope-crew.ensures.collected.belt ∙ ap (λ (r : Received Note). r.belt) c.in-Ok.ensures.receiver
+    c.run_in_scope-crew.ensures.all.collected.belt ∙ ap (λ (r : Received Note). r.belt) c.in-Ok.ensures.receiver
 
 pub returns-clause-taken : goal.returns-clause-taken
 returns-clause-taken g c =
     let setup = c.in-Ok.ensures in
     let ended = c.end_crew.ensures in
-    crew_has_taken c.in-Ok.setup.shared c.args.workers _ c.run_in_scope-crew.result c.run_in_scope-crew.ensures setup.receiver
+    crew_has_taken c.in-Ok.setup.shared c.args.workers _ c.run_in_scope-crew.result c.run_in_scope-crew.ensures.all setup.receiver
     setup.workers setup.missing setup.ascending setup.senders ended.whole c.end_crew.result.0 ended.haul ended.distinct setup.job
 
 pub returns-clause-complete : goal.returns-clause-complete
@@ -37,7 +37,7 @@ returns-clause-complete g c none =
     let ended = c.end_crew.ensures in
     let crew = c.run_in_scope-crew.result in
     let both = cause_none crew.stopped crew.lacking (sym ended.cause ∙ none) in
-    let nothing = nothing_missing c.in-Ok.setup.shared c.args.workers _ crew c.run_in_scope-crew.ensures setup.receiver
+    let nothing = nothing_missing c.in-Ok.setup.shared c.args.workers _ crew c.run_in_scope-crew.ensures.all setup.receiver
     setup.workers setup.missing setup.ascending setup.senders ended.whole c.requires.some c.requires.few c.requires.«open» setup.job
     refl setup.tickets ended.drawn both.0 both.1 in
     subst (λ (h : Held). IsComplete h.terms.ranges h.taken) (sym ended.haul) (ended.none.0 (ap length nothing))
@@ -47,7 +47,7 @@ returns-clause-stopped g c worker is =
     let setup = c.in-Ok.ensures in
     let ended = c.end_crew.ensures in
     let crew = c.run_in_scope-crew.result in
-    crew_stops c.in-Ok.setup.shared c.args.workers _ crew c.run_in_scope-crew.ensures setup.receiver
+    crew_stops c.in-Ok.setup.shared c.args.workers _ crew c.run_in_scope-crew.ensures.all setup.receiver
     setup.workers setup.missing setup.ascending setup.senders ended.whole worker
     (cause_stopped crew.stopped crew.lacking worker (sym ended.cause ∙ is))
 
@@ -56,7 +56,7 @@ returns-clause-within g c worker is =
     let setup = c.in-Ok.ensures in
     let ended = c.end_crew.ensures in
     let crew = c.run_in_scope-crew.result in
-    crew_within c.in-Ok.setup.shared c.args.workers _ crew c.run_in_scope-crew.ensures setup.receiver
+    crew_within c.in-Ok.setup.shared c.args.workers _ crew c.run_in_scope-crew.ensures.all setup.receiver
     setup.workers setup.missing setup.ascending setup.senders ended.whole worker
     (cause_stopped crew.stopped crew.lacking worker (sym ended.cause ∙ is))
 
@@ -64,3 +64,11 @@ pub returns-clause-open : goal.returns-clause-open
 returns-clause-open g c is =
     let crew = c.run_in_scope-crew.result in
     cause_open crew.stopped crew.lacking (sym c.end_crew.ensures.cause ∙ is)
+
+pub returns-clause-heard : goal.returns-clause-heard
+returns-clause-heard g c =
+    let setup = c.in-Ok.ensures in
+    let ended = c.end_crew.ensures in
+    crew_heard c.in-Ok.setup.shared c.args.workers _ c.run_in_scope-crew.result c.run_in_scope-crew.ensures.all setup.receiver
+    setup.workers setup.missing setup.ascending setup.senders ended.whole c.end_crew.result.0 ended.haul setup.job ended.once _
+    c.run_in_scope-crew.ensures.heard

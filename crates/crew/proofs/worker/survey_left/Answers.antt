@@ -16,12 +16,12 @@ loop-preserved g c =
       c.draw.ensures.series ∙ so_far.0,
       ap (λ (s : Presented Note). s.number) c.present_one_of_many.ensures ∙ so_far.1,
       reported_next shared c.loop.pass.numbers c.draw.new.pass.numbers c.loop.sender c.present_one_of_many.new.pass place
-          c.in-Ok-make_by.report so_far.2 c.in-Some-draw.ensures.greater below
-          (own_report (g.G.Gate.lets c.args.gate.now) c.in-Ok-make_by.report (sym (c.number-worker.ensures ∙ sym so_far.1))
-          c.in-Ok-make_by.ensures.report.worker_is c.in-Ok-make_by.ensures.report.job_is
-          c.in-Ok-make_by.ensures.report.number_is c.in-Ok.ensures.lets)
-          (c.in-Ok-make_by.ensures.report.number_is ∙ get_or_read missing _ _ below c.index-number.ensures 0)
+          c.in-Ok-make_with_surveyor.report so_far.2 c.in-Some-draw.ensures.greater below
+          (own_report (g.G.Gate.lets c.args.gate.now) c.in-Ok-make_with_surveyor.report (sym (c.number-worker.ensures ∙ sym so_far.1))
+          c.in-Ok-make_with_surveyor.ensures.report.worker_is c.in-Ok-make_with_surveyor.ensures.report.job_is
+          c.in-Ok-make_with_surveyor.ensures.report.number_is c.in-Ok.ensures.lets)
+          (c.in-Ok-make_with_surveyor.ensures.report.number_is ∙ get_or_read missing _ _ below c.index-number.ensures 0)
           (ap (λ (d : Drawn). d.numbers) c.in-Some-draw.ensures.drawn) c.present_one_of_many.ensures,
-      not_done_more c.loop.sender.notes c.present_one_of_many.new.pass.notes c.in-Ok-make_by.report so_far.3
+      not_done_more c.loop.sender.notes c.present_one_of_many.new.pass.notes c.in-Ok-make_with_surveyor.report so_far.3
           (ap (λ (s : Presented Note). s.notes) c.present_one_of_many.ensures),
     )

@@ -69,7 +69,7 @@ impl Haul {
         ensures hinders { IfErr result (λ refused. Hinders self other refused.2) }
         ensures kept { IfErr result (λ refused. (refused.0 ≡ self) × (refused.1 ≡ other)) }
     {
-        match one_of(&self, &other) {
+        match try_join(&self, &other) {
             Ok(joined) => {
                 // Dropped by calls. If the two hauls were dropped at the end of the function, its proof would take many
                 // times as long.
@@ -82,8 +82,8 @@ impl Haul {
     }
 }
 
-/// Returns the two hauls as one, or why they can't be joined.
-fn one_of(first: &Haul, second: &Haul) -> Result<Haul, JoinError>
+/// Joins two hauls into a new one, or returns why they can't be joined.
+fn try_join(first: &Haul, second: &Haul) -> Result<Haul, JoinError>
     ensures can { OnOk result (CanJoin first.now second.now) }
     ensures joined { IfOk result (IsJoined first.now second.now) }
     ensures hinders { IfErr result (Hinders first.now second.now) }

@@ -46,7 +46,7 @@ impl Claim {
         ensures { IsCheckedClaim self job.now result }
     {
         let mut surveyor = Surveyor::without_memo(alloc);
-        self.check_by(alloc, &mut surveyor, job)
+        self.check_with_surveyor(alloc, &mut surveyor, job)
     }
 
     /// Checks the claim as [`check`](Claim::check) does, using a surveyor, which is faster. The surveyor may have
@@ -55,7 +55,7 @@ impl Claim {
     /// # Errors
     ///
     /// Those of [`check`](Claim::check).
-    pub fn check_by(
+    pub fn check_with_surveyor(
         self,
         alloc: Global,
         surveyor: &mut Surveyor,
@@ -68,7 +68,13 @@ impl Claim {
         }
         // For the prover: a finding that differs from the soup's shows that the claim is wrong.
         findings_are_determined();
-        let report = match Report::make_by(alloc, surveyor, job, self.worker, self.number) {
+        let report = match Report::make_with_surveyor(
+            alloc,
+            surveyor,
+            job,
+            self.worker,
+            self.number,
+        ) {
             Ok(report) => report,
             Err(ReportError::Memory(error)) => return Err((self, CheckError::Memory(error))),
             Err(ReportError::BadWorker) => unreachable!(),

@@ -12,7 +12,7 @@ use Rattle.std.proofs.lemmas.List.Elements.{recursion_from_All}
 use Rattle.std.proofs.lemmas.Nat.Bits.{bit_at-zero, bit_at_set_same, bit_at_set_other}
 use Rattle.plane_core.specs.declared.plane.bounds.Bounds.{Bounds}
 use Rattle.plane_core.specs.declared.plane.cell.Cell.{Cell}
-use Rattle.plane_core.specs.declared.engine.window_origin.WindowOrigin.{WindowOrigin}
+use Rattle.plane_core.specs.declared.engine.lone_window.WindowOrigin.{WindowOrigin}
 use Rattle.plane_core.specs.plane.Bounds.{AreSidesWithin, IsLeastBox, IsWithin}
 use Rattle.plane_core.specs.plane.Cells.{cell_at, distance, has, is_within, plane_bound, same_cell}
 use Rattle.plane_core.specs.plane.Generations.{lies_within}

@@ -29,21 +29,28 @@ use crate::engine::row_spans::{Hull, hull_of};
 use crate::engine::window_io::read_rows;
 use crate::plane::cell::Cell;
 use crate::plane::pattern::{Pattern, in_order};
+use crate::windows::geometry::{INNER_COLUMN_MASK, INNER_COLUMNS, MARGIN};
 use crate::windows::row_packing::{packed, unpacked};
 use crate::windows::rule_logic::RuleLogic;
-use crate::windows::window::{INNER_COLUMNS, generation};
+use crate::windows::window::generation;
 use memory::OutOfMemory;
 use std::alloc::Global;
 
 /// The number of cells for which the list has room from the start.
 const ROOM: usize = 128;
 
+/// The rows of a window.
+const ROWS: usize = 40;
+
+/// The rows of a band: the inner rows of its windows.
+const BAND_ROWS: usize = ROWS - 2 * MARGIN;
+
 /// A window after one generation: its rows, of which the inner ones are right.
 #[derive(Clone, Copy)]
 pub(crate) struct NextRows {
     /// The column of the board in which the window begins.
     pub(crate) x: usize,
-    pub(crate) rows: [u64; 40],
+    pub(crate) rows: [u64; ROWS],
 }
 
 impl Board {
@@ -85,16 +92,16 @@ fn list_next(
     let mut cells = Vec::with_capacity(alloc, ROOM)?;
     let mut windows = Vec::new(alloc);
     // The inner part of the first window begins one column and one row before the hull.
-    let from = 64 * hull.word_columns.from - 5;
+    let from = 64 * hull.word_columns.from - (MARGIN + 1);
     let end = 64 * hull.word_columns.end;
-    let mut y = hull.rows.from - 5;
-    while y + 4 <= hull.rows.end {
+    let mut y = hull.rows.from - (MARGIN + 1);
+    while y + MARGIN <= hull.rows.end {
         let inside = run_band(words, at, from, end, y, rule, &mut windows)?;
         if !inside {
             return Ok(None);
         }
         list_band(at, y, windows.as_slice(), &mut cells)?;
-        y += 32;
+        y += BAND_ROWS;
     }
     Ok(Some(cells))
 }
@@ -108,7 +115,7 @@ fn has_rim(at: Frame, hull: Hull) -> bool
     if columns.from == 0 || columns.from >= columns.end || columns.end >= at.word_columns {
         return false;
     }
-    5 <= rows.from && rows.from < rows.end && rows.end < at.rows
+    MARGIN < rows.from && rows.from < rows.end && rows.end < at.rows
 }
 
 /// Runs windows side by side, from column `from` and row `y` on, so that their inner parts have all columns from `from`
@@ -133,11 +140,11 @@ fn run_band(
         → AreBandOf at y (from + 4) (end + 1) (after (rule_of rule.now) cells 1) windows.new.items) }
 {
     windows.clear();
-    if y + 40 > at.rows {
+    if y + ROWS > at.rows {
         return Ok(false);
     }
     let mut x = from;
-    while x + 4 <= end {
+    while x + MARGIN <= end {
         if x / 64 + 1 >= at.word_columns {
             return Ok(false);
         }
@@ -146,34 +153,34 @@ fn run_band(
         if !empty {
             windows.push(NextRows { x, rows })?;
         }
-        x += 56;
+        x += INNER_COLUMNS;
     }
     Ok(true)
 }
 
 /// Returns the rows, one generation later, of a window that begins in column `x` and row `y` of the board.
-fn next_rows(words: &[u64], at: Frame, x: usize, y: usize, rule: &RuleLogic) -> [u64; 40]
+fn next_rows(words: &[u64], at: Frame, x: usize, y: usize, rule: &RuleLogic) -> [u64; ROWS]
     requires long { FillsFrame at words.now }
     requires word_columns { x / 64 + 1 < at.word_columns }
     requires rows { y + 40 ≤ at.rows }
     ensures { AreNextRows at words.now (rule_of rule.now) x y result }
 {
-    let rows = read_rows::<40>(words, at, x, y);
+    let rows = read_rows::<ROWS>(words, at, x, y);
     let empty = is_empty(&rows);
     if empty {
         return rows;
     }
-    let mut window = packed::<40, 10>(&rows);
+    let mut window = packed::<ROWS, 10>(&rows);
     generation(&mut window, rule);
     unpacked(&window)
 }
 
 /// Checks whether no row has a live cell. No branch depends on a row, so that four rows are tested at once.
-fn is_empty(rows: &[u64; 40]) -> bool
+fn is_empty(rows: &[u64; ROWS]) -> bool
     ensures { IsTrue result → (r i : ℕ) → r < 40 → bit_at (slice_index rows.now r) i ≡ 0 }
 {
     let mut all = 0;
-    for r in 0..40 {
+    for r in 0..ROWS {
         all |= rows[r];
     }
     all == 0
@@ -192,10 +199,10 @@ fn list_band(
     ensures { OnOk result ((next : List Cell) → All (IsNextWindowOf at y next) windows.now
         → HasListedRows at y 36 next windows.now cells.old.items cells.new.items) }
 {
-    for r in 4..36 {
+    for r in MARGIN..MARGIN + BAND_ROWS {
         for window in windows {
             let first = cell_on(at, window.x, y + r);
-            read_word(window.rows[r] & INNER_COLUMNS, first, cells)?;
+            read_word(window.rows[r] & INNER_COLUMN_MASK, first, cells)?;
         }
     }
     Ok(())

@@ -1,6 +1,6 @@
 -- Counting objects by their codes, and multiples of their periods.
 use Rattle.std.proofs.Common.{◌≡◌, ◌∙◌, ap, sym, refl, subst, ℕ, ◌+◌, ◌*◌, ◌/◌, ◌%◌, ◌<◌, ◌≤◌, ◌↔◌, add-zero, zero-add, mul_comm, nat_eq, Bool, true}
-use Rattle.std.proofs.Common.{false, sum, IsTrue, cond, List, [], ◌∷◌, ◌++◌, take, get_or, count_by, length, None, Option, Some, IfSome, unwrap_or, arith}
+use Rattle.std.proofs.Common.{false, sum, IsTrue, inl, inr, ◌≢◌, zero, suc, cond, List, [], ◌∷◌, ◌++◌, take, get_or, count_by, length, None, Option, Some, IfSome, unwrap_or, arith}
 use Rattle.std.proofs.Common.{if◌then◌else◌}
 use Rattle.std.specs.BTreeMap.{BTreeMap, IsOrdered, insert_entry}
 use Rattle.std.specs.Cmp.Lexicographic.{nat_list_cmp_total, slice_cmp}
@@ -13,15 +13,20 @@ use Rattle.std.proofs.lemmas.Iterator.Adapters.{option_map_id}
 use Rattle.std.specs.Ordering.{is_eq, nat_cmp, ordering_reverse}
 use Rattle.std.specs.declared.cmp.Ordering.{Ordering}
 use Rattle.std.specs.declared.cmp.Ordering.TheVariants.{Less, Equal, Greater}
+use Prim.Native.Nat.{◌∣◌}
+use Rattle.std.proofs.lemmas.Bool.{cases_lt}
 use Rattle.std.proofs.lemmas.Bool.Decides.{Decides-eqb}
-use Rattle.std.proofs.lemmas.List.{length-append, take_more}
+use Rattle.std.proofs.lemmas.List.{get_or-take, length-append, length-take-le, take-take, take_more}
+use Rattle.std.proofs.lemmas.List.Elements.{All-more, All-take}
+use Rattle.std.proofs.lemmas.Nat.Gcd.{dvd_trans}
 use Rattle.std.proofs.lemmas.List.Sums.{sum_by-append}
 use Rattle.std.proofs.lemmas.Map.Views.{All-found}
-use Rattle.std.proofs.Math.Nat.{div-add-mod, mul-mod_left}
+use Rattle.std.proofs.Math.Nat.{div-add-mod, le-div_iff_mul-le, mul-le-mul_right, dvd-mod_iff, dvd-mul_left, dvd_iff_mod-eq-zero, mod-lt, mul-mod_left}
 use Rattle.plane_core.specs.declared.plane.cell.Cell.{Cell}
+use Rattle.plane_core.proofs.lemmas.plane.CaseLemmas.{same_or_not}
 use Rattle.plane_core.specs.plane.Rules.{Numbers}
 use Rattle.code_core.specs.Names.{IsCode}
-use Rattle.survey_core.specs.shapes.Objects.{AreObjects, CountsAreSome, IsMultiple, IsOneMore, count_of, is_code}
+use Rattle.survey_core.specs.shapes.Objects.{AreObjects, CountsAreSome, IsCommonMultiple, IsLeastCommonMultiple, IsMultiple, IsOneMore, count_of, is_code, period_in}
 
 -- a multiple of n is what n divides without a rest
 pub multiple_then : (m n : ℕ) → IsTrue (nat_eq (m % n) 0) ↔ IsMultiple m n
@@ -36,6 +41,85 @@ never_of_none m n some none (k, is) = none_left k m n some none is
   where
     none_left : (k m n : ℕ) → 1 ≤ m → n ≡ 0 → m ≡ k * n → ⊥
     none_left k m n some none is = grind (arith, some, none, is)
+
+divides : (m n : ℕ) → IsMultiple m n → n ∣ m
+divides m n (k, is) = subst (λ (x : ℕ). n ∣ x) (sym is) (dvd-mul_left n k)
+
+divided : (m n : ℕ) → n ∣ m → IsMultiple m n
+divided m n d = (multiple_then m n).0 ((Decides-eqb (m % n) 0).1 ((dvd_iff_mod-eq-zero n).0 d))
+
+-- every common multiple is a multiple of the least one
+pub multiple_of_least : (objects : List (List ℕ × ℕ)) (l m : ℕ) → IsLeastCommonMultiple objects l → IsCommonMultiple objects m
+    → IsMultiple m l
+multiple_of_least objects l m is common = divided m l ((dvd_iff_mod-eq-zero l).1 none)
+  where
+    -- otherwise the remainder would be a smaller one
+    smaller : (m % l ≢ 0) → IsCommonMultiple objects (m % l)
+    smaller some = record {
+      some = omega (arith, some);
+      each = λ i d low. divided (m % l) _ ((dvd-mod_iff _ (divides l _ (is.common.each i d low))).1 (divides m _ (common.each i d low)));
+    }
+
+    none : m % l ≡ 0
+    none = elim (same_or_not (m % l) 0) [
+      | inl is_zero ↦ is_zero
+      | inr some ↦ absurd (let low = is.least (m % l) (smaller some) in let high = mod-lt m is.common.some in omega (arith, low, high))
+    ]
+
+-- No common multiple of n and p is below the multiple b + 1 of n, if p divides none of the first b multiples.
+pub first_common : (n p b : ℕ) → ((j : ℕ) → j < b → ¬ IsMultiple ((j + 1) * n) p) → (m : ℕ) → 1 ≤ m → IsMultiple m n
+    → IsMultiple m p → (b + 1) * n ≤ m
+first_common n p b none m some (k, is) of_period = go k is
+  where
+    after : (k : ℕ) → suc k ≡ k + 1
+    after k = omega arith
+
+    go : (k : ℕ) → m ≡ k * n → (b + 1) * n ≤ m
+    go zero is = absurd (grind (arith, some, is))
+    go (suc k) is = elim (cases_lt k b) [
+      | inl low ↦ absurd (none k low (subst (λ (x : ℕ). IsMultiple x p) (is ∙ ap (λ (x : ℕ). x * n) (after k)) of_period))
+      | inr high ↦ subst (λ (x : ℕ). (b + 1) * n ≤ x) (sym is) (mul-le-mul_right n (omega (arith, high)))
+    ]
+
+pub multiple_within : (n b most : ℕ) → 1 ≤ n → b < most / n → (b + 1) * n ≤ most
+multiple_within n b most some low = (le-div_iff_mul-le some).0 (omega (arith, low))
+
+-- the same if these are all multiples of n up to a number
+pub none_common : (n p b most : ℕ) → 1 ≤ n → most / n ≤ b → ((j : ℕ) → j < b → ¬ IsMultiple ((j + 1) * n) p) → (m : ℕ) → 1 ≤ m
+    → IsMultiple m n → IsMultiple m p → most < m
+none_common n p b most positive all none m some of_one of_period = elim (cases_lt most m) [
+  | inl past ↦ past
+  | inr low ↦ absurd (
+      let first = first_common n p b none m some of_one of_period in
+      let within : b + 1 ≤ most / n = (le-div_iff_mul-le positive).1 (omega (arith, first, low)) in
+      omega (arith, within, all))
+]
+
+-- the common multiples of some objects are common multiples of the first ones
+pub common_before : (objects : List (List ℕ × ℕ)) (i m : ℕ) → IsCommonMultiple objects m → IsCommonMultiple (take i objects) m
+common_before objects i m common =
+    record { some = common.some; each = All-take (λ object. IsMultiple m (period_in object.0)) i objects common.each }
+
+-- the least common multiple with one more object
+pub least_more : (objects : List (List ℕ × ℕ)) (i one next : ℕ) (item : List ℕ × ℕ) → i < length objects → item ≡ get_or objects i item
+    → IsLeastCommonMultiple (take i objects) one → 1 ≤ next → IsMultiple next one → IsMultiple next (period_in item.0)
+    → ((m : ℕ) → 1 ≤ m → IsMultiple m one → IsMultiple m (period_in item.0) → next ≤ m)
+    → IsLeastCommonMultiple (take (i + 1) objects) next
+least_more objects i one next item low there is some of_one of_item first = record {
+  common = record {
+    some = some;
+    each = All-more (λ object. IsMultiple next (period_in object.0)) objects i item low
+        (λ k d below. divided next _ (dvd_trans _ (divides one _ (is.common.each k d below)) (divides next one of_one)))
+        (subst (λ (object : List ℕ × ℕ). IsMultiple next (period_in object.0)) there of_item);
+  };
+  least = λ m common. first m common.some
+      (multiple_of_least (take i objects) one m is (subst (λ (some : List (List ℕ × ℕ)). IsCommonMultiple some m) (take_less common) (common_before (take (i + 1) objects) i m common)))
+      (subst (λ (object : List ℕ × ℕ). IsMultiple m (period_in object.0)) (get_or-take (i + 1) objects i item (omega arith) ∙ sym there)
+      (common.each i item (subst (λ (n : ℕ). i < n) (sym (length-take-le (i + 1) objects (omega (arith, low)))) (omega arith))));
+}
+  where
+    take_less : {m : ℕ} → IsCommonMultiple (take (i + 1) objects) m → take i (take (i + 1) objects) ≡ take i objects
+    take_less _ = take-take i (i + 1) objects (omega arith)
 
 -- ---- codes
 

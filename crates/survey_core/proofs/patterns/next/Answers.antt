@@ -6,7 +6,9 @@ use Rattle.plane_core.proofs.lemmas.plane.SpeedLemmas.{inside_edge}
 use Rattle.survey_core.proofs.patterns.next.Goals as goal
 
 -- no cell lies on the edge
-pub unreachable-requires : goal.unreachable-requires
-unreachable-requires c =
-    let on : RefusesStep c.args.pattern.now Edge = rw c.in-Err-Edge.field-0-is at c.in-Err-Edge.ensures.refused in
-    false≢true (sym (inside_edge c.args.pattern.now 999999 (omega arith) c.requires) ∙ on)
+pub refusal-requires : goal.refusal-requires
+refusal-requires c = record {
+  inland = λ edge.
+      let on : RefusesStep c.args.pattern.now Edge = rw edge at c.in-Err.ensures.refused in
+      false≢true (sym (inside_edge c.args.pattern.now 999999 (omega arith) c.requires) ∙ on);
+}

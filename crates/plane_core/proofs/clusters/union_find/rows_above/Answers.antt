@@ -28,17 +28,17 @@ returns c =
     let above : FitsSigned w32 c.moved-2.result.y = search rules in
     let top_is : c.moved.result.y ≡ (new.y +ℤ negsuc 1) = ap (λ (d : Cell). d.y) c.moved.ensures in
     let above_is : c.moved-2.result.y ≡ (new.y +ℤ negsuc 0) = ap (λ (d : Cell). d.y) c.moved-2.ensures in
-    let before_begin : (k : ℕ) → c.args.rows.begin ≤ k → k < c.first_in_row-begin.result → (cell_of cells k).y <ℤ c.moved.result.y =
-    simp to_z-of_z at c.first_in_row-begin.ensures.before in
-    let at_begin : c.first_in_row-begin.result < c.args.place → c.moved.result.y ≤ℤ (cell_of cells c.first_in_row-begin.result).y =
-    simp to_z-of_z at c.first_in_row-begin.ensures.at in
-    let before_end : (k : ℕ) → c.first_in_row-begin.result ≤ k → k < c.first_in_row-end.result → (cell_of cells k).y <ℤ c.moved-2.result.y =
-    simp to_z-of_z at c.first_in_row-end.ensures.before in
-    let at_end : c.first_in_row-end.result < c.args.place → c.moved-2.result.y ≤ℤ (cell_of cells c.first_in_row-end.result).y =
-    simp to_z-of_z at c.first_in_row-end.ensures.at in
-    new_rows cells c.args.rows c.args.place c.first_in_row-begin.result c.first_in_row-end.result c.requires.pattern.in_order c.requires.place.0
-    c.requires.place.1 apart c.requires.rows c.first_in_row-begin.ensures.low c.first_in_row-begin.ensures.high
+    let before_begin : (k : ℕ) → c.args.rows.begin ≤ k → k < c.first_from-begin.result → (cell_of cells k).y <ℤ c.moved.result.y =
+    simp to_z-of_z at c.first_from-begin.ensures.before in
+    let at_begin : c.first_from-begin.result < c.args.place → c.moved.result.y ≤ℤ (cell_of cells c.first_from-begin.result).y =
+    simp to_z-of_z at c.first_from-begin.ensures.at in
+    let before_end : (k : ℕ) → c.first_from-begin.result ≤ k → k < c.first_from-end.result → (cell_of cells k).y <ℤ c.moved-2.result.y =
+    simp to_z-of_z at c.first_from-end.ensures.before in
+    let at_end : c.first_from-end.result < c.args.place → c.moved-2.result.y ≤ℤ (cell_of cells c.first_from-end.result).y =
+    simp to_z-of_z at c.first_from-end.ensures.at in
+    new_rows cells c.args.rows c.args.place c.first_from-begin.result c.first_from-end.result c.requires.pattern.in_order c.requires.place.0
+    c.requires.place.1 apart c.requires.rows c.first_from-begin.ensures.low c.first_from-begin.ensures.high
     (λ k least less. subst (λ (y : ℤ). (cell_of cells k).y <ℤ y) top_is (before_begin k least less))
-    (λ less. subst (λ (y : ℤ). y ≤ℤ (cell_of cells c.first_in_row-begin.result).y) top_is (at_begin less)) c.first_in_row-end.ensures.low
-    c.first_in_row-end.ensures.high (λ k least less. subst (λ (y : ℤ). (cell_of cells k).y <ℤ y) above_is (before_end k least less))
-    (λ less. subst (λ (y : ℤ). y ≤ℤ (cell_of cells c.first_in_row-end.result).y) above_is (at_end less))
+    (λ less. subst (λ (y : ℤ). y ≤ℤ (cell_of cells c.first_from-begin.result).y) top_is (at_begin less)) c.first_from-end.ensures.low
+    c.first_from-end.ensures.high (λ k least less. subst (λ (y : ℤ). (cell_of cells k).y <ℤ y) above_is (before_end k least less))
+    (λ less. subst (λ (y : ℤ). y ≤ℤ (cell_of cells c.first_from-end.result).y) above_is (at_end less))

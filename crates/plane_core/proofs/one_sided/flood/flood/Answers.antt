@@ -23,7 +23,7 @@ both : (rows start flood down up : List ℕ) → HasGrown rows start flood → H
 both rows start flood down up p q r = grown_more rows start down up (grown_more rows start flood down p q) r
 
 pub loop-init : goal.loop-init
-loop-init c = let a = c.if-row-lt4.false in record { first = omega arith; grown = grown_none c.args.rows.now (begun c.args.row c.args.column) }
+loop-init c = let a = c.if-row-lt-MARGIN.false in record { first = omega arith; grown = grown_none c.args.rows.now (begun c.args.row c.args.column) }
 
 pub loop-preserved : goal.loop-preserved
 loop-preserved c = record {
@@ -34,17 +34,17 @@ loop-preserved c = record {
 
 pub returns-then-lies_inside : goal.returns-then-lies_inside
 returns-then-lies_inside c = λ e.
-    all_flooded c.args.rows.now (begun c.args.row c.args.column) c.grow_up-grown.new.flood c.args.row c.args.column (begun_start (replicate 64 0) c.args.row c.args.column (within_64 _ c.if-row-ge60.false) (within_64 _ c.if-column-ge60.false))
-    (lit (slice_index c.args.rows.now c.args.row) c.args.column c.if-rows-row-eq0.false) (record { above = c.if-row-lt4.false; below = c.if-row-ge60.false; west = c.if-column-lt4.false; east = c.if-column-ge60.false })
-    (begun_only (replicate 64 0) c.args.row c.args.column (within_64 _ c.if-row-ge60.false) (within_64 _ c.if-column-ge60.false) none_lit)
+    all_flooded c.args.rows.now (begun c.args.row c.args.column) c.grow_up-grown.new.flood c.args.row c.args.column (begun_start (replicate 64 0) c.args.row c.args.column (within_64 _ c.if-row-ge-INNER_END.false) (within_64 _ c.if-left-ge-INNER_END.false))
+    (lit (slice_index c.args.rows.now c.args.row) c.args.column c.if-rows-row-eq0.false) (record { above = c.if-row-lt-MARGIN.false; below = c.if-row-ge-INNER_END.false; west = c.if-left-lt-MARGIN.false; east = c.if-left-ge-INNER_END.false })
+    (begun_only (replicate 64 0) c.args.row c.args.column (within_64 _ c.if-row-ge-INNER_END.false) (within_64 _ c.if-left-ge-INNER_END.false) none_lit)
     (both c.args.rows.now (begun c.args.row c.args.column) c.loop.flood c.grow_down-end.new.flood c.grow_up-grown.new.flood c.loop.invariant.grown
     c.grow_down-end.ensures.grown c.grow_up-grown.ensures.grown) (c.lies_inside.ensures c.if-lies_inside.true) (c.is_closed.ensures e)
 
 pub returns-else-lies_inside : goal.returns-else-lies_inside
 returns-else-lies_inside c = λ e. absurd (false≢true (sym c.if-lies_inside.false ∙ e))
 
-pub returns-then-row-lt4 : goal.returns-then-row-lt4
-returns-then-row-lt4 c = λ e. absurd (false≢true e)
+pub returns-then-row-lt-MARGIN : goal.returns-then-row-lt-MARGIN
+returns-then-row-lt-MARGIN c = λ e. absurd (false≢true e)
 
 pub returns : goal.returns
 returns c = λ e. absurd (false≢true e)

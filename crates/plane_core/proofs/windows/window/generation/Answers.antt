@@ -6,9 +6,9 @@ use Rattle.plane_core.proofs.windows.window.generation.Goals as goal
 
 pub returns-in-Life : goal.returns-in-Life
 returns-in-Life g c =
-    subst (λ (a : RuleLogic). IsNextWindow (rule_of a) g.row.N c.args.window.now c.generation_by.new.window) (sym c.in-Life.is) c.generation_by.ensures
+    subst (λ (a : RuleLogic). IsNextWindow (rule_of a) g.row.N c.args.window.now c.generation_with_logic.new.window) (sym c.in-Life.is) c.generation_with_logic.ensures
 
 pub returns-in-Any : goal.returns-in-Any
 returns-in-Any g c =
-    subst (λ (a : RuleLogic). IsNextWindow (rule_of a) g.row.N c.args.window.now c.generation_by-in-Any.new.window) (sym c.in-Any.is)
-    c.generation_by-in-Any.ensures
+    subst (λ (a : RuleLogic). IsNextWindow (rule_of a) g.row.N c.args.window.now c.generation_with_logic-in-Any.new.window) (sym c.in-Any.is)
+    c.generation_with_logic-in-Any.ensures

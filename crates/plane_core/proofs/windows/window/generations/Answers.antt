@@ -6,10 +6,10 @@ use Rattle.plane_core.proofs.windows.window.generations.Goals as goal
 
 pub returns-in-Life : goal.returns-in-Life
 returns-in-Life g c =
-    subst (λ (a : RuleLogic). IsLaterWindow (rule_of a) g.row.N c.args.window.now c.generations_by.new.window c.args.count) (sym c.in-Life.is)
-    c.generations_by.ensures
+    subst (λ (a : RuleLogic). IsLaterWindow (rule_of a) g.row.N c.args.window.now c.generations_with_logic.new.window c.args.count) (sym c.in-Life.is)
+    c.generations_with_logic.ensures
 
 pub returns-in-Any : goal.returns-in-Any
 returns-in-Any g c =
-    subst (λ (a : RuleLogic). IsLaterWindow (rule_of a) g.row.N c.args.window.now c.generations_by-in-Any.new.window c.args.count) (sym c.in-Any.is)
-    c.generations_by-in-Any.ensures
+    subst (λ (a : RuleLogic). IsLaterWindow (rule_of a) g.row.N c.args.window.now c.generations_with_logic-in-Any.new.window c.args.count) (sym c.in-Any.is)
+    c.generations_with_logic-in-Any.ensures

@@ -1,7 +1,7 @@
 use Rattle.plane_core.proofs.engine.board.Board.rules_out_rest.Goals as goal
 
-pub returns-then-rules_out_rest_by : goal.returns-then-rules_out_rest_by
-returns-then-rules_out_rest_by c = λ _. c.rules_out_rest_by.ensures c.if-rules_out_rest_by.true
+pub returns-then-try_boxes : goal.returns-then-try_boxes
+returns-then-try_boxes c = λ _. c.try_boxes.ensures c.if-try_boxes.true
 
 pub returns : goal.returns
-returns c = c.rules_out_rest_by-2.ensures
+returns c = c.try_boxes-2.ensures

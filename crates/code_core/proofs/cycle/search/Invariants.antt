@@ -1,8 +1,0 @@
-use Rattle.std.proofs.Common.{List}
-use Rattle.plane_core.specs.declared.plane.cell.Cell.{Cell}
-use Rattle.code_core.specs.Recurrences.{Follows}
-use Rattle.code_core.proofs.cycle.search.Given as goal
-
--- the earlier generations aren't kept, but there are some
-abbrev pub invariant-loop-age : goal.invariant-loop-age
-invariant-loop-age l = (before : List (List Cell)) × Follows l.rule l.pattern l.age before l.latest

@@ -1,0 +1,145 @@
+//! Tests of `take` with report lines.
+
+use crate::gather::plan_of;
+use crate::progress::line_on;
+use crate::streams::{FaultyWriter, Left, quick_writer, slow_writer};
+use commands::machine::Machine;
+use commands::reporting::do_take_reporting;
+use crew::progress_observer::{NoObserver, ProgressObserver};
+use pattern_commands::status::Status;
+use plane_core::output::Out;
+use std::sync::Wait;
+use std::thread::Threads;
+
+// Under the small profile no soup is settled, so each is late.
+const LINES: &[u8] = b"report 2 rule=b3s23 profile=1,1,1,0 seed= worker=1 soup=0 unsettled\n\
+    report 2 rule=b3s23 profile=1,1,1,0 seed= worker=1 soup=1 unsettled\n\
+    report 2 rule=b3s23 profile=1,1,1,0 seed= worker=1 soup=2 unsettled\n";
+
+/// How many bytes one of these lines has.
+const LINE: usize = 68;
+
+const THREE: &[u8] = b"@VERSION 2\n\
+    @ROOT seed=\n\
+    @RULE b3s23\n\
+    @SYMMETRY C1\n\
+    @PROFILE 1 1 1 0\n\
+    @RANGE 0 3\n\
+    @NUM_SOUPS 3\n\
+    @NUM_UNSETTLED 3\n\
+    @NUM_FOR_GOOD 0\n\
+    @NUM_OBJECTS 0\n\
+    \n\
+    @CENSUS TABLE\n\
+    \n\
+    @SAMPLE_SOUPIDS\n";
+
+/// Takes three soups, and those of a list, with a worker, two writers and an observer.
+fn left_by<R: AllocGlobal + Threads + Wait + Sync, H: ProgressObserver + Drop>(
+    rt: &R,
+    also: &str,
+    output: FaultyWriter,
+    errors: FaultyWriter,
+    observer: H,
+) -> Left {
+    let mut output = Out::new(output);
+    let mut machine = Machine {
+        alloc: rt.alloc(),
+        threads: rt,
+        errors: Out::new(errors),
+        observer,
+    };
+    let plan = plan_of(3, also);
+    let status = do_take_reporting(&mut machine, &plan, 1, 100_001, &mut output);
+    Left::new(status, output, machine.errors)
+}
+
+/// The same with a fault at a write of standard error.
+fn left_by_errors<R: AllocGlobal + Threads + Wait + Sync>(rt: &R, errors: FaultyWriter) -> Left {
+    left_by(rt, "", slow_writer(rt.alloc(), 0), errors, NoObserver)
+}
+
+#[test]
+fn writes_each_line_in_one_write(rt: HostRuntime) {
+    let left = left_by_errors(&rt, quick_writer(rt.alloc(), 0));
+    assert!(rt; left.is(Status::Done, THREE, LINES));
+    assert!(rt; left.errors.writes == 3);
+}
+
+#[test]
+fn refuses_before_a_line(rt: HostRuntime) {
+    let left = left_by(
+        &rt,
+        "2+1",
+        slow_writer(rt.alloc(), 0),
+        slow_writer(rt.alloc(), 0),
+        NoObserver,
+    );
+    assert!(rt; left.is(Status::Refused, b"", b"census: ranges overlap\n"));
+}
+
+// Each write is of a line, and nothing follows the one that failed.
+#[test]
+fn ends_if_a_line_is_not_written(rt: HostRuntime) {
+    for bad in 1..4 {
+        let left = left_by_errors(&rt, quick_writer(rt.alloc(), bad));
+        assert!(rt;
+            left.is(Status::Failed, b"", &LINES[..(bad - 1) * LINE]),
+            "write {bad}"
+        );
+    }
+}
+
+#[test]
+fn ends_if_a_line_is_cut(rt: HostRuntime) {
+    for bad in [1, LINE, LINE + 1, 3 * LINE] {
+        let left = left_by_errors(&rt, slow_writer(rt.alloc(), bad));
+        assert!(rt;
+            left.is(Status::Failed, b"", &LINES[..bad - 1]),
+            "write {bad}"
+        );
+        assert!(rt; left.errors.writes == bad, "write {bad}");
+    }
+}
+
+#[test]
+fn tells_that_the_haul_is_cut_after_all_lines(rt: HostRuntime) {
+    let left = left_by(
+        &rt,
+        "",
+        slow_writer(rt.alloc(), 12),
+        slow_writer(rt.alloc(), 0),
+        NoObserver,
+    );
+    assert!(rt; left.status == Status::Failed);
+    assert!(rt; left.output.taken.as_slice() == &THREE[..11]);
+    assert!(rt; left.errors.taken.as_slice().starts_with(LINES));
+    assert!(rt;
+        left.errors
+            .taken
+            .as_slice()
+            .ends_with(b"soup=2 unsettled\ncensus: write failed\n")
+    );
+}
+
+// The clock ticks at the beginning, and before each of the five tellings of the progress: at 0, 100, 200 milliseconds
+// and so on. A line that was wiped is drawn as it was.
+#[test]
+fn wipes_the_line_of_progress(rt: HostRuntime) {
+    let mut screen = Vec::new(rt.alloc());
+    let line = line_on(&rt, &mut screen, true);
+    let left = left_by(
+        &rt,
+        "",
+        slow_writer(rt.alloc(), 0),
+        slow_writer(rt.alloc(), 0),
+        line,
+    );
+    assert!(rt; left.is(Status::Done, THREE, LINES));
+    let told = b"\r0 of 3 soups\r            \r\r0 of 3 soups\
+        \r1 of 3 soups, 5 a second\r                        \r\r1 of 3 soups, 5 a second\
+        \r                        \r\r1 of 3 soups, 5 a second\
+        \r3 of 3 soups, 7 a second\
+        \r                        \r";
+    assert!(rt; screen.as_slice() == told.as_slice());
+}
