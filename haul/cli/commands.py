@@ -10,6 +10,12 @@ from haul.census.client import Census
 from haul.cli.index_commands import run_index_check
 from haul.cli.statuses import DONE, NOT_RIGHT, REFUSED
 from haul.cli.streams import Refused, Streams, format_place
+from haul.formats.coordinates import (
+    BadCoordinates,
+    format_rle_of_cells,
+    is_coordinates,
+    read_coordinates,
+)
 from haul.formats.field_reader import BadHaul
 from haul.formats.haul_reader import read_hauls
 from haul.formats.haul_writer import format_haul
@@ -195,10 +201,14 @@ def run_cells(asked: argparse.Namespace, streams: Streams) -> int:
 
 def run_rle(asked: argparse.Namespace, streams: Streams) -> int:
     try:
-        rows = read_plaintext(streams.read_pattern(asked.file))
-    except BadPlaintext as bad:
+        with streams.open_pattern(asked.file) as (text, lines):
+            if is_coordinates(text):
+                rle = format_rle_of_cells(read_coordinates(lines), asked.rule)
+            else:
+                rle = iter(format_rle(read_plaintext(text), asked.rule))
+    except (BadPlaintext, BadCoordinates) as bad:
         raise Refused(f"{format_place(asked.file)}{bad}") from None
-    streams.write_lines(format_rle(rows, asked.rule))
+    streams.write_lines(rle)
     return DONE
 
 
