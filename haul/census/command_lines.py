@@ -43,6 +43,16 @@ def list_run_arguments(job: Job, generations: int) -> list[str]:
     return ["run", f"--rule={job.rule}", str(generations)]
 
 
+def list_coordinates_arguments(rule: str, generations: int) -> list[str]:
+    """Returns the arguments for the live cells of a pattern some generations later."""
+    return ["run", f"--rule={rule}", "--coordinates", str(generations)]
+
+
+def list_sizes_arguments(rule: str, first: int, last: int) -> list[str]:
+    """Returns the arguments for the sizes of a pattern, from one generation to another."""
+    return ["run", f"--rule={rule}", f"--sizes={first}", str(last)]
+
+
 def list_set_options(job: Job, ranges: list[Range]) -> list[str]:
     """Returns the options of a job and of a set of soups."""
     # mutant: equal because an empty set is the same wherever it begins

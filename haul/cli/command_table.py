@@ -12,8 +12,9 @@ from haul.cli.faults import (
     find_fault_of_search,
 )
 from haul.cli.index_commands import run_index
-from haul.cli.shared_options import CENSUS, FORMS
+from haul.cli.shared_options import CENSUS, FORMS, list_profile_options
 from haul.cli.soup_commands import CELLS, RLE, SOUP, SOUPS
+from haul.cli.why_command import WHY
 from haul.cli.values import (
     read_as_census,
     read_code,
@@ -28,7 +29,6 @@ from haul.cli.values import (
     read_workers,
 )
 from haul.formats.haul import NUMBER_LIMIT
-from haul.formats.profile import LIMIT, MOST_HORIZON, PERIOD, STANDARD, STRIDE, Profile
 from haul.page.sides import MOST_SIDES
 from haul.rarity.reference import SOUPS as REFERENCE_SOUPS
 from haul.views.compare import MOST_HAULS
@@ -91,17 +91,7 @@ SEARCH = Command(
             "begin FILE with this rule, such as b36s23 (default: b3s23, Life)",
             read_rule_value,
         ),
-        *(
-            option(
-                f"--{name}",
-                "N",
-                f"begin FILE with this {name}, {least} to {most} (default: {standard})",
-                read_as_census(least, most),
-            )
-            for name, (least, most), standard in zip(
-                Profile._fields, (PERIOD, (0, MOST_HORIZON), STRIDE, LIMIT), STANDARD, strict=True
-            )
-        ),
+        *list_profile_options("begin FILE with this"),
         CENSUS,
         Argument("file", "the file that keeps the haul", "FILE", read_path),
     ),
@@ -312,4 +302,18 @@ PAGE = Command(
     commands.run_page,
 )
 
-COMMANDS = (SEARCH, CHECK, INDEX, JOIN, COMPARE, TABLE, RARITY, PAGE, SOUP, SOUPS, CELLS, RLE)
+COMMANDS = (
+    SEARCH,
+    CHECK,
+    INDEX,
+    JOIN,
+    COMPARE,
+    TABLE,
+    RARITY,
+    PAGE,
+    SOUP,
+    SOUPS,
+    WHY,
+    CELLS,
+    RLE,
+)

@@ -10,6 +10,7 @@ from haul.census.client import Census
 from haul.cli.index_commands import run_index_check
 from haul.cli.statuses import DONE, NOT_RIGHT, REFUSED
 from haul.cli.streams import Refused, Streams, format_place
+from haul.fates.explain import TooLate
 from haul.formats.coordinates import (
     BadCoordinates,
     format_rle_of_cells,
@@ -233,7 +234,10 @@ def run_soups(asked: argparse.Namespace, streams: Streams) -> int:
                 soups.add(report)
     reports.tell_skipped()
     streams.terminal.show_progress("")
-    table = soups.table(reports.job, settling)
+    try:
+        table = soups.table(reports.job, settling)
+    except TooLate as why:
+        raise Refused(str(why)) from None
     form = table.csv if asked.csv else table.json if asked.json else table.text
     streams.write_lines(form(reports.job, settling))
     return DONE
@@ -244,7 +248,7 @@ def choose_soup_list(asked: argparse.Namespace, terminal: Terminal) -> SoupList:
     if asked.longest is not None:
         return Longest(asked.longest, Census(asked.census, terminal) if asked.exact else None)
     if asked.unsettled:
-        return Unsettled(Census(asked.census, terminal))
+        return Unsettled(Census(asked.census, terminal), asked.why)
     return Leaving(asked.code) if asked.code is not None else SoupList()
 
 

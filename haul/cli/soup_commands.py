@@ -46,6 +46,10 @@ SOUPS = Command(
                 ),
             )
         ),
+        flag(
+            "--why",
+            "with --unsettled: also say what became of each soup, as `haul why` does",
+        ),
         flag("--exact", "with --longest: find the exact generations, as `--stride 1` does"),
         FORMS,
         CENSUS,

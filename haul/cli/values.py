@@ -5,6 +5,7 @@ from __future__ import annotations
 import argparse
 from collections.abc import Callable
 
+from haul.formats.haul import NUMBER_LIMIT
 from haul.formats.syntax import CODE, RULE, SEED
 from haul.names.objects import find_code_of_name
 
@@ -43,6 +44,13 @@ def read_as_census(least: int, most: int) -> Callable[[str], int]:
     before it."""
     read = read_within(least, most)
     return lambda text: read(text.removeprefix("+"))
+
+
+def read_subject(text: str) -> int | str:
+    """Reads the number of a soup, or else the name of a file."""
+    if text.removeprefix("+").isascii() and text.removeprefix("+").isdigit():
+        return read_as_census(0, NUMBER_LIMIT - 1)(text)
+    return read_path(text)
 
 
 def read_seed(text: str) -> str:

@@ -13,7 +13,8 @@ Columns = dict[int, set[int]]
 # A number has at most 15 digits.
 NUMBER = rb"(0|-?[1-9][0-9]{0,14})"
 LINE = re.compile(NUMBER + rb" " + NUMBER + rb"\r?\n?")
-FIRST_BYTES = b"-0123456789"
+# What the first line of coordinates consists of. RLE without a header may begin with a digit, too.
+FIRST_LINE = re.compile(rb"[\r\n]*[-0-9][-0-9 ]*(?:\r?\n|$)")
 
 
 class BadCoordinates(Exception):
@@ -25,8 +26,7 @@ class BadCoordinates(Exception):
 
 def is_coordinates(text: bytes) -> bool:
     """Checks whether the first line that isn't empty is one of coordinates."""
-    first = text.lstrip(b"\r\n")[:1]
-    return first != b"" and first in FIRST_BYTES
+    return FIRST_LINE.match(text) is not None
 
 
 def read_coordinates(lines: Iterable[bytes]) -> Columns:
@@ -54,7 +54,7 @@ def find_column(line: bytes) -> int:
 def format_rle_of_cells(rows: Columns, option: str) -> Iterator[str]:
     """Yields the lines of a pattern's RLE, of which the first says where the pattern is. A count and
     what it counts are on one line."""
-    left, right = min(map(min, rows.values())), max(map(max, rows.values()))
+    left, right = min(min(row) for row in rows.values()), max(max(row) for row in rows.values())
     top, bottom = min(rows), max(rows)
     yield f"#CXRLE Pos={left},{top}"
     yield f"x = {right - left + 1}, y = {bottom - top + 1}, rule = {format_rule(option)}"
