@@ -20,6 +20,8 @@ from haul.cli.values import (
     read_code,
     read_count,
     read_kinds,
+    read_late,
+    read_many_workers,
     read_path,
     read_periods,
     read_rule_value,
@@ -59,8 +61,17 @@ SEARCH = Command(
         option(
             "--workers",
             "W",
-            "run soups with W workers, 1 to 16 (default: one per processor, up to 16)",
-            read_workers,
+            "run soups with W workers, 1 to 1024 (default: one per processor). With more than 16, "
+            "several batches run at once",
+            read_many_workers,
+        ),
+        option(
+            "--late",
+            "GENERATION",
+            "keep the report lines of soups that settle in this generation or later, and of unsettled "
+            "soups, in FILE.late, 0 to 100001, or `never` (default: that of FILE.late, or else 12000 "
+            "under Life, and 100001 under another rule, which keeps unsettled soups only)",
+            read_late,
         ),
         option(
             "--rarer",

@@ -37,7 +37,11 @@ from haul.rarity.reference import is_covered
 from haul.names.objects import load_names
 from haul.search.job import USUAL_RARER, Disagrees, begin_haul, find_next_soup, refuse_other_jobs
 from haul.search.keeper import CantKeep, Keeper
-from haul.search.search import Dropped, Plan, Search, count_processors
+from haul.search.batches import Plan
+from haul.search.companion import Companion
+from haul.search.late_soups import open_late
+from haul.search.search import Dropped, Kept, Search, count_processors
+from haul.search.untold import open_untold
 from haul.search.stopping import Stopping
 from haul.terminal import Terminal, find_output_width
 from haul.views.compare import Comparison, rank_codes
@@ -252,26 +256,39 @@ def choose_soup_list(asked: argparse.Namespace, terminal: Terminal) -> SoupList:
     return Leaving(asked.code) if asked.code is not None else SoupList()
 
 
+def open_files(asked: argparse.Namespace, terminal: Terminal) -> Kept:
+    """Locks and reads the files of a search."""
+    keeper = Keeper(asked.file)
+    haul = keeper.read()
+    if haul is None:
+        haul = begin_haul(asked)
+    refuse_other_jobs(asked, haul)
+    late_file, finds_file = (
+        Companion(keeper.path, keeper.name, suffix, terminal.complain, is_always_there)
+        for suffix, is_always_there in (("late", True), ("finds", False))
+    )
+    late = open_late(asked, haul, find_next_soup(asked, haul), late_file)
+    return Kept(keeper, haul, late_file, late, finds_file, open_untold(haul, finds_file))
+
+
 def run_search(asked: argparse.Namespace, streams: Streams) -> int:
     try:
-        keeper = Keeper(asked.file)
-        haul = keeper.read()
-        if haul is None:
-            haul = begin_haul(asked)
-        refuse_other_jobs(asked, haul)
+        kept = open_files(asked, streams.terminal)
         # The file of this program may be replaced while the search goes on.
         load_names()
         plan = Plan(
-            find_next_soup(asked, haul),
+            find_next_soup(asked, kept.haul),
             asked.until,
             asked.part,
             asked.workers or count_processors(),
             asked.finds,
             USUAL_RARER if asked.rarer is None else asked.rarer,
+            None if kept.late is None else kept.late.generation,
+            kept.haul.job.rule == LIFE or asked.late is not None,
         )
         stopping = Stopping()
         census = Census(asked.census, streams.terminal)
-        search = Search(plan, haul, keeper, census, stopping, streams.stdout)
+        search = Search(plan, kept, census, stopping, streams.stdout)
         children.heed(stopping)
         with suppress(Dropped):
             search.run()

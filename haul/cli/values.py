@@ -6,8 +6,11 @@ import argparse
 from collections.abc import Callable
 
 from haul.formats.haul import NUMBER_LIMIT
+from haul.formats.late import ONLY_UNSETTLED
 from haul.formats.syntax import CODE, RULE, SEED
 from haul.names.objects import find_code_of_name
+from haul.search.batches import MOST_WORKERS
+from haul.search.late_soups import NEVER
 
 
 def read_path(text: str) -> str:
@@ -22,10 +25,21 @@ def read_word(text: str) -> str:
     return text
 
 
+def read_many_workers(text: str) -> int:
+    return read_within(1, MOST_WORKERS)(text)
+
+
 def read_workers(text: str) -> int:
     if not (text.isascii() and text.isdigit() and 1 <= int(text) <= 16):
         raise argparse.ArgumentTypeError(f"{text} is not in 1 to 16")
     return int(text)
+
+
+def read_late(text: str) -> int:
+    """Reads the value of `--late`: a generation, or `never`."""
+    if text == "never":
+        return NEVER
+    return read_as_census(0, ONLY_UNSETTLED)(text)
 
 
 def read_within(least: int, most: int) -> Callable[[str], int]:
