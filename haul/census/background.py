@@ -218,6 +218,7 @@ class BackgroundTake(BackgroundProgram):
 
     def soups(self) -> int:
         """Returns how many soups it has run so far, by its line of progress."""
+        self.read_errors()
         return self.latest
 
     def haul_text(self) -> bytes:

@@ -14,7 +14,7 @@ from datetime import datetime, timezone
 
 from haul.census.command_lines import format_find_command
 from haul.formats.codes import Kind, read_kind
-from haul.formats.haul import Haul, Job
+from haul.formats.haul import NUMBER_LIMIT, Haul, Job
 from haul.formats.profile import STANDARD
 from haul.formats.rules import LIFE
 from haul.life.generations import read_rule
@@ -57,8 +57,9 @@ class Find:
 class NewCodes:
     """The codes that a batch of soups brought for the first time, until their finds are known."""
 
-    # All of them, each with the lowest soup that left it, and those that aren't separated yet.
-    all: list[tuple[str, int]]
+    # The first soup of the batch.
+    first: int
+    # Those that aren't separated yet, each with the lowest soup that left it.
     codes: deque[tuple[str, int]]
     # The parts of those that have been separated, each with its lowest soup.
     parts: dict[str, int] = field(default_factory=dict)
@@ -120,11 +121,10 @@ class Finder:
     one of them. A part that is also an object of its own in the file is known without that, and for
     most parts that is enough."""
 
-    def __init__(
-        self, job: Job, haul: Haul, rarer: int, new: Iterable[tuple[str, int]] = ()
-    ) -> None:
+    def __init__(self, job: Job, haul: Haul, rarer: int, first: int = NUMBER_LIMIT) -> None:
         """Looks for parts that, under Life, fewer than one soup of the reference in `rarer` has.
-        The haul has the objects in `new`, which are still to be looked at."""
+        The objects of the haul that no soup before `first` left are still to be looked at."""
+        new = [(code, soups[0]) for code, soups in haul.samples.items() if soups[0] >= first]
         self.separator = Separator(read_rule(job.rule))
         self.common = list_common_parts(rarer) if job.rule == LIFE else frozenset()
         # Under another rule or profile the first batch tells no finds: almost every part in it
@@ -135,24 +135,20 @@ class Finder:
         self.known: set[str] = set()
         # One item for each batch with new codes; the oldest is first.
         self.queue: deque[NewCodes] = deque()
-        self.add_new(list(new))
+        self.add_new(new, first)
 
-    def add(self, codes: Iterable[tuple[str, int]]) -> None:
+    def add(self, codes: Iterable[tuple[str, int]], first: int = 0) -> None:
         """Takes the new codes of the next batch, each with its lowest soup, once they are in the
-        file."""
+        file. `first` is the first soup of the batch."""
         if self.is_silent:
             self.unread.add(code for code, _ in codes)
             self.is_silent = False
         else:
-            self.add_new(list(codes))
+            self.add_new(list(codes), first)
 
-    def add_new(self, codes: list[tuple[str, int]]) -> None:
+    def add_new(self, codes: list[tuple[str, int]], first: int) -> None:
         if codes:
-            self.queue.append(NewCodes(codes, deque(codes)))
-
-    def list_open(self) -> list[tuple[str, int]]:
-        """Returns the new codes whose finds aren't known yet."""
-        return [one for new in self.queue for one in new.all]
+            self.queue.append(NewCodes(first, deque(codes)))
 
     def left(self) -> int:
         """Returns how many objects have to be separated still, as far as is known."""

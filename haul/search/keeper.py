@@ -9,7 +9,7 @@ import itertools
 import os
 import stat
 import time
-from collections.abc import Callable, Iterable, Iterator
+from collections.abc import Callable, Iterable, Iterator, Sequence
 from contextlib import suppress
 from typing import NamedTuple
 
@@ -22,9 +22,9 @@ from haul.search.whole_files import (
     ANY_RIGHTS,
     find_stamp,
     make_stamp,
-    replace_file,
     sync_folder,
     write_file,
+    write_new_text,
 )
 
 # How long a lock is tried, and how often.
@@ -95,21 +95,28 @@ class Keeper:
             raise CantKeep(f"{self.name}: haul with missing soups")
         return haul
 
-    def write(self, haul: Haul, beside: list[Beside]) -> None:
+    def write(self, haul: Haul, beside: Sequence[Beside] = ()) -> None:
         """Replaces the file, and before that the files beside it that have changed. The file has
         its old text until the new one is safe on the disk, also if this fails with `OSError`.
         Raises `Displaced` if the file isn't as it was left here."""
+        self.refuse_changes(haul, beside)
+        with write_new_text(self.path, write_lines(haul), self.path):
+            for one in beside:
+                if one.is_changed:
+                    one.file.write(one.write())
+            # That has taken time.
+            self.refuse_changes(haul, beside)
+        self.known = find_stamp(self.path)
+
+    def refuse_changes(self, haul: Haul, beside: Sequence[Beside]) -> None:
+        """Writes the haul beside the file and raises `Displaced` if the file isn't as it was left
+        here."""
         if find_stamp(self.path) != self.known:
             name = self.write_mine(haul, beside)
             reason = f"changed by another program, so the haul of this search is in {name}"
             raise Displaced(errno.ESTALE, reason, self.name)
-        for one in beside:
-            if one.is_changed:
-                one.file.write(one.write())
-        replace_file(self.path, write_lines(haul), self.path)
-        self.known = find_stamp(self.path)
 
-    def write_mine(self, haul: Haul, beside: list[Beside]) -> str:
+    def write_mine(self, haul: Haul, beside: Sequence[Beside]) -> str:
         """Writes a haul to FILE.mine, or to FILE.mine.2 and so on if that exists, and the files
         beside it, which are kept there from now on. Returns the name."""
         for number in itertools.count(1):

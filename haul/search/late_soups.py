@@ -3,18 +3,18 @@
 from __future__ import annotations
 
 import argparse
-from collections.abc import Iterable
 
 from haul.census.background import BackgroundTake
 from haul.census.children import NoCensus
 from haul.census.command_lines import format_find_command
-from haul.formats.haul import Haul, Job, Range
+from haul.formats.haul import Haul, Job
 from haul.formats.late import MOST_LINES, ONLY_UNSETTLED, BadLate, Late, LateLine, read_late
 from haul.formats.report_lines import BadLine, read_report_line
 from haul.formats.rules import LIFE
 from haul.search.companion import Companion
 from haul.search.finds import format_time
 from haul.search.keeper import CantKeep
+from haul.search.untold import is_in
 
 # The value of `--late` with which no soup is kept.
 NEVER = -1
@@ -61,10 +61,6 @@ def find_other_file(late: Late, job: Job | None, haul: Haul, next_soup: int) -> 
         if line.soup < next_soup and not is_in(line.soup, haul.ranges):
             return f"soup {line.soup} isn't in the haul"
     return None
-
-
-def is_in(soup: int, ranges: Iterable[Range]) -> bool:
-    return any(first <= soup < first + count for first, count in ranges)
 
 
 def list_late_finds(job: Job, lines: BatchLines, latest: int) -> list[list[str]]:

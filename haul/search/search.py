@@ -21,7 +21,7 @@ from typing import TextIO
 
 from haul.census.background import StreamWaiter
 from haul.census.client import Census
-from haul.formats.haul import Haul
+from haul.formats.haul import NUMBER_LIMIT, Haul
 from haul.formats.late import Late
 from haul.hauls.join import Joining
 from haul.plurals import write_count
@@ -84,14 +84,14 @@ class Search:
         self.objects = haul.objects()
         # The soups of finished batches.
         self.run_soups = 0
-        # The new codes of each batch that isn't in the file yet, each code with its lowest soup,
-        # and the finds of late soups.
-        self.unkept: list[list[tuple[str, int]]] = []
+        # The first soup of each batch that isn't in the file yet, and its new codes, each with its
+        # lowest soup; and the finds of late soups.
+        self.unkept: list[tuple[int, list[tuple[str, int]]]] = []
         self.unkept_late: list[list[str]] = []
         self.waiter = StreamWaiter()
         self.waiter.add(stopping.reading, stopping.hear)
         self.batches = Batches(plan, haul.job, haul.soups, census, self.waiter)
-        self.finder = Finder(haul.job, haul, plan.rarer, kept.untold.objects)
+        self.finder = Finder(haul.job, haul, plan.rarer, kept.untold.since)
         self.calls = FindCalls(self.waiter, plan.finds, self.terminal.complain)
         self.telling = Telling(output, self.terminal, self.calls, kept.untold.finds)
         self.late_is_changed = True
@@ -146,13 +146,12 @@ class Search:
 
     def add(self, taken: Taken) -> None:
         haul = taken.haul
-        self.unkept.append(
-            [
-                (code, soups[0])
-                for code, soups in haul.samples.items()
-                if code not in self.joining.totals
-            ]
-        )
+        new = [
+            (code, soups[0])
+            for code, soups in haul.samples.items()
+            if code not in self.joining.totals
+        ]
+        self.unkept.append((haul.ranges[0][0], new))
         if self.late is not None and taken.lines is not None:
             latest = self.late.latest
             if self.late.add(taken.lines.lines, taken.lines.left_out):
@@ -209,11 +208,11 @@ class Search:
 
     def list_untold(self) -> Untold:
         """Returns what would be lost if the search ended now."""
-        objects = self.finder.list_open()
-        if not self.finder.is_silent:
-            objects += [one for codes in self.unkept for one in codes]
+        since = [new.first for new in self.finder.queue]
+        batches = self.unkept[1:] if self.finder.is_silent else self.unkept
+        since += [first for first, codes in batches if codes]
         finds = self.telling.list_untold() + self.unkept_late
-        return Untold(self.job, finds, objects)
+        return Untold(self.job, min(since, default=NUMBER_LIMIT), finds)
 
     def keep_untold(self) -> None:
         """Writes what hasn't been told, for the next search."""
@@ -228,8 +227,8 @@ class Search:
         """Has late soups told, and the objects of batches that were written looked at for finds."""
         for fields in self.unkept_late:
             self.telling.add(fields)
-        for codes in self.unkept:
-            self.finder.add(codes)
+        for first, codes in self.unkept:
+            self.finder.add(codes, first)
         self.unkept.clear()
         self.unkept_late.clear()
 
@@ -281,7 +280,7 @@ class Search:
                 self.wait_until(is_reported)
             self.find_for(LAST_SECONDS)
         finally:
-            if self.what_is_left():
+            if self.what_is_left() and not self.telling.has_no_reader:
                 self.terminal.complain(f"not all finds are told: {self.what_is_left()}")
             self.calls.end()
 

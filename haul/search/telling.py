@@ -28,6 +28,8 @@ class Telling:
         self.count = 0
         # Whether a find couldn't be printed. Nothing is printed after that.
         self.has_failed = False
+        # Whether that was because the program that reads the finds has ended.
+        self.has_no_reader = False
 
     def add(self, fields: list[str]) -> None:
         self.waiting.append(fields)
@@ -43,8 +45,9 @@ class Telling:
                 file=self.output,
                 flush=True,
             )
-        except OSError:
+        except OSError as error:
             self.has_failed = True
+            self.has_no_reader = isinstance(error, BrokenPipeError)
             raise
         self.waiting.popleft()
         self.count += 1

@@ -6,8 +6,8 @@ from __future__ import annotations
 import errno
 import os
 import stat
-from collections.abc import Iterable
-from contextlib import suppress
+from collections.abc import Iterable, Iterator
+from contextlib import contextmanager, suppress
 
 # A file is made with these rights, less those that the user's mask takes away.
 ANY_RIGHTS = 0o666
@@ -28,21 +28,47 @@ def make_stamp(found: os.stat_result) -> Stamp:
     return found.st_ino, found.st_size, found.st_mtime_ns
 
 
-def replace_file(path: str, lines: Iterable[bytes], rights_of: str) -> None:
-    """Writes a file, with the rights of another one. It has its old text until the new one is safe
-    on the disk, also if this fails with `OSError`."""
+@contextmanager
+def write_new_text(path: str, lines: Iterable[bytes], rights_of: str) -> Iterator[None]:
+    """Writes a new text for a file, with the rights of another one, which takes the place of the
+    file afterwards. The file has its old text until the new one is safe on the disk, also if
+    something fails with an exception."""
     new = f"{path}.new"
     # A search that was killed may have left one.
     with suppress(FileNotFoundError):
         os.unlink(new)
-    try:
-        write_file(new, lines, rights_of)
-        os.replace(new, path)
-    except OSError as error:
-        with suppress(OSError):
-            os.unlink(new)
-        raise OSError(error.errno, error.strerror, new) from None
+    with removed_on_failure(new):
+        with named_in_faults(new):
+            write_file(new, lines, rights_of)
+        yield
+        with named_in_faults(new):
+            os.replace(new, path)
     sync_folder(os.path.dirname(path) or os.curdir)
+
+
+@contextmanager
+def removed_on_failure(path: str) -> Iterator[None]:
+    try:
+        yield
+    except BaseException:
+        with suppress(OSError):
+            os.unlink(path)
+        raise
+
+
+@contextmanager
+def named_in_faults(path: str) -> Iterator[None]:
+    """Names this file in each `OSError`."""
+    try:
+        yield
+    except OSError as error:
+        raise OSError(error.errno, error.strerror, path) from None
+
+
+def replace_file(path: str, lines: Iterable[bytes], rights_of: str) -> None:
+    """Replaces a file by a new text, with the rights of another file."""
+    with write_new_text(path, lines, rights_of):
+        pass
 
 
 def write_file(new: str, lines: Iterable[bytes], rights_of: str) -> None:
