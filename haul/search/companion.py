@@ -73,8 +73,7 @@ class Companion:
         found = find_stamp(self.path)
         if found not in (None, self.known):
             self.reject("changed by another program")
-        replace_file(self.path, lines, self.file)
-        self.known = find_stamp(self.path)
+        self.known = replace_file(self.path, lines, self.file)
 
     def remove(self) -> None:
         remove_file(self.path)

@@ -100,13 +100,13 @@ class Keeper:
         its old text until the new one is safe on the disk, also if this fails with `OSError`.
         Raises `Displaced` if the file isn't as it was left here."""
         self.refuse_changes(haul, beside)
-        with write_new_text(self.path, write_lines(haul), self.path):
+        with write_new_text(self.path, write_lines(haul), self.path) as stamp:
             for one in beside:
                 if one.is_changed:
                     one.file.write(one.write())
             # That has taken time.
             self.refuse_changes(haul, beside)
-        self.known = find_stamp(self.path)
+        self.known = stamp
 
     def refuse_changes(self, haul: Haul, beside: Sequence[Beside]) -> None:
         """Writes the haul beside the file and raises `Displaced` if the file isn't as it was left

@@ -48,6 +48,10 @@ LAST_SECONDS = 1.0
 SECONDS_WITHOUT_A_WORD = 5.0
 
 
+# The first soup of a batch, and its new codes, each with its lowest soup.
+NewOfBatch = tuple[int, list[tuple[str, int]]]
+
+
 class Dropped(Exception):
     """A signal ends the search without the batches that run."""
 
@@ -84,9 +88,8 @@ class Search:
         self.objects = haul.objects()
         # The soups of finished batches.
         self.run_soups = 0
-        # The first soup of each batch that isn't in the file yet, and its new codes, each with its
-        # lowest soup; and the finds of late soups.
-        self.unkept: list[tuple[int, list[tuple[str, int]]]] = []
+        # What batches brought that aren't in the file yet, and the finds of their late soups.
+        self.unkept: list[NewOfBatch] = []
         self.unkept_late: list[list[str]] = []
         self.waiter = StreamWaiter()
         self.waiter.add(stopping.reading, stopping.hear)
@@ -200,23 +203,23 @@ class Search:
         beside: list[Beside] = []
         if self.late is not None:
             beside.append(Beside(self.kept.late_file, self.late.write, self.late_is_changed))
-        untold = self.list_untold()
+        untold = self.list_untold(self.unkept, self.unkept_late)
         is_there = self.kept.finds_file.known is not None
         beside.append(Beside(self.kept.finds_file, untold.write, is_there or not untold.is_empty()))
         self.keeper.write(self.joining.result(), beside)
         self.late_is_changed = False
 
-    def list_untold(self) -> Untold:
-        """Returns what would be lost if the search ended now."""
+    def list_untold(self, batches: list[NewOfBatch], late: list[list[str]]) -> Untold:
+        """Returns what would be lost if the search ended when these batches and these late soups are
+        in the files."""
         since = [new.first for new in self.finder.queue]
-        batches = self.unkept[1:] if self.finder.is_silent else self.unkept
-        since += [first for first, codes in batches if codes]
-        finds = self.telling.list_untold() + self.unkept_late
-        return Untold(self.job, min(since, default=NUMBER_LIMIT), finds)
+        told = batches[1:] if self.finder.is_silent else batches
+        since += [first for first, codes in told if codes]
+        return Untold(self.job, min(since, default=NUMBER_LIMIT), self.telling.list_untold() + late)
 
     def keep_untold(self) -> None:
         """Writes what hasn't been told, for the next search."""
-        untold = self.list_untold()
+        untold = self.list_untold([], [])
         if untold.is_empty():
             if self.kept.finds_file.known is not None:
                 self.kept.finds_file.remove()

@@ -29,10 +29,10 @@ def make_stamp(found: os.stat_result) -> Stamp:
 
 
 @contextmanager
-def write_new_text(path: str, lines: Iterable[bytes], rights_of: str) -> Iterator[None]:
-    """Writes a new text for a file, with the rights of another one, which takes the place of the
-    file afterwards. The file has its old text until the new one is safe on the disk, also if
-    something fails with an exception."""
+def write_new_text(path: str, lines: Iterable[bytes], rights_of: str) -> Iterator[Stamp | None]:
+    """Writes a new text for a file, with the rights of another one, and yields what the file will be
+    known by. The text takes the place of the file afterwards. The file has its old text until the
+    new one is safe on the disk, also if something fails with an exception."""
     new = f"{path}.new"
     # A search that was killed may have left one.
     with suppress(FileNotFoundError):
@@ -40,7 +40,7 @@ def write_new_text(path: str, lines: Iterable[bytes], rights_of: str) -> Iterato
     with removed_on_failure(new):
         with named_in_faults(new):
             write_file(new, lines, rights_of)
-        yield
+        yield find_stamp(new)
         with named_in_faults(new):
             os.replace(new, path)
     sync_folder(os.path.dirname(path) or os.curdir)
@@ -65,10 +65,11 @@ def named_in_faults(path: str) -> Iterator[None]:
         raise OSError(error.errno, error.strerror, path) from None
 
 
-def replace_file(path: str, lines: Iterable[bytes], rights_of: str) -> None:
-    """Replaces a file by a new text, with the rights of another file."""
-    with write_new_text(path, lines, rights_of):
-        pass
+def replace_file(path: str, lines: Iterable[bytes], rights_of: str) -> Stamp | None:
+    """Replaces a file by a new text, with the rights of another file. Returns what the file is known
+    by now."""
+    with write_new_text(path, lines, rights_of) as stamp:
+        return stamp
 
 
 def write_file(new: str, lines: Iterable[bytes], rights_of: str) -> None:
