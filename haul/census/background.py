@@ -8,19 +8,17 @@ import re
 import selectors
 import signal
 import subprocess
-import sys
 from collections.abc import Callable
 from contextlib import suppress
-from functools import cache
-from importlib.resources import files
 from typing import IO
 
 from haul.census.client import FAILED, Ended, check_ending
+from haul.census.starters import LAUNCH_CENSUS, list_starter_words
 from haul.formats.late import MOST_LINES
 from haul.formats.report_lines import LINE_LIMIT
 
 # What the launcher does with the program.
-CENSUS, FIND = "census", "find"
+FIND = "find"
 # mutant: equal because the size of a read doesn't change what is printed
 BYTES_AT_A_TIME = 65_536
 # How many bytes a program may print, and for each soup that it takes; how many it may write to
@@ -35,13 +33,6 @@ PROGRESS = re.compile(rb"([0-9]{1,8}) of [0-9]{1,8} soups")
 # Its report lines.
 REPORT_BEGINS = b"report "
 REPORT_OF = re.compile(rb"report [^\n]*? soup=([0-9]{1,13}) ")
-
-
-@cache
-def read_launcher() -> str:
-    """Returns the text of `launcher.py`. It is read once, since an installed `haul` is one file,
-    which may be replaced while this runs."""
-    return files("haul.census").joinpath("launcher.py").read_text("utf-8")
 
 
 class StreamWaiter:
@@ -73,11 +64,9 @@ class BackgroundProgram:
     def __init__(
         self, waiter: StreamWaiter, how: str, words: list[str], stderr: int | None
     ) -> None:
-        """Starts a program by `launcher.py`, with `CENSUS` or `FIND`. Raises `OSError` if that
+        """Starts a program by `launcher.py`, with `LAUNCH_CENSUS` or `FIND`. Raises `OSError` if that
         fails."""
-        # Without a PATH, Python may not know where it is.
-        python = sys.executable or os.readlink("/proc/self/exe")
-        starts = [python, "-I", "-S", "-c", read_launcher(), how, str(os.getpid())]
+        starts = list_starter_words(how)
         self.waiter = waiter
         # Ctrl-C mustn't end it before it is in its own session. The starter drops a Ctrl-C that
         # came until then.
@@ -173,7 +162,7 @@ class BackgroundTake(BackgroundProgram):
         self.reported_bytes = 0
         # How many soups its line of progress said last.
         self.latest = 0
-        super().__init__(waiter, CENSUS, words, subprocess.PIPE)
+        super().__init__(waiter, LAUNCH_CENSUS, words, subprocess.PIPE)
 
     def refuse_floods(self) -> None:
         # Lines of progress and reports don't count, unless these are too many themselves.

@@ -69,11 +69,13 @@ class Children:
         self.stopping: SignalHandler | None = None
 
     def start(
-        self, words: list[str], stdout: int, stderr: int | None, stdin: int
+        self, words: list[str], stdout: int, stderr: int | None, stdin: int, new_session: bool
     ) -> subprocess.Popen[bytes]:
-        """Starts a program. Raises `OSError` if that fails."""
+        """Starts a program, perhaps in a session of its own. Raises `OSError` if that fails."""
         with self.starts:
-            program = subprocess.Popen(words, stdin=stdin, stdout=stdout, stderr=stderr)
+            program = subprocess.Popen(
+                words, stdin=stdin, stdout=stdout, stderr=stderr, start_new_session=new_session
+            )
             self.running.append(program)
         return program
 
@@ -132,12 +134,16 @@ def open_text(text: bytes) -> Iterator[int]:
 
 @contextmanager
 def start_child(
-    words: list[str], stdout: int, stderr: int | None, stdin: int = subprocess.DEVNULL
+    words: list[str],
+    stdout: int,
+    stderr: int | None,
+    stdin: int = subprocess.DEVNULL,
+    new_session: bool = False,
 ) -> Iterator[subprocess.Popen[bytes]]:
     """Starts a program, which has ended after this. Without a number for the errors, it writes
     them to standard error. Raises `NoCensus` if there is no such program."""
     try:
-        program = children.start(words, stdout, stderr, stdin)
+        program = children.start(words, stdout, stderr, stdin, new_session)
     except OSError as error:
         if error.errno in NOT_THERE:
             raise NoCensus.at(words[0]) from None

@@ -25,7 +25,8 @@ from haul.formats.profile import STANDARD, Profile
 from haul.life.generations import read_rule
 from haul.life.parts import Separator
 from haul.rarity.reference import SOUPS, find_occurrence, load_reference
-from haul.census.background import FIND, StreamWaiter, read_launcher
+from haul.census.background import FIND, StreamWaiter
+from haul.census.starters import read_launcher
 from haul.search.find_calls import FindCalls
 from haul.search.finds import Find, Finder, list_common_parts, Unread
 from haul.search.keeper import Beside, Keeper

@@ -21,9 +21,9 @@ from haul.formats.haul_reader import read_one_haul
 from haul.census.background import (
     BackgroundProgram,
     BackgroundTake,
-    CENSUS as LAUNCH_CENSUS,
     StreamWaiter,
 )
+from haul.census.starters import LAUNCH_CENSUS
 from haul.search.keeper import CantKeep, Keeper
 from haul.search.search import count_processors
 from haul.search.stopping import Stopping
