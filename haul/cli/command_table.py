@@ -9,6 +9,7 @@ from haul.cli.arguments import Argument, Command, Exclusive, flag, option
 from haul.cli.faults import (
     find_fault_of_check,
     find_fault_of_counting,
+    find_fault_of_page,
     find_fault_of_search,
 )
 from haul.cli.index_commands import run_index
@@ -301,6 +302,13 @@ PAGE = Command(
             read_count,
             500,
         ),
+        option(
+            "--lives",
+            "FILE.late",
+            "also show the longest-lived and the unsettled soups in FILE.late, which `haul search` "
+            "keeps; with one haul only",
+            read_path,
+        ),
         CENSUS,
         Argument(
             "files",
@@ -311,6 +319,7 @@ PAGE = Command(
         ),
     ),
     commands.run_page,
+    find_fault_of_page,
 )
 
 COMMANDS = (

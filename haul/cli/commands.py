@@ -18,9 +18,11 @@ from haul.formats.coordinates import (
     read_coordinates,
 )
 from haul.formats.field_reader import BadHaul
+from haul.formats.haul import Haul
 from haul.formats.haul_reader import read_hauls
 from haul.formats.haul_writer import format_haul
 from haul.formats.index import is_index
+from haul.formats.late import BadLate, read_late
 from haul.formats.plaintext import BadPlaintext, is_plaintext, read_plaintext
 from haul.formats.report_files import Reports
 from haul.formats.rle import BadRle, format_rle, read_rle
@@ -33,6 +35,7 @@ from haul.life.catagolue_soups import BadSample, format_soups
 from haul.life.generations import read_rule
 from haul.life.parts import Separator
 from haul.page.document import make_page
+from haul.page.lives import Lives, find_lives
 from haul.rarity.reference import is_covered
 from haul.names.objects import load_names
 from haul.search.job import USUAL_RARER, Disagrees, begin_haul, find_next_soup, refuse_other_jobs
@@ -41,7 +44,7 @@ from haul.search.batches import Plan
 from haul.search.companion import Companion
 from haul.search.late_soups import open_late
 from haul.search.search import Dropped, Kept, Search, count_processors
-from haul.search.untold import open_untold
+from haul.search.untold import is_in, open_untold
 from haul.search.stopping import Stopping
 from haul.terminal import Terminal, find_output_width
 from haul.views.compare import Comparison, rank_codes
@@ -182,10 +185,29 @@ def run_rarity(asked: argparse.Namespace, streams: Streams) -> int:
 
 def run_page(asked: argparse.Namespace, streams: Streams) -> int:
     hauls = [streams.read_haul(name) for name in asked.files or [None]]
-    streams.stdout.writelines(
-        make_page(Census(asked.census, streams.terminal), hauls, asked.least, asked.play)
-    )
+    census = Census(asked.census, streams.terminal)
+    lives = None if asked.lives is None else read_lives(asked.lives, streams, census, hauls[0])
+    streams.stdout.writelines(make_page(census, hauls, asked.least, asked.play, lives))
     return DONE
+
+
+def read_lives(name: str, streams: Streams, census: Census, haul: Haul) -> Lives:
+    """Returns what a page shows of the late soups in a file, as far as a haul has them."""
+    try:
+        with streams.open_input(name) as stream:
+            late, job = read_late(stream)
+    except BadLate as bad:
+        raise Refused(f"{format_place(name)}{bad}") from None
+    if job not in (None, haul.job):
+        raise Refused(f"{format_place(name)}other job")
+    late.lines = [line for line in late.lines if is_in(line.soup, haul.ranges)]
+    try:
+        lives, wrong = find_lives(census, haul, late)
+    except TooLate as why:
+        raise Refused(str(why)) from None
+    for line in wrong:
+        streams.terminal.complain(f"{format_place(name)}{line}")
+    return lives
 
 
 def run_cells(asked: argparse.Namespace, streams: Streams) -> int:

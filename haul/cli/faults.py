@@ -36,6 +36,14 @@ def find_fault_of_counting(asked: argparse.Namespace) -> str | None:
     return "--parts doesn't go with --whole" if asked.parts and asked.whole else None
 
 
+def find_fault_of_page(asked: argparse.Namespace) -> str | None:
+    if asked.lives is not None and len(asked.files) > 1:
+        return "--lives needs one haul"
+    if asked.lives == "-" and not set(asked.files) - {"-"}:
+        return "the haul and --lives can't both be standard input"
+    return None
+
+
 def find_fault_of_soups(asked: argparse.Namespace) -> str | None:
     if asked.why and not asked.unsettled:
         return "--why needs --unsettled"
