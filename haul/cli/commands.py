@@ -187,7 +187,7 @@ def run_page(asked: argparse.Namespace, streams: Streams) -> int:
     hauls = [streams.read_haul(name) for name in asked.files or [None]]
     census = Census(asked.census, streams.terminal)
     lives = None if asked.lives is None else read_lives(asked.lives, streams, census, hauls[0])
-    streams.stdout.writelines(make_page(census, hauls, asked.least, asked.play, lives))
+    streams.stdout.writelines(make_page(census, hauls, asked.least, asked.play, lives=lives))
     return DONE
 
 

@@ -7,7 +7,16 @@ from dataclasses import dataclass, field
 
 from haul.formats.profile import Profile
 from haul.life.apgcodes import find_code
-from haul.life.field import NEAR, NEIGHBOURS, Change, Field, find_move, unpack, unpack_all
+from haul.life.field import (
+    NEAR,
+    NEIGHBOURS,
+    Change,
+    Field,
+    TooManyCells,
+    find_move,
+    unpack,
+    unpack_all,
+)
 from haul.life.generations import Recurrence, Rule
 from haul.life.groups import Group, Watched, find_period, run_alone, split_clusters
 
@@ -41,7 +50,15 @@ class Recurring:
 
 
 def look_for_rest(rule: Rule, cells: set[int], profile: Profile) -> Rest | None:
-    """Returns what was found about a pattern; `None` if one of its groups doesn't recur."""
+    """Returns what was found about a pattern; `None` if one of its groups doesn't recur, or if there
+    are too many cells to see that."""
+    try:
+        return look_at_groups(rule, cells, profile)
+    except TooManyCells:
+        return None
+
+
+def look_at_groups(rule: Rule, cells: set[int], profile: Profile) -> Rest | None:
     field = Field(rule, cells)
     groups = Watched(field, 2 * PERIOD).groups()
     recurring: list[Recurring] = []
@@ -68,12 +85,17 @@ def find_recurring(rule: Rule, group: Group) -> Recurring | None:
     if found is not None:
         period, move = found
         return Recurring(phases[:period], move)
-    later: list[set[int]] = []
-    for phase in run_alone(rule, phases[0], LONG_PERIOD):
-        move_of_all = find_move(phases[0], phase) if later else None
-        if move_of_all is not None:
-            return Recurring(later, move_of_all)
-        later.append(phase)
+    return find_late_recurrence(rule, phases[0])
+
+
+def find_late_recurrence(rule: Rule, cells: set[int]) -> Recurring | None:
+    """Returns how a pattern recurs within the longest period that is told; `None` if it doesn't."""
+    field = Field(rule, cells)
+    for period in range(1, LONG_PERIOD + 1):
+        field.step()
+        move = find_move(cells, field.live)
+        if move is not None:
+            return Recurring(list(run_alone(rule, cells, period - 1)), move)
     return None
 
 

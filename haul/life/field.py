@@ -20,6 +20,14 @@ NEIGHBOURS = tuple(dy * ROW + dx for dy in (-1, 0, 1) for dx in (-1, 0, 1) if (d
 NEAR = tuple(dy * ROW + dx for dy in range(-2, 3) for dx in range(-2, 3) if (dx, dy) != (0, 0))
 
 
+# A pattern with more cells isn't run, since it would take minutes.
+MOST_CELLS = 100_000
+
+
+class TooManyCells(Exception):
+    """A pattern has grown too large to run."""
+
+
 class Change(NamedTuple):
     """The cells that are born in a generation, and those that die."""
 
@@ -60,8 +68,11 @@ class Field:
                 counts[cell + step] = counts.get(cell + step, 0) + change
 
     def step(self) -> Change:
-        """Goes on by a generation, and returns what has changed."""
+        """Goes on by a generation, and returns what has changed. Raises `TooManyCells` if the pattern
+        is too large for that."""
         live, counts = self.live, self.counts
+        if len(live) > MOST_CELLS:
+            raise TooManyCells
         births, survivals = self.rule.births, self.rule.survivals
         touched = set(self.changed)
         for cell in self.changed:
