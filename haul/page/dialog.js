@@ -159,7 +159,7 @@ const beginPlayer = (soup, object, heading) => {
   const box = byId('player');
   box.innerHTML = `${heading}<div class="player"></div>`
     + `<div class="actions">${copyButton('soup-rle', 'Copy RLE of the soup')}${copyButton('command', 'Copy the command')}`
-    + `${linkOut(catagolueSoup(soup.number, haul), 'Catagolue')}</div>`
+    + `${linkOut(catagolueSoup(soup.number, soup.haul), 'Catagolue')}</div>`
     + '<p>In a shell, this command runs the soup with Gokzerd’s verified program <code>census</code>, and prints when it settles and what it '
     + `leaves: <code class="command">${escaped(commandOf(soup))}</code></p>`;
   player = new Player(box.querySelector('.player'), soup, object);

@@ -4,18 +4,17 @@ from __future__ import annotations
 
 from collections import Counter
 from collections.abc import Iterator
-from dataclasses import dataclass, field, replace
+from dataclasses import dataclass, field
 from html import escape
 
 from haul.census.client import Census
-from haul.census.soup_ends import End, read_end
+from haul.census.soup_runs import draw_soup, find_exact_generation
 from haul.fates.explain import Fates
 from haul.fates.fate import Fate, Kind
 from haul.formats.haul import Haul, Job
 from haul.formats.late import ONLY_UNSETTLED, Late, LateLine
 from haul.formats.report_lines import read_report_line
 from haul.life.drawing import draw_path
-from haul.life.generations import read_rule
 from haul.life.soups import SOUP_SIDE, make_soup
 from haul.plurals import write_count
 
@@ -42,9 +41,10 @@ class LongLife:
     soup: int
     checkpoint: int
     objects: int
-    # The generation in which it settled exactly, and its cells there; none if they aren't known.
+    # The generation in which it settled exactly, and the number of cells there; none if its line is
+    # wrong, since it doesn't settle.
     generation: int | None = None
-    end: End | None = None
+    cells: int = 0
 
 
 @dataclass
@@ -86,10 +86,10 @@ def find_lives(census: Census, haul: Haul, late: Late) -> tuple[Lives, list[str]
     )
     lives.longest = [read_life(line) for line in settled[:MOST_SHOWN]]
     unsettled = [line.soup for line in late.lines if line.settled is None][:MOST_SHOWN]
-    wrong = list(find_exact_ends(census, haul.job, lives.longest))
+    fates = Fates(census, haul.job)
+    wrong = list(find_exact_ends(fates, lives.longest))
     lives.longest.sort(key=lambda life: (-(life.generation or life.checkpoint), life.soup))
-    fates = Fates(census, haul.job).find_all(unsettled)
-    lives.unsettled = list(zip(unsettled, fates, strict=True))
+    lives.unsettled = list(zip(unsettled, fates.find_all(unsettled), strict=True))
     wrong += [
         f"soup {soup} isn't unsettled: its line is wrong"
         for soup, fate in lives.unsettled
@@ -103,16 +103,20 @@ def read_life(line: LateLine) -> LongLife:
     return LongLife(line.soup, line.settled or 0, report.objects())
 
 
-def find_exact_ends(census: Census, job: Job, lives: list[LongLife]) -> Iterator[str]:
+def find_exact_ends(fates: Fates, lives: list[LongLife]) -> Iterator[str]:
     """Finds the exact generations in which soups settled, and yields which lines are wrong."""
-    exact, rule = replace(job, profile=job.profile._replace(stride=1)), read_rule(job.rule)
-    soups = [life.soup for life in lives]
-    found = census.ask_in_parts(lambda part: census.reports(exact, part), soups, 1, "soups run")
-    for life, reports in zip(lives, found, strict=True):
-        fields = reports[life.soup]
-        if fields[0].startswith("at="):
-            life.generation = int(fields[0].removeprefix("at="))
-            life.end = read_end(rule, fields)
+    census, job = fates.census, fates.job
+
+    def find_end(soups: list[int]) -> tuple[int, int] | None:
+        generation = find_exact_generation(census, job, soups)
+        if generation is None:
+            return None
+        return generation, fates.list_populations(draw_soup(job, *soups), generation, generation)[0]
+
+    found = census.ask_in_parts(find_end, [life.soup for life in lives], 1, "soups run")
+    for life, end in zip(lives, found, strict=True):
+        if end is not None:
+            life.generation, life.cells = end
         before = life.checkpoint - job.profile.stride
         if life.generation is None or not before < life.generation <= life.checkpoint:
             yield f"soup {life.soup} doesn't settle at {life.checkpoint}: its line is wrong"
@@ -133,8 +137,8 @@ def describe_lives(lives: Lives) -> list[dict[str, object]]:
 
 def list_end(life: LongLife) -> list[int]:
     """Returns the generation up to which a soup plays, and the least and the most live cells there;
-    a zero if they aren't known."""
-    return [life.end.generation, life.end.least, life.end.most] if life.end else [0]
+    a zero if it doesn't settle."""
+    return [0] if life.generation is None else [life.generation, life.cells, life.cells]
 
 
 def describe_life(life: LongLife) -> str:
@@ -195,13 +199,13 @@ def write_list(title: str, job: Job, soups: list[tuple[int, str]]) -> Iterator[s
         address = f"#life={soup}"
         yield (
             f'<li><a class="soup" href="{address}" aria-label="Play soup {soup}">'
-            f'{draw_soup(f"{job.seed}{soup}")}</a><span><a href="{address}">Soup {soup}</a>'
+            f'{draw_small(f"{job.seed}{soup}")}</a><span><a href="{address}">Soup {soup}</a>'
             f"<small>{words}</small></span></li>\n"
         )
     yield "</ul></details>\n"
 
 
-def draw_soup(text: str) -> str:
+def draw_small(text: str) -> str:
     side = SOUP_SIDE + 2
     path = draw_path(make_soup(text))
     return (
