@@ -28,7 +28,7 @@ from checks.lib.program import CENSUS
 
 LEFT, RIGHT, ESCAPE = "\ue012", "\ue014", "\ue00c"
 # Soups from the first number on, of which some are unsettled under this limit.
-SOUPS, LIMIT, LATE = 40, 3030, 2000
+SOUPS, LIMIT, LATE = 40, 3030, 1000
 
 
 def make_lives_page(folder: Path) -> tuple[Path, list[str]]:

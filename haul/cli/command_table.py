@@ -40,7 +40,9 @@ SEARCH = Command(
     "search",
     "run soups until it is stopped, and keep their haul in FILE",
     "FILE always\nhas a whole haul, even if this program is killed. If FILE exists, the search goes "
-    "on after\nits last soup. Otherwise FILE is made, with a random seed unless --seed is given.\n\n"
+    "on after\nits last soup. Otherwise FILE is made, with a random seed unless --seed is given.\n"
+    "FILE.late keeps the report lines of long-lived and unsettled soups, and FILE.finds the finds "
+    "that\naren't printed yet.\n\n"
     "The search runs one batch of soups after another, each in one call of `census take`.\nCtrl-C "
     "finishes the running batch, so nothing is lost. A second Ctrl-C drops it.\n\n"
     "A find is an object that is new in FILE and rare: under Life, fewer than one soup in a\n"
