@@ -9,16 +9,20 @@ from haul.cli.arguments import Argument, Command, Exclusive, flag, option
 from haul.cli.faults import (
     find_fault_of_check,
     find_fault_of_counting,
+    find_fault_of_page,
     find_fault_of_search,
 )
 from haul.cli.index_commands import run_index
-from haul.cli.shared_options import CENSUS, FORMS
+from haul.cli.shared_options import CENSUS, FORMS, list_profile_options
 from haul.cli.soup_commands import CELLS, RLE, SOUP, SOUPS
+from haul.cli.why_command import WHY
 from haul.cli.values import (
     read_as_census,
     read_code,
     read_count,
     read_kinds,
+    read_late,
+    read_many_workers,
     read_path,
     read_periods,
     read_rule_value,
@@ -28,7 +32,6 @@ from haul.cli.values import (
     read_workers,
 )
 from haul.formats.haul import NUMBER_LIMIT
-from haul.formats.profile import LIMIT, MOST_HORIZON, PERIOD, STANDARD, STRIDE, Profile
 from haul.page.sides import MOST_SIDES
 from haul.rarity.reference import SOUPS as REFERENCE_SOUPS
 from haul.views.compare import MOST_HAULS
@@ -37,7 +40,9 @@ SEARCH = Command(
     "search",
     "run soups until it is stopped, and keep their haul in FILE",
     "FILE always\nhas a whole haul, even if this program is killed. If FILE exists, the search goes "
-    "on after\nits last soup. Otherwise FILE is made, with a random seed unless --seed is given.\n\n"
+    "on after\nits last soup. Otherwise FILE is made, with a random seed unless --seed is given.\n"
+    "FILE.late keeps the report lines of long-lived and unsettled soups, and FILE.finds the finds "
+    "that\naren't printed yet.\n\n"
     "The search runs one batch of soups after another, each in one call of `census take`.\nCtrl-C "
     "finishes the running batch, so nothing is lost. A second Ctrl-C drops it.\n\n"
     "A find is an object that is new in FILE and rare: under Life, fewer than one soup in a\n"
@@ -59,8 +64,17 @@ SEARCH = Command(
         option(
             "--workers",
             "W",
-            "run soups with W workers, 1 to 16 (default: one per processor, up to 16)",
-            read_workers,
+            "run soups with W workers, 1 to 1024 (default: one per processor). With more than 16, "
+            "several batches run at once",
+            read_many_workers,
+        ),
+        option(
+            "--late",
+            "GENERATION",
+            "keep the report lines of soups that settle in this generation or later, and of unsettled "
+            "soups, in FILE.late, 0 to 100001, or `never` (default: that of FILE.late, or else 12000 "
+            "under Life, and 100001 under another rule, which keeps unsettled soups only)",
+            read_late,
         ),
         option(
             "--rarer",
@@ -91,17 +105,7 @@ SEARCH = Command(
             "begin FILE with this rule, such as b36s23 (default: b3s23, Life)",
             read_rule_value,
         ),
-        *(
-            option(
-                f"--{name}",
-                "N",
-                f"begin FILE with this {name}, {least} to {most} (default: {standard})",
-                read_as_census(least, most),
-            )
-            for name, (least, most), standard in zip(
-                Profile._fields, (PERIOD, (0, MOST_HORIZON), STRIDE, LIMIT), STANDARD, strict=True
-            )
-        ),
+        *list_profile_options("begin FILE with this"),
         CENSUS,
         Argument("file", "the file that keeps the haul", "FILE", read_path),
     ),
@@ -311,6 +315,13 @@ PAGE = Command(
             read_count,
             500,
         ),
+        option(
+            "--lives",
+            "FILE.late",
+            "also show the longest-lived and the unsettled soups in FILE.late, which `haul search` "
+            "keeps; with one haul only",
+            read_path,
+        ),
         CENSUS,
         Argument(
             "files",
@@ -321,6 +332,21 @@ PAGE = Command(
         ),
     ),
     commands.run_page,
+    find_fault_of_page,
 )
 
-COMMANDS = (SEARCH, CHECK, INDEX, JOIN, COMPARE, TABLE, RARITY, PAGE, SOUP, SOUPS, CELLS, RLE)
+COMMANDS = (
+    SEARCH,
+    CHECK,
+    INDEX,
+    JOIN,
+    COMPARE,
+    TABLE,
+    RARITY,
+    PAGE,
+    SOUP,
+    SOUPS,
+    WHY,
+    CELLS,
+    RLE,
+)

@@ -10,11 +10,19 @@ from haul.census.client import Census
 from haul.cli.index_commands import run_index_check
 from haul.cli.statuses import DONE, NOT_RIGHT, REFUSED
 from haul.cli.streams import Refused, Streams, format_place
+from haul.fates.explain import TooLate
+from haul.formats.coordinates import (
+    BadCoordinates,
+    format_rle_of_cells,
+    is_coordinates,
+    read_coordinates,
+)
 from haul.formats.field_reader import BadHaul
 from haul.formats.haul import Haul
 from haul.formats.haul_reader import read_hauls
 from haul.formats.haul_writer import format_haul
 from haul.formats.index import is_index
+from haul.formats.late import BadLate, read_late
 from haul.formats.plaintext import BadPlaintext, is_plaintext, read_plaintext
 from haul.formats.report_files import BadLines, Reports
 from haul.formats.rle import BadRle, format_rle, read_rle
@@ -27,11 +35,16 @@ from haul.hauls.join import CantJoin, Joining
 from haul.life.generations import read_rule
 from haul.life.parts import Separator
 from haul.page.document import make_page
+from haul.page.lives import Lives, find_lives
 from haul.rarity.reference import is_covered
 from haul.names.objects import load_names
 from haul.search.job import USUAL_RARER, Disagrees, begin_haul, find_next_soup, refuse_other_jobs
 from haul.search.keeper import CantKeep, Keeper
-from haul.search.search import Dropped, Plan, Search, count_processors
+from haul.search.batches import Plan
+from haul.search.companion import Companion
+from haul.search.late_soups import open_late
+from haul.search.search import Dropped, Kept, Search, count_processors
+from haul.search.untold import is_in, open_untold
 from haul.search.stopping import Stopping
 from haul.terminal import Terminal, find_output_width
 from haul.views.compare import Comparison, rank_codes
@@ -214,10 +227,29 @@ def run_rarity(asked: argparse.Namespace, streams: Streams) -> int:
 
 def run_page(asked: argparse.Namespace, streams: Streams) -> int:
     hauls = [streams.read_haul(name) for name in asked.files or [None]]
-    streams.stdout.writelines(
-        make_page(Census(asked.census, streams.terminal), hauls, asked.least, asked.play)
-    )
+    census = Census(asked.census, streams.terminal)
+    lives = None if asked.lives is None else read_lives(asked.lives, streams, census, hauls[0])
+    streams.stdout.writelines(make_page(census, hauls, asked.least, asked.play, lives=lives))
     return DONE
+
+
+def read_lives(name: str, streams: Streams, census: Census, haul: Haul) -> Lives:
+    """Returns what a page shows of the late soups in a file, as far as a haul has them."""
+    try:
+        with streams.open_input(name) as stream:
+            late, job = read_late(stream)
+    except BadLate as bad:
+        raise Refused(f"{format_place(name)}{bad}") from None
+    if job not in (None, haul.job):
+        raise Refused(f"{format_place(name)}other job")
+    late.lines = [line for line in late.lines if is_in(line.soup, haul.ranges)]
+    try:
+        lives, wrong = find_lives(census, haul, late)
+    except TooLate as why:
+        raise Refused(str(why)) from None
+    for line in wrong:
+        streams.terminal.complain(f"{format_place(name)}{line}")
+    return lives
 
 
 def run_cells(asked: argparse.Namespace, streams: Streams) -> int:
@@ -238,10 +270,14 @@ def run_cells(asked: argparse.Namespace, streams: Streams) -> int:
 
 def run_rle(asked: argparse.Namespace, streams: Streams) -> int:
     try:
-        rows = read_plaintext(streams.read_pattern(asked.file))
-    except BadPlaintext as bad:
+        with streams.open_pattern(asked.file) as (text, lines):
+            if is_coordinates(text):
+                rle = format_rle_of_cells(read_coordinates(lines), asked.rule)
+            else:
+                rle = iter(format_rle(read_plaintext(text), asked.rule))
+    except (BadPlaintext, BadCoordinates) as bad:
         raise Refused(f"{format_place(asked.file)}{bad}") from None
-    streams.write_lines(format_rle(rows, asked.rule))
+    streams.write_lines(rle)
     return DONE
 
 
@@ -261,7 +297,10 @@ def run_soups(asked: argparse.Namespace, streams: Streams) -> int:
                 raise Refused(str(bad)) from None
     reports.tell_skipped()
     streams.terminal.show_progress("")
-    table = soups.table(reports.job, settling)
+    try:
+        table = soups.table(reports.job, settling)
+    except TooLate as why:
+        raise Refused(str(why)) from None
     form = table.csv if asked.csv else table.json if asked.json else table.text
     streams.write_lines(form(reports.job, settling))
     return DONE
@@ -272,30 +311,43 @@ def choose_soup_list(asked: argparse.Namespace, terminal: Terminal) -> SoupList:
     if asked.longest is not None:
         return Longest(asked.longest, Census(asked.census, terminal) if asked.exact else None)
     if asked.unsettled:
-        return Unsettled(Census(asked.census, terminal))
+        return Unsettled(Census(asked.census, terminal), asked.why)
     return Leaving(asked.code) if asked.code is not None else SoupList()
+
+
+def open_files(asked: argparse.Namespace, terminal: Terminal) -> Kept:
+    """Locks and reads the files of a search."""
+    keeper = Keeper(asked.file)
+    haul = keeper.read()
+    if haul is None:
+        haul = begin_haul(asked)
+    refuse_other_jobs(asked, haul)
+    late_file, finds_file = (
+        Companion(keeper.path, keeper.name, suffix, terminal.complain, is_always_there)
+        for suffix, is_always_there in (("late", True), ("finds", False))
+    )
+    late = open_late(asked, haul, find_next_soup(asked, haul), late_file)
+    return Kept(keeper, haul, late_file, late, finds_file, open_untold(haul, finds_file))
 
 
 def run_search(asked: argparse.Namespace, streams: Streams) -> int:
     try:
-        keeper = Keeper(asked.file)
-        haul = keeper.read()
-        if haul is None:
-            haul = begin_haul(asked)
-        refuse_other_jobs(asked, haul)
+        kept = open_files(asked, streams.terminal)
         # The file of this program may be replaced while the search goes on.
         load_names()
         plan = Plan(
-            find_next_soup(asked, haul),
+            find_next_soup(asked, kept.haul),
             asked.until,
             asked.part,
             asked.workers or count_processors(),
             asked.finds,
             USUAL_RARER if asked.rarer is None else asked.rarer,
+            None if kept.late is None else kept.late.generation,
+            kept.haul.job.rule == LIFE or asked.late is not None,
         )
         stopping = Stopping()
         census = Census(asked.census, streams.terminal)
-        search = Search(plan, haul, keeper, census, stopping, streams.stdout)
+        search = Search(plan, kept, census, stopping, streams.stdout)
         children.heed(stopping)
         with suppress(Dropped):
             search.run()

@@ -60,6 +60,10 @@ SOUPS = Command(
                 ),
             )
         ),
+        flag(
+            "--why",
+            "with --unsettled: also say what became of each soup, as `haul why` does",
+        ),
         flag("--exact", "with --longest: find the exact generations, as `--stride 1` does"),
         FORMS,
         CENSUS,
@@ -82,7 +86,9 @@ CELLS = Command(
 RLE = Command(
     "rle",
     "print a plaintext pattern as RLE, which Golly and LifeWiki read",
-    "\n\nexample:\n  census show xq4_153 | haul rle > glider.rle",
+    "Coordinates, which\n`census run --coordinates` prints, are read too. They may be those of a pattern of any size.\n\n"
+    "examples:\n  census show xq4_153 | haul rle > glider.rle\n"
+    "  census soup 7778 | census run 14948 --coordinates | haul rle > ash.rle",
     (
         option(
             "--rule",
