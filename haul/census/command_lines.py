@@ -8,7 +8,7 @@ from collections.abc import Iterator
 
 from haul.formats.haul import Haul, Job, Range
 from haul.formats.profile import STANDARD
-from haul.formats.rules import LIFE
+from haul.patterns.rules import LIFE
 
 # `census` takes at most this number of soups in one call.
 NUMBERS_IN_A_CALL = 2**24

@@ -7,45 +7,32 @@ from contextlib import suppress
 
 from haul.census.children import children
 from haul.census.client import Census
-from haul.cli.index_commands import run_index_check
-from haul.cli.statuses import DONE, NOT_RIGHT, REFUSED
+from haul.cli.statuses import DONE
 from haul.cli.streams import Refused, Streams, format_place
 from haul.fates.explain import TooLate
-from haul.formats.coordinates import (
-    BadCoordinates,
-    format_rle_of_cells,
-    is_coordinates,
-    read_coordinates,
-)
 from haul.formats.field_reader import BadHaul
 from haul.formats.haul import Haul
 from haul.formats.haul_reader import read_hauls
 from haul.formats.haul_writer import format_haul
-from haul.formats.index import is_index
 from haul.formats.late import BadLate, read_late
-from haul.formats.plaintext import BadPlaintext, is_plaintext, read_plaintext
 from haul.formats.report_files import BadLines, Reports
-from haul.formats.rle import BadRle, format_rle, read_rle
-from haul.formats.rules import LIFE, parse_rule
-from haul.hauls.apgsearch_check import ApgsearchCheck, CantCheck
 from haul.hauls.by_parts import Objects
-from haul.hauls.check import find_wrong_samples, list_differences, retake
-from haul.hauls.file_choice import FileChoice
 from haul.hauls.join import CantJoin, Joining
 from haul.life.generations import read_rule
 from haul.life.parts import Separator
+from haul.names.objects import load_names
 from haul.page.document import make_page
 from haul.page.lives import Lives, find_lives
+from haul.patterns.rules import LIFE
 from haul.rarity.reference import is_covered
-from haul.names.objects import load_names
-from haul.search.job import USUAL_RARER, Disagrees, begin_haul, find_next_soup, refuse_other_jobs
-from haul.search.keeper import CantKeep, Keeper
 from haul.search.batches import Plan
 from haul.search.companion import Companion
+from haul.search.job import Disagrees, USUAL_RARER, begin_haul, find_next_soup, refuse_other_jobs
+from haul.search.keeper import CantKeep, Keeper
 from haul.search.late_soups import open_late
 from haul.search.search import Dropped, Kept, Search, count_processors
-from haul.search.untold import is_in, open_untold
 from haul.search.stopping import Stopping
+from haul.search.untold import is_in, open_untold
 from haul.terminal import Terminal, find_output_width
 from haul.views.compare import Comparison, rank_codes
 from haul.views.rarity import describe_rarity
@@ -58,87 +45,6 @@ from haul.views.table import (
     format_table_json,
     format_table_text,
 )
-
-RIGHT = "right"
-
-
-def run_check(asked: argparse.Namespace, streams: Streams) -> int:
-    if asked.files and is_index(asked.files[0]):
-        return run_index_check(asked, streams)
-    if len(asked.files) <= 1 and asked.random is None:
-        lines = check_haul(asked, streams, asked.files[0] if asked.files else None)
-        streams.write_lines(lines)
-        return DONE if lines == [RIGHT] else NOT_RIGHT
-    files = asked.files
-    if asked.random is not None:
-        choice = FileChoice(files, asked.random, asked.choice)
-        streams.write_lines([choice.text()])
-        streams.stdout.flush()
-        files = choice.choose()
-    return find_worst_status([check_one_file(asked, streams, name) for name in files])
-
-
-def check_one_file(asked: argparse.Namespace, streams: Streams, name: str) -> int:
-    """Checks one of several files, and returns the status for it. What is said begins with its
-    name."""
-    try:
-        lines = check_haul(asked, streams, name)
-    except Refused as why:
-        place = format_place(name)
-        streams.terminal.complain(str(why) if str(why).startswith(place) else f"{place}{why}")
-        return REFUSED
-    streams.write_lines(f"{name}: {line}" for line in lines)
-    streams.stdout.flush()
-    return DONE if lines == [RIGHT] else NOT_RIGHT
-
-
-def find_worst_status(statuses: list[int]) -> int:
-    """Returns the status for several files: a wrong haul counts more than a refused text."""
-    return max(statuses, default=DONE)
-
-
-def check_haul(asked: argparse.Namespace, streams: Streams, name: str | None) -> list[str]:
-    """Returns what `haul check` says of a haul."""
-    haul = streams.read_haul(name)
-    if haul.apgsearch:
-        return check_apgsearch_haul(asked, streams, haul, name)
-    if asked.totals:
-        raise Refused(f"{format_place(name)}--totals is for hauls of apgsearch")
-    census = Census(asked.census, streams.terminal)
-    if asked.samples:
-        wrong = list(find_wrong_samples(census, haul))
-    elif haul.soups != haul.size():
-        raise Refused(
-            f"{format_place(name)}haul with missing soups, which can't be taken again; --samples "
-            "runs its sample soups"
-        )
-    else:
-        wrong = list(list_differences(haul, retake(census, haul, asked.workers)))
-    return wrong or [RIGHT]
-
-
-def check_apgsearch_haul(
-    asked: argparse.Namespace, streams: Streams, haul: Haul, name: str | None
-) -> list[str]:
-    """Returns what `haul check` says of a haul of apgsearch, by its samples or by its totals."""
-    if not asked.samples and not asked.totals:
-        raise Refused(
-            f"{format_place(name)}a haul of apgsearch doesn't name its soups: --samples runs its "
-            "sample soups, and --totals takes a census of as many soups"
-        )
-    try:
-        check = ApgsearchCheck(Census(asked.census, streams.terminal), haul)
-        if asked.totals:
-            return list(check.find_other_totals(asked.first or 0, asked.workers)) or [RIGHT]
-        unchecked = check.list_unchecked()
-        if unchecked:
-            streams.terminal.complain(
-                f"{format_place(name)}not checked, since census doesn't count such objects: "
-                f"{' '.join(unchecked)}"
-            )
-        return list(check.find_wrong_samples()) or [RIGHT]
-    except CantCheck as why:
-        raise Refused(f"{format_place(name)}{why}") from None
 
 
 def run_join(asked: argparse.Namespace, streams: Streams) -> int:
@@ -250,35 +156,6 @@ def read_lives(name: str, streams: Streams, census: Census, haul: Haul) -> Lives
     for line in wrong:
         streams.terminal.complain(f"{format_place(name)}{line}")
     return lives
-
-
-def run_cells(asked: argparse.Namespace, streams: Streams) -> int:
-    text = streams.read_pattern(asked.file)
-    rule: str | None = None
-    try:
-        if is_plaintext(text):
-            rows = read_plaintext(text)
-        else:
-            rows, rule = read_rle(text)
-    except (BadPlaintext, BadRle) as bad:
-        raise Refused(f"{format_place(asked.file)}{bad}") from None
-    if rule is not None and parse_rule(rule) != LIFE:
-        streams.terminal.complain(f"rule {rule} is --rule {parse_rule(rule)}")
-    streams.write_lines(rows)
-    return DONE
-
-
-def run_rle(asked: argparse.Namespace, streams: Streams) -> int:
-    try:
-        with streams.open_pattern(asked.file) as (text, lines):
-            if is_coordinates(text):
-                rle = format_rle_of_cells(read_coordinates(lines), asked.rule)
-            else:
-                rle = iter(format_rle(read_plaintext(text), asked.rule))
-    except (BadPlaintext, BadCoordinates) as bad:
-        raise Refused(f"{format_place(asked.file)}{bad}") from None
-    streams.write_lines(rle)
-    return DONE
 
 
 def run_soups(asked: argparse.Namespace, streams: Streams) -> int:

@@ -9,7 +9,7 @@ from contextlib import contextmanager
 from itertools import chain
 from typing import BinaryIO, TextIO
 
-from haul.formats.coordinates import is_coordinates
+from haul.patterns.coordinates import is_coordinates
 from haul.formats.field_reader import BadHaul
 from haul.formats.haul import Haul
 from haul.formats.haul_reader import read_any_haul

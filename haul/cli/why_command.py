@@ -14,13 +14,13 @@ from haul.cli.streams import Refused, Streams, format_place
 from haul.cli.values import read_count, read_path, read_rule_value, read_seed, read_subject
 from haul.fates.explain import Fates, TooLate
 from haul.fates.fate import Kind
-from haul.formats.coordinates import BadCoordinates, is_coordinates, read_coordinates
+from haul.patterns.coordinates import BadCoordinates, is_coordinates, read_coordinates
 from haul.formats.haul import Job
-from haul.formats.plaintext import SIDE, BadPlaintext, Rows, is_plaintext, read_plaintext
+from haul.patterns.plaintext import SIDE, BadPlaintext, Rows, is_plaintext, read_plaintext
 from haul.formats.profile import STANDARD, Profile
 from haul.formats.report_files import Reports
-from haul.formats.rle import BadRle, read_rle
-from haul.formats.rules import LIFE, parse_rule
+from haul.patterns.rle import BadRle, read_rle
+from haul.patterns.rules import LIFE, parse_rule
 from haul.views.fates import FateTable
 
 # So many soups of a file are explained, unless another number is asked for.

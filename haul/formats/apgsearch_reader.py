@@ -9,7 +9,7 @@ from typing import IO
 from haul.formats.field_reader import BadHaul
 from haul.formats.haul import NUMBER_LIMIT, TOTAL_LIMIT, Haul, Job
 from haul.formats.profile import STANDARD
-from haul.formats.rules import parse_rule
+from haul.patterns.rules import parse_rule
 
 # What a haul of apgsearch begins with. A haul of `census` has a number there.
 BEGINNING = b"@VERSION v"

@@ -7,7 +7,7 @@ from collections.abc import Iterator
 from dataclasses import replace
 
 from haul.census.client import Census
-from haul.formats.codes import is_large
+from haul.patterns.codes import is_large
 from haul.formats.haul import NUMBER_LIMIT, SYMMETRY, Haul
 from haul.formats.syntax import SEED
 from haul.hauls.by_parts import Objects

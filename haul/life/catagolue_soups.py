@@ -11,8 +11,8 @@ from dataclasses import dataclass
 from urllib.parse import unquote
 
 from haul.formats.haul import SYMMETRY
-from haul.formats.plaintext import Rows, trim_rows
-from haul.formats.rules import LIFE, parse_rule
+from haul.patterns.plaintext import Rows, trim_rows
+from haul.patterns.rules import LIFE, parse_rule
 from haul.life.soups import make_soup
 
 # The address of a sample's page, before the sample.

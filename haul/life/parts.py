@@ -10,7 +10,7 @@ from __future__ import annotations
 
 from dataclasses import dataclass
 
-from haul.formats.codes import read_drawing, read_kind
+from haul.patterns.codes import read_drawing, read_kind
 from haul.life.apgcodes import find_code, read_wechsler
 from haul.life.blocks import Blocks, Run
 from haul.life.cells import Cells, move_to_corner

@@ -9,9 +9,9 @@ from collections.abc import Iterator
 from functools import cache
 
 from haul.census.command_lines import format_soup_commands
-from haul.formats.codes import is_large, read_drawing, read_kind
+from haul.patterns.codes import is_large, read_drawing, read_kind
 from haul.formats.haul import Haul
-from haul.formats.rules import format_rule
+from haul.patterns.rules import format_rule
 from haul.life.apgcodes import read_wechsler
 from haul.life.soups import make_soup
 from haul.names.labels import find_label

@@ -6,7 +6,7 @@ from collections.abc import Iterator
 from html import escape
 from urllib.parse import quote
 
-from haul.formats.codes import is_large, read_drawing, read_kind
+from haul.patterns.codes import is_large, read_drawing, read_kind
 from haul.life.apgcodes import read_wechsler
 from haul.life.drawing import draw_picture
 from haul.names.labels import find_label, mark_label

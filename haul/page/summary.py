@@ -10,7 +10,7 @@ from haul import VERSION
 from haul.census.command_lines import format_unsettled_command
 from haul.formats.haul import SYMMETRY, Haul, Job
 from haul.formats.profile import Profile
-from haul.formats.rules import LIFE, format_rule
+from haul.patterns.rules import LIFE, format_rule
 from haul.page.sides import Side, Sides
 from haul.plurals import pluralize, write_count
 

@@ -4,8 +4,8 @@ from __future__ import annotations
 
 from functools import cache
 
-from haul.formats.codes import is_large, read_kind
-from haul.formats.rules import LIFE
+from haul.patterns.codes import is_large, read_kind
+from haul.patterns.rules import LIFE
 from haul.life.generations import read_rule
 from haul.life.parts import is_counted
 from haul.rarity.occurrence import Occurrence

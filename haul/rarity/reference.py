@@ -12,7 +12,7 @@ from pathlib import Path
 
 from haul.formats.haul import Job
 from haul.formats.profile import STANDARD
-from haul.formats.rules import LIFE
+from haul.patterns.rules import LIFE
 from haul.formats.tables import BadTable, read_table
 from haul.rarity.occurrence import Occurrence
 

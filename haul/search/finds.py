@@ -13,10 +13,10 @@ from dataclasses import dataclass, field
 from datetime import datetime, timezone
 
 from haul.census.command_lines import format_find_command
-from haul.formats.codes import Kind, read_kind
+from haul.patterns.codes import Kind, read_kind
 from haul.formats.haul import NUMBER_LIMIT, Haul, Job
 from haul.formats.profile import STANDARD
-from haul.formats.rules import LIFE
+from haul.patterns.rules import LIFE
 from haul.life.generations import read_rule
 from haul.life.parts import Separator
 from haul.names.objects import find_name

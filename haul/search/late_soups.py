@@ -10,7 +10,7 @@ from haul.census.command_lines import format_find_command
 from haul.formats.haul import Haul, Job
 from haul.formats.late import MOST_LINES, ONLY_UNSETTLED, BadLate, Late, LateLine, read_late
 from haul.formats.report_lines import BadLine, read_report_line
-from haul.formats.rules import LIFE
+from haul.patterns.rules import LIFE
 from haul.search.companion import Companion
 from haul.search.finds import format_time
 from haul.search.keeper import CantKeep

@@ -8,8 +8,8 @@ import unittest
 from unittest.mock import patch
 
 from haul.cli import streams
-from haul.formats.coordinates import is_coordinates
-from haul.formats.rle import format_rle, read_rle
+from haul.patterns.coordinates import is_coordinates
+from haul.patterns.rle import format_rle, read_rle
 from haul.tests.called import run
 
 

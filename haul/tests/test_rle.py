@@ -12,8 +12,8 @@ import time
 import unittest
 from pathlib import Path
 
-from haul.formats.rle import BadRle, format_rle, read_rle
-from haul.formats.rules import RULES, find_named_rule, parse_rule
+from haul.patterns.rle import BadRle, format_rle, read_rle
+from haul.patterns.rules import RULES, find_named_rule, parse_rule
 from haul.formats.syntax import RULE
 from haul.tests.called import CENSUS, HAUL, census, run
 

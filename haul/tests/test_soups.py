@@ -6,7 +6,7 @@ import unittest
 from pathlib import Path
 from tempfile import TemporaryDirectory
 
-from haul.formats.rle import read_rle
+from haul.patterns.rle import read_rle
 from haul.life.catagolue_soups import BadSample, read_sample
 from haul.tests.called import census, run
 

@@ -20,7 +20,7 @@ from haul.fates.fate import Fate, Kind
 from haul.fates.growth import GENERATIONS, MOST_CYCLE, Growth, find_growth
 from haul.fates.rest import Rest, look_for_rest
 from haul.formats.profile import STANDARD
-from haul.formats.rle import read_rle
+from haul.patterns.rle import read_rle
 from haul.life.cells import Cells
 from haul.life import field as field_module
 from haul.life.field import Field, pack, unpack_all

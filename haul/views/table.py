@@ -5,7 +5,7 @@ from __future__ import annotations
 from collections.abc import Iterator
 from dataclasses import dataclass
 
-from haul.formats.codes import read_kind
+from haul.patterns.codes import read_kind
 from haul.formats.haul import Haul
 from haul.hauls.by_parts import Objects
 from haul.life.parts import Separation

@@ -1,4 +1,4 @@
-"""What `haul soup` does: it prints the soups of samples, or writes each to a file."""
+"""What the commands about patterns do: `soup`, `cells` and `rle`."""
 
 from __future__ import annotations
 
@@ -7,10 +7,17 @@ import os
 from pathlib import Path
 
 from haul.cli.statuses import DONE
-from haul.cli.streams import Refused, Streams
-from haul.formats.rle import format_rle
-from haul.formats.rules import LIFE
+from haul.cli.streams import Refused, Streams, format_place
 from haul.life.catagolue_soups import BadSample, Sample, read_sample
+from haul.patterns.coordinates import (
+    BadCoordinates,
+    format_rle_of_cells,
+    is_coordinates,
+    read_coordinates,
+)
+from haul.patterns.plaintext import BadPlaintext, is_plaintext, read_plaintext
+from haul.patterns.rle import BadRle, format_rle, read_rle
+from haul.patterns.rules import LIFE, parse_rule
 
 
 def run_soup(asked: argparse.Namespace, streams: Streams) -> int:
@@ -55,3 +62,32 @@ def find_fault_of_soup(asked: argparse.Namespace) -> str | None:
             "plaintext as one"
         )
     return None
+
+
+def run_cells(asked: argparse.Namespace, streams: Streams) -> int:
+    text = streams.read_pattern(asked.file)
+    rule: str | None = None
+    try:
+        if is_plaintext(text):
+            rows = read_plaintext(text)
+        else:
+            rows, rule = read_rle(text)
+    except (BadPlaintext, BadRle) as bad:
+        raise Refused(f"{format_place(asked.file)}{bad}") from None
+    if rule is not None and parse_rule(rule) != LIFE:
+        streams.terminal.complain(f"rule {rule} is --rule {parse_rule(rule)}")
+    streams.write_lines(rows)
+    return DONE
+
+
+def run_rle(asked: argparse.Namespace, streams: Streams) -> int:
+    try:
+        with streams.open_pattern(asked.file) as (text, lines):
+            if is_coordinates(text):
+                rle = format_rle_of_cells(read_coordinates(lines), asked.rule)
+            else:
+                rle = iter(format_rle(read_plaintext(text), asked.rule))
+    except (BadPlaintext, BadCoordinates) as bad:
+        raise Refused(f"{format_place(asked.file)}{bad}") from None
+    streams.write_lines(rle)
+    return DONE

@@ -5,8 +5,8 @@ from __future__ import annotations
 import re
 from collections.abc import Iterable, Iterator
 
-from haul.formats.rle import LINE_LENGTH, format_run
-from haul.formats.rules import format_rule
+from haul.patterns.rle import LINE_LENGTH, format_run
+from haul.patterns.rules import format_rule
 
 # The columns of a row that are alive, by the row.
 Columns = dict[int, set[int]]

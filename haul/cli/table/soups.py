@@ -5,10 +5,10 @@ from __future__ import annotations
 from haul.cli import commands
 from haul.cli.arguments import Argument, Command, Exclusive, flag, option
 from haul.cli.faults import find_fault_of_soups
-from haul.cli.sample_command import find_fault_of_soup, run_soup
+from haul.cli.pattern_commands import find_fault_of_soup, run_cells, run_rle, run_soup
 from haul.cli.shared_options import CENSUS, FORMS
 from haul.cli.values import read_code, read_count, read_path, read_rule_value
-from haul.formats.rules import LIFE
+from haul.patterns.rules import LIFE
 
 SOUP = Command(
     "soup",
@@ -80,7 +80,7 @@ CELLS = Command(
     "error.\nPlaintext passes through without its comments.\n\n"
     "example:\n  haul cells gun.rle | census run 30",
     (Argument("file", "the pattern (default: standard input)", repeats="?"),),
-    commands.run_cells,
+    run_cells,
 )
 
 RLE = Command(
@@ -99,5 +99,5 @@ RLE = Command(
         ),
         Argument("file", "the pattern (default: standard input)", repeats="?"),
     ),
-    commands.run_rle,
+    run_rle,
 )
