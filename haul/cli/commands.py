@@ -22,7 +22,7 @@ from haul.formats.haul import Haul
 from haul.formats.haul_reader import read_hauls
 from haul.formats.haul_writer import format_haul
 from haul.formats.index import is_index
-from haul.formats.late import BadLate, read_late
+from haul.search.late import BadLate, read_late
 from haul.formats.plaintext import BadPlaintext, is_plaintext, read_plaintext
 from haul.formats.report_files import Reports
 from haul.formats.rle import BadRle, format_rle, read_rle
