@@ -14,7 +14,6 @@ from typing import IO
 
 from haul.census.client import FAILED, Ended, check_ending
 from haul.census.starters import LAUNCH_CENSUS, list_starter_words
-from haul.formats.late import MOST_LINES
 from haul.formats.report_lines import LINE_LIMIT
 
 # What the launcher does with the program.
@@ -30,8 +29,9 @@ SECONDS_TO_END = 0.05
 MOST_SECONDS_TO_END = 2.0
 # The line of progress of `census take`.
 PROGRESS = re.compile(rb"([0-9]{1,8}) of [0-9]{1,8} soups")
-# Its report lines.
+# Its report lines, of which so many are kept.
 REPORT_BEGINS = b"report "
+MOST_REPORTS = 100_000
 REPORT_OF = re.compile(rb"report [^\n]*? soup=([0-9]{1,13}) ")
 
 
@@ -202,8 +202,8 @@ class BackgroundTake(BackgroundProgram):
         self.reported_bytes += len(line)
         # A line that says no soup is refused later.
         self.reports.append((int(soup[1]) if soup else -1, line))
-        if len(self.reports) > 2 * MOST_LINES:
-            self.reports = sorted(self.reports)[:MOST_LINES]
+        if len(self.reports) > 2 * MOST_REPORTS:
+            self.reports = sorted(self.reports)[:MOST_REPORTS]
 
     def soups(self) -> int:
         """Returns how many soups it has run so far, by its line of progress."""

@@ -14,7 +14,6 @@ from haul.formats.field_reader import BadHaul
 from haul.formats.haul import Haul
 from haul.formats.haul_reader import read_hauls
 from haul.formats.haul_writer import format_haul
-from haul.formats.late import BadLate, read_late
 from haul.formats.report_files import BadLines, Reports
 from haul.hauls.by_parts import Objects
 from haul.hauls.join import CantJoin, Joining
@@ -29,6 +28,7 @@ from haul.search.batches import Plan
 from haul.search.companion import Companion
 from haul.search.job import Disagrees, USUAL_RARER, begin_haul, find_next_soup, refuse_other_jobs
 from haul.search.keeper import CantKeep, Keeper
+from haul.search.late import BadLate, read_late
 from haul.search.late_soups import open_late
 from haul.search.search import Dropped, Kept, Search, count_processors
 from haul.search.stopping import Stopping

@@ -12,7 +12,7 @@ from haul.census.soup_runs import draw_soup, find_exact_generation
 from haul.fates.explain import Fates
 from haul.fates.fate import Fate, Kind
 from haul.formats.haul import Haul, Job
-from haul.formats.late import ONLY_UNSETTLED, Late, LateLine
+from haul.search.late import ONLY_UNSETTLED, Late, LateLine
 from haul.formats.report_lines import read_report_line
 from haul.life.drawing import draw_path
 from haul.life.soups import SOUP_SIDE, make_soup
@@ -21,7 +21,7 @@ from haul.plurals import write_count
 # So many of the longest-lived soups, and of the unsettled ones, are shown.
 MOST_SHOWN = 20
 # The chart of lifespans: how many bars it has about, and its size.
-BARS, WIDTH, HEIGHT, EDGE = 24, 640, 160, 24
+BARS, WIDTH, HEIGHT = 24, 640, 100
 TIDY_STEPS = (100, 200, 500, 1000, 2000, 5000, 10_000)
 KINDS = {
     Kind.FALLS_APART: "An object falls apart",
@@ -189,7 +189,7 @@ def write_summary(lives: Lives) -> str:
 
 def caption(life: LongLife) -> str:
     exact = f"{life.generation:,}" if life.generation is not None else "–"
-    return f"generation {exact}<small>{write_count(life.objects, 'object')}</small>"
+    return f"generation {exact}, {write_count(life.objects, 'object')}"
 
 
 def write_list(title: str, job: Job, soups: list[tuple[int, str]]) -> Iterator[str]:
@@ -219,21 +219,21 @@ def write_chart(checkpoints: list[int]) -> Iterator[str]:
     step = choose_step(checkpoints)
     bars = count_bars(checkpoints, step)
     first, last, most = bars[0][0], bars[-1][0] + step, max(count for _, count in bars)
-    width = (WIDTH - 2 * EDGE) / len(bars)
+    width = WIDTH / len(bars)
     shapes = "".join(
-        f'<rect x="{EDGE + place * width:.1f}" y="{HEIGHT - EDGE - height:.1f}" '
-        f'width="{max(1, width - 2):.1f}" height="{height:.1f}"><title>{describe_bar(start, step, count)}'
-        "</title></rect>"
+        f'<rect x="{place * width:.1f}" y="{HEIGHT - height:.1f}" width="{max(1, width - 2):.1f}" '
+        f'height="{height:.1f}"><title>{describe_bar(start, step, count)}</title></rect>'
         for place, (start, count) in enumerate(bars)
-        if (height := (HEIGHT - 2 * EDGE) * count / most)
+        if (height := HEIGHT * count / most)
     )
     said = f"When late soups settled: from generation {min(checkpoints):,} to {max(checkpoints):,}"
     yield (
-        f'<figure class="lifespans"><figcaption>When the late soups settled, by the checkpoint</figcaption>'
-        f'<svg class="plot" viewBox="0 0 {WIDTH} {HEIGHT}" role="img" aria-label="{said}">{shapes}'
-        f'<text x="{EDGE}" y="{HEIGHT - 6}">{first:,}</text>'
-        f'<text x="{WIDTH - EDGE}" y="{HEIGHT - 6}" text-anchor="end">{last:,}</text>'
-        f'<text x="{EDGE}" y="14">{write_count(most, "soup")} at most in {step:,} generations</text></svg>\n'
+        '<figure class="lifespans"><figcaption>When the late soups settled, by the checkpoint'
+        f"</figcaption><p>The highest bar is {write_count(most, 'soup')} in {step:,} generations.</p>"
+        f'<svg viewBox="0 0 {WIDTH} {HEIGHT}" preserveAspectRatio="none" role="img" '
+        f'aria-label="{said}">{shapes}</svg>'
+        f'<div class="ends" aria-hidden="true"><span>generation {first:,}</span>'
+        f"<span>{last:,}</span></div>\n"
     )
     rows = "".join(
         f'<tr><th scope="row">{start:,} to {start + step - 1:,}</th><td>{count:,}</td></tr>'

@@ -22,7 +22,7 @@ from typing import TextIO
 from haul.census.background import StreamWaiter
 from haul.census.client import Census
 from haul.formats.haul import NUMBER_LIMIT, Haul
-from haul.formats.late import Late
+from haul.search.late import Late
 from haul.hauls.join import Joining
 from haul.plurals import write_count
 from haul.search.batches import MOST_WORKERS, Batches, Plan, Taken

@@ -10,7 +10,7 @@ import time
 from collections.abc import Callable
 from unittest.mock import patch
 
-from haul.formats import late as late_format
+from haul.search import late as late_format
 from haul.search.batches import share_workers
 from haul.tests.called import CENSUS, census, run
 from haul.tests.searching import QUICK, Searches
@@ -89,7 +89,7 @@ class Kept(LateSearches):
     def test_the_lowest_numbers_are_kept(self) -> None:
         with patch.object(late_format, "MOST_LINES", 5), patch(
             "haul.search.late_soups.MOST_LINES", 5
-        ), patch("haul.census.background.MOST_LINES", 5):
+        ), patch("haul.census.background.MOST_REPORTS", 5):
             for until in (40, 80):
                 self.search("--seed=a", *SHORT, "--late=0", "--part=40", f"--until={until}")
                 header, lines = self.kept()
