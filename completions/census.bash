@@ -11,13 +11,13 @@ _census() {
     # After an option that takes a value, only its values are proposed.
     case $before in
         =) return ;;
-        --rule | --period | --horizon | --stride | --limit | --seed | --first | --count | --also | --workers | --report-from | --worker) return ;;
+        --rule | --sizes | --period | --horizon | --stride | --limit | --seed | --first | --count | --also | --workers | --report-from | --worker) return ;;
     esac
     case ${COMP_WORDS[1]} in
-        run) options='--rule --help' ;;
+        run) options='--rule --coordinates --sizes --help' ;;
         name) options='--period --horizon --stride --limit --rule --help' ;;
-        show) options='--help' ;;
-        soup) options='--seed --help' ;;
+        show) options='--coordinates --help' ;;
+        soup) options='--seed --coordinates --help' ;;
         take) options='--seed --first --count --also --period --horizon --stride --limit --rule --workers --progress --report-from --help' ;;
         work) options='--seed --first --count --also --period --horizon --stride --limit --rule --worker --help' ;;
         gather) options='--seed --first --count --also --period --horizon --stride --limit --rule --workers --help' ;;

@@ -15,10 +15,11 @@ use Rattle.clap.proofs.OnLiterals.{clap_on_literals}
 use Rattle.clap.proofs.WalkLemmas.{walk_stopped}
 use Rattle.arguments.specs.declared.request.Request.{Request}
 use Rattle.arguments.specs.Application.{census_app}
-use Rattle.arguments.specs.Calls.{AskForTheirValues, AsksFor, AsksForVersion}
+use Rattle.arguments.specs.Calls.{AskForTheirValues, AsksFor, AsksForVersion, AsksForWhat}
 use Rattle.arguments.specs.Entries.{Command, Entry}
 use Rattle.arguments.specs.GivenValues.{plan_given}
 use Rattle.arguments.specs.LawfulUses.{AreUses, IsIn, is_required, lacks_some}
+use Rattle.arguments.specs.Forms.{pattern_form}
 use Rattle.arguments.specs.Plans.{all_four, plan_in, plan_of_three, set_of_four}
 use Rattle.arguments.specs.Reading.{gather_from, name_from, run_from, show_from, soup_from, take_from, work_from}
 use Rattle.arguments.specs.Requests.{asked_by, asks_version, called_by, is_version, request_in, unless_faulty}
@@ -130,21 +131,28 @@ plan_taken uses rows more (seed, (first, (count, (also, (period, (horizon, (stri
   others,
 )
 
--- a command asks for a request if that is what its values make
+-- a command asks for what its values make
+asks_what : (command : Command) (here : IsIn command commands) (asked : List Use → Option Request)
+    → ((uses : List Use) → AllTaken command.parameters uses (rows_for command uses)
+    → request_in ((leaf command).name, rows_for command uses) ≡ asked uses) → AsksForWhat command asked
+asks_what command here asked makes program uses are whole =
+    asks_uses command here program uses false are whole ∙ makes uses (all_taken command here uses are whole)
+
 asks_for : (command : Command) (here : IsIn command commands) (request : List Use → Request)
     → ((uses : List Use) → AllTaken command.parameters uses (rows_for command uses)
     → request_in ((leaf command).name, rows_for command uses) ≡ Some (request uses)) → AsksFor command request
-asks_for command here request makes program uses are whole =
-    asks_uses command here program uses false are whole ∙ makes uses (all_taken command here uses are whole)
+asks_for command here request makes = asks_what command here (λ uses. Some (request uses)) makes
 
 pub ask_for_their_values : AskForTheirValues
 ask_for_their_values = record {
-  run = asks_for table.run_command (inl refl) _ (λ uses all. let (n, (rule, more)) = all in λ i. run_from (number_of (n i)) (text_of (rule i)));
+  run = asks_what table.run_command (inl refl) _ (λ uses all. let (n, (rule, (coordinates, (sizes, more)))) = all in λ i.
+      run_from (pattern_form (flag_of (coordinates i))) (number_of (sizes i)) (number_of (n i)) (text_of (rule i)));
   name = asks_for table.name_command (inr (inl refl)) _ (λ uses all. let (period, (horizon, (stride, (limit, (rule, more))))) = all in λ i.
       name_from (all_four (number_of (period i)) (number_of (horizon i)) (number_of (stride i)) (number_of (limit i))) (text_of (rule i)));
-  show = asks_for table.show_command (inr (inr (inl refl))) _ (λ uses all. let (code, more) = all in λ i. show_from (text_of (code i)));
-  soup = asks_for table.soup_command (inr (inr (inr (inl refl)))) _ (λ uses all. let (n, (seed, more)) = all in λ i.
-      soup_from (number_of (n i)) (text_of (seed i)));
+  show = asks_for table.show_command (inr (inr (inl refl))) _ (λ uses all. let (code, (coordinates, more)) = all in λ i.
+      show_from (pattern_form (flag_of (coordinates i))) (text_of (code i)));
+  soup = asks_for table.soup_command (inr (inr (inr (inl refl)))) _ (λ uses all. let (n, (seed, (coordinates, more))) = all in λ i.
+      soup_from (pattern_form (flag_of (coordinates i))) (number_of (n i)) (text_of (seed i)));
   take = asks_for table.take_command (inr (inr (inr (inr (inl refl))))) _ (λ uses all.
       let (plan, (workers, (progress, (from, more)))) =
       plan_taken uses (rows_for table.take_command uses) (table.workers ∷ table.progress ∷ table.report_from ∷ []) all in

@@ -1,5 +1,5 @@
 -- The laws: what the calls of the program ask for, whatever the arguments.
-use Rattle.std.specs.Prelude.{◌≡◌, ◌++◌, false, true, List, [], ◌∷◌, None, Some, codes}
+use Rattle.std.specs.Prelude.{◌≡◌, ◌++◌, false, true, List, [], ◌∷◌, None, Option, Some, codes, option_map}
 use Rattle.std.specs.List.{list_any}
 use Rattle.std.specs.Str.{bytes_eq}
 use Rattle.std.specs.Str.Parse.{starts_with_minus}
@@ -7,26 +7,32 @@ use Rattle.clap.specs.Words.{Text}
 use Rattle.arguments.specs.declared.request.Request.{Request}
 use Rattle.arguments.specs.declared.request.Request.TheVariants.{Run, Name, Show, Soup, Take, Work, Gather, Version}
 use Rattle.arguments.specs.Entries.{Command}
-use Rattle.arguments.specs.GivenValues.{number_given, number_if_given, plan_given, profile_given, text_given}
+use Rattle.arguments.specs.GivenValues.{form_given, number_given, number_if_given, plan_given, profile_given, run_form_given, text_given}
 use Rattle.arguments.specs.LawfulUses.{AreUses, IsIn, IsOutOfRange, IsShort, IsUnknown, IsUse, lacks_some}
 use Rattle.arguments.specs.Requests.{asked_by}
 use Rattle.arguments.specs.Table.{commands}
 use Rattle.arguments.specs.Table as table
 use Rattle.arguments.specs.Uses.{Use, entry_in, is_used, arguments_in, arguments_of}
 
--- A call of the command asks for this request if its arguments are lawful, each given at most once, in any order, and
--- no required argument is missing.
-abbrev pub AsksFor : Command → (List Use → Request) → Type 0
-AsksFor command request =
+-- What a call of the command asks for, if its arguments are lawful, each given at most once, in any order, and no
+-- required argument is missing. It may be nothing.
+abbrev pub AsksForWhat : Command → (List Use → Option Request) → Type 0
+AsksForWhat command asked =
     (program : Text) (uses : List Use) → AreUses command uses → lacks_some command uses ≡ false
-    → asked_by (program ∷ command.name ∷ arguments_in uses) ≡ Some (request uses)
+    → asked_by (program ∷ command.name ∷ arguments_in uses) ≡ asked uses
+
+-- such a call asks for this request
+abbrev pub AsksFor : Command → (List Use → Request) → Type 0
+AsksFor command request = AsksForWhat command (λ uses. Some (request uses))
 
 -- each command asks for its request, with the values that are given and the defaults of the others
 pub record AskForTheirValues : Type 0 where
-  pub run : AsksFor table.run_command (λ uses. Run (number_given table.generations uses) (text_given table.rule uses))
+  -- sizes with coordinates, and sizes from a generation after the last, are nothing
+  pub run : AsksForWhat table.run_command
+      (λ uses. option_map (λ form. Run (number_given table.generations uses) form (text_given table.rule uses)) (run_form_given uses))
   pub name : AsksFor table.name_command (λ uses. Name (profile_given uses) (text_given table.rule uses))
-  pub show : AsksFor table.show_command (λ uses. Show (text_given table.code uses))
-  pub soup : AsksFor table.soup_command (λ uses. Soup (text_given table.seed uses) (number_given table.number uses))
+  pub show : AsksFor table.show_command (λ uses. Show (text_given table.code uses) (form_given uses))
+  pub soup : AsksFor table.soup_command (λ uses. Soup (text_given table.seed uses) (number_given table.number uses) (form_given uses))
   pub take : AsksFor table.take_command
       (λ uses. Take (plan_given uses) (number_given table.workers uses) (is_used table.progress.name uses) (number_if_given table.report_from uses))
   pub work : AsksFor table.work_command (λ uses. Work (plan_given uses) (number_given table.worker uses))

@@ -3,10 +3,13 @@ use Rattle.std.specs.Prelude.{ℕ, List, [], ◌∷◌, None, Option, Some, unwr
 use Rattle.std.specs.Str.{bytes_eq}
 use Rattle.std.specs.Str.Parse.{digits_value}
 use Rattle.clap.specs.Words.{Text}
+use Rattle.requests.specs.declared.form.PatternForm.{PatternForm}
+use Rattle.requests.specs.declared.form.RunForm.{RunForm}
 use Rattle.requests.specs.declared.plan.Plan.{Plan}
 use Rattle.requests.specs.declared.profile_numbers.ProfileNumbers.{ProfileNumbers}
 use Rattle.requests.specs.declared.soup_set.SoupSet.{SoupSet}
 use Rattle.arguments.specs.Entries.{Entry}
+use Rattle.arguments.specs.Forms.{pattern_form, run_form}
 use Rattle.arguments.specs.Table as table
 use Rattle.arguments.specs.Uses.{Use, entry_in, is_used, value_in}
 
@@ -22,6 +25,14 @@ number_given entry uses = digits_value 10 (text_given entry uses)
 -- the number that is given for an argument, if it is given
 abbrev pub number_if_given : Entry → List Use → Option ℕ
 number_if_given entry uses = if is_used entry.name uses then Some (number_given entry uses) else None
+
+-- the form of the pattern that a call asks for
+abbrev pub form_given : List Use → PatternForm
+form_given uses = pattern_form (is_used table.coordinates.name uses)
+
+-- what a call of `run` asks for
+abbrev pub run_form_given : List Use → Option RunForm
+run_form_given uses = run_form (form_given uses) (number_given table.generations uses) (number_if_given table.sizes uses)
 
 -- the numbers of a profile that a call gives
 abbrev pub profile_given : List Use → ProfileNumbers

@@ -1,6 +1,7 @@
 pub mod Application
 pub mod Calls
 pub mod Entries
+pub mod Forms
 pub mod GivenValues
 pub mod LawfulUses
 pub mod NumbersInRange

@@ -14,6 +14,12 @@ most_first = 2 ^ 40
 abbrev pub generations : Entry
 generations = position (codes "N") (kind.Number 0 100000)
 
+abbrev pub coordinates : Entry
+coordinates = flag (codes "coordinates")
+
+abbrev pub sizes : Entry
+sizes = optional (codes "sizes") (kind.OptionalNumber 0 100000)
+
 abbrev pub code : Entry
 code = position (codes "CODE") kind.Text
 

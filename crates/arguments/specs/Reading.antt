@@ -1,30 +1,32 @@
 -- The request of each command, put together from the values that were found for its arguments.
-use Rattle.std.specs.Prelude.{ℕ, Bool, List, Option, None, Some}
+use Rattle.std.specs.Prelude.{ℕ, Bool, List, Option, None, Some, option_map}
 use Rattle.clap.specs.Words.{Row, Text}
 use Rattle.requests.specs.declared.plan.Plan.{Plan}
 use Rattle.requests.specs.declared.profile_numbers.ProfileNumbers.{ProfileNumbers}
 use Rattle.arguments.specs.declared.request.Request.{Request}
 use Rattle.arguments.specs.declared.request.Request.TheVariants.{Run, Name, Show, Soup, Take, Work, Gather}
+use Rattle.requests.specs.declared.form.PatternForm.{PatternForm}
+use Rattle.arguments.specs.Forms.{pattern_form, run_form}
 use Rattle.arguments.specs.Plans.{plan_in, profile_in}
-use Rattle.arguments.specs.Table.{code, generations, number, progress, report_from, rule, seed, worker, workers}
+use Rattle.arguments.specs.Table.{code, coordinates, generations, number, progress, report_from, rule, seed, sizes, worker, workers}
 use Rattle.arguments.specs.Values.{is_given, number_found, text_found}
 
 -- the request of each command, if its values were found
-abbrev pub run_from : Option ℕ → Option Text → Option Request
-run_from (Some n) (Some rule) = Some (Run n rule)
-run_from _ _ = None
+abbrev pub run_from : PatternForm → Option ℕ → Option ℕ → Option Text → Option Request
+run_from form sizes (Some n) (Some rule) = option_map (λ printed. Run n printed rule) (run_form form n sizes)
+run_from form sizes _ _ = None
 
 abbrev pub name_from : Option ProfileNumbers → Option Text → Option Request
 name_from (Some profile) (Some rule) = Some (Name profile rule)
 name_from _ _ = None
 
-abbrev pub show_from : Option Text → Option Request
-show_from (Some code) = Some (Show code)
-show_from None = None
+abbrev pub show_from : PatternForm → Option Text → Option Request
+show_from form (Some code) = Some (Show code form)
+show_from form None = None
 
-abbrev pub soup_from : Option ℕ → Option Text → Option Request
-soup_from (Some n) (Some seed) = Some (Soup seed n)
-soup_from _ _ = None
+abbrev pub soup_from : PatternForm → Option ℕ → Option Text → Option Request
+soup_from form (Some n) (Some seed) = Some (Soup seed n form)
+soup_from form _ _ = None
 
 abbrev pub take_from : Bool → Option ℕ → Option Plan → Option ℕ → Option Request
 take_from asked from (Some plan) (Some workers) = Some (Take plan workers asked from)
@@ -38,18 +40,22 @@ abbrev pub gather_from : Option Plan → Option ℕ → Option Request
 gather_from (Some plan) (Some workers) = Some (Gather plan workers)
 gather_from _ _ = None
 
+-- the form of the pattern, given what was found
+abbrev pub form_in : List Row → PatternForm
+form_in rows = pattern_form (is_given coordinates rows)
+
 -- the request of each command, given what was found for its arguments
 abbrev pub run_request : List Row → Option Request
-run_request rows = run_from (number_found generations rows) (text_found rule rows)
+run_request rows = run_from (form_in rows) (number_found sizes rows) (number_found generations rows) (text_found rule rows)
 
 abbrev pub name_request : List Row → Option Request
 name_request rows = name_from (profile_in rows) (text_found rule rows)
 
 abbrev pub show_request : List Row → Option Request
-show_request rows = show_from (text_found code rows)
+show_request rows = show_from (form_in rows) (text_found code rows)
 
 abbrev pub soup_request : List Row → Option Request
-soup_request rows = soup_from (number_found number rows) (text_found seed rows)
+soup_request rows = soup_from (form_in rows) (number_found number rows) (text_found seed rows)
 
 abbrev pub take_request : List Row → Option Request
 take_request rows = take_from (is_given progress rows) (number_found report_from rows) (plan_in rows) (number_found workers rows)

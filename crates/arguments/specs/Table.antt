@@ -1,20 +1,20 @@
 -- The table of the program's commands and their arguments.
 use Rattle.std.specs.Prelude.{List, [], ◌∷◌, codes}
 use Rattle.arguments.specs.Entries.{Command}
-pub use Rattle.arguments.specs.Options.{also, code, count, first, generations, horizon, limit, number, period, progress}
-pub use Rattle.arguments.specs.Options.{report_from, rule, seed, stride, worker, workers}
+pub use Rattle.arguments.specs.Options.{also, code, coordinates, count, first, generations, horizon, limit, number, period, progress}
+pub use Rattle.arguments.specs.Options.{report_from, rule, seed, sizes, stride, worker, workers}
 
 abbrev pub run_command : Command
-run_command = record { name = codes "run"; parameters = generations ∷ rule ∷ [] }
+run_command = record { name = codes "run"; parameters = generations ∷ rule ∷ coordinates ∷ sizes ∷ [] }
 
 abbrev pub name_command : Command
 name_command = record { name = codes "name"; parameters = period ∷ horizon ∷ stride ∷ limit ∷ rule ∷ [] }
 
 abbrev pub show_command : Command
-show_command = record { name = codes "show"; parameters = code ∷ [] }
+show_command = record { name = codes "show"; parameters = code ∷ coordinates ∷ [] }
 
 abbrev pub soup_command : Command
-soup_command = record { name = codes "soup"; parameters = number ∷ seed ∷ [] }
+soup_command = record { name = codes "soup"; parameters = number ∷ seed ∷ coordinates ∷ [] }
 
 abbrev pub take_command : Command
 take_command = record {

@@ -30,6 +30,12 @@ use std::convert::AsStr;
 /// The usage text if the text of `clap`'s error is empty.
 const NOT_UNDERSTOOD: &str = "error: the words are not understood";
 
+/// The usage text if `clap` finds no fault, and yet there is no request. Only options of `run` can contradict each
+/// other.
+const CONTRADICTION: &str =
+    "error: `--sizes` can't be used with `--coordinates`, and its FROM is at most N\n\n\
+    For more information, try '--help'.";
+
 /// Why arguments give no request.
 #[derive(Debug, Drop)]
 pub enum Unasked {
@@ -71,7 +77,7 @@ pub fn request_of<'a, S: AsStr>(alloc: Global, arguments: &'a [S]) -> Result<Req
     match command.try_get_matches_from(arguments) {
         Ok(matches) => match request_in(&matches) {
             Some(request) => Ok(request),
-            None => Err(usage(alloc, "error: a value is missing")),
+            None => Err(usage(alloc, CONTRADICTION)),
         },
         Err(error) => Err(unasked_by(alloc, error)),
     }

@@ -1,8 +1,8 @@
 //! The table of the program's commands, each with the rows of its arguments.
 
 use crate::options::{
-    ALSO, CODE, COUNT, FIRST, GENERATIONS, HORIZON, LIMIT, NUMBER, PERIOD, PROGRESS, Parameter,
-    REPORT_FROM, REPORTERS, RULE, SEED, STRIDE, WORKER, WORKERS,
+    ALSO, CODE, COORDINATES, COUNT, FIRST, GENERATIONS, HORIZON, LIMIT, NUMBER, PERIOD, PROGRESS,
+    Parameter, REPORT_FROM, REPORTERS, RULE, SEED, SIZES, STRIDE, WORKER, WORKERS,
 };
 
 /// A command of the program.
@@ -31,7 +31,7 @@ pub const RUN: CommandRow = CommandRow {
          and columns at the edges are left out.\n\n\
          To run a pattern in RLE: `haul cells gun.rle | census run 30`.",
     after_help: "Example: census run 4 < glider.cells",
-    parameters: &[GENERATIONS, RULE],
+    parameters: &[GENERATIONS, RULE, COORDINATES, SIZES],
 };
 
 /// The row of `name`.
@@ -57,7 +57,7 @@ pub const SHOW: CommandRow = CommandRow {
     long_about: "Prints the object of a code as plaintext: a line for each row, with `.` for a\n\
          dead cell and `O` for a live one.",
     after_help: "Example: census show xs7_178c",
-    parameters: &[CODE],
+    parameters: &[CODE, COORDINATES],
 };
 
 /// The row of `soup`.
@@ -69,7 +69,7 @@ pub const SOUP: CommandRow = CommandRow {
          decimal, so anybody can check it. Empty rows and columns at the edges are left\n\
          out.",
     after_help: "Example: census soup --seed abc 12",
-    parameters: &[NUMBER, SEED],
+    parameters: &[NUMBER, SEED, COORDINATES],
 };
 
 /// The row of `take`.

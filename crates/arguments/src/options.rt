@@ -62,6 +62,29 @@ pub const GENERATIONS: Parameter = Parameter {
     help: "The number of generations to run, from 0 to 100000",
 };
 
+/// The flag that asks for the coordinates of the live cells.
+pub const COORDINATES: Parameter = Parameter {
+    name: "coordinates",
+    place: Place::Named(""),
+    kind: ValueKind::Flag,
+    default: None,
+    heading: None,
+    help: "Prints a line `X Y` for each live cell, row by row, in place of\n\
+         plaintext. The first column and the first row have the number 0",
+};
+
+/// The generation from which on `run` prints sizes.
+pub const SIZES: Parameter = Parameter {
+    name: "sizes",
+    place: Place::Named("FROM"),
+    kind: ValueKind::OptionalNumber(0, 100_000),
+    default: None,
+    heading: None,
+    help: "Prints the size of each generation from FROM to N, in place of the\n\
+         pattern: `G POPULATION LEFT TOP RIGHT BOTTOM`, or `G 0` if no cell is\n\
+         alive. FROM is from 0 to 100000, and at most N",
+};
+
 /// The code of an object.
 pub const CODE: Parameter = Parameter {
     name: "CODE",

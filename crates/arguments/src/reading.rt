@@ -10,15 +10,17 @@ ghost use Rattle.std.specs.Prelude.{◌≡◌, IfSome};
 ghost use Rattle.clap.specs.Words.{found_of, rows_of};
 ghost use Rattle.arguments.specs.NumbersInRange.{AreInTheirRanges, ArePlanNumbers, AreProfileNumbers};
 ghost use Rattle.arguments.specs.Plans.{plan_in, profile_in, set_in};
-ghost use Rattle.arguments.specs.Reading.{gather_request, name_request, run_request, show_request, soup_request};
+ghost use Rattle.arguments.specs.Reading.{form_in, gather_request, name_request, run_request, show_request, soup_request};
+ghost use Rattle.arguments.specs.Forms.{BeginsUpTo, run_form, sizes_up_to};
 ghost use Rattle.arguments.specs.Reading.{take_request, work_request};
-ghost use Rattle.arguments.specs.Table.{count, first, report_from};
+ghost use Rattle.arguments.specs.Table.{count, first, report_from, sizes};
 ghost use Rattle.arguments.specs.Values.{IsInRange, number_found};
 
 use crate::options;
 use crate::request::Request;
 use crate::values::{is_given, number_found, text_found};
 use clap::ArgMatches;
+use requests::form::{PatternForm, RunForm};
 use requests::plan::Plan;
 use requests::profile_numbers::ProfileNumbers;
 use requests::soup_set::SoupSet;
@@ -74,11 +76,53 @@ pub(crate) fn run_request<'a>(found: &ArgMatches<'a>) -> Option<Request<'a>>
     ensures ranges { IfSome result AreInTheirRanges }
 {
     let generations = number_found(found, &options::GENERATIONS)?;
+    let form = run_form_in(found, generations)?;
     let rule = text_found(found, &options::RULE)?;
     Some(Request::Run {
         generations: generations as u32,
+        form,
         rule,
     })
+}
+
+/// Returns what `run` prints up to generation `last`, or `None` if the options contradict each other: sizes from a
+/// generation after the last, or sizes and coordinates.
+fn run_form_in(found: &ArgMatches<'_>, last: u64) -> Option<RunForm>
+    ensures form { result ≡ run_form (form_in (rows_of (found_of found.now))) last
+        (number_found sizes (rows_of (found_of found.now))) }
+    ensures order { IfSome result (BeginsUpTo last) }
+{
+    let form = form_in(found);
+    let Some(from) = number_found(found, &options::SIZES) else {
+        return Some(RunForm::Pattern(form));
+    };
+    match form {
+        PatternForm::Plaintext => sizes_up_to(last, from as u32),
+        PatternForm::Coordinates => None,
+    }
+}
+
+/// Returns the sizes from generation `from` to generation `last`, or `None` if `from` comes after `last`.
+fn sizes_up_to(last: u64, from: u32) -> Option<RunForm>
+    ensures form { result ≡ sizes_up_to last from }
+    ensures order { IfSome result (BeginsUpTo last) }
+{
+    if u64::from(from) <= last {
+        Some(RunForm::Sizes { from })
+    } else {
+        None
+    }
+}
+
+/// Returns the form in which a pattern is printed.
+fn form_in(found: &ArgMatches<'_>) -> PatternForm
+    ensures { result ≡ form_in (rows_of (found_of found.now)) }
+{
+    if is_given(found, &options::COORDINATES) {
+        PatternForm::Coordinates
+    } else {
+        PatternForm::Plaintext
+    }
 }
 
 /// Returns the request of `name`, or `None` if a value is missing.
@@ -96,7 +140,10 @@ pub(crate) fn show_request<'a>(found: &ArgMatches<'a>) -> Option<Request<'a>>
     ensures { result ≡ show_request (rows_of (found_of found.now)) }
 {
     let code = text_found(found, &options::CODE)?;
-    Some(Request::Show { code })
+    Some(Request::Show {
+        code,
+        form: form_in(found),
+    })
 }
 
 /// Returns the request of `soup`, or `None` if a value is missing.
@@ -106,7 +153,11 @@ pub(crate) fn soup_request<'a>(found: &ArgMatches<'a>) -> Option<Request<'a>>
 {
     let number = number_found(found, &options::NUMBER)?;
     let seed = text_found(found, &options::SEED)?;
-    Some(Request::Soup { seed, number })
+    Some(Request::Soup {
+        seed,
+        number,
+        form: form_in(found),
+    })
 }
 
 /// Returns the request of `take`, or `None` if a value is missing.

@@ -1,5 +1,6 @@
 //! What the arguments of a call may ask for: a command with its values.
 
+use requests::form::{PatternForm, RunForm};
 use requests::plan::Plan;
 use requests::profile_numbers::ProfileNumbers;
 use requests::text::Text;
@@ -10,9 +11,10 @@ use requests::text::Text;
 /// options.
 #[derive(Drop)]
 pub enum Request<'a> {
-    /// The pattern of the input after this number of generations, under a rule.
+    /// The pattern of the input after this number of generations, under a rule, or the sizes up to it.
     Run {
         generations: u32,
+        form: RunForm,
         rule: Text<'a>,
     },
     /// What becomes of the input's pattern, under a profile and a rule.
@@ -23,11 +25,13 @@ pub enum Request<'a> {
     /// The object of a code.
     Show {
         code: Text<'a>,
+        form: PatternForm,
     },
     /// The soup with this number, of a seed.
     Soup {
         seed: Text<'a>,
         number: u64,
+        form: PatternForm,
     },
     /// The haul of all soups of a plan, taken with this number of workers; whether a progress line is asked for; and the
     /// generation from which on checkpoints are late, if late soups are to be reported.

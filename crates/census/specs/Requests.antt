@@ -11,6 +11,7 @@ use Rattle.commands.specs.Gather.{gather_behaviour}
 use Rattle.pattern_commands.specs.Name.{name_behaviour}
 use Rattle.pattern_commands.specs.Run.{run_behaviour}
 use Rattle.pattern_commands.specs.Show.{show_behaviour}
+use Rattle.pattern_commands.specs.Sizes.{sizes_behaviour}
 use Rattle.pattern_commands.specs.Soup.{soup_behaviour}
 use Rattle.pattern_commands.specs.Streams.{Stream, Has, HasLine}
 use Rattle.commands.specs.Reporting.{reporting_behaviour}
@@ -18,6 +19,8 @@ use Rattle.commands.specs.Take.{take_behaviour}
 use Rattle.pattern_commands.specs.Behaviours.{Makes, Behaviour}
 use Rattle.pattern_commands.specs.Version.{version_behaviour}
 use Rattle.commands.specs.Work.{work_behaviour}
+use Rattle.requests.specs.declared.form.RunForm.{RunForm}
+use Rattle.requests.specs.declared.form.RunForm.TheVariants.{Pattern, Sizes}
 use Rattle.requests.specs.declared.plan.Plan.{Plan}
 use Rattle.arguments.specs.declared.request.Request.{Request}
 use Rattle.arguments.specs.declared.request.Request.TheVariants.{Run, Name, Show, Soup, Take, Work, Gather, Version}
@@ -29,12 +32,17 @@ abbrev pub take_behaviour_from : Plan → ℕ → Option ℕ → Behaviour
 take_behaviour_from plan workers None = take_behaviour plan
 take_behaviour_from plan workers (Some from) = reporting_behaviour plan workers from
 
+-- the behaviour of `run`, which prints the pattern or the sizes of generations
+abbrev pub run_behaviour_for : RunForm → List ℕ → ℕ → Behaviour
+run_behaviour_for (Pattern form) rule last = run_behaviour form rule last
+run_behaviour_for (Sizes from) rule last = sizes_behaviour rule from last
+
 -- the behaviour of the command of a request
 abbrev pub behaviour_of : Request → Behaviour
-behaviour_of (Run generations rule) = run_behaviour rule generations
+behaviour_of (Run generations form rule) = run_behaviour_for form rule generations
 behaviour_of (Name profile rule) = name_behaviour profile rule
-behaviour_of (Show code) = show_behaviour code
-behaviour_of (Soup seed number) = soup_behaviour seed number
+behaviour_of (Show code form) = show_behaviour form code
+behaviour_of (Soup seed number form) = soup_behaviour form seed number
 behaviour_of (Take plan workers progress from) = take_behaviour_from plan workers from
 behaviour_of (Work plan worker) = work_behaviour plan worker
 behaviour_of (Gather plan workers) = gather_behaviour plan workers
@@ -49,7 +57,8 @@ reads_input request = (behaviour_of request).reads
 abbrev pub refuses_input : Request → Bool
 refuses_input request = (behaviour_of request).refuses
 
--- the command's text is complete before its first byte is written: this holds for all commands except `work`
+-- the command's text is complete before its first byte is written: this holds for all commands except `work` and
+-- `run --sizes`
 abbrev pub is_whole : Request → Bool
 is_whole request = (behaviour_of request).whole
 

@@ -29,10 +29,12 @@ use pattern_commands::complaint::Complaint;
 use pattern_commands::name::do_name;
 use pattern_commands::run::do_run;
 use pattern_commands::show::do_show;
+use pattern_commands::sizes::do_sizes;
 use pattern_commands::soup::do_soup;
 use pattern_commands::status::Status;
 use pattern_commands::version::do_version;
 use plane_core::output::Out;
+use requests::form::RunForm;
 use std::alloc::Global;
 use std::convert::AsStr;
 use std::io::{Read, Write};
@@ -170,14 +172,28 @@ fn do_pattern_request<R: Read, W: Write, E: Write>(
     ensures spares { Spares request.now result (input.new ≡ input.old) (output.new ≡ output.old) }
 {
     match request {
-        Request::Run { generations, rule } => {
-            do_run(alloc, *generations, rule.as_str(), input, output, errors)
+        Request::Run {
+            generations,
+            form,
+            rule,
+        } => {
+            let rule = rule.as_str();
+            match *form {
+                RunForm::Pattern(form) => {
+                    do_run(alloc, *generations, form, rule, input, output, errors)
+                }
+                RunForm::Sizes { from } => {
+                    do_sizes(alloc, from, *generations, rule, input, output, errors)
+                }
+            }
         }
         Request::Name { profile, rule } => {
             do_name(alloc, *profile, rule.as_str(), input, output, errors)
         }
-        Request::Show { code } => do_show(alloc, code.as_str(), output, errors),
-        Request::Soup { seed, number } => do_soup(alloc, seed.as_str(), *number, output, errors),
+        Request::Show { code, form } => do_show(alloc, code.as_str(), *form, output, errors),
+        Request::Soup { seed, number, form } => {
+            do_soup(alloc, seed.as_str(), *number, *form, output, errors)
+        }
         Request::Version => do_version(output, errors),
         Request::Take { .. } | Request::Work { .. } | Request::Gather { .. } => unreachable!(),
     }

@@ -4,8 +4,10 @@ use crate::streams::{FaultyReader, FaultyWriter, Left, quick_writer, reader, slo
 use pattern_commands::output::send_buffered;
 use pattern_commands::run::do_run;
 use pattern_commands::show::do_show;
+use pattern_commands::sizes::do_sizes;
 use pattern_commands::status::Status;
 use plane_core::output::Out;
+use requests::form::PatternForm;
 use std::alloc::Global;
 use std::io::{self, BufWriter, ErrorKind, Write};
 use std::test::Fail;
@@ -14,8 +16,25 @@ const BLINKER: &[u8] = b"OOO\n";
 
 const UPRIGHT: &[u8] = b"O\nO\nO\n";
 
+/// The coordinates of the blinker after one generation.
+const COORDINATES: &[u8] = b"1 -1\n1 0\n1 1\n";
+
+/// The sizes of the blinker from generation 0 to 2.
+const SIZES: &[u8] = b"0 3 0 0 2 0\n1 3 1 -1 1 1\n2 3 0 0 2 0\n";
+
 /// Runs an input for one generation of Life.
 fn left_by(
+    input: FaultyReader<'_>,
+    output: FaultyWriter,
+    errors: FaultyWriter,
+    alloc: Global,
+) -> Left {
+    left_in_form(PatternForm::Plaintext, input, output, errors, alloc)
+}
+
+/// Runs an input for one generation of Life, and writes it in a form.
+fn left_in_form(
+    form: PatternForm,
     mut input: FaultyReader<'_>,
     output: FaultyWriter,
     errors: FaultyWriter,
@@ -23,7 +42,35 @@ fn left_by(
 ) -> Left {
     let mut output = Out::new(output);
     let mut errors = Out::new(errors);
-    let status = do_run(alloc, 1, "b3s23", &mut input, &mut output, &mut errors);
+    let status = do_run(
+        alloc,
+        1,
+        form,
+        "b3s23",
+        &mut input,
+        &mut output,
+        &mut errors,
+    );
+    Left::new(status, output, errors)
+}
+
+/// Writes the coordinates of the blinker after one generation. The write of its output with this number has a fault.
+fn left_by_coordinates(alloc: Global, bad: usize) -> Left {
+    left_in_form(
+        PatternForm::Coordinates,
+        reader(BLINKER, 0, ErrorKind::Other),
+        slow_writer(alloc, bad),
+        slow_writer(alloc, 0),
+        alloc,
+    )
+}
+
+/// Writes the sizes of the blinker from generation 0 to 2. The write of its output with this number has a fault.
+fn left_by_sizes(alloc: Global, bad: usize) -> Left {
+    let mut input = reader(BLINKER, 0, ErrorKind::Other);
+    let mut output = Out::new(slow_writer(alloc, bad));
+    let mut errors = Out::new(slow_writer(alloc, 0));
+    let status = do_sizes(alloc, 0, 2, "b3s23", &mut input, &mut output, &mut errors);
     Left::new(status, output, errors)
 }
 
@@ -76,6 +123,34 @@ fn tells_each_failed_write(rt: HostRuntime) {
 }
 
 #[test]
+fn tells_each_failed_write_of_coordinates(rt: HostRuntime) {
+    for bad in 1..14 {
+        let left = left_by_coordinates(rt.alloc(), bad);
+        let taken = &COORDINATES[..bad - 1];
+        assert!(rt;
+            left.is(Status::Failed, taken, b"census: write failed\n"),
+            "write {bad}"
+        );
+    }
+    let left = left_by_coordinates(rt.alloc(), 14);
+    assert!(rt; left.is(Status::Done, COORDINATES, b""));
+}
+
+#[test]
+fn tells_each_failed_write_of_sizes(rt: HostRuntime) {
+    for bad in 1..38 {
+        let left = left_by_sizes(rt.alloc(), bad);
+        let taken = &SIZES[..bad - 1];
+        assert!(rt;
+            left.is(Status::Failed, taken, b"census: write failed\n"),
+            "write {bad}"
+        );
+    }
+    let left = left_by_sizes(rt.alloc(), 38);
+    assert!(rt; left.is(Status::Done, SIZES, b""));
+}
+
+#[test]
 fn tells_an_interrupted_read(rt: HostRuntime) {
     for bad in 1..6 {
         let left = left_by_reads(rt.alloc(), bad, ErrorKind::Interrupted);
@@ -110,7 +185,13 @@ fn tells_a_refusal_in_one_write(rt: HostRuntime) {
     assert!(rt; left.errors.writes == 1);
     let mut output = Out::new(slow_writer(alloc, 0));
     let mut errors = Out::new(quick_writer(alloc, 0));
-    let status = do_show(alloc, "33y", &mut output, &mut errors);
+    let status = do_show(
+        alloc,
+        "33y",
+        PatternForm::Plaintext,
+        &mut output,
+        &mut errors,
+    );
     let left = Left::new(status, output, errors);
     assert!(rt; left.is(Status::Refused, b"", b"census: short run in code at 2\n"));
     assert!(rt; left.errors.writes == 1);

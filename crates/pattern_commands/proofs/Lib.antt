@@ -1,4 +1,9 @@
 pub mod AnswerLemmas
+pub mod CoordinateLemmas
 pub mod NameLemmas
 pub mod ShowLemmas
+pub mod SizeLemmas
+pub mod SizeLoopLemmas
+pub mod SizePartLemmas
+pub mod SizeStepLemmas
 pub mod TextLemmas

@@ -3,7 +3,7 @@ use Rattle.std.proofs.Common.{◌≡◌, ◌↔◌, ℕ, false, List, [], Result
 use Rattle.std.specs.Result.{IsErrOf}
 use Rattle.memory.specs.Witness.{out_of_memory}
 use Rattle.plane_core.specs.declared.plane.cell.Cell.{Cell}
-use Rattle.plane_core.specs.Plaintext.{plain}
+use Rattle.requests.specs.declared.form.PatternForm.{PatternForm}
 use Rattle.code_core.specs.declared.reader.WechslerError.{WechslerError}
 use Rattle.code_core.specs.declared.reader.WechslerError.TheVariants.{Fault, Memory}
 use Rattle.code_core.specs.declared.reader.WechslerFault.{WechslerFault}
@@ -11,42 +11,43 @@ use Rattle.code_core.specs.declared.reader.WechslerFault.TheVariants.{TooLong, B
 use Rattle.code_core.specs.Reading.{wechsler_read}
 use Rattle.pattern_commands.specs.declared.complaint.Complaint.{Complaint}
 use Rattle.pattern_commands.specs.Answers.{only}
+use Rattle.pattern_commands.specs.PatternText.{pattern_text}
 use Rattle.pattern_commands.specs.Show.{reader_complaint, show_answer, text_in, wechsler_complaint}
 use Rattle.pattern_commands.specs.Streams.{Stream, Has}
 use Rattle.pattern_commands.specs.TextSteps.{ReachesText}
 
 -- a pattern that was read is the answer
-pub show_answer-pattern : (code text : List ℕ) (cells : List Cell) → text_in code ≡ Ok text → wechsler_read text ≡ Ok cells
-    → show_answer code ≡ Ok (plain cells)
-show_answer-pattern code text cells is read = rw (is, read) refl
+pub show_answer-pattern : (form : PatternForm) (code text : List ℕ) (cells : List Cell) → text_in code ≡ Ok text → wechsler_read text ≡ Ok cells
+    → show_answer form code ≡ Ok (pattern_text form cells)
+show_answer-pattern form code text cells is read = rw (is, read) refl
 
-show_answer-fault : (code text : List ℕ) (fault : WechslerFault) → text_in code ≡ Ok text → wechsler_read text ≡ Err fault
-    → show_answer code ≡ Err (wechsler_complaint fault)
-show_answer-fault code text fault is read = rw (is, read) refl
+show_answer-fault : (form : PatternForm) (code text : List ℕ) (fault : WechslerFault) → text_in code ≡ Ok text → wechsler_read text ≡ Err fault
+    → show_answer form code ≡ Err (wechsler_complaint fault)
+show_answer-fault form code text fault is read = rw (is, read) refl
 
 -- memory ran out over a text without a fault
-show_answer-faultless : (code text : List ℕ) → text_in code ≡ Ok text
-    → ((fault : WechslerFault) → IsErrOf {T = List Cell} (Err (Memory out_of_memory)) (Fault fault) ↔ (wechsler_read text ≡ Err fault)) → IsOk (show_answer code)
-show_answer-faultless code text is faults = go (wechsler_read text) refl
+show_answer-faultless : (form : PatternForm) (code text : List ℕ) → text_in code ≡ Ok text
+    → ((fault : WechslerFault) → IsErrOf {T = List Cell} (Err (Memory out_of_memory)) (Fault fault) ↔ (wechsler_read text ≡ Err fault)) → IsOk (show_answer form code)
+show_answer-faultless form code text is faults = go (wechsler_read text) refl
   where
-    go : (read : Result (List Cell) WechslerFault) → wechsler_read text ≡ read → IsOk (show_answer code)
+    go : (read : Result (List Cell) WechslerFault) → wechsler_read text ≡ read → IsOk (show_answer form code)
     go (Ok cells) e = rw (is, e) refl
     go (Err fault) e = let bad = (faults fault).1 e in cc
 
-faultless_refused : (code : List ℕ) (complaint : Complaint) → IsOk (show_answer code) → show_answer code ≡ Err complaint → ⊥
-faultless_refused code complaint ok refused = let bad : IsOk {T = List ℕ} (Err complaint) = rw refused at ok in cc
+faultless_refused : (form : PatternForm) (code : List ℕ) (complaint : Complaint) → IsOk (show_answer form code) → show_answer form code ≡ Err complaint → ⊥
+faultless_refused form code complaint ok refused = let bad : IsOk {T = List ℕ} (Err complaint) = rw refused at ok in cc
 
 -- a text that was refused is the answer, with nothing on the output
-pub Reaches_text : (code text : List ℕ) (error : WechslerError) (output : Stream) → text_in code ≡ Ok text
+pub Reaches_text : (form : PatternForm) (code text : List ℕ) (error : WechslerError) (output : Stream) → text_in code ≡ Ok text
     → ((fault : WechslerFault) → IsErrOf {T = List Cell} (Err error) (Fault fault) ↔ (wechsler_read text ≡ Err fault)) → Has output []
-    → ReachesText false true (only (show_answer code)) (Err (reader_complaint error)) output
-Reaches_text code text (Fault TooLong) output is faults nothing = (show_answer-fault code text TooLong is ((faults TooLong).0 refl), nothing)
-Reaches_text code text (Fault (BadByte place)) output is faults nothing =
-    (show_answer-fault code text (BadByte place) is ((faults (BadByte place)).0 refl), nothing)
-Reaches_text code text (Fault (ShortRun place)) output is faults nothing =
-    (show_answer-fault code text (ShortRun place) is ((faults (ShortRun place)).0 refl), nothing)
-Reaches_text code text (Fault Empty) output is faults nothing = (show_answer-fault code text Empty is ((faults Empty).0 refl), nothing)
-Reaches_text code text (Memory error) output is faults nothing = (
-  λ unread complaint refused. absurd (faultless_refused code complaint (show_answer-faultless code text is faults) refused),
+    → ReachesText false true (only (show_answer form code)) (Err (reader_complaint error)) output
+Reaches_text form code text (Fault TooLong) output is faults nothing = (show_answer-fault form code text TooLong is ((faults TooLong).0 refl), nothing)
+Reaches_text form code text (Fault (BadByte place)) output is faults nothing =
+    (show_answer-fault form code text (BadByte place) is ((faults (BadByte place)).0 refl), nothing)
+Reaches_text form code text (Fault (ShortRun place)) output is faults nothing =
+    (show_answer-fault form code text (ShortRun place) is ((faults (ShortRun place)).0 refl), nothing)
+Reaches_text form code text (Fault Empty) output is faults nothing = (show_answer-fault form code text Empty is ((faults Empty).0 refl), nothing)
+Reaches_text form code text (Memory error) output is faults nothing = (
+  λ unread complaint refused. absurd (faultless_refused form code complaint (show_answer-faultless form code text is faults) refused),
   nothing,
 )

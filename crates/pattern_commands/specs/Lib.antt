@@ -1,12 +1,16 @@
 pub mod Answers
 pub mod Complaints
+pub mod Coordinates
 pub mod Ends
 pub mod Inputs
 pub mod Name
+pub mod PatternText
 pub mod Profiles
 pub mod Reached
 pub mod Run
 pub mod Show
+pub mod Sizes
+pub mod SizeSteps
 pub mod Soup
 pub mod Status
 pub mod Streams

@@ -4,7 +4,7 @@ use Rattle.std.specs.Char.{is_ascii_digit}
 use Rattle.std.specs.List.{after_first, before_first, list_all, position_or_len}
 use Rattle.std.specs.Result.{result_map_both}
 use Rattle.plane_core.specs.declared.plane.cell.Cell.{Cell}
-use Rattle.plane_core.specs.Plaintext.{plain}
+use Rattle.requests.specs.declared.form.PatternForm.{PatternForm}
 use Rattle.code_core.specs.declared.reader.WechslerFault.{WechslerFault}
 use Rattle.code_core.specs.declared.reader.WechslerFault.TheVariants as fault
 use Rattle.code_core.specs.declared.reader.WechslerError.{WechslerError}
@@ -14,6 +14,7 @@ use Rattle.pattern_commands.specs.declared.complaint.Complaint.{Complaint}
 use Rattle.pattern_commands.specs.declared.complaint.Complaint.TheVariants.{Refused, Memory}
 use Rattle.pattern_commands.specs.declared.refusal.Refusal.TheVariants.{CodeBadByte, CodeEmpty, CodeShortRun, CodeTooLong, NotACode}
 use Rattle.pattern_commands.specs.Answers.{Answer, given, only}
+use Rattle.pattern_commands.specs.PatternText.{pattern_text}
 use Rattle.pattern_commands.specs.Behaviours.{Behaviour, text_behaviour}
 
 -- `_`, between the prefix of a code and its text
@@ -69,10 +70,10 @@ reader_complaint (error.Memory refused) = Memory refused
 abbrev pub shown : List ℕ → Result (List Cell) Complaint
 shown text = result_map_both (λ cells. cells) wechsler_complaint (wechsler_read text)
 
--- the plaintext of the object of a code
-abbrev pub show_answer : List ℕ → Answer
-show_answer code = given (text_in code) (λ text. given (shown text) (λ cells. Ok (plain cells)))
+-- the text of the object of a code
+abbrev pub show_answer : PatternForm → List ℕ → Answer
+show_answer form code = given (text_in code) (λ text. given (shown text) (λ cells. Ok (pattern_text form cells)))
 
 -- the behaviour of `show`
-abbrev pub show_behaviour : List ℕ → Behaviour
-show_behaviour code = text_behaviour false true (λ bytes. only (show_answer code))
+abbrev pub show_behaviour : PatternForm → List ℕ → Behaviour
+show_behaviour form code = text_behaviour false true (λ bytes. only (show_answer form code))

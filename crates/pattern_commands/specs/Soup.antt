@@ -1,7 +1,7 @@
 -- The behaviour of `census soup`.
 use Rattle.std.specs.Prelude.{ℕ, List, Result, Ok, true, false}
 use Rattle.std.specs.Result.{result_map_both}
-use Rattle.plane_core.specs.Plaintext.{plain}
+use Rattle.requests.specs.declared.form.PatternForm.{PatternForm}
 use Rattle.survey_core.specs.declared.seed.SeedFault.{SeedFault}
 use Rattle.survey_core.specs.declared.seed.SeedFault.TheVariants as error
 use Rattle.survey_core.specs.Seeds.{seed_read}
@@ -10,6 +10,7 @@ use Rattle.pattern_commands.specs.declared.complaint.Complaint.{Complaint}
 use Rattle.pattern_commands.specs.declared.complaint.Complaint.TheVariants.{Refused}
 use Rattle.pattern_commands.specs.declared.refusal.Refusal.TheVariants.{SeedBadByte, SeedTooLong}
 use Rattle.pattern_commands.specs.Answers.{Answer, given, only}
+use Rattle.pattern_commands.specs.PatternText.{pattern_text}
 use Rattle.pattern_commands.specs.Behaviours.{Behaviour, text_behaviour}
 
 -- the complaint about a seed
@@ -21,10 +22,10 @@ seed_complaint (error.BadByte place) = Refused (SeedBadByte place)
 abbrev pub seed_named : List ℕ → Result (List ℕ) Complaint
 seed_named text = result_map_both (λ seed. seed) seed_complaint (seed_read text)
 
--- the plaintext of the soup with this number
-abbrev pub soup_answer : List ℕ → ℕ → Answer
-soup_answer seed_text number = given (seed_named seed_text) (λ seed. Ok (plain (soup seed number)))
+-- the text of the soup with this number
+abbrev pub soup_answer : PatternForm → List ℕ → ℕ → Answer
+soup_answer form seed_text number = given (seed_named seed_text) (λ seed. Ok (pattern_text form (soup seed number)))
 
 -- the behaviour of `soup`
-abbrev pub soup_behaviour : List ℕ → ℕ → Behaviour
-soup_behaviour seed_text number = text_behaviour false true (λ bytes. only (soup_answer seed_text number))
+abbrev pub soup_behaviour : PatternForm → List ℕ → ℕ → Behaviour
+soup_behaviour form seed_text number = text_behaviour false true (λ bytes. only (soup_answer form seed_text number))

@@ -9,12 +9,16 @@
 pub mod complaint;
 /// How a command ends: its last line on standard error, and its status.
 pub mod ending;
+/// The coordinates of live cells.
+mod coordinates;
 /// Inputs that are read completely.
 pub mod input;
 /// `name`: when a pattern settles, and of which objects it then consists.
 pub mod name;
 /// Output that is buffered until a command has ended.
 pub mod output;
+/// A pattern in one of its forms.
+mod pattern_text;
 /// The profile with four given numbers.
 pub mod profile;
 /// A failed read.
@@ -25,6 +29,8 @@ pub mod refusal;
 pub mod run;
 /// `show`: the object of a code.
 pub mod show;
+/// `run --sizes`: the population and the bounding box of each generation.
+pub mod sizes;
 /// `soup`: a random start pattern.
 pub mod soup;
 /// How a command ended, as a shell sees it.

@@ -1,18 +1,19 @@
-//! `run`: the pattern of the input after a number of generations, as plaintext.
+//! `run`: the pattern of the input after a number of generations, as plaintext or as coordinates.
 //!
 //! ```text
-//! rule ── input ── pattern ── run ── plaintext
+//! rule ── input ── pattern ── run ── text
 //!   │       │                  │
 //!   └───────┴─ refused         └─ out of memory
 //! ```
 
 ghost use Rattle.std.specs.Prelude.{◌≡◌, ◌≤◌, ◌+◌, ◌^◌, ℕ, List, false, is_ok, IsErr, IfOk, IfErr, true};
 ghost use Rattle.memory.specs.Witness.{out_of_memory};
-ghost use Rattle.plane_core.specs.plane.Generations.{after};
+ghost use Rattle.plane_core.specs.plane.Generations.{after, lies_within};
 ghost use Rattle.pattern_commands.specs.Answers.{IsInput, only};
 ghost use Rattle.pattern_commands.specs.Complaints.{status_of};
 ghost use Rattle.pattern_commands.specs.Ends.{Ends};
-ghost use Rattle.pattern_commands.specs.Inputs.{HasReadAtMost, LiesWithin999, rule_named};
+ghost use Rattle.plane_core.specs.plane.Cells.{plane_bound};
+ghost use Rattle.pattern_commands.specs.Inputs.{HasReadAtMost, rule_named};
 ghost use Rattle.pattern_commands.specs.Run.{run_answer, run_behaviour};
 ghost use Rattle.pattern_commands.specs.Streams.{stream};
 ghost use Rattle.pattern_commands.specs.TextSteps.{ReachesText};
@@ -20,15 +21,18 @@ ghost use Rattle.pattern_commands.specs.TextSteps.{ReachesText};
 use crate::complaint::Complaint;
 use crate::ending::tell_end_of_text;
 use crate::input::read_pattern;
+use crate::pattern_text::put_pattern;
 use crate::status::Status;
 use plane_core::generation::StepError;
 use plane_core::output::Out;
 use plane_core::plane::pattern::Pattern;
 use plane_core::plane::rule::Rule;
+use requests::form::PatternForm;
 use std::alloc::Global;
 use std::io::{Read, Write};
 
-/// Reads a plaintext pattern, runs it for `generations` generations of a rule, and writes the result as plaintext.
+/// Reads a plaintext pattern, runs it for `generations` generations of a rule, and writes the result in a form. The
+/// coordinates are those of the input, whose first row and column are 0.
 ///
 /// `generations` is at most 100,000. A pattern of at most 1,000 by 1,000 cells takes far longer to reach the edge of
 /// the plane, because its box grows by at most one cell per side and generation. No earlier write to either writer may
@@ -43,6 +47,7 @@ use std::io::{Read, Write};
 pub fn do_run<R: Read, W: Write, E: Write>(
     alloc: Global,
     generations: u32,
+    form: PatternForm,
     rule_text: &str,
     input: &mut R,
     output: &mut Out<W>,
@@ -52,14 +57,14 @@ pub fn do_run<R: Read, W: Write, E: Write>(
     requires output { output.old.failed ≡ false }
     requires errors { errors.old.failed ≡ false }
     ensures ends { (bytes : List ℕ) × IsInput (R.remaining input.old) bytes
-        × Ends (run_behaviour rule_text.now generations) (R.remaining input.old) bytes result
+        × Ends (run_behaviour form rule_text.now generations) (R.remaining input.old) bytes result
         (stream W.contents output.old output.new) (stream E.contents errors.old errors.new) }
     ensures rule_first { IsErr (rule_named rule_text.now) → (result ≡ Status.Refused) × (input.new ≡ input.old) }
     ensures untouched { result ≡ Status.Refused → output.new ≡ output.old }
     ensures little { HasReadAtMost (2 ^ 24 + 2 ^ 16) (R.remaining input.old) (R.remaining input.new) }
     ensures no_memory { result ≡ Status.Memory → output.new ≡ output.old }
 {
-    let outcome = run(alloc, generations, rule_text, input, output);
+    let outcome = run(alloc, generations, form, rule_text, input, output);
     tell_end_of_text(outcome, errors)
 }
 
@@ -67,6 +72,7 @@ pub fn do_run<R: Read, W: Write, E: Write>(
 fn run<R: Read, W: Write>(
     alloc: Global,
     generations: u32,
+    form: PatternForm,
     rule_text: &str,
     input: &mut R,
     output: &mut Out<W>,
@@ -74,7 +80,7 @@ fn run<R: Read, W: Write>(
     requires generations { generations ≤ 100000 }
     requires output { output.old.failed ≡ false }
     ensures reached { (bytes : List ℕ) × IsInput (R.remaining input.old) bytes
-        × ReachesText (is_ok (rule_named rule_text.now)) true (only (run_answer rule_text.now generations bytes)) result
+        × ReachesText (is_ok (rule_named rule_text.now)) true (only (run_answer form rule_text.now generations bytes)) result
         (stream W.contents output.old output.new) }
     ensures rule_first { IfErr (rule_named rule_text.now) (λ complaint.
         (result ≡ Err complaint) × (input.new ≡ input.old)) }
@@ -86,20 +92,19 @@ fn run<R: Read, W: Write>(
     let rule = Rule::read(rule_text)?;
     let pattern = read_pattern(alloc, input)?;
     let pattern = generation_after(alloc, &pattern, &rule, generations)?;
-    pattern.write_plaintext(output)?;
+    put_pattern(&pattern, form, output)?;
     Ok(())
 }
 
-/// Returns the pattern after `generations` generations. This fails only if memory runs out, because a pattern that was
-/// read is too near the origin to reach the edge of the plane in that time.
-fn generation_after(
+/// Returns the pattern after `generations` generations. This fails only if memory runs out, because the pattern is too
+/// far from the edge of the plane to reach it in that time.
+pub(crate) fn generation_after(
     alloc: Global,
     pattern: &Pattern,
     rule: &Rule,
     generations: u32,
 ) -> Result<Pattern, Complaint>
-    requires generations { generations ≤ 100000 }
-    requires small { LiesWithin999 pattern.now }
+    requires far { (reach : ℕ) × (lies_within reach pattern.now ≡ true) × (reach + generations ≤ plane_bound) }
     ensures ok { IfOk result (λ later. later ≡ after rule.now pattern.now generations) }
     ensures err { IfErr result (λ complaint. complaint ≡ Complaint.Memory out_of_memory) }
 {

@@ -1,8 +1,8 @@
-//! `show`: the object of a code, as plaintext.
+//! `show`: the object of a code, as plaintext or as coordinates.
 //!
 //! ```text
 //! xp2_7 ── cut at the first _ ──┬─ xp2    a kind and a number, or the code is refused
-//!                               └─ 7 ── read_wechsler ── pattern ── plaintext
+//!                               └─ 7 ── read_wechsler ── pattern ── text
 //! ```
 
 ghost use Rattle.std.specs.Prelude.{◌≡◌, ℕ, List, Option, Some, IfErr, IfOk, false, option_map, true};
@@ -18,14 +18,16 @@ ghost use Rattle.pattern_commands.specs.TextSteps.{ReachesText};
 
 use crate::complaint::Complaint;
 use crate::ending::tell_end_of_text;
+use crate::pattern_text::put_pattern;
 use crate::refusal::Refusal;
 use crate::status::Status;
 use code_core::reader::read_wechsler;
 use plane_core::output::Out;
+use requests::form::PatternForm;
 use std::alloc::Global;
 use std::io::Write;
 
-/// Writes the object of a code as plaintext.
+/// Writes the object of a code in a form. Its coordinates count from the corner of the code's text.
 ///
 /// A code is a text in extended Wechsler format, with or without a prefix. A prefix is `xs`, `xp` or `xq`, a number and
 /// `_`. The number isn't checked. No earlier write to either writer may have failed. `census show CODE` is this call
@@ -39,24 +41,30 @@ use std::io::Write;
 pub fn do_show<W: Write, E: Write>(
     alloc: Global,
     code: &str,
+    form: PatternForm,
     output: &mut Out<W>,
     errors: &mut Out<E>,
 ) -> Status
     requires output { output.old.failed ≡ false }
     requires errors { errors.old.failed ≡ false }
-    ensures ends { (reader : Option (List ℕ)) (bytes : List ℕ) → Ends (show_behaviour code.now) reader bytes result
+    ensures ends { (reader : Option (List ℕ)) (bytes : List ℕ) → Ends (show_behaviour form code.now) reader bytes result
         (stream W.contents output.old output.new) (stream E.contents errors.old errors.new) }
     ensures untouched { result ≡ Status.Refused → output.new ≡ output.old }
     ensures no_memory { result ≡ Status.Memory → output.new ≡ output.old }
 {
-    let outcome = show(alloc, code, output);
+    let outcome = show(alloc, code, form, output);
     tell_end_of_text(outcome, errors)
 }
 
 /// Reads the pattern of a code, and writes it.
-fn show<W: Write>(alloc: Global, code: &str, output: &mut Out<W>) -> Result<(), Complaint>
+fn show<W: Write>(
+    alloc: Global,
+    code: &str,
+    form: PatternForm,
+    output: &mut Out<W>,
+) -> Result<(), Complaint>
     requires { output.old.failed ≡ false }
-    ensures reached { ReachesText false true (only (show_answer code.now)) result
+    ensures reached { ReachesText false true (only (show_answer form code.now)) result
         (stream W.contents output.old output.new) }
     ensures untouched { IfErr result (λ complaint. status_of complaint ≡ Status.Refused → output.new ≡ output.old) }
     ensures no_memory { IfErr result (λ complaint. complaint ≡ Complaint.Memory out_of_memory
@@ -64,7 +72,7 @@ fn show<W: Write>(alloc: Global, code: &str, output: &mut Out<W>) -> Result<(), 
 {
     let text = text_in(code)?;
     let pattern = read_wechsler(alloc, text)?;
-    pattern.write_plaintext(output)?;
+    put_pattern(&pattern, form, output)?;
     Ok(())
 }
 

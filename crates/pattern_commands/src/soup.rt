@@ -1,4 +1,4 @@
-//! `soup`: a random soup, as plaintext.
+//! `soup`: a random soup, as plaintext or as coordinates.
 
 ghost use Rattle.std.specs.Prelude.{◌≡◌, ◌<◌, ◌^◌, ℕ, List, Option, IfErr, false, true};
 ghost use Rattle.memory.specs.Witness.{out_of_memory};
@@ -11,9 +11,11 @@ ghost use Rattle.pattern_commands.specs.TextSteps.{ReachesText};
 
 use crate::complaint::Complaint;
 use crate::ending::tell_end_of_text;
+use crate::pattern_text::put_pattern;
 use crate::status::Status;
 use plane_core::output::Out;
 use plane_core::plane::rule::Rule;
+use requests::form::PatternForm;
 use std::alloc::Global;
 use std::io::Write;
 use survey_core::job::Job;
@@ -21,7 +23,7 @@ use survey_core::profile::Profile;
 use survey_core::seed::Seed;
 use survey_core::soup::soup;
 
-/// Writes soup `number`, which has to be below 2^40, as plaintext.
+/// Writes soup `number`, which has to be below 2^40, in a form. Its coordinates are from 0 to 15.
 ///
 /// The cells are the 256 bits of the SHA-256 digest of the seed's bytes, followed by the number in decimal. No earlier
 /// write to either writer may have failed. `census soup [--seed SEED] N` is this call with the standard streams.
@@ -34,6 +36,7 @@ pub fn do_soup<W: Write, E: Write>(
     alloc: Global,
     seed_text: &str,
     number: u64,
+    form: PatternForm,
     output: &mut Out<W>,
     errors: &mut Out<E>,
 ) -> Status
@@ -41,12 +44,12 @@ pub fn do_soup<W: Write, E: Write>(
     requires output { output.old.failed ≡ false }
     requires errors { errors.old.failed ≡ false }
     ensures ends { (reader : Option (List ℕ)) (bytes : List ℕ)
-        → Ends (soup_behaviour seed_text.now number) reader bytes result
+        → Ends (soup_behaviour form seed_text.now number) reader bytes result
         (stream W.contents output.old output.new) (stream E.contents errors.old errors.new) }
     ensures untouched { result ≡ Status.Refused → output.new ≡ output.old }
     ensures no_memory { result ≡ Status.Memory → output.new ≡ output.old }
 {
-    let outcome = put_soup(alloc, seed_text, number, output);
+    let outcome = put_soup(alloc, seed_text, number, form, output);
     tell_end_of_text(outcome, errors)
 }
 
@@ -55,10 +58,11 @@ fn put_soup<W: Write>(
     alloc: Global,
     seed_text: &str,
     number: u64,
+    form: PatternForm,
     output: &mut Out<W>,
 ) -> Result<(), Complaint>
     requires { output.old.failed ≡ false }
-    ensures reached { ReachesText false true (only (soup_answer seed_text.now number)) result
+    ensures reached { ReachesText false true (only (soup_answer form seed_text.now number)) result
         (stream W.contents output.old output.new) }
     ensures untouched { IfErr result (λ complaint. status_of complaint ≡ Status.Refused → output.new ≡ output.old) }
     ensures no_memory { IfErr result (λ complaint. complaint ≡ Complaint.Memory out_of_memory
@@ -72,6 +76,6 @@ fn put_soup<W: Write>(
         rule: Rule::life(),
     };
     let pattern = soup(alloc, &job, number)?;
-    pattern.write_plaintext(output)?;
+    put_pattern(&pattern, form, output)?;
     Ok(())
 }

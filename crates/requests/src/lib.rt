@@ -3,6 +3,8 @@
 //! `arguments` reads these values from a call, and the commands take them, so neither crate needs the other.
 #![tactic(auto)]
 
+/// The forms in which patterns are printed.
+pub mod form;
 /// Plans of a census: soups, profile and rule.
 pub mod plan;
 /// The numbers of a profile.

@@ -12,7 +12,7 @@
 //!              | +-------+ |     the one two before it.
 //!              +-----------+
 //! ```
-ghost use Rattle.std.specs.Prelude.{◌≡◌, [], IfOk, true, false};
+ghost use Rattle.std.specs.Prelude.{◌≡◌, [], IfOk, IfSome, true, false};
 ghost use Rattle.plane_core.specs.engine.Frames.{HasFewWords, IsFrame, LieOn, bounds_of};
 ghost use Rattle.plane_core.specs.windows.RuleLogic.{rule_of};
 ghost use Rattle.plane_core.specs.plane.Cells.{plane_bound};
@@ -50,6 +50,9 @@ const SMALL_WORD_COLUMNS: usize = 9;
 
 /// The rows of a small board: 512, and 72 more.
 const SMALL_ROWS: usize = 584;
+
+/// The most generations for which a board gets room around a pattern.
+const MOST_AROUND: u32 = 1000;
 
 /// The number of cells for which a list has room from the start when a pattern is read. They take a kilobyte.
 const ROOM: usize = 128;
@@ -144,6 +147,32 @@ impl Board {
             rows: SMALL_ROWS,
         };
         Board::blank(alloc, rule, at)
+    }
+
+    /// Makes a board that shows the pattern and has room for `generations` generations. Returns `None` if a board isn't
+    /// worth it, because it would have many more words than the pattern has cells, if the pattern is too near to the
+    /// edge of the plane, or if `generations` is over 1,000.
+    ///
+    /// # Errors
+    ///
+    /// `OutOfMemory` if memory runs out.
+    pub fn around(
+        alloc: Global,
+        rule: &Rule,
+        pattern: &Pattern,
+        generations: u32,
+    ) -> Result<Option<Board>, OutOfMemory>
+        ensures rule { IfOk result (λ made. IfSome made (λ board. board.rule ≡ rule.now)) }
+        ensures cells { IfOk result (λ made. IfSome made (λ board. board.cells ≡ pattern.now)) }
+    {
+        if generations > MOST_AROUND {
+            return Ok(None);
+        }
+        let Some(at) = Frame::round(pattern, generations) else {
+            return Ok(None);
+        };
+        let board = Board::lay(alloc, rule, at, pattern)?;
+        Ok(Some(board))
     }
 
     /// Makes a board with the frame `at` that shows the pattern.

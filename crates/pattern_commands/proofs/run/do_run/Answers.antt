@@ -10,7 +10,7 @@ returns-clause-ends g c =
     let reached = c.run-outcome.ensures.reached in (
       reached.0,
       reached.1,
-      text_ends (is_ok (rule_named c.args.rule_text.now)) true (λ bytes. only (run_answer c.args.rule_text.now c.args.generations bytes)) _ reached.0 c.run-outcome.result _ _ _ reached.2
+      text_ends (is_ok (rule_named c.args.rule_text.now)) true (λ bytes. only (run_answer c.args.form c.args.rule_text.now c.args.generations bytes)) _ reached.0 c.run-outcome.result _ _ _ reached.2
           c.tell_end_of_text.ensures.status c.tell_end_of_text.ensures.last,
     )
 

@@ -13,7 +13,7 @@ returns-in_err-rule-clause-reached g c =
       some.0,
       some.1,
       rw (err_of _ _ c.from_residual.ensures.1)
-          (Reaches_rule _ (only (run_answer c.args.rule_text.now c.args.generations some.0)) c.args.rule_text.now c.in_err-rule.field-0.0 _
+          (Reaches_rule _ (only (run_answer c.args.form c.args.rule_text.now c.args.generations some.0)) c.args.rule_text.now c.in_err-rule.field-0.0 _
           (sym c.in_err-rule.ensures.exact) (λ complaint is. rw is refl) (Appends-nil _)),
     )
 
@@ -25,7 +25,7 @@ returns-in_err-pattern-clause-reached g c =
       read.0,
       read.1,
       rw (err_of _ _ c.from_residual-in_err-pattern.ensures.1)
-          (Reaches_unread _ (only (run_answer c.args.rule_text.now c.args.generations read.0)) (pattern_of read.0)
+          (Reaches_unread _ (only (run_answer c.args.form c.args.rule_text.now c.args.generations read.0)) (pattern_of read.0)
           c.in_err-pattern.field-0.0 _ reads (λ refusal is. rw (ruled, is) refl) read.2 (Appends-nil _)),
     )
 
@@ -37,7 +37,7 @@ returns-in_err-pattern-2-clause-reached g c =
       read.0,
       read.1,
       rw (err_of _ _ c.from_residual-in_err-pattern-2.ensures.1, c.in_err-pattern-2.ensures.err)
-          (Reaches_no_memory _ (only (run_answer c.args.rule_text.now c.args.generations read.0))
+          (Reaches_no_memory _ (only (run_answer c.args.form c.args.rule_text.now c.args.generations read.0))
           (stream g.W.Write.contents c.args.output.now c.args.output.now) reads (Appends-nil _)),
     )
 
@@ -59,8 +59,8 @@ returns-in_err-pattern-2-clause-untouched g c = rw (err_of _ _ c.from_residual-i
 pub returns-in_err-pattern-2-clause-no_memory : goal.returns-in_err-pattern-2-clause-no_memory
 returns-in_err-pattern-2-clause-no_memory g c = rw (err_of _ _ c.from_residual-in_err-pattern-2.ensures.1) (λ is. refl)
 
-pub returns-in_err-write_plaintext-clause-untouched : goal.returns-in_err-write_plaintext-clause-untouched
-returns-in_err-write_plaintext-clause-untouched g c = rw (err_of _ _ c.from_residual-in_err-write_plaintext.ensures.1) (λ is. cc)
+pub returns-in_err-put_pattern-clause-untouched : goal.returns-in_err-put_pattern-clause-untouched
+returns-in_err-put_pattern-clause-untouched g c = rw (err_of _ _ c.from_residual-in_err-put_pattern.ensures.1) (λ is. cc)
 
-pub returns-in_err-write_plaintext-clause-no_memory : goal.returns-in_err-write_plaintext-clause-no_memory
-returns-in_err-write_plaintext-clause-no_memory g c = rw (err_of _ _ c.from_residual-in_err-write_plaintext.ensures.1) (λ is. cc)
+pub returns-in_err-put_pattern-clause-no_memory : goal.returns-in_err-put_pattern-clause-no_memory
+returns-in_err-put_pattern-clause-no_memory g c = rw (err_of _ _ c.from_residual-in_err-put_pattern.ensures.1) (λ is. cc)

@@ -6,7 +6,7 @@ use Rattle.pattern_commands.proofs.show.do_show.Goals as goal
 
 pub returns-clause-ends : goal.returns-clause-ends
 returns-clause-ends g c reader bytes =
-    text_ends false true (λ _. only (show_answer c.args.code.now)) reader bytes c.show-outcome.result _ _ _ c.show-outcome.ensures.reached c.tell_end_of_text.ensures.status
+    text_ends false true (λ _. only (show_answer c.args.form c.args.code.now)) reader bytes c.show-outcome.result _ _ _ c.show-outcome.ensures.reached c.tell_end_of_text.ensures.status
     c.tell_end_of_text.ensures.last
 
 pub returns-clause-untouched : goal.returns-clause-untouched

@@ -6,7 +6,7 @@ use Rattle.pattern_commands.proofs.soup.do_soup.Goals as goal
 
 pub returns-clause-ends : goal.returns-clause-ends
 returns-clause-ends g c reader bytes =
-    text_ends false true (λ _. only (soup_answer c.args.seed_text.now c.args.number)) reader bytes c.put_soup-outcome.result _ _ _ c.put_soup-outcome.ensures.reached c.tell_end_of_text.ensures.status
+    text_ends false true (λ _. only (soup_answer c.args.form c.args.seed_text.now c.args.number)) reader bytes c.put_soup-outcome.result _ _ _ c.put_soup-outcome.ensures.reached c.tell_end_of_text.ensures.status
     c.tell_end_of_text.ensures.last
 
 pub returns-clause-untouched : goal.returns-clause-untouched

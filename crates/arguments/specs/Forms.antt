@@ -1,0 +1,27 @@
+-- The form in which a pattern is printed, and what `run` prints.
+use Rattle.std.specs.Prelude.{◌≤◌, ℕ, Bool, true, false, Option, None, Some, nat_le, if◌then◌else◌}
+use Rattle.requests.specs.declared.form.PatternForm.{PatternForm}
+use Rattle.requests.specs.declared.form.PatternForm.TheVariants.{Coordinates, Plaintext}
+use Rattle.requests.specs.declared.form.RunForm.{RunForm}
+use Rattle.requests.specs.declared.form.RunForm.TheVariants.{Pattern, Sizes}
+
+-- a pattern is printed as coordinates if they are asked for
+abbrev pub pattern_form : Bool → PatternForm
+pattern_form true = Coordinates
+pattern_form false = Plaintext
+
+-- the sizes of the generations from one to the last, if it isn't after the last
+abbrev pub sizes_up_to : ℕ → ℕ → Option RunForm
+sizes_up_to last from = if nat_le from last then Some (Sizes from) else None
+
+-- What `run` prints up to a last generation: a pattern, or sizes, if a first generation is given. Nothing is asked for
+-- if coordinates are asked for too.
+abbrev pub run_form : PatternForm → ℕ → Option ℕ → Option RunForm
+run_form form last None = Some (Pattern form)
+run_form Plaintext last (Some from) = sizes_up_to last from
+run_form Coordinates last (Some from) = None
+
+-- sizes begin at the last generation or before it
+abbrev pub BeginsUpTo : ℕ → RunForm → Type 0
+BeginsUpTo last (Pattern form) = Unit {0}
+BeginsUpTo last (Sizes from) = from ≤ last

@@ -1,0 +1,178 @@
+//! `run --sizes`: the population and the bounding box of each generation.
+//!
+//! ```text
+//! rule ── input ── pattern ── run ── generation FROM ── stretch ── stretch ── ..
+//!   │       │                  │            └─ line        └─ lines   └─ lines
+//!   └───────┴─ refused         └─ out of memory
+//! ```
+
+ghost use Rattle.std.specs.Prelude.{◌≡◌, ◌+◌, ◌-◌, ◌≤◌, ◌^◌, ℕ, List, false, is_ok, IsErr, IfErr, IfOk, true};
+ghost use Rattle.plane_core.specs.plane.Generations.{lies_within};
+ghost use Rattle.pattern_commands.specs.Answers.{IsInput, only};
+ghost use Rattle.pattern_commands.specs.Complaints.{status_of};
+ghost use Rattle.pattern_commands.specs.Ends.{Ends};
+ghost use Rattle.pattern_commands.specs.Inputs.{HasReadAtMost, LiesWithin999, rule_named};
+ghost use Rattle.pattern_commands.specs.SizeSteps.{PutsLines, later_sizes};
+ghost use Rattle.pattern_commands.specs.Sizes.{sizes_answer, sizes_behaviour, sizes_text};
+ghost use Rattle.pattern_commands.specs.Streams.{stream};
+ghost use Rattle.pattern_commands.specs.TextSteps.{ReachesText};
+
+mod parts;
+mod size;
+mod stretch;
+
+use crate::complaint::Complaint;
+use crate::ending::tell_end_of_text;
+use crate::input::read_pattern;
+use crate::run::generation_after;
+use crate::sizes::size::Size;
+use crate::sizes::stretch::put_stretch;
+use crate::status::Status;
+use plane_core::output::Out;
+use plane_core::plane::pattern::Pattern;
+use plane_core::plane::rule::Rule;
+use std::alloc::Global;
+use std::io::{Read, Write};
+
+/// The most generations of a stretch. In a longer one, parts of the pattern would have to be farther apart, and then
+/// fewer parts get a board of their own.
+const STRETCH: u32 = 16;
+
+/// Reads a plaintext pattern, and writes a line for each generation from `from` to `last`: its number, its population,
+/// and the left, top, right and bottom side of its bounding box. The coordinates are those of the input, whose first row
+/// and column are 0.
+///
+/// `from` is at most `last`, which is at most 100,000. No earlier write to either writer may have failed. The rule is
+/// read first. If it is refused, nothing of the input is read. The lines are written while the pattern runs, so the
+/// memory doesn't depend on their number. `census run N --sizes FROM` is this call with the standard streams.
+///
+/// # Errors
+///
+/// The status is `Refused` for a text that isn't a rule or an input that isn't a pattern; `Memory` if memory runs out;
+/// and `Failed` if the input can't be read or the output can't be written. In these cases, a line is written to
+/// `errors`. A failure to write that line is not reported.
+pub fn do_sizes<R: Read, W: Write, E: Write>(
+    alloc: Global,
+    from: u32,
+    last: u32,
+    rule_text: &str,
+    input: &mut R,
+    output: &mut Out<W>,
+    errors: &mut Out<E>,
+) -> Status
+    requires order { from ≤ last }
+    requires generations { last ≤ 100000 }
+    requires output { output.old.failed ≡ false }
+    requires errors { errors.old.failed ≡ false }
+    ensures ends { (bytes : List ℕ) × IsInput (R.remaining input.old) bytes
+        × Ends (sizes_behaviour rule_text.now from last) (R.remaining input.old) bytes result
+        (stream W.contents output.old output.new) (stream E.contents errors.old errors.new) }
+    ensures rule_first { IsErr (rule_named rule_text.now) → (result ≡ Status.Refused) × (input.new ≡ input.old) }
+    ensures untouched { result ≡ Status.Refused → output.new ≡ output.old }
+    ensures little { HasReadAtMost (2 ^ 24 + 2 ^ 16) (R.remaining input.old) (R.remaining input.new) }
+{
+    let outcome = put_sizes(alloc, from, last, rule_text, input, output);
+    tell_end_of_text(outcome, errors)
+}
+
+/// Reads the rule and the pattern, runs the pattern, and writes the lines.
+fn put_sizes<R: Read, W: Write>(
+    alloc: Global,
+    from: u32,
+    last: u32,
+    rule_text: &str,
+    input: &mut R,
+    output: &mut Out<W>,
+) -> Result<(), Complaint>
+    requires order { from ≤ last }
+    requires generations { last ≤ 100000 }
+    requires output { output.old.failed ≡ false }
+    ensures reached { (bytes : List ℕ) × IsInput (R.remaining input.old) bytes
+        × ReachesText (is_ok (rule_named rule_text.now)) false (only (sizes_answer rule_text.now from last bytes)) result
+        (stream W.contents output.old output.new) }
+    ensures rule_first { IfErr (rule_named rule_text.now) (λ complaint.
+        (result ≡ Err complaint) × (input.new ≡ input.old)) }
+    ensures untouched { IfErr result (λ complaint. status_of complaint ≡ Status.Refused → output.new ≡ output.old) }
+    ensures little { HasReadAtMost (2 ^ 24 + 2 ^ 16) (R.remaining input.old) (R.remaining input.new) }
+{
+    let rule = Rule::read(rule_text)?;
+    let pattern = read_pattern(alloc, input)?;
+    put_sizes_of(alloc, &rule, &pattern, from, last, output)
+}
+
+/// Runs the pattern, and writes the lines of generations `from` to `last`.
+fn put_sizes_of<W: Write>(
+    alloc: Global,
+    rule: &Rule,
+    pattern: &Pattern,
+    from: u32,
+    last: u32,
+    output: &mut Out<W>,
+) -> Result<(), Complaint>
+    requires small { LiesWithin999 pattern.now }
+    requires order { from ≤ last }
+    requires generations { last ≤ 100000 }
+    requires output { output.old.failed ≡ false }
+    ensures { PutsLines (λ _. sizes_text rule.now pattern.now from (last + 1 - from))
+        (sizes_text rule.now pattern.now from (last + 1 - from)) result (stream W.contents output.old output.new) }
+{
+    let pattern = generation_after(alloc, pattern, rule, from)?;
+    Size::of(&pattern).put_line(from, output)?;
+    put_later_sizes(alloc, rule, pattern, from, last, output)
+}
+
+/// Writes the lines of the generations after generation `from`, of which this is the pattern, up to generation `last`.
+fn put_later_sizes<W: Write>(
+    alloc: Global,
+    rule: &Rule,
+    pattern: Pattern,
+    from: u32,
+    last: u32,
+    output: &mut Out<W>,
+) -> Result<(), Complaint>
+    requires near { lies_within (999 + from) pattern ≡ true }
+    requires order { from ≤ last }
+    requires generations { last ≤ 100000 }
+    requires output { output.old.failed ≡ false }
+    ensures { PutsLines (λ _. later_sizes rule.now pattern from (last - from)) (later_sizes rule.now pattern from (last - from))
+        result (stream W.contents output.old output.new) }
+{
+    let mut pattern = pattern;
+    let mut generation = from;
+    while generation < last {
+        let most = (last - generation).min(STRETCH);
+        let made = put_next_sizes(alloc, rule, &pattern, generation, most, output)?;
+        pattern = generation_after(alloc, &pattern, rule, made)?;
+        generation += made;
+    }
+    Ok(())
+}
+
+/// Writes the lines of the generations after generation `generation`, of which this is the pattern, and returns their
+/// number, which is from 1 to `most`.
+fn put_next_sizes<W: Write>(
+    alloc: Global,
+    rule: &Rule,
+    pattern: &Pattern,
+    generation: u32,
+    most: u32,
+    output: &mut Out<W>,
+) -> Result<u32, Complaint>
+    requires near { lies_within (999 + generation) pattern.now ≡ true }
+    requires some { 1 ≤ most }
+    requires most { most ≤ 1000 }
+    requires generation { generation + most ≤ 100000 }
+    requires output { output.old.failed ≡ false }
+    ensures some { IfOk result (λ made. 1 ≤ made) }
+    ensures made { IfOk result (λ made. made ≤ most) }
+    ensures lines { PutsLines (later_sizes rule.now pattern.now generation)
+        (later_sizes rule.now pattern.now generation most) result (stream W.contents output.old output.new) }
+{
+    let made = put_stretch(alloc, rule, pattern, generation, most, output)?;
+    if made > 0 {
+        return Ok(made);
+    }
+    let next = generation_after(alloc, pattern, rule, 1)?;
+    Size::of(&next).put_line(generation + 1, output)?;
+    Ok(1)
+}
