@@ -1,14 +1,13 @@
 -- Numbers in arguments: what `clap` accepts as one, and what is read of it.
-use Rattle.std.proofs.Common.{◌≡◌, ◌<◌, ◌==◌, ◌^◌, ◌&&◌, ℕ, pos, Bool, true, false, cond, Option, None, Some, Result, Ok, Err, List, [], ◌∷◌, Decides, length}
-use Rattle.std.proofs.Common.{nat_le, nat_lt, option_and_then, refl, ap, arith, drop, unwrap_or, le-leb, leb-true, ltb-true, ne_eqb}
+use Rattle.std.proofs.Common.{◌≡◌, ◌<◌, ◌==◌, ◌^◌, ◌&&◌, ℕ, Bool, true, false, cond, Option, None, Some, Result, Ok, Err, List, [], ◌∷◌, Decides, length}
+use Rattle.std.proofs.Common.{nat_le, nat_lt, option_and_then, refl, ap, arith, drop, le-leb, leb-true, ltb-true, ne_eqb}
 use Rattle.std.proofs.lemmas.Bool.{and_parts, false_from_ne_true}
 use Rattle.std.proofs.lemmas.Bool.Decides.{Decides-and, Decides-ltb}
-use Rattle.std.proofs.lemmas.Int.{ints}
 use Rattle.std.proofs.lemmas.Str.Parse.{digit_from_value}
 use Rattle.std.specs.List.{list_all}
 use Rattle.std.specs.Char.{digit_value}
 use Rattle.std.specs.Str.Parse.{AllDigits, IsNumeral, ParsesUnsigned, digits_value, starts_with_minus, without_leading_plus}
-use Rattle.clap.specs.Words.{Accepts, ReadsOne, Text, without_minus}
+use Rattle.clap.specs.Words.{Accepts, ReadsOne, Text}
 use Rattle.clap.specs.ValueTests.{is_numeral}
 use Rattle.clap.specs.declared.builder.value_parser.ValueParser.{ValueParser}
 use Rattle.clap.specs.declared.builder.value_parser.ValueParser.TheVariants as parser

@@ -1,7 +1,6 @@
 -- From what an observer was handed to right lines of reports.
-use Rattle.std.proofs.Common.{◌≡◌, ◌∙◌, ◌≤◌, ◌+◌, ◌++◌, ℕ, All, Bool, List, [], ◌∷◌, Option, Ok, ap, arith, cond, false, map, nat_eq, refl, subst, sym, true, true≢false, ⊎_elim}
-use Rattle.std.specs.Prelude.{Contains, count_by}
-use Rattle.std.proofs.lemmas.List.Elements.{All-contains}
+use Rattle.std.proofs.Common.{◌≡◌, ◌∙◌, ◌≤◌, ◌++◌, ℕ, All, Bool, List, [], ◌∷◌, Option, ap, arith, cond, false, map, nat_eq, refl, subst, sym, true, true≢false, ⊎_elim}
+use Rattle.std.specs.Prelude.{count_by}
 use Rattle.haul_core.specs.Books.{Held, Terms, entry}
 use Rattle.haul_core.specs.Keeping.{numbers_in}
 use Rattle.haul_core.specs.Missing.{AreAll}

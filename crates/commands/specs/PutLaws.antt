@@ -1,5 +1,5 @@
 -- The two laws of `PutsReports`, for the observer that writes the lines: nothing, and one after another.
-use Rattle.std.proofs.Common.{◌≡◌, ◌++◌, ◌∙◌, ℕ, All, Bool, List, [], Option, ap, false, refl, subst, sym, true, true≢false}
+use Rattle.std.proofs.Common.{◌≡◌, ◌++◌, ◌∙◌, ℕ, Bool, List, [], Option, ap, false, refl, subst, sym, true}
 use Rattle.std.proofs.KnownBytes.{Appends-nil}
 use Rattle.std.proofs.lemmas.Grind.{flat_map-append}
 use Rattle.std.proofs.lemmas.List.Elements.{All-append, All-nil}

@@ -36,7 +36,7 @@ use Rattle.crew.specs.declared.take.Crew.{Crew}
 use Rattle.crew.specs.CrewSteps.{HasRunAll}
 use Rattle.crew.specs.Takes.{was_missing}
 use Rattle.crew.proofs.CrewLemmas.{taken_stays}
-use Rattle.crew.proofs.ListLemmas.{all_left, all_right, all_unmap, at_place, count_all, count_append, count_cons, count_none, none_pass, part_all, range_within}
+use Rattle.crew.proofs.ListLemmas.{all_left, all_right, all_unmap, at_place, count_all, count_append, count_none, none_pass, part_all, range_within}
 use Rattle.crew.proofs.SenderSums.{up_to, up_to_all, up_to_more, up_to_none}
 use Rattle.crew.proofs.WorkerLemmas.{none_stopped}
 use Rattle.crew.proofs.TakeLemmas.{all_numbers, all_senders, all_whole, crew_part, each_worker, notes_are}

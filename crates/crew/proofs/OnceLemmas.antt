@@ -1,11 +1,11 @@
 -- No soup is reported twice: each worker reports only at places that it drew, and no place is drawn twice.
 use Rattle.std.proofs.Common.{◌≡◌, ◌≢◌, ◌<◌, ◌≤◌, ◌+◌, ◌++◌, ◌∙◌, ℕ, suc, All, Bool, cond, true, false, List, [], ◌∷◌, ap, arith, drop}
 use Rattle.std.proofs.Common.{get_or, length, map, nat_eq, nat_lt, refl, subst, sym, ⊎_elim}
-use Rattle.std.specs.Prelude.{Contains, count_by, slice_index, sum_by}
+use Rattle.std.specs.Prelude.{count_by, slice_index, sum_by}
 use Rattle.std.specs.List.{range_with_len}
 use Rattle.std.proofs.lemmas.Bool.{eq-eqb, ne_eqb}
 use Rattle.std.proofs.lemmas.Grind.{flat_map-append}
-use Rattle.std.proofs.lemmas.List.{get_or_default, map-append}
+use Rattle.std.proofs.lemmas.List.{map-append}
 use Rattle.std.proofs.lemmas.List.Elements.{All-head, All-tail}
 use Rattle.std.proofs.lemmas.List.Sums.{sum_by-cons}
 use mathlib.Core.Logic.{dite}

@@ -2,6 +2,9 @@
 use Rattle.std.specs.Prelude.{ℕ, ◌++◌, List, codes, decimal}
 use Rattle.pattern_commands.specs.declared.complaint.Complaint.{Complaint}
 use Rattle.pattern_commands.specs.declared.complaint.Complaint.TheVariants.{Refused, Memory, ReadFailed, TooLong, WriteFailed}
+use Rattle.pattern_commands.specs.declared.error_line.ErrorText.{ErrorText}
+use Rattle.pattern_commands.specs.declared.error_line.ErrorText.TheVariants.{Missing}
+use Rattle.pattern_commands.specs.declared.error_line.ErrorText.TheVariants as told
 use Rattle.pattern_commands.specs.declared.refusal.Refusal.{Refusal}
 use Rattle.pattern_commands.specs.declared.refusal.Refusal.TheVariants.{BadByte, PatternTooLarge, BadRule, BirthZero, NotACode, CodeTooLong, CodeBadByte}
 use Rattle.pattern_commands.specs.declared.refusal.Refusal.TheVariants.{CodeShortRun, CodeEmpty, SeedTooLong, SeedBadByte, HorizonBelowPeriod}
@@ -9,39 +12,52 @@ use Rattle.pattern_commands.specs.declared.refusal.Refusal.TheVariants.{BadList,
 use Rattle.pattern_commands.specs.declared.status.Status.{Status}
 use Rattle.pattern_commands.specs.declared.status.Status.TheVariants as status
 
--- the line of a refusal
-abbrev pub refusal_line : Refusal → List ℕ
-refusal_line (BadByte line column) = codes "census: bad byte at line " ++ decimal line ++ (codes " column " ++ decimal column ++ codes "\n")
-refusal_line PatternTooLarge = codes "census: pattern larger than 1000 by 1000\n"
-refusal_line (BadRule place) = codes "census: bad rule at " ++ decimal place ++ codes "\n"
-refusal_line BirthZero = codes "census: birth on zero neighbours\n"
-refusal_line NotACode = codes "census: not a code\n"
-refusal_line CodeTooLong = codes "census: code too long\n"
-refusal_line (CodeBadByte place) = codes "census: bad byte in code at " ++ decimal place ++ codes "\n"
-refusal_line (CodeShortRun place) = codes "census: short run in code at " ++ decimal place ++ codes "\n"
-refusal_line CodeEmpty = codes "census: code without a live cell\n"
-refusal_line SeedTooLong = codes "census: seed longer than 64 bytes\n"
-refusal_line (SeedBadByte place) = codes "census: bad byte in seed at " ++ decimal place ++ codes "\n"
-refusal_line HorizonBelowPeriod = codes "census: horizon below period\n"
-refusal_line (BadList place) = codes "census: bad range list at " ++ decimal place ++ codes "\n"
-refusal_line RangeTooLarge = codes "census: range too large\n"
-refusal_line RangesOverlap = codes "census: ranges overlap\n"
+-- a line on standard error: `census: `, its text, and a line feed
+abbrev pub error_line : List ℕ → List ℕ
+error_line text = codes "census: " ++ (text ++ codes "\n")
+
+-- the text of a refusal
+abbrev pub refusal_text : Refusal → List ℕ
+refusal_text (BadByte line column) = codes "bad byte at line " ++ decimal line ++ (codes " column " ++ decimal column)
+refusal_text PatternTooLarge = codes "pattern larger than 1000 by 1000"
+refusal_text (BadRule place) = codes "bad rule at " ++ decimal place
+refusal_text BirthZero = codes "birth on zero neighbours"
+refusal_text NotACode = codes "not a code"
+refusal_text CodeTooLong = codes "code too long"
+refusal_text (CodeBadByte place) = codes "bad byte in code at " ++ decimal place
+refusal_text (CodeShortRun place) = codes "short run in code at " ++ decimal place
+refusal_text CodeEmpty = codes "code without a live cell"
+refusal_text SeedTooLong = codes "seed longer than 64 bytes"
+refusal_text (SeedBadByte place) = codes "bad byte in seed at " ++ decimal place
+refusal_text HorizonBelowPeriod = codes "horizon below period"
+refusal_text (BadList place) = codes "bad range list at " ++ decimal place
+refusal_text RangeTooLarge = codes "range too large"
+refusal_text RangesOverlap = codes "ranges overlap"
+
+-- the text of a complaint: an input that is too long is reported as a failed read
+abbrev pub complaint_text : Complaint → List ℕ
+complaint_text (Refused refusal) = refusal_text refusal
+complaint_text (Memory error) = codes "out of memory"
+complaint_text (ReadFailed error) = codes "read failed"
+complaint_text TooLong = codes "read failed"
+complaint_text (WriteFailed error) = codes "write failed"
+
+-- the line of a complaint
+abbrev pub complaint_line : Complaint → List ℕ
+complaint_line complaint = error_line (complaint_text complaint)
 
 -- the line of a failed write
 abbrev pub write_failed_line : List ℕ
-write_failed_line = codes "census: write failed\n"
+write_failed_line = error_line (codes "write failed")
 
--- the line of a complaint: an input that is too long is reported as a failed read
-abbrev pub complaint_line : Complaint → List ℕ
-complaint_line (Refused refusal) = refusal_line refusal
-complaint_line (Memory error) = codes "census: out of memory\n"
-complaint_line (ReadFailed error) = codes "census: read failed\n"
-complaint_line TooLong = codes "census: read failed\n"
-complaint_line (WriteFailed error) = write_failed_line
+-- the text of a line
+abbrev pub text_told : ErrorText → List ℕ
+text_told (told.Complaint complaint) = complaint_text complaint
+text_told (Missing missing) = codes "incomplete, " ++ decimal missing ++ codes " missing"
 
 -- the line about the number of missing soups
 abbrev pub missing_line : ℕ → List ℕ
-missing_line missing = codes "census: incomplete, " ++ decimal missing ++ codes " missing\n"
+missing_line missing = error_line (text_told (Missing missing))
 
 -- the status of a command that ends with a complaint
 abbrev pub status_of : Complaint → Status

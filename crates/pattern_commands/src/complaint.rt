@@ -2,15 +2,14 @@
 
 ghost use Rattle.std.specs.Prelude.{◌≡◌, false};
 ghost use Rattle.plane_core.specs.Outputs.{Writes};
-ghost use Rattle.pattern_commands.specs.Complaints.{complaint_line, missing_line, status_of};
+ghost use Rattle.pattern_commands.specs.Complaints.{complaint_line, complaint_text, missing_line, status_of};
 ghost use Rattle.pattern_commands.specs.Streams.{stream, HasLine};
 
+use crate::error_line::ErrorText;
 use crate::input::InputError;
-use crate::output::LineBuffer;
 use crate::read_error::ReadError;
 use crate::refusal::Refusal;
 use crate::status::Status;
-use code_core::decimal::put_number;
 use code_core::reader::{WechslerError, WechslerFault};
 use memory::OutOfMemory;
 use plane_core::output::{Out, WriteError};
@@ -58,23 +57,19 @@ impl Complaint {
         requires { errors.old.failed ≡ false }
         ensures { Writes E.contents errors.old errors.new result (complaint_line self) }
     {
-        let mut line = Out::new(LineBuffer::new());
-        match self.put_line(&mut line) {
-            Ok(()) => errors.put(line.into_inner().as_slice()),
-            Err(_) => self.put_line(errors),
-        }
+        ErrorText::Complaint(self).write_line(errors)
     }
 
-    /// Writes the line piece by piece.
-    fn put_line<E: Write>(self, errors: &mut Out<E>) -> Result<(), WriteError>
+    /// Writes the text of the line piece by piece.
+    pub(crate) fn put_text<E: Write>(self, errors: &mut Out<E>) -> Result<(), WriteError>
         requires { errors.old.failed ≡ false }
-        ensures { Writes E.contents errors.old errors.new result (complaint_line self) }
+        ensures { Writes E.contents errors.old errors.new result (complaint_text self) }
     {
         match self {
-            Complaint::Refused(refusal) => refusal.put_line(errors),
-            Complaint::Memory(_) => errors.put(b"census: out of memory\n"),
-            Complaint::ReadFailed(_) | Complaint::TooLong => errors.put(b"census: read failed\n"),
-            Complaint::WriteFailed(_) => errors.put(b"census: write failed\n"),
+            Complaint::Refused(refusal) => refusal.put_text(errors),
+            Complaint::Memory(_) => errors.put(b"out of memory"),
+            Complaint::ReadFailed(_) | Complaint::TooLong => errors.put(b"read failed"),
+            Complaint::WriteFailed(_) => errors.put(b"write failed"),
         }
     }
 
@@ -98,20 +93,7 @@ pub fn put_missing<E: Write>(missing: u64, errors: &mut Out<E>) -> Result<(), Wr
     requires { errors.old.failed ≡ false }
     ensures { Writes E.contents errors.old errors.new result (missing_line missing) }
 {
-    let mut line = Out::new(LineBuffer::new());
-    match put_missing_line(missing, &mut line) {
-        Ok(()) => errors.put(line.into_inner().as_slice()),
-        Err(_) => put_missing_line(missing, errors),
-    }
-}
-
-/// Writes the line piece by piece.
-fn put_missing_line<E: Write>(missing: u64, errors: &mut Out<E>) -> Result<(), WriteError>
-    requires { errors.old.failed ≡ false }
-    ensures { Writes E.contents errors.old errors.new result (missing_line missing) }
-{
-    put_number(errors, b"census: incomplete, ", missing)?;
-    errors.put(b" missing\n")
+    ErrorText::Missing(missing).write_line(errors)
 }
 
 impl From<RuleFault> for Complaint {

@@ -11,6 +11,8 @@ pub mod complaint;
 pub mod ending;
 /// The coordinates of live cells.
 mod coordinates;
+/// The last line of standard error.
+mod error_line;
 /// Inputs that are read completely.
 pub mod input;
 /// `name`: when a pattern settles, and of which objects it then consists.

@@ -1,8 +1,8 @@
 //! Why a text or an input is refused, and the line that says so.
 
-ghost use Rattle.std.specs.Prelude.{◌≡◌, ◌++◌, false, codes, decimal};
+ghost use Rattle.std.specs.Prelude.{◌≡◌, false};
 ghost use Rattle.plane_core.specs.Outputs.{Writes};
-ghost use Rattle.pattern_commands.specs.Complaints.{refusal_line};
+ghost use Rattle.pattern_commands.specs.Complaints.{refusal_text};
 
 use code_core::decimal::put_number;
 use plane_core::output::{Out, WriteError};
@@ -45,63 +45,40 @@ pub enum Refusal {
 }
 
 impl Refusal {
-    /// Writes the line of the refusal piece by piece. No earlier write may have failed. This takes no memory.
+    /// Writes the text of the refusal piece by piece. No earlier write may have failed. This takes no memory.
     ///
     /// # Errors
     ///
     /// [`WriteError`] if a write fails.
-    pub(crate) fn put_line<E: Write>(self, errors: &mut Out<E>) -> Result<(), WriteError>
+    pub(crate) fn put_text<E: Write>(self, errors: &mut Out<E>) -> Result<(), WriteError>
         requires { errors.old.failed ≡ false }
-        ensures { Writes E.contents errors.old errors.new result (refusal_line self) }
+        ensures { Writes E.contents errors.old errors.new result (refusal_text self) }
     {
         match self {
             Refusal::BadByte { line, column } => put_bad_byte(errors, line, column),
-            Refusal::PatternTooLarge => {
-                errors.put(b"census: pattern larger than 1000 by 1000\n")
-            }
-            Refusal::BadRule { place } => put_numbered(errors, b"census: bad rule at ", place),
-            Refusal::BirthZero => errors.put(b"census: birth on zero neighbours\n"),
-            Refusal::NotACode => errors.put(b"census: not a code\n"),
-            Refusal::CodeTooLong => errors.put(b"census: code too long\n"),
-            Refusal::CodeBadByte { place } => {
-                put_numbered(errors, b"census: bad byte in code at ", place)
-            }
-            Refusal::CodeShortRun { place } => {
-                put_numbered(errors, b"census: short run in code at ", place)
-            }
-            Refusal::CodeEmpty => errors.put(b"census: code without a live cell\n"),
-            Refusal::SeedTooLong => errors.put(b"census: seed longer than 64 bytes\n"),
-            Refusal::SeedBadByte { place } => {
-                put_numbered(errors, b"census: bad byte in seed at ", place)
-            }
-            Refusal::HorizonBelowPeriod => errors.put(b"census: horizon below period\n"),
-            Refusal::BadList { place } => {
-                put_numbered(errors, b"census: bad range list at ", place)
-            }
-            Refusal::RangeTooLarge => errors.put(b"census: range too large\n"),
-            Refusal::RangesOverlap => errors.put(b"census: ranges overlap\n"),
+            Refusal::PatternTooLarge => errors.put(b"pattern larger than 1000 by 1000"),
+            Refusal::BadRule { place } => put_number(errors, b"bad rule at ", place),
+            Refusal::BirthZero => errors.put(b"birth on zero neighbours"),
+            Refusal::NotACode => errors.put(b"not a code"),
+            Refusal::CodeTooLong => errors.put(b"code too long"),
+            Refusal::CodeBadByte { place } => put_number(errors, b"bad byte in code at ", place),
+            Refusal::CodeShortRun { place } => put_number(errors, b"short run in code at ", place),
+            Refusal::CodeEmpty => errors.put(b"code without a live cell"),
+            Refusal::SeedTooLong => errors.put(b"seed longer than 64 bytes"),
+            Refusal::SeedBadByte { place } => put_number(errors, b"bad byte in seed at ", place),
+            Refusal::HorizonBelowPeriod => errors.put(b"horizon below period"),
+            Refusal::BadList { place } => put_number(errors, b"bad range list at ", place),
+            Refusal::RangeTooLarge => errors.put(b"range too large"),
+            Refusal::RangesOverlap => errors.put(b"ranges overlap"),
         }
     }
 }
 
-/// Writes the line about a bad byte of a pattern.
+/// Writes the text about a bad byte of a pattern.
 fn put_bad_byte<E: Write>(errors: &mut Out<E>, line: usize, column: usize) -> Result<(), WriteError>
     requires { errors.old.failed ≡ false }
-    ensures { Writes E.contents errors.old errors.new result (refusal_line (Refusal.BadByte line column)) }
+    ensures { Writes E.contents errors.old errors.new result (refusal_text (Refusal.BadByte line column)) }
 {
-    put_number(errors, b"census: bad byte at line ", line)?;
-    put_numbered(errors, b" column ", column)
-}
-
-/// Writes a line that ends with a number.
-fn put_numbered<E: Write>(
-    errors: &mut Out<E>,
-    prefix: &[u8],
-    number: usize,
-) -> Result<(), WriteError>
-    requires { errors.old.failed ≡ false }
-    ensures { Writes E.contents errors.old errors.new result (prefix.now ++ decimal number ++ codes "\n") }
-{
-    put_number(errors, prefix, number)?;
-    errors.put(b"\n")
+    put_number(errors, b"bad byte at line ", line)?;
+    put_number(errors, b" column ", column)
 }

@@ -123,8 +123,8 @@ impl Drop for Board {
 }
 
 impl Board {
-    /// Makes an empty large board around the origin, for patterns that are shown one after another. It has 4,096 columns, one
-    /// more word column, and 4,168 rows.
+    /// Makes a large empty board around the origin, for patterns that are shown one after another. It has 4,096 columns,
+    /// one more word column, and 4,168 rows.
     ///
     /// # Errors
     ///

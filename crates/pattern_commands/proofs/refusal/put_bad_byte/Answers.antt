@@ -3,7 +3,7 @@ use Rattle.plane_core.proofs.lemmas.OutputLemmas.{Writes_then, Writes_stops}
 use Rattle.pattern_commands.proofs.refusal.put_bad_byte.Goals as goal
 
 pub returns-in_err-put_number : goal.returns-in_err-put_number
-returns-in_err-put_number g c = Writes_stops (codes " column " ++ decimal c.args.column ++ codes "\n") c.from_residual.ensures.0 c.in_err-put_number.ensures
+returns-in_err-put_number g c = Writes_stops (codes " column " ++ decimal c.args.column) c.from_residual.ensures.0 c.in_err-put_number.ensures
 
 pub returns : goal.returns
-returns g c = Writes_then c.in_ok-put_number.ensures c.put_numbered.ensures
+returns g c = Writes_then c.in_ok-put_number.ensures c.put_number-2.ensures
