@@ -1,6 +1,6 @@
 """Takes objects apart: which independent objects a pseudo-object is made of.
 
-docs/HAUL.md has the definition. A bi-block, for example, is two blocks:
+docs/PROFILE.md has the definition. A bi-block, for example, is two blocks:
 
     OO.OO       OO.OO       the census takes it as one object, since its cells are two steps apart;
     OO.OO       OO.OO       each half, run alone, does in each generation what it does beside the other

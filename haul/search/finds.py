@@ -2,7 +2,7 @@
 
 A find is a part whose code no object of the haul had as a part before, and that isn't common: under
 Life, the reference census has it in fewer soups than a limit.
-docs/HAUL.md says what the parts of an object are. The soups that one call of `census take` runs are
+docs/PROFILE.md says what the parts of an object are. The soups that one call of `census take` runs are
 a batch, as in search.py. """
 
 from __future__ import annotations
