@@ -16,7 +16,7 @@ from release.zipped import is_packed, packed
 PAGES = [
     "README.md",
     "CHANGELOG.md",
-    *(f"docs/{name}.md" for name in ("COMMANDS", "FORMATS", "PROFILE", "BOOK", "SCALE")),
+    *(f"docs/{name}.md" for name in ("COMMANDS", "FORMATS", "PROFILE", "BOOK", "LIMITS")),
 ]
 DOC = "share/doc/gokzerd"
 LIBEXEC = "libexec/gokzerd"

@@ -8,17 +8,16 @@ import re
 import selectors
 import signal
 import subprocess
-import sys
 from collections.abc import Callable
 from contextlib import suppress
-from functools import cache
-from importlib.resources import files
 from typing import IO
 
 from haul.census.client import FAILED, Ended, check_ending
+from haul.census.starters import LAUNCH_CENSUS, list_starter_words
+from haul.formats.report_lines import LINE_LIMIT
 
 # What the launcher does with the program.
-CENSUS, FIND = "census", "find"
+FIND = "find"
 # mutant: equal because the size of a read doesn't change what is printed
 BYTES_AT_A_TIME = 65_536
 # How many bytes a program may print, and for each soup that it takes; how many it may write to
@@ -30,13 +29,10 @@ SECONDS_TO_END = 0.05
 MOST_SECONDS_TO_END = 2.0
 # The line of progress of `census take`.
 PROGRESS = re.compile(rb"([0-9]{1,8}) of [0-9]{1,8} soups")
-
-
-@cache
-def read_launcher() -> str:
-    """Returns the text of `launcher.py`. It is read once, since an installed `haul` is one file,
-    which may be replaced while this runs."""
-    return files("haul.census").joinpath("launcher.py").read_text("utf-8")
+# Its report lines, of which so many are kept.
+REPORT_BEGINS = b"report "
+MOST_REPORTS = 100_000
+REPORT_OF = re.compile(rb"report [^\n]*? soup=([0-9]{1,13}) ")
 
 
 class StreamWaiter:
@@ -61,17 +57,16 @@ class StreamWaiter:
 class BackgroundProgram:
     """A program that runs, with the text that it has printed on a pipe so far."""
 
-    # How many bytes it may print.
+    # How many bytes it may print, and how many that aren't read yet it may write to standard error.
     most_printed = MOST_PRINTED
+    most_complained = MOST_COMPLAINED
 
     def __init__(
         self, waiter: StreamWaiter, how: str, words: list[str], stderr: int | None
     ) -> None:
-        """Starts a program by `launcher.py`, with `CENSUS` or `FIND`. Raises `OSError` if that
+        """Starts a program by `launcher.py`, with `LAUNCH_CENSUS` or `FIND`. Raises `OSError` if that
         fails."""
-        # Without a PATH, Python may not know where it is.
-        python = sys.executable or os.readlink("/proc/self/exe")
-        starts = [python, "-I", "-S", "-c", read_launcher(), how, str(os.getpid())]
+        starts = list_starter_words(how)
         self.waiter = waiter
         # Ctrl-C mustn't end it before it is in its own session. The starter drops a Ctrl-C that
         # came until then.
@@ -115,7 +110,7 @@ class BackgroundProgram:
         """Kills a program that has written too much. What it wrote is given up."""
         for text, most, stream in (
             (self.printed, self.most_printed, "output"),
-            (self.complained, MOST_COMPLAINED, "error"),
+            (self.complained, self.most_complained, "error"),
         ):
             if len(text) > most:
                 self.flooded = self.flooded or stream
@@ -154,36 +149,74 @@ class BackgroundProgram:
 
 
 class BackgroundTake(BackgroundProgram):
-    """A call of `census take`."""
+    """A call of `census take`. On standard error, it writes lines of progress and report lines."""
 
     def __init__(self, waiter: StreamWaiter, words: list[str], soups: int = 0) -> None:
         """Starts a call that takes this number of soups."""
         self.most_printed = MOST_PRINTED + BYTES_OF_A_SOUP * soups
-        super().__init__(waiter, CENSUS, words, subprocess.PIPE)
+        # Whole lines that are neither progress nor reports.
+        self.remarks = bytearray()
+        # The report lines with the lowest numbers of soups, and the number of all of them.
+        self.reports: list[tuple[int, bytes]] = []
+        self.reported = 0
+        self.reported_bytes = 0
+        # How many soups its line of progress said last.
+        self.latest = 0
+        super().__init__(waiter, LAUNCH_CENSUS, words, subprocess.PIPE)
 
     def refuse_floods(self) -> None:
-        # Lines of progress don't count.
-        self.soups()
+        # Lines of progress and reports don't count, unless these are too many themselves.
+        self.read_errors()
+        if self.reported_bytes > self.most_printed or len(self.remarks) > MOST_COMPLAINED:
+            self.flooded = self.flooded or "error"
+            self.kill()
+            self.remarks.clear()
+            self.reports.clear()
         super().refuse_floods()
+
+    def read_errors(self) -> None:
+        """Takes the lines of progress, the reports and other whole lines from what was written to
+        standard error."""
+        *lines, last = self.complained.split(b"\n")
+        for line in lines:
+            rest = self.pass_progress(line)
+            if rest.startswith(REPORT_BEGINS):
+                self.add_report(bytes(rest))
+            else:
+                self.remarks += rest + b"\n"
+        self.complained[:] = self.pass_progress(last)
+        is_report = self.complained.startswith(REPORT_BEGINS)
+        self.most_complained = LINE_LIMIT if is_report else MOST_COMPLAINED
+
+    def pass_progress(self, line: bytearray) -> bytearray:
+        """Reads the progress in a line, and returns what follows it."""
+        found = PROGRESS.findall(line)
+        if found:
+            self.latest = int(found[-1])
+        # What stands before the last carriage return has been read.
+        return line.rpartition(b"\r")[2]
+
+    def add_report(self, line: bytes) -> None:
+        soup = REPORT_OF.match(line)
+        self.reported += 1
+        self.reported_bytes += len(line)
+        # A line that says no soup is refused later.
+        self.reports.append((int(soup[1]) if soup else -1, line))
+        if len(self.reports) > 2 * MOST_REPORTS:
+            self.reports = sorted(self.reports)[:MOST_REPORTS]
 
     def soups(self) -> int:
         """Returns how many soups it has run so far, by its line of progress."""
-        found = PROGRESS.findall(self.complained)
-        # What comes before the last carriage return has been read.
-        del self.complained[: self.complained.rfind(b"\r") + 1]
-        if found:
-            self.latest = int(found[-1])
+        self.read_errors()
         return self.latest
-
-    # How many soups its line of progress said last.
-    latest = 0
 
     def haul_text(self) -> bytes:
         """Returns what was printed. Raises `Ended` if the program failed."""
         if self.flooded is not None:
             raise Ended(FAILED, f"census wrote too much to its standard {self.flooded}")
-        complaint = bytes(self.complained).rpartition(b"\r")[2]
-        if PROGRESS.match(complaint):
+        last = bytes(self.complained)
+        if PROGRESS.match(last):
             # It was killed, and its line of progress is still there.
-            complaint = b""
+            last = b""
+        complaint = bytes(self.remarks) + last
         return check_ending(self.process.returncode, bytes(self.printed), complaint)

@@ -24,6 +24,8 @@ NOT_THERE = (
     errno.ENAMETOOLONG,
     errno.EINVAL,
 )
+# So much can be written to a pipe before somebody reads it, on any Linux.
+BYTES_OF_A_PIPE = 65_536
 
 
 class NoThread(Exception):
@@ -47,22 +49,33 @@ class SignalHandler(Protocol):
         """Notes a signal, and returns whether the work may go on until it ends by itself."""
 
 
+class Running(Protocol):
+    """A process that was started from here."""
+
+    pid: int
+
+    def poll(self) -> int | None:
+        """Returns how it has ended; `None` if it runs."""
+
+
 class Children:
     """The programs that run."""
 
     def __init__(self) -> None:
-        self.running: list[subprocess.Popen[bytes]] = []
+        self.running: list[Running] = []
         # Held while one is started, so that each that runs is known.
         self.starts = threading.Lock()
         # The work that ends by itself when a signal comes; none if a signal ends it.
         self.stopping: SignalHandler | None = None
 
     def start(
-        self, words: list[str], stdout: int, stderr: int | None, stdin: int
+        self, words: list[str], stdout: int, stderr: int | None, stdin: int, new_session: bool
     ) -> subprocess.Popen[bytes]:
-        """Starts a program. Raises `OSError` if that fails."""
+        """Starts a program, perhaps in a session of its own. Raises `OSError` if that fails."""
         with self.starts:
-            program = subprocess.Popen(words, stdin=stdin, stdout=stdout, stderr=stderr)
+            program = subprocess.Popen(
+                words, stdin=stdin, stdout=stdout, stderr=stderr, start_new_session=new_session
+            )
             self.running.append(program)
         return program
 
@@ -101,9 +114,15 @@ class NoCensus(Exception):
 
 
 @contextmanager
-def open_pipe(text: bytes) -> Iterator[int]:
-    """Opens a pipe from which a text can be read, and yields its end. The text has to fit into
-    the pipe."""
+def open_text(text: bytes) -> Iterator[int]:
+    """Opens a pipe from which a text can be read, and yields its end; a file in memory if the text
+    doesn't fit into a pipe."""
+    if len(text) > BYTES_OF_A_PIPE:
+        with os.fdopen(os.memfd_create("pattern"), "w+b") as file:
+            file.write(text)
+            file.seek(0)
+            yield file.fileno()
+        return
     read, written = os.pipe()
     try:
         with open(written, "wb") as pipe:
@@ -115,12 +134,16 @@ def open_pipe(text: bytes) -> Iterator[int]:
 
 @contextmanager
 def start_child(
-    words: list[str], stdout: int, stderr: int | None, stdin: int = subprocess.DEVNULL
+    words: list[str],
+    stdout: int,
+    stderr: int | None,
+    stdin: int = subprocess.DEVNULL,
+    new_session: bool = False,
 ) -> Iterator[subprocess.Popen[bytes]]:
     """Starts a program, which has ended after this. Without a number for the errors, it writes
     them to standard error. Raises `NoCensus` if there is no such program."""
     try:
-        program = children.start(words, stdout, stderr, stdin)
+        program = children.start(words, stdout, stderr, stdin, new_session)
     except OSError as error:
         if error.errno in NOT_THERE:
             raise NoCensus.at(words[0]) from None

@@ -11,7 +11,7 @@ from collections.abc import Callable, Iterator
 from concurrent.futures import ThreadPoolExecutor
 from typing import IO, TypeVar
 
-from haul.census.children import NoCensus, NoThread, open_pipe, start_child, start_thread
+from haul.census.children import NoCensus, NoThread, open_text, start_child, start_thread
 from haul.census.command_lines import list_take_arguments, list_work_arguments
 from haul.census.locate import find_beside
 from haul.formats.haul import Job, Range
@@ -53,9 +53,8 @@ class Census:
         self.terminal = terminal
 
     def ask(self, words: list[str], pattern: bytes = b"") -> bytes:
-        """Returns what the program prints. The pattern that it reads has to fit into a pipe, as
-        a soup does."""
-        with open_pipe(pattern) as read, start_child(
+        """Returns what the program prints when it reads this pattern."""
+        with open_text(pattern) as read, start_child(
             [self.path, *words], subprocess.PIPE, subprocess.PIPE, read
         ) as program:
             printed, errors = program.communicate()
@@ -65,7 +64,7 @@ class Census:
         """Counts the live cells of the pattern that the program prints. The pattern isn't kept,
         since it may be larger than memory."""
         cells = 0
-        with open_pipe(pattern) as read, start_child(
+        with open_text(pattern) as read, start_child(
             [self.path, *words], subprocess.PIPE, subprocess.PIPE, read
         ) as program:
             # mutant: equal because both streams exist

@@ -8,7 +8,7 @@ from collections.abc import Iterator
 
 from haul.formats.haul import Haul, Job, Range
 from haul.formats.profile import STANDARD
-from haul.formats.rules import LIFE
+from haul.patterns.rules import LIFE
 
 # `census` takes at most this number of soups in one call.
 NUMBERS_IN_A_CALL = 2**24
@@ -21,11 +21,15 @@ RANGES_TO_COPY = 12
 
 
 def list_take_arguments(
-    job: Job, ranges: list[Range], workers: int, has_progress: bool
+    job: Job, ranges: list[Range], workers: int, has_progress: bool, late: int | None = None
 ) -> list[str]:
-    """Returns the arguments for the haul of a set of soups, which one call can take."""
-    progress = ["--progress"] if has_progress else []
-    return ["take", *list_set_options(job, ranges), f"--workers={workers}", *progress]
+    """Returns the arguments for the haul of a set of soups, which one call can take. With `late`,
+    the call also writes the report lines of soups that settle in this generation or later, and of
+    unsettled soups."""
+    options = [f"--workers={workers}"]
+    options += ["--progress"] if has_progress else []
+    options += [f"--report-from={late}"] if late is not None else []
+    return ["take", *list_set_options(job, ranges), *options]
 
 
 def list_work_arguments(job: Job, ranges: list[Range]) -> list[str]:
@@ -41,6 +45,16 @@ def list_name_arguments(job: Job) -> list[str]:
 def list_run_arguments(job: Job, generations: int) -> list[str]:
     """Returns the arguments for a pattern some generations later."""
     return ["run", f"--rule={job.rule}", str(generations)]
+
+
+def list_coordinates_arguments(rule: str, generations: int) -> list[str]:
+    """Returns the arguments for the live cells of a pattern some generations later."""
+    return ["run", f"--rule={rule}", "--coordinates", str(generations)]
+
+
+def list_sizes_arguments(rule: str, first: int, last: int) -> list[str]:
+    """Returns the arguments for the sizes of a pattern, from one generation to another."""
+    return ["run", f"--rule={rule}", f"--sizes={first}", str(last)]
 
 
 def list_set_options(job: Job, ranges: list[Range]) -> list[str]:

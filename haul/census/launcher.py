@@ -111,9 +111,8 @@ def run_program(parent: int, words: list[str], closes_streams: bool) -> tuple[in
     with open(reason, encoding="utf-8") as pipe:
         why = pipe.read()
     if not closes_streams and not why:
-        # Only the program has them, so `haul` sees when it closes them.
-        os.close(1)
-        os.close(2)
+        # Only the program has them, so `haul` sees when it closes them. They may be closed already.
+        os.closerange(1, 3)
     _, ended = os.waitpid(program, 0)
     end_descendants()
     return os.waitstatus_to_exitcode(ended), why

@@ -8,6 +8,7 @@ import sys
 from pathlib import Path
 
 from haul.census.children import NoCensus, start_child
+from haul.census.starters import LAUNCH_CENSUS, list_starter_words
 
 # A release has a program for each level of processors, and this shell script says which one is for
 # the processor that is there.
@@ -27,7 +28,9 @@ def find_beside() -> str | None:
         return choose_for_processor(starter, top / "libexec" / "gokzerd")
     if not (starter.parent / "built.bash").is_file():
         return str(starter)
-    with start_child([str(starter), "--version"], subprocess.DEVNULL, None) as launcher:
+    # It may build the program. All that it starts ends with this one.
+    words = [*list_starter_words(LAUNCH_CENSUS), str(starter), "--version"]
+    with start_child(words, subprocess.DEVNULL, None, new_session=True) as launcher:
         launcher.wait()
     if launcher.returncode != 0:
         raise NoCensus.at(str(starter))

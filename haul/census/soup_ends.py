@@ -6,7 +6,7 @@ from dataclasses import dataclass
 from functools import cache
 
 from haul.census.client import Census
-from haul.formats.codes import is_large, read_kind
+from haul.patterns.codes import is_large, read_kind
 from haul.formats.haul import Job
 from haul.life.generations import Rule, read_rule
 from haul.life.parts import read_object

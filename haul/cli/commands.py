@@ -7,31 +7,32 @@ from contextlib import suppress
 
 from haul.census.children import children
 from haul.census.client import Census
-from haul.cli.index_commands import run_index_check
-from haul.cli.statuses import DONE, NOT_RIGHT, REFUSED
+from haul.cli.statuses import DONE
 from haul.cli.streams import Refused, Streams, format_place
+from haul.fates.explain import TooLate
 from haul.formats.field_reader import BadHaul
+from haul.formats.haul import Haul
 from haul.formats.haul_reader import read_hauls
 from haul.formats.haul_writer import format_haul
-from haul.formats.index import is_index
-from haul.formats.plaintext import BadPlaintext, is_plaintext, read_plaintext
-from haul.formats.report_files import Reports
-from haul.formats.rle import BadRle, format_rle, read_rle
-from haul.formats.rules import LIFE, parse_rule
+from haul.formats.report_files import BadLines, Reports
 from haul.hauls.by_parts import Objects
-from haul.hauls.check import find_wrong_samples, list_differences, retake
-from haul.hauls.file_choice import FileChoice
 from haul.hauls.join import CantJoin, Joining
-from haul.life.catagolue_soups import BadSample, format_soups
 from haul.life.generations import read_rule
 from haul.life.parts import Separator
-from haul.page.document import make_page
-from haul.rarity.reference import is_covered
 from haul.names.objects import load_names
-from haul.search.job import USUAL_RARER, Disagrees, begin_haul, find_next_soup, refuse_other_jobs
+from haul.page.document import make_page
+from haul.page.lives import Lives, find_lives
+from haul.patterns.rules import LIFE
+from haul.rarity.reference import is_covered
+from haul.search.batches import Plan
+from haul.search.companion import Companion
+from haul.search.job import Disagrees, USUAL_RARER, begin_haul, find_next_soup, refuse_other_jobs
 from haul.search.keeper import CantKeep, Keeper
-from haul.search.search import Dropped, Plan, Search, count_processors
+from haul.search.late import BadLate, read_late
+from haul.search.late_soups import open_late
+from haul.search.search import Dropped, Kept, Search, count_processors
 from haul.search.stopping import Stopping
+from haul.search.untold import is_in, open_untold
 from haul.terminal import Terminal, find_output_width
 from haul.views.compare import Comparison, rank_codes
 from haul.views.rarity import describe_rarity
@@ -44,56 +45,6 @@ from haul.views.table import (
     format_table_json,
     format_table_text,
 )
-
-RIGHT = "right"
-
-
-def run_check(asked: argparse.Namespace, streams: Streams) -> int:
-    if asked.files and is_index(asked.files[0]):
-        return run_index_check(asked, streams)
-    if len(asked.files) <= 1 and asked.random is None:
-        lines = check_haul(asked, streams, asked.files[0] if asked.files else None)
-        streams.write_lines(lines)
-        return DONE if lines == [RIGHT] else NOT_RIGHT
-    files = asked.files
-    if asked.random is not None:
-        choice = FileChoice(files, asked.random, asked.choice)
-        streams.write_lines([choice.text()])
-        streams.stdout.flush()
-        files = choice.choose()
-    return find_worst_status([check_one_file(asked, streams, name) for name in files])
-
-
-def check_one_file(asked: argparse.Namespace, streams: Streams, name: str) -> int:
-    """Checks one of several files, and returns the status for it. What is said begins with its
-    name."""
-    try:
-        lines = check_haul(asked, streams, name)
-    except Refused as why:
-        place = format_place(name)
-        streams.terminal.complain(str(why) if str(why).startswith(place) else f"{place}{why}")
-        return REFUSED
-    streams.write_lines(f"{name}: {line}" for line in lines)
-    streams.stdout.flush()
-    return DONE if lines == [RIGHT] else NOT_RIGHT
-
-
-def find_worst_status(statuses: list[int]) -> int:
-    """Returns the status for several files: a wrong haul counts more than a refused text."""
-    return max(statuses, default=DONE)
-
-
-def check_haul(asked: argparse.Namespace, streams: Streams, name: str | None) -> list[str]:
-    """Returns what `haul check` says of a haul."""
-    haul = streams.read_haul(name)
-    census = Census(asked.census, streams.terminal)
-    if asked.samples:
-        wrong = list(find_wrong_samples(census, haul))
-    elif haul.soups != haul.size():
-        raise Refused("haul with missing soups")
-    else:
-        wrong = list(list_differences(haul, retake(census, haul, asked.workers)))
-    return wrong or [RIGHT]
 
 
 def run_join(asked: argparse.Namespace, streams: Streams) -> int:
@@ -121,11 +72,11 @@ def run_join(asked: argparse.Namespace, streams: Streams) -> int:
 
 
 def run_compare(asked: argparse.Namespace, streams: Streams) -> int:
+    by_parts = not asked.whole
     objects = [
-        Objects(streams.read_haul(name), streams.terminal)
+        Objects(read_counted_haul(streams, name, by_parts), streams.terminal)
         for name in (asked.a, asked.b, *asked.more)
     ]
-    by_parts = not asked.whole
     hauls = [one.by_parts() if by_parts else one.haul for one in objects]
     codes = rank_codes(hauls, asked.least, asked.rare)
     has_intervals = len(hauls) > 2 or asked.intervals or asked.per is not None or asked.rare
@@ -140,9 +91,20 @@ def run_compare(asked: argparse.Namespace, streams: Streams) -> int:
     return DONE
 
 
+def read_counted_haul(streams: Streams, name: str | None, counts_parts: bool) -> Haul:
+    """Reads a haul whose objects are counted by their parts or whole."""
+    haul = streams.read_haul(name)
+    if haul.apgsearch and not counts_parts:
+        raise Refused(
+            f"{format_place(name)}the totals of apgsearch are by parts already, so --whole and "
+            "--strict are only for hauls of census"
+        )
+    return haul
+
+
 def run_table(asked: argparse.Namespace, streams: Streams) -> int:
-    objects = Objects(streams.read_haul(asked.file), streams.terminal)
     counts_parts = not (asked.whole or asked.strict)
+    objects = Objects(read_counted_haul(streams, asked.file, counts_parts), streams.terminal)
     haul = objects.by_parts() if counts_parts else objects.haul
     has_rarity = counts_parts and is_covered(haul.job)
     lines = choose_rows(
@@ -171,43 +133,29 @@ def run_rarity(asked: argparse.Namespace, streams: Streams) -> int:
 
 def run_page(asked: argparse.Namespace, streams: Streams) -> int:
     hauls = [streams.read_haul(name) for name in asked.files or [None]]
-    streams.stdout.writelines(
-        make_page(Census(asked.census, streams.terminal), hauls, asked.least, asked.play)
-    )
+    census = Census(asked.census, streams.terminal)
+    lives = None if asked.lives is None else read_lives(asked.lives, streams, census, hauls[0])
+    streams.stdout.writelines(make_page(census, hauls, asked.least, asked.play, lives=lives))
     return DONE
 
 
-def run_cells(asked: argparse.Namespace, streams: Streams) -> int:
-    text = streams.read_pattern(asked.file)
-    rule: str | None = None
+def read_lives(name: str, streams: Streams, census: Census, haul: Haul) -> Lives:
+    """Returns what a page shows of the late soups in a file, as far as a haul has them."""
     try:
-        if is_plaintext(text):
-            rows = read_plaintext(text)
-        else:
-            rows, rule = read_rle(text)
-    except (BadPlaintext, BadRle) as bad:
-        raise Refused(f"{format_place(asked.file)}{bad}") from None
-    if rule is not None and parse_rule(rule) != LIFE:
-        streams.terminal.complain(f"rule {rule} is --rule {parse_rule(rule)}")
-    streams.write_lines(rows)
-    return DONE
-
-
-def run_rle(asked: argparse.Namespace, streams: Streams) -> int:
+        with streams.open_input(name) as stream:
+            late, job = read_late(stream)
+    except BadLate as bad:
+        raise Refused(f"{format_place(name)}{bad}") from None
+    if job not in (None, haul.job):
+        raise Refused(f"{format_place(name)}other job")
+    late.lines = [line for line in late.lines if is_in(line.soup, haul.ranges)]
     try:
-        rows = read_plaintext(streams.read_pattern(asked.file))
-    except BadPlaintext as bad:
-        raise Refused(f"{format_place(asked.file)}{bad}") from None
-    streams.write_lines(format_rle(rows, asked.rule))
-    return DONE
-
-
-def run_soup(asked: argparse.Namespace, streams: Streams) -> int:
-    try:
-        streams.write_lines(list(format_soups(asked.samples)))
-    except BadSample as bad:
-        raise Refused(str(bad)) from None
-    return DONE
+        lives, wrong = find_lives(census, haul, late)
+    except TooLate as why:
+        raise Refused(str(why)) from None
+    for line in wrong:
+        streams.terminal.complain(f"{format_place(name)}{line}")
+    return lives
 
 
 def run_soups(asked: argparse.Namespace, streams: Streams) -> int:
@@ -218,12 +166,18 @@ def run_soups(asked: argparse.Namespace, streams: Streams) -> int:
     )
     for name in asked.files or [None]:
         with streams.open_input(name) as stream:
-            for report in reports.read(stream, format_place(name)):
-                settling.add(report)
-                soups.add(report)
+            try:
+                for report in reports.read(stream, format_place(name)):
+                    settling.add(report)
+                    soups.add(report)
+            except BadLines as bad:
+                raise Refused(str(bad)) from None
     reports.tell_skipped()
     streams.terminal.show_progress("")
-    table = soups.table(reports.job, settling)
+    try:
+        table = soups.table(reports.job, settling)
+    except TooLate as why:
+        raise Refused(str(why)) from None
     form = table.csv if asked.csv else table.json if asked.json else table.text
     streams.write_lines(form(reports.job, settling))
     return DONE
@@ -234,30 +188,43 @@ def choose_soup_list(asked: argparse.Namespace, terminal: Terminal) -> SoupList:
     if asked.longest is not None:
         return Longest(asked.longest, Census(asked.census, terminal) if asked.exact else None)
     if asked.unsettled:
-        return Unsettled(Census(asked.census, terminal))
+        return Unsettled(Census(asked.census, terminal), asked.why)
     return Leaving(asked.code) if asked.code is not None else SoupList()
+
+
+def open_files(asked: argparse.Namespace, terminal: Terminal) -> Kept:
+    """Locks and reads the files of a search."""
+    keeper = Keeper(asked.file)
+    haul = keeper.read()
+    if haul is None:
+        haul = begin_haul(asked)
+    refuse_other_jobs(asked, haul)
+    late_file, finds_file = (
+        Companion(keeper.path, keeper.name, suffix, terminal.complain, is_always_there)
+        for suffix, is_always_there in (("late", True), ("finds", False))
+    )
+    late = open_late(asked, haul, find_next_soup(asked, haul), late_file)
+    return Kept(keeper, haul, late_file, late, finds_file, open_untold(haul, finds_file))
 
 
 def run_search(asked: argparse.Namespace, streams: Streams) -> int:
     try:
-        keeper = Keeper(asked.file)
-        haul = keeper.read()
-        if haul is None:
-            haul = begin_haul(asked)
-        refuse_other_jobs(asked, haul)
+        kept = open_files(asked, streams.terminal)
         # The file of this program may be replaced while the search goes on.
         load_names()
         plan = Plan(
-            find_next_soup(asked, haul),
+            find_next_soup(asked, kept.haul),
             asked.until,
             asked.part,
             asked.workers or count_processors(),
             asked.finds,
             USUAL_RARER if asked.rarer is None else asked.rarer,
+            None if kept.late is None else kept.late.generation,
+            kept.haul.job.rule == LIFE or asked.late is not None,
         )
         stopping = Stopping()
         census = Census(asked.census, streams.terminal)
-        search = Search(plan, haul, keeper, census, stopping, streams.stdout)
+        search = Search(plan, kept, census, stopping, streams.stdout)
         children.heed(stopping)
         with suppress(Dropped):
             search.run()

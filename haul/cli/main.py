@@ -10,6 +10,7 @@ from haul.census.client import Ended
 from haul.cli.parser import parse_arguments
 from haul.cli.statuses import DONE, FAILED, NO_MEMORY, REFUSED, USAGE
 from haul.cli.streams import Refused, Streams
+from haul.cli.values import RuleValue
 from haul.formats.tables import BadTable
 
 
@@ -51,6 +52,9 @@ def run_command(arguments: list[str], streams: Streams) -> int:
     except SystemExit as ended:
         # The help, the version or the fault of the arguments has been written.
         return DONE if ended.code == 0 else USAGE
+    for value in vars(asked).values():
+        if isinstance(value, RuleValue) and value.given != value:
+            streams.terminal.complain(f"rule {value.given} is --rule {value}")
     status: int = asked.command.run(asked, streams)
     return status
 

@@ -29,6 +29,7 @@ examples:
   haul page life.haul highlife.haul > both.html   a page of two hauls side by side
   haul soup C1/k_abcdef12345 | census name        what a soup of Catagolue leaves
   haul soups --longest 10 parts/*.lines           the soups in report lines that settled last
+  haul why --most 5 mine.haul.late                why are these soups unsettled?
   haul cells gun.rle | census run 30              run a pattern in RLE for 30 generations
   census show xq4_153 | haul rle                  draw an object in RLE for Golly
 

@@ -2,8 +2,9 @@
 
 from __future__ import annotations
 
-from haul.cli.arguments import Exclusive, flag, option
-from haul.cli.values import read_path
+from haul.cli.arguments import Argument, Exclusive, flag, option
+from haul.cli.values import read_as_census, read_path
+from haul.formats.profile import LIMIT, MOST_HORIZON, PERIOD, STANDARD, STRIDE, Profile
 
 CENSUS = option(
     "--census",
@@ -17,3 +18,18 @@ FORMS = Exclusive(
         flag("--json", "print JSON, for a program"),
     )
 )
+
+
+def list_profile_options(before: str) -> tuple[Argument, ...]:
+    """Returns the options for the four numbers of a profile, which are described as `before` and
+    their names."""
+    ranges = (PERIOD, (0, MOST_HORIZON), STRIDE, LIMIT)
+    return tuple(
+        option(
+            f"--{name}",
+            "N",
+            f"{before} {name}, {least} to {most} (default: {standard})",
+            read_as_census(least, most),
+        )
+        for name, (least, most), standard in zip(Profile._fields, ranges, STANDARD, strict=True)
+    )

@@ -5,8 +5,13 @@ from __future__ import annotations
 import argparse
 from collections.abc import Callable
 
+from haul.formats.haul import NUMBER_LIMIT
+from haul.patterns.rules import parse_rule
+from haul.search.late import ONLY_UNSETTLED
 from haul.formats.syntax import CODE, RULE, SEED
 from haul.names.objects import find_code_of_name
+from haul.search.batches import MOST_WORKERS
+from haul.search.late_soups import NEVER
 
 
 def read_path(text: str) -> str:
@@ -21,10 +26,21 @@ def read_word(text: str) -> str:
     return text
 
 
+def read_many_workers(text: str) -> int:
+    return read_within(1, MOST_WORKERS)(text)
+
+
 def read_workers(text: str) -> int:
     if not (text.isascii() and text.isdigit() and 1 <= int(text) <= 16):
         raise argparse.ArgumentTypeError(f"{text} is not in 1 to 16")
     return int(text)
+
+
+def read_late(text: str) -> int:
+    """Reads the value of `--late`: a generation, or `never`."""
+    if text == "never":
+        return NEVER
+    return read_as_census(0, ONLY_UNSETTLED)(text)
 
 
 def read_within(least: int, most: int) -> Callable[[str], int]:
@@ -43,6 +59,13 @@ def read_as_census(least: int, most: int) -> Callable[[str], int]:
     before it."""
     read = read_within(least, most)
     return lambda text: read(text.removeprefix("+"))
+
+
+def read_subject(text: str) -> int | str:
+    """Reads the number of a soup, or else the name of a file."""
+    if text.removeprefix("+").isascii() and text.removeprefix("+").isdigit():
+        return read_as_census(0, NUMBER_LIMIT - 1)(text)
+    return read_path(text)
 
 
 def read_seed(text: str) -> str:
@@ -87,7 +110,18 @@ def read_code(text: str) -> str:
     return text
 
 
-def read_rule_value(text: str) -> str:
-    if not RULE.fullmatch(text.encode("utf-8", "surrogateescape")):
-        raise argparse.ArgumentTypeError(f"{text} is no rule, as b3s23 is one")
-    return text
+class RuleValue(str):
+    """A rule as `census` takes it, and as it was given."""
+
+    given: str
+
+
+def read_rule_value(text: str) -> RuleValue:
+    """Reads a rule such as `b36s23`, `B36/S23` or `HighLife`."""
+    is_usual = RULE.fullmatch(text.encode("utf-8", "surrogateescape"))
+    rule = text if is_usual else parse_rule(text)
+    if rule is None:
+        raise argparse.ArgumentTypeError(f"{text} is no rule, as b3s23, B3/S23 and Life are")
+    value = RuleValue(rule)
+    value.given = text
+    return value

@@ -1,1 +1,1 @@
-"""Texts that are read and written: hauls, report lines, plaintext, RLE, rules and codes."""
+"""Texts of censuses that are read and written: hauls, report lines, indexes, late soups, tables."""

@@ -7,6 +7,8 @@ from dataclasses import KW_ONLY, dataclass, field
 
 from haul.formats.profile import Profile
 
+# The symmetry of soups that have none, which are the only ones that `census` runs.
+SYMMETRY = "C1"
 # No soup has this number, or a larger one.
 NUMBER_LIMIT = 2**40
 # No total is as large.
@@ -24,6 +26,8 @@ class Job:
     seed: str
     rule: str
     profile: Profile
+    # Only hauls of apgsearch have another one.
+    symmetry: str = SYMMETRY
 
 
 @dataclass
@@ -42,6 +46,11 @@ class Haul:
     totals: dict[str, int] = field(default_factory=dict)
     # The lowest numbers of soups that left an object of a code, for the same codes.
     samples: dict[str, list[int]] = field(default_factory=dict)
+    # The version of apgsearch, or `None` for a haul of `census`. A haul of apgsearch doesn't say
+    # which soups it has, how many of them are unsettled or settled for good.
+    apgsearch: str | None = None
+    # The number of objects that a haul of apgsearch gives, which may differ from its table.
+    said_objects: int | None = None
     # The line of the input in which the text begins.
     # mutant: equal because only the line of a haul that was read is printed
     line: int = 1

@@ -10,6 +10,7 @@ from bisect import bisect_right
 from collections.abc import Iterator
 from typing import IO
 
+from haul.formats.apgsearch_reader import is_apgsearch_haul, read_apgsearch_haul
 from haul.formats.field_reader import BadHaul, FieldReader
 from haul.formats.haul import (
     MOST_SAMPLES,
@@ -21,6 +22,7 @@ from haul.formats.haul import (
     count_numbers,
 )
 from haul.formats.profile import LIMIT, MOST_HORIZON, PERIOD, STRIDE, Profile
+from haul.formats.recognition import recognize
 from haul.formats.syntax import CODE, DECIMAL, RULE, SEED
 
 # The rows of the two tables.
@@ -46,18 +48,47 @@ MORE_HAULS = "more than one haul"
 def read_hauls(stream: IO[bytes]) -> Iterator[Haul]:
     """Yields the hauls of an input, at least one. Raises `BadHaul` at the first fault."""
     lines = FieldReader(stream)
-    yield read_haul(lines)
+    yield read_first_haul(lines)
     while lines.peek():
         yield read_haul(lines)
 
 
+def read_any_haul(stream: IO[bytes]) -> Haul:
+    """Reads the only haul of an input, which may be one of apgsearch. Raises `BadHaul` at the first
+    fault."""
+    lines = FieldReader(stream)
+    while lines.peek().strip() == b"" != lines.peek():
+        lines.skip()
+    if is_apgsearch_haul(lines.peek()):
+        return read_apgsearch_haul(lines.peek(), lines.number + 1, stream)
+    if lines.number > 0:
+        raise BadHaul(1, 1)
+    return read_only_haul(lines)
+
+
 def read_one_haul(stream: IO[bytes]) -> Haul:
     """Reads the only haul of an input. Raises `BadHaul` at the first fault."""
-    lines = FieldReader(stream)
-    haul = read_haul(lines)
+    return read_only_haul(FieldReader(stream))
+
+
+def read_only_haul(lines: FieldReader) -> Haul:
+    haul = read_first_haul(lines)
     if lines.peek():
         raise BadHaul(lines.number + 1, 1, MORE_HAULS if lines.peek() == b"@VERSION 2\n" else "")
     return haul
+
+
+def read_first_haul(lines: FieldReader) -> Haul:
+    """Reads the first haul of an input. If its first line is wrong, the fault says what the text
+    looks like."""
+    first = lines.peek()
+    try:
+        return read_haul(lines)
+    except BadHaul as bad:
+        form = recognize(first)
+        if form is None or bad.line > 1:
+            raise
+        raise BadHaul(bad.line, bad.column, f"this looks like {form}") from None
 
 
 def read_haul(lines: FieldReader) -> Haul:

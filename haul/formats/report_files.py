@@ -4,6 +4,7 @@ right isn't checked."""
 from __future__ import annotations
 
 import errno
+import re
 from collections.abc import Iterator
 from typing import IO
 
@@ -11,12 +12,20 @@ from haul.formats.haul import Job
 from haul.formats.report_lines import LINE_LIMIT, BadLine, Report, read_report_line
 from haul.terminal import Terminal
 
+# The first line of a haul.
+HAUL = re.compile(rb"@VERSION ")
+# A line that begins with this is skipped, such as the first one of FILE.late.
+COMMENT = b"#"
 # A line of progress is written after this many lines.
 LINES_BETWEEN_PROGRESS = 10_000
 # After so many lines that are skipped, the others are only counted.
 MOST_TOLD = 1000
 # An input has at most this number of bytes, as for `census gather`.
 INPUT_LIMIT = 2**32
+
+
+class BadLines(Exception):
+    """A text has no report lines, but something else."""
 
 
 class Reports:
@@ -33,12 +42,18 @@ class Reports:
 
     def read(self, stream: IO[bytes], place: str) -> Iterator[Report]:
         """Yields each report that has the job of the first one, unless its soup has been read
-        before. A bad line, or a report of another job, is told on standard error, with `place`
+        before. A comment is skipped. A bad line, or a report of another job, is told on standard error, with `place`
         before the number of the line."""
         for number, line in enumerate(split_lines(stream), 1):
+            if number == 1 and HAUL.match(line):
+                raise BadLines(
+                    f"{place}this is a haul, and not report lines, which `census work` prints"
+                )
             self.lines += 1
             if self.lines % LINES_BETWEEN_PROGRESS == 0:
                 self.terminal.show_progress(f"{self.lines} lines")
+            if line.startswith(COMMENT):
+                continue
             try:
                 report = read_report_line(line)
             except BadLine as bad:

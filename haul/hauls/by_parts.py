@@ -26,7 +26,10 @@ class Objects:
 
     def separate(self, code: str) -> Separation:
         if code not in self.known:
-            self.known[code] = self.separator.separate(code)
+            # apgsearch has separated its objects.
+            self.known[code] = (
+                Separation((code,)) if self.haul.apgsearch else self.separator.separate(code)
+            )
         return self.known[code]
 
     def separate_all(self, codes: Iterable[str]) -> dict[str, Separation]:
@@ -42,7 +45,9 @@ class Objects:
 
     def by_parts(self) -> Haul:
         """Returns the haul with each object replaced by its parts. The samples of a part are the
-        three lowest of its objects."""
+        three lowest of its objects. A haul of apgsearch stays as it is."""
+        if self.haul.apgsearch:
+            return self.haul
         totals: defaultdict[str, int] = defaultdict(int)
         samples: defaultdict[str, set[int]] = defaultdict(set)
         for code, separation in self.separate_all(self.haul.totals).items():

@@ -21,6 +21,8 @@ class Indexing:
         """Adds a haul. Raises `CantIndex` if it isn't one of this job's parts."""
         if self.job is not None and haul.job != self.job:
             raise CantIndex("other job")
+        if haul.apgsearch:
+            raise CantIndex("a haul of apgsearch, which doesn't name its soups")
         if len(haul.ranges) != 1:
             raise CantIndex(
                 "haul without a soup" if not haul.ranges else "haul with several ranges"

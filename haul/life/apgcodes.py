@@ -6,7 +6,7 @@ from __future__ import annotations
 from collections.abc import Iterator
 from itertools import groupby
 
-from haul.formats.plaintext import SIDE
+from haul.patterns.plaintext import SIDE
 from haul.life.cells import Cell, Cells, fits_in, move_to_corner
 from haul.life.generations import Recurrence
 

@@ -1,17 +1,22 @@
 """The soups that samples of Catagolue name, such as `C1/k_abcdef12345`.
 
 A sample is the symmetry and the text of which the soup is made: the seed, which apgsearch calls
-root, and the number. It doesn't matter where the seed ends and the number begins. """
+root, and the number. It doesn't matter where the seed ends and the number begins. A rule may stand
+behind it, as in the address of the sample's page. """
 
 from __future__ import annotations
 
 import re
-from collections.abc import Iterator
+from dataclasses import dataclass
+from urllib.parse import unquote
 
-from haul.formats.plaintext import trim_rows
+from haul.formats.haul import SYMMETRY
+from haul.patterns.plaintext import Rows, trim_rows
+from haul.patterns.rules import LIFE, parse_rule
 from haul.life.soups import make_soup
 
-SYMMETRY = "C1"
+# The address of a sample's page, before the sample.
+ADDRESS = re.compile(r"https?://[^/]*catagolue[^/]*/hashsoup/")
 SAMPLE = re.compile(r"(?:([!-.0-~]*)/)?([!-.0-~]*[0-9])")
 
 
@@ -19,22 +24,42 @@ class BadSample(Exception):
     """A name isn't that of a sample that can be shown."""
 
 
-def read_sample(name: str) -> str:
-    """Returns the text of which the soup of a sample is made."""
-    found = SAMPLE.fullmatch(name)
-    symmetry = found[1] if found else name.partition("/")[0] if "/" in name else None
+@dataclass(frozen=True)
+class Sample:
+    """A sample of Catagolue."""
+
+    # As it was named.
+    name: str
+    # What the soup is made of.
+    text: str
+    # As `--rule` has it, or `None` if none was named.
+    rule: str | None
+
+    def rows(self) -> Rows:
+        """Returns the rows of the soup, as `census soup` prints them."""
+        return trim_rows(make_soup(self.text))
+
+    def rule_or_life(self) -> str:
+        return self.rule or LIFE
+
+
+def read_sample(name: str) -> Sample:
+    """Reads the name of a sample, or the address of its page. Raises `BadSample` if it can't be
+    shown."""
+    address = ADDRESS.match(name)
+    words = unquote(name[address.end() :]).rstrip("/") if address else name
+    sample, rule = split_rule(words)
+    found = SAMPLE.fullmatch(sample)
+    symmetry = found[1] if found else sample.partition("/")[0] if "/" in sample else None
     if symmetry not in (None, SYMMETRY):
         raise BadSample(f"{name}: the symmetry is {symmetry}, and not {SYMMETRY}")
     if found is None:
         raise BadSample(f"{name}: not a sample, such as C1/k_abcdef12345")
-    return found[2]
+    return Sample(name, found[2], rule)
 
 
-def format_soups(names: list[str]) -> Iterator[str]:
-    """Yields the lines of the soups, as `census soup` prints them. Each of several comes after a
-    comment that names it."""
-    texts = [read_sample(name) for name in names]
-    for name, text in zip(names, texts, strict=True):
-        if len(names) > 1:
-            yield f"!{name}"
-        yield from trim_rows(make_soup(text))
+def split_rule(words: str) -> tuple[str, str | None]:
+    """Returns a sample and the rule behind it, if there is one: the third of three words."""
+    parts = words.split("/")
+    rule = parse_rule(parts[2]) if len(parts) == 3 else None
+    return ("/".join(parts[:2]), rule) if rule is not None else (words, None)

@@ -7,7 +7,7 @@ from __future__ import annotations
 
 from collections.abc import Iterable
 
-from haul.formats.plaintext import Rows
+from haul.patterns.plaintext import Rows
 
 Cell = tuple[int, int]
 Cells = frozenset[Cell]

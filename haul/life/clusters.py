@@ -1,4 +1,4 @@
-"""Islands and clusters of live cells, as docs/HAUL.md and docs/PROFILE.md define them."""
+"""Islands and clusters of live cells, as docs/PROFILE.md defines them."""
 
 from __future__ import annotations
 

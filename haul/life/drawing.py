@@ -7,7 +7,7 @@ import re
 from functools import cache
 from html import escape
 
-from haul.formats.plaintext import Rows
+from haul.patterns.plaintext import Rows
 from haul.life.cells import Cells, draw_rows
 from haul.plurals import write_count
 

@@ -9,7 +9,7 @@ from collections import Counter
 from dataclasses import dataclass
 from itertools import chain
 
-from haul.formats.plaintext import SIDE
+from haul.patterns.plaintext import SIDE
 from haul.life.cells import Cell, Cells, fits_in, move
 
 # No census has objects of a longer period.

@@ -1,6 +1,6 @@
 """Takes objects apart: which independent objects a pseudo-object is made of.
 
-docs/HAUL.md has the definition. A bi-block, for example, is two blocks:
+docs/PROFILE.md has the definition. A bi-block, for example, is two blocks:
 
     OO.OO       OO.OO       the census takes it as one object, since its cells are two steps apart;
     OO.OO       OO.OO       each half, run alone, does in each generation what it does beside the other
@@ -10,10 +10,11 @@ from __future__ import annotations
 
 from dataclasses import dataclass
 
-from haul.formats.codes import read_drawing, read_kind
+from haul.patterns.codes import read_drawing, read_kind
 from haul.life.apgcodes import find_code, read_wechsler
 from haul.life.blocks import Blocks, Run
 from haul.life.cells import Cells, move_to_corner
+from haul.life.clusters import is_cluster
 from haul.life.generations import MOST_PERIOD, Recurrence, Rule, find_recurrence
 
 # Of an object with more islands only the separation into single islands is tried: there are too
@@ -74,6 +75,13 @@ class Separator:
             assert recurrence is not None
             self.known[shape] = find_code(recurrence)
         return self.known[shape]
+
+
+def is_counted(rule: Rule, code: str) -> bool:
+    """Checks whether `census` counts objects of a code that is drawn: in some phase, the cells of
+    the object are one cluster."""
+    recurrence = read_object(rule, code)
+    return recurrence is not None and any(map(is_cluster, recurrence.phases))
 
 
 def read_object(rule: Rule, code: str) -> Recurrence | None:

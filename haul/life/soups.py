@@ -4,7 +4,7 @@ from __future__ import annotations
 
 from hashlib import sha256
 
-from haul.formats.plaintext import Rows
+from haul.patterns.plaintext import Rows
 
 LIVE_AND_DEAD = str.maketrans("01", ".O")
 # The columns and rows of a soup.

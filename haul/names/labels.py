@@ -5,7 +5,7 @@ from __future__ import annotations
 import re
 from collections import Counter
 
-from haul.formats.codes import read_kind
+from haul.patterns.codes import read_kind
 from haul.life.parts import Separation
 from haul.names.objects import find_name
 

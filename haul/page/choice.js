@@ -1,7 +1,7 @@
 // What is chosen and what is open. The address keeps both: the code that is open, then `&` and each choice that isn't the first one.
-const FIRST_CHOICE = { q: '', kind: '', period: '', strict: '1', parts: '0', in: '', sort: 'frequency', view: 'gallery', axis: 'log' };
-// The code that is open, and the soup that plays, such as `A39029`. A code that isn't on the page is unknown.
-const open = { code: '', soup: '', unknown: '' };
+const FIRST_CHOICE = { q: '', kind: '', period: '', strict: '1', parts: '1', in: '', sort: 'frequency', view: 'gallery', axis: 'log' };
+// The code that is open, and the soup that plays, such as `A39029`; or the soup of a long life. A code that isn't on the page is unknown.
+const open = { code: '', soup: '', unknown: '', life: '' };
 const choice = { ...FIRST_CHOICE };
 
 const listed = text => text ? text.split(',') : [];
@@ -19,10 +19,10 @@ const readAddress = () => {
   for (const [name, first] of Object.entries(FIRST_CHOICE)) choice[name] = given[name] ?? first;
   for (const [name, values] of [['sort', SORTS.map(([sort]) => sort)], ['view', ['gallery', 'table']], ['axis', ['log', 'linear']]])
     if (!values.includes(choice[name])) choice[name] = FIRST_CHOICE[name];
-  const isThere = objects.has(code);
-  Object.assign(open, { code: isThere ? code : '', soup: given.soup ?? '', unknown: isThere ? '' : decoded(code) });
+  const isThere = objects.has(code), life = !code && lives.has(given.life) ? given.life : '';
+  Object.assign(open, { code: isThere ? code : '', soup: given.soup ?? '', unknown: isThere ? '' : decoded(code), life });
 };
-const writeAddress = () => history.replaceState(null, '', addressOf(open.code, open.soup));
+const writeAddress = () => history.replaceState(null, '', open.life ? addressOfLife(open.life) : addressOf(open.code, open.soup));
 
 // ---- Which objects are chosen, and in which order
 const wayName = () => choice.parts === '1' ? 'parts' : 'objects';

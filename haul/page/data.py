@@ -9,13 +9,14 @@ from collections.abc import Iterator
 from functools import cache
 
 from haul.census.command_lines import format_soup_commands
-from haul.formats.codes import is_large, read_drawing, read_kind
+from haul.patterns.codes import is_large, read_drawing, read_kind
 from haul.formats.haul import Haul
-from haul.formats.rules import format_rule
+from haul.patterns.rules import format_rule
 from haul.life.apgcodes import read_wechsler
 from haul.life.soups import make_soup
 from haul.names.labels import find_label
 from haul.names.objects import find_name, find_other_names
+from haul.page.lives import Lives, describe_lives
 from haul.page.sides import Side, Sides
 from haul.views.intervals import find_interval
 from haul.views.layout import make_exact
@@ -26,19 +27,30 @@ STRICT, NOT_SEPARATED = "strict", "not separated"
 BITS = str.maketrans(".O", "01")
 
 
-def write_data(sides: Sides) -> Iterator[str]:
+def write_data(sides: Sides, lives: Lives | None) -> Iterator[str]:
     """Yields the JSON, piece by piece. No text in it ends the element of HTML in which it
     stands."""
     yield f'{{"least": {sides.least}, "play": {sides.play}, "kinds": {len(sides.kinds())}, '
     yield f'"kindsOfParts": {len(sides.kinds_of_parts())}, "hauls": '
     yield dump([describe_haul(side) for side in sides.all])
     yield ', "intervals": ' + dump(list_intervals(sides))
+    yield f', "lives": {dump(list_lives(lives))}'
     yield ', "soups": [' + ",\n".join(
         dump(list_soups(side, sides.known)) for side in sides.all
     ) + "]"
     yield ', "objects": [' + ",\n".join(
         dump(describe_object(sides, code)) for code in sides.known
     ) + "]}"
+
+
+def list_lives(lives: Lives | None) -> list[dict[str, object]]:
+    """Returns the soups of the long lives, each with its 256 cells."""
+    if lives is None:
+        return []
+    return [
+        {**life, "cells": encode_soup(f"{lives.job.seed}{life['soup']}")}
+        for life in describe_lives(lives)
+    ]
 
 
 def dump(value: object) -> str:

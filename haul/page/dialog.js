@@ -151,15 +151,20 @@ const showPlayer = object => {
   box.innerHTML = '';
   if (!isThere) return;
   const soup = soupOf(Number(number), haul);
-  box.innerHTML = `<h3>Soup ${soup.number}${isCompared ? ` of ${letter}, ${haul.rule}` : ''}</h3><div class="player"></div>`
+  beginPlayer(soup, object, `<h3>Soup ${soup.number}${isCompared ? ` of ${letter}, ${haul.rule}` : ''}</h3>`);
+  box.scrollIntoView({ block: 'nearest' });
+};
+// Puts a player into its place below a heading. If there is an object, it has a ring at the end.
+const beginPlayer = (soup, object, heading) => {
+  const box = byId('player');
+  box.innerHTML = `${heading}<div class="player"></div>`
     + `<div class="actions">${copyButton('soup-rle', 'Copy RLE of the soup')}${copyButton('command', 'Copy the command')}`
-    + `${linkOut(catagolueSoup(soup.number, haul), 'Catagolue')}</div>`
+    + `${linkOut(catagolueSoup(soup.number, soup.haul), 'Catagolue')}</div>`
     + '<p>In a shell, this command runs the soup with Gokzerd’s verified program <code>census</code>, and prints when it settles and what it '
     + `leaves: <code class="command">${escaped(commandOf(soup))}</code></p>`;
   player = new Player(box.querySelector('.player'), soup, object);
   if (isToPlay) player.start();
   isToPlay = false;
-  box.scrollIntoView({ block: 'nearest' });
 };
 
 const acts = {
@@ -189,20 +194,20 @@ dialog.addEventListener('click', event => {
 dialog.addEventListener('close', () => {
   endPlayer();
   dialog.replaceChildren();
-  if (!open.code) return;
-  Object.assign(open, { code: '', soup: '' });
+  if (!open.code && !open.life) return;
+  Object.assign(open, { code: '', soup: '', life: '' });
   writeAddress();
 });
 
-// The arrow keys go through the objects, except where they do something else.
+// The arrow keys go through the objects or the long lives, except where they do something else.
 const STEPS_OF_KEYS = { ArrowLeft: -1, ArrowRight: 1 };
 dialog.addEventListener('keydown', event => {
   const step = STEPS_OF_KEYS[event.key], isTaken = event.target.closest('canvas, select, textarea');
   if (!step || isTaken || event.altKey || event.ctrlKey || event.metaKey || event.shiftKey) return;
-  const other = neighbour(objects.get(open.code), step);
-  if (!other) return;
+  const life = open.life && neighbourOfLife(open.life, step), other = neighbour(objects.get(open.code), step);
+  if (!life && !other) return;
   event.preventDefault();
-  location.hash = addressOf(other.code);
+  location.hash = life ? addressOfLife(life) : addressOf(other.code);
 });
 
 // A soup that is clicked plays at once, unless the reader wants no motion.
@@ -216,7 +221,9 @@ document.addEventListener('click', event => {
 
 let shownCode = '';
 const showObject = () => {
+  if (open.life) { showLife(); return; }
   const object = objects.get(open.code);
+  shownLife = '';
   if (!object) { if (dialog.open) dialog.close(); return; }
   if (!dialog.open || shownCode !== object.code) {
     endPlayer();

@@ -6,7 +6,7 @@ from collections.abc import Iterator
 from html import escape
 from urllib.parse import quote
 
-from haul.formats.codes import is_large, read_drawing, read_kind
+from haul.patterns.codes import is_large, read_drawing, read_kind
 from haul.life.apgcodes import read_wechsler
 from haul.life.drawing import draw_picture
 from haul.names.labels import find_label, mark_label
@@ -87,7 +87,7 @@ def describe_frequency(soups: int, total: int) -> str:
 def link_soup(side: Side, number: int) -> str:
     """Returns the address of Catagolue's page of a soup."""
     job = side.haul.job
-    return f"{CATAGOLUE}/hashsoup/C1/{quote(job.seed, safe='')}{number}/{job.rule}"
+    return f"{CATAGOLUE}/hashsoup/{quote(job.symmetry, safe='')}/{quote(job.seed, safe='')}{number}/{job.rule}"
 
 
 def link_code(code: str, rule: str) -> str:

@@ -93,6 +93,8 @@ const ringWords = (object, count) => {
   if (!count) return ` The page doesn’t find ${nameOf(object)} in it.`;
   return count === 1 ? ` The ring is around the ${nameOf(object)}.` : ` Each of the ${count} ${pluralOf(object)} has a ring.`;
 };
+// A long life is shown without an object.
+const endWords = (object, rings) => object ? `.${ringWords(object, rings.length)}` : '.';
 const noEnd = soup => {
   if (soup.ends) return '';
   if (soup.isAsked) return 'Census gives no end for this soup: it hasn’t settled, or it leaves an object that can’t be drawn.';
@@ -177,7 +179,7 @@ class Player {
 
   // There are rings only at the end, which may be generation 0.
   findRings() {
-    this.rings = this.isAtEnd() ? placesOf(this.object, this.soup.haul, this.evolution.cells()).map(cells => boxOf([cells])) : [];
+    this.rings = this.object && this.isAtEnd() ? placesOf(this.object, this.soup.haul, this.evolution.cells()).map(cells => boxOf([cells])) : [];
   }
 
   // Goes on to a generation: at the chosen speed, or as fast as it goes.
@@ -216,7 +218,7 @@ class Player {
     drawPattern(this.view, rows, this.rings);
     // What it says is read out only when it stands still.
     this.said.setAttribute('aria-live', isPlaying ? 'off' : 'polite');
-    this.said.textContent = saidBy(this.soup, this.evolution) + (this.isAtEnd() ? `.${ringWords(this.object, this.rings.length)}` : '');
+    this.said.textContent = saidBy(this.soup, this.evolution) + (this.isAtEnd() ? endWords(this.object, this.rings) : '');
     this.showButtons(isPlaying);
   }
 

@@ -6,7 +6,7 @@ from dataclasses import dataclass, field
 
 from haul.census.client import Census
 from haul.census.soup_ends import End, find_ends
-from haul.formats.haul import Haul
+from haul.formats.haul import SYMMETRY, Haul
 from haul.hauls.by_parts import Objects
 from haul.life.parts import Separation
 from haul.terminal import Terminal
@@ -49,7 +49,9 @@ class Side:
         return sorted({*self.haul.samples.get(code, []), *self.by_parts.samples.get(code, [])})
 
     def soups(self, codes: list[str]) -> list[int]:
-        """Returns the samples of several codes."""
+        """Returns the samples of several codes. Soups of another symmetry than C1 can't be made."""
+        if self.haul.job.symmetry != SYMMETRY:
+            return []
         return sorted({number for code in codes for number in self.samples(code)})
 
 

@@ -8,9 +8,9 @@ from string import Template
 
 from haul import VERSION
 from haul.census.command_lines import format_unsettled_command
-from haul.formats.haul import Haul, Job
+from haul.formats.haul import SYMMETRY, Haul, Job
 from haul.formats.profile import Profile
-from haul.formats.rules import LIFE, format_rule
+from haul.patterns.rules import LIFE, format_rule
 from haul.page.sides import Side, Sides
 from haul.plurals import pluralize, write_count
 
@@ -98,7 +98,7 @@ def write_comparison(sides: Sides) -> str:
             write_rule(side),
             *(value for _, value, _ in list_tiles(side)),
             write_seed(side.haul.job),
-            describe_ranges(side.haul),
+            "not given" if side.haul.apgsearch else describe_ranges(side.haul),
         ]
         for side in sides.all
     ]
@@ -109,9 +109,17 @@ def write_comparison(sides: Sides) -> str:
     head = "".join(f'<th scope="col">{name}</th>' for name in heads)
     return (
         "<p>Random soups of 16 by 16 cells ran under each rule until they had settled, and "
-        f'{COUNTED}.</p>\n<div class="scroll" tabindex="0" role="region" aria-label="The hauls">'
+        f'{describe_counting(sides)}.</p>\n<div class="scroll" tabindex="0" role="region" aria-label="The hauls">'
         f'<table class="hauls"><thead><tr>{head}</tr></thead><tbody>\n{body}</tbody></table></div>\n'
     )
+
+
+def describe_counting(sides: Sides) -> str:
+    """Writes what counted the objects of all hauls."""
+    others = [side for side in sides.all if side.haul.apgsearch]
+    words = [] if len(others) == len(sides.all) else [COUNTED]
+    words += [f"{describe_apgsearch(side.haul)} ({side.letter})" for side in others]
+    return ", and ".join(words)
 
 
 def explain(name: str) -> str:
@@ -130,11 +138,20 @@ def write_seed(job: Job) -> str:
 
 def write_sentence(haul: Haul) -> str:
     seed = f"the seed {write_seed(haul.job)}" if haul.job.seed else "the empty seed"
+    numbers = f"of {seed}" if haul.apgsearch else f"(numbers {describe_ranges(haul)} of {seed})"
+    counted = describe_apgsearch(haul) if haul.apgsearch else COUNTED
     return (
-        f"Random soups of 16 by 16 cells (numbers {describe_ranges(haul)} of {seed}) ran under the "
-        f"rule <code>{haul.job.rule}</code> ({format_rule(haul.job.rule)}) until they had settled, "
-        f"and {COUNTED}."
+        f"Random soups of 16 by 16 cells {numbers} ran under the rule <code>{haul.job.rule}</code> "
+        f"({format_rule(haul.job.rule)}) until they had settled, and {counted}."
     )
+
+
+def describe_apgsearch(haul: Haul) -> str:
+    """Writes what counted the objects of a haul of apgsearch."""
+    symmetry = (
+        "" if haul.job.symmetry == SYMMETRY else f" with the symmetry {escape(haul.job.symmetry)}"
+    )
+    return f"apgsearch {escape(haul.apgsearch or '')} counted the objects that they left{symmetry}"
 
 
 def describe_ranges(haul: Haul) -> str:
@@ -163,14 +180,13 @@ def write_tiles(side: Side) -> str:
 def list_tiles(side: Side) -> list[tuple[str, str, str]]:
     """Returns the facts on all objects of a haul, with or without a place on the page: their names,
     their values, and what they mean if that isn't plain."""
-    haul, profile = side.haul, side.haul.job.profile
-    others = haul.soups - haul.unsettled - haul.for_good
+    haul = side.haul
     strict = sum(side.separate(code).is_strict() for code in haul.totals)
     return [
         (
             "soups",
             f"{haul.soups:,} <small>of {haul.size():,}</small>"
-            if haul.soups < haul.size()
+            if has_missing_soups(haul)
             else f"{haul.soups:,}",
             "",
         ),
@@ -178,6 +194,19 @@ def list_tiles(side: Side) -> list[tuple[str, str, str]]:
         ("objects per soup", f"{haul.objects() / haul.soups:.2f}" if haul.soups else NO_NUMBER, ""),
         ("distinct objects", f"{len(haul.totals):,}", ""),
         ("of these strict", f"{strict:,}", "not made of smaller objects"),
+        *list_end_tiles(haul),
+    ]
+
+
+def list_end_tiles(haul: Haul) -> list[tuple[str, str, str]]:
+    """Returns the facts on how the soups ended, which a haul of apgsearch doesn't have."""
+    profile, others = haul.job.profile, haul.soups - haul.unsettled - haul.for_good
+    if haul.apgsearch:
+        return [
+            (name, NO_NUMBER, "a haul of apgsearch doesn't say it")
+            for name in ("unsettled soups", "settled for good")
+        ]
+    return [
         ("unsettled soups", f"{haul.unsettled:,}", f"not at rest by generation {profile.limit:,}"),
         (
             "settled for good",
@@ -186,6 +215,11 @@ def list_tiles(side: Side) -> list[tuple[str, str, str]]:
             f"{write_count(profile.horizon, 'generation')}",
         ),
     ]
+
+
+def has_missing_soups(haul: Haul) -> bool:
+    """Checks whether a haul lacks soups of its set, which a haul of apgsearch doesn't name."""
+    return not haul.apgsearch and haul.soups < haul.size()
 
 
 def write_unsettled(side: Side, is_compared: bool) -> str:
@@ -217,7 +251,12 @@ def write_verification(sides: Sides) -> str:
         f"<p>If {these} is in the file <code>{name}</code>, <code>haul check {name}</code> runs the "
         f"whole census again and compares, and {samples} runs only the sample soups."
     )
-    missing = [side.letter for side in sides.all if side.haul.soups < side.haul.size()]
+    if all(haul.apgsearch for haul in hauls):
+        text = (
+            f"<p>If {these} is in the file <code>{name}</code>, {samples} runs its sample soups, and "
+            f"<code>haul check --totals {name}</code> takes a census of as many soups."
+        )
+    missing = [side.letter for side in sides.all if has_missing_soups(side.haul)]
     if missing:
         which = (
             "this haul"
@@ -234,7 +273,8 @@ def write_definitions(sides: Sides) -> str:
     """Writes the definitions by which objects were counted."""
     profiles: dict[Profile, list[str]] = {}
     for side in sides.all:
-        profiles.setdefault(side.haul.job.profile, []).append(side.letter)
+        if not side.haul.apgsearch:
+            profiles.setdefault(side.haul.job.profile, []).append(side.letter)
     words = ""
     for profile, letters in profiles.items():
         which = f"{', '.join(letters)}: " if len(profiles) > 1 else ""

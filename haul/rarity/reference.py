@@ -12,7 +12,7 @@ from pathlib import Path
 
 from haul.formats.haul import Job
 from haul.formats.profile import STANDARD
-from haul.formats.rules import LIFE
+from haul.patterns.rules import LIFE
 from haul.formats.tables import BadTable, read_table
 from haul.rarity.occurrence import Occurrence
 
@@ -45,7 +45,7 @@ NONE = Entry(0, 0, 0)
 
 def is_covered(job: Job) -> bool:
     """Checks whether the reference says how rare the objects of a job are."""
-    return job.rule == LIFE and job.profile == STANDARD
+    return job == Job(job.seed, LIFE, STANDARD)
 
 
 @cache

@@ -25,7 +25,8 @@ class FindCalls:
         self.complain = complain
         self.waiting: deque[list[str]] = deque()
         self.running: BackgroundProgram | None = None
-        # When it began, in seconds.
+        # The arguments of the one that runs, and when it began, in seconds.
+        self.arguments: list[str] = []
         self.began: float
 
     def add(self, arguments: list[str]) -> None:
@@ -38,6 +39,10 @@ class FindCalls:
     def left(self) -> int:
         """Returns how many calls haven't ended."""
         return len(self.waiting) + (self.running is not None)
+
+    def list_open(self) -> list[list[str]]:
+        """Returns the arguments of the calls that haven't ended."""
+        return [*([self.arguments] if self.running is not None else []), *self.waiting]
 
     def step(self) -> None:
         """Begins the next call, or looks at the one that runs."""
@@ -52,6 +57,7 @@ class FindCalls:
 
     def begin(self, arguments: list[str]) -> None:
         assert self.program is not None
+        self.arguments = arguments
         try:
             self.running = BackgroundProgram(self.waiter, FIND, [self.program, *arguments], None)
             self.began = time.monotonic()

@@ -2,7 +2,7 @@
 
 A find is a part whose code no object of the haul had as a part before, and that isn't common: under
 Life, the reference census has it in fewer soups than a limit.
-docs/HAUL.md says what the parts of an object are. The soups that one call of `census take` runs are
+docs/PROFILE.md says what the parts of an object are. The soups that one call of `census take` runs are
 a batch, as in search.py. """
 
 from __future__ import annotations
@@ -13,10 +13,10 @@ from dataclasses import dataclass, field
 from datetime import datetime, timezone
 
 from haul.census.command_lines import format_find_command
-from haul.formats.codes import Kind, read_kind
-from haul.formats.haul import Haul, Job
+from haul.patterns.codes import Kind, read_kind
+from haul.formats.haul import NUMBER_LIMIT, Haul, Job
 from haul.formats.profile import STANDARD
-from haul.formats.rules import LIFE
+from haul.patterns.rules import LIFE
 from haul.life.generations import read_rule
 from haul.life.parts import Separator
 from haul.names.objects import find_name
@@ -26,6 +26,11 @@ from haul.rarity.reference import SOUPS, find_occurrence, is_covered, load_refer
 # on for weeks.
 # mutant: equal because one more remembered run doesn't change what is printed
 MOST_RUNS = 20_000
+
+
+def format_time() -> str:
+    """Writes the time in UTC."""
+    return datetime.now(timezone.utc).strftime("%Y-%m-%dT%H:%M:%SZ")
 
 
 @dataclass(frozen=True)
@@ -38,9 +43,8 @@ class Find:
     def fields(self, job: Job) -> list[str]:
         """Returns what is told of the find: when that is, the code, the name or `-`, the soup, a
         command that shows it, and how rare it is by the reference or `-`."""
-        now = datetime.now(timezone.utc).strftime("%Y-%m-%dT%H:%M:%SZ")
         return [
-            now,
+            format_time(),
             self.code,
             find_name(self.code) or "-",
             str(self.soup),
@@ -48,15 +52,13 @@ class Find:
             find_occurrence(self.code).describe() if is_covered(job) else "-",
         ]
 
-    def is_unknown(self, job: Job) -> bool:
-        """Checks whether the reference could have the part and doesn't."""
-        return is_covered(job) and not find_occurrence(self.code).having
-
 
 @dataclass
 class NewCodes:
     """The codes that a batch of soups brought for the first time, until their finds are known."""
 
+    # The first soup of the batch.
+    first: int
     # Those that aren't separated yet, each with the lowest soup that left it.
     codes: deque[tuple[str, int]]
     # The parts of those that have been separated, each with its lowest soup.
@@ -119,28 +121,34 @@ class Finder:
     one of them. A part that is also an object of its own in the file is known without that, and for
     most parts that is enough."""
 
-    def __init__(self, job: Job, haul: Haul, rarer: int) -> None:
-        """Looks for parts that, under Life, fewer than one soup of the reference in `rarer` has."""
+    def __init__(self, job: Job, haul: Haul, rarer: int, first: int = NUMBER_LIMIT) -> None:
+        """Looks for parts that, under Life, fewer than one soup of the reference in `rarer` has.
+        The objects of the haul that no soup before `first` left are still to be looked at."""
+        new = [(code, soups[0]) for code, soups in haul.samples.items() if soups[0] >= first]
         self.separator = Separator(read_rule(job.rule))
         self.common = list_common_parts(rarer) if job.rule == LIFE else frozenset()
         # Under another rule or profile the first batch tells no finds: almost every part in it
         # would be one.
         self.is_silent = (job.rule != LIFE or job.profile != STANDARD) and haul.soups == 0
         # The objects whose parts aren't known yet, although they were there before.
-        self.unread = Unread(haul.totals)
+        self.unread = Unread(haul.totals.keys() - {code for code, _ in new})
         self.known: set[str] = set()
         # One item for each batch with new codes; the oldest is first.
         self.queue: deque[NewCodes] = deque()
+        self.add_new(new, first)
 
-    def add(self, codes: Iterable[tuple[str, int]]) -> None:
+    def add(self, codes: Iterable[tuple[str, int]], first: int = 0) -> None:
         """Takes the new codes of the next batch, each with its lowest soup, once they are in the
-        file."""
-        new = NewCodes(deque(codes))
+        file. `first` is the first soup of the batch."""
         if self.is_silent:
-            self.unread.add(code for code, _ in new.codes)
+            self.unread.add(code for code, _ in codes)
             self.is_silent = False
-        elif new.codes:
-            self.queue.append(new)
+        else:
+            self.add_new(list(codes), first)
+
+    def add_new(self, codes: list[tuple[str, int]], first: int) -> None:
+        if codes:
+            self.queue.append(NewCodes(first, deque(codes)))
 
     def left(self) -> int:
         """Returns how many objects have to be separated still, as far as is known."""

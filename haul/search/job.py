@@ -8,7 +8,7 @@ import string
 
 from haul.formats.haul import Haul, Job
 from haul.formats.profile import STANDARD, Profile
-from haul.formats.rules import LIFE
+from haul.patterns.rules import LIFE
 
 # Two people who draw their seeds don't take the same soups: there are 62^12 of these.
 SEED_BEGINS, SEED_LENGTH = "h_", 12

@@ -9,15 +9,24 @@ import itertools
 import os
 import stat
 import time
+from collections.abc import Callable, Iterable, Iterator, Sequence
 from contextlib import suppress
+from typing import NamedTuple
 
 from haul.formats.field_reader import BadHaul
 from haul.formats.haul import Haul
 from haul.formats.haul_reader import read_one_haul
 from haul.formats.haul_writer import format_haul
+from haul.search.companion import Companion
+from haul.search.whole_files import (
+    ANY_RIGHTS,
+    find_stamp,
+    make_stamp,
+    sync_folder,
+    write_file,
+    write_new_text,
+)
 
-# A file is made with these rights, less those that the user's mask takes away.
-ANY_RIGHTS = 0o666
 # How long a lock is tried, and how often.
 SECONDS_FOR_LOCK, SECONDS_BETWEEN_TRIES = 2.0, 0.02
 
@@ -30,8 +39,12 @@ class Displaced(OSError):
     """The file was changed by another program, so the haul was written beside it."""
 
 
-# What a file is known by: its inode, its size and when it was written.
-Stamp = tuple[int, int, int]
+class Beside(NamedTuple):
+    """A file beside FILE, what writes its lines, and whether they have changed."""
+
+    file: Companion
+    write: Callable[[], Iterable[bytes]]
+    is_changed: bool
 
 
 class Keeper:
@@ -47,7 +60,7 @@ class Keeper:
         self.path = os.path.realpath(name) if os.path.islink(name) else name
         self.refuse_other_files()
         # The file as it was last read or written here; none if there was no file.
-        self.known = self.stamp()
+        self.known = find_stamp(self.path)
         self.lock = os.open(
             f"{self.path}.lock", os.O_RDWR | os.O_CREAT | os.O_CLOEXEC | os.O_NOFOLLOW, ANY_RIGHTS
         )
@@ -82,56 +95,48 @@ class Keeper:
             raise CantKeep(f"{self.name}: haul with missing soups")
         return haul
 
-    def write(self, haul: Haul) -> None:
-        """Replaces the file. It has its old text until the new one is safe on the disk, also if
-        this fails with `OSError`. Raises `Displaced` if it isn't as it was left here."""
-        if self.stamp() != self.known:
-            name = self.write_beside(haul)
+    def write(self, haul: Haul, beside: Sequence[Beside] = ()) -> None:
+        """Replaces the file, and before that the files beside it that have changed. The file has
+        its old text until the new one is safe on the disk, also if this fails with `OSError`.
+        Raises `Displaced` if the file isn't as it was left here."""
+        self.refuse_changes(haul, beside)
+        with write_new_text(self.path, write_lines(haul), self.path) as stamp:
+            for one in beside:
+                if one.is_changed:
+                    one.file.write(one.write())
+            # That has taken time.
+            self.refuse_changes(haul, beside)
+        self.known = stamp
+
+    def refuse_changes(self, haul: Haul, beside: Sequence[Beside]) -> None:
+        """Writes the haul beside the file and raises `Displaced` if the file isn't as it was left
+        here."""
+        if find_stamp(self.path) != self.known:
+            name = self.write_mine(haul, beside)
             reason = f"changed by another program, so the haul of this search is in {name}"
             raise Displaced(errno.ESTALE, reason, self.name)
-        new = f"{self.path}.new"
-        # A search that was killed may have left one.
-        with suppress(FileNotFoundError):
-            os.unlink(new)
-        try:
-            self.write_new(new, haul)
-            os.replace(new, self.path)
-        except OSError as error:
-            with suppress(OSError):
-                os.unlink(new)
-            raise OSError(error.errno, error.strerror, new) from None
-        self.known = self.stamp()
-        sync_folder(os.path.dirname(self.path) or os.curdir)
 
-    def stamp(self) -> Stamp | None:
-        try:
-            return make_stamp(os.stat(self.path))
-        except FileNotFoundError:
-            return None
-
-    def write_beside(self, haul: Haul) -> str:
-        """Writes a haul to FILE.mine, or to FILE.mine.2 and so on if that exists. Returns the
-        name."""
+    def write_mine(self, haul: Haul, beside: Sequence[Beside]) -> str:
+        """Writes a haul to FILE.mine, or to FILE.mine.2 and so on if that exists, and the files
+        beside it, which are kept there from now on. Returns the name."""
         for number in itertools.count(1):
-            name = f"{self.path}.mine" + (f".{number}" if number > 1 else "")
-            with suppress(FileExistsError):
-                self.write_new(name, haul)
+            end = ".mine" + (f".{number}" if number > 1 else "")
+            name = self.path + end
+            if not any(
+                map(os.path.lexists, (name, *(f"{name}.{one.file.suffix}" for one in beside)))
+            ):
                 break
+        for one in beside:
+            one.file.move_to(name, self.name + end)
+            if one.is_changed or one.file.is_always_there:
+                one.file.write(one.write())
+        write_file(name, write_lines(haul), self.path)
         sync_folder(os.path.dirname(self.path) or os.curdir)
         return name
 
-    def write_new(self, new: str, haul: Haul) -> None:
-        number = os.open(new, os.O_WRONLY | os.O_CREAT | os.O_EXCL | os.O_CLOEXEC, ANY_RIGHTS)
-        with open(number, "w", encoding="ascii", newline="\n") as file:
-            with suppress(FileNotFoundError):
-                os.fchmod(number, stat.S_IMODE(os.stat(self.path).st_mode))
-            file.writelines(f"{line}\n" for line in format_haul(haul))
-            file.flush()
-            os.fsync(number)
 
-
-def make_stamp(found: os.stat_result) -> Stamp:
-    return found.st_ino, found.st_size, found.st_mtime_ns
+def write_lines(haul: Haul) -> Iterator[bytes]:
+    return (f"{line}\n".encode("ascii") for line in format_haul(haul))
 
 
 def lock_within(number: int, seconds: float) -> None:
@@ -146,16 +151,3 @@ def lock_within(number: int, seconds: float) -> None:
             if time.monotonic() >= end:
                 raise
             time.sleep(SECONDS_BETWEEN_TRIES)
-
-
-def sync_folder(path: str) -> None:
-    """Makes sure that a new name in a folder is on the disk. Some file systems can't do that for a
-    folder."""
-    folder = os.open(path, os.O_RDONLY | os.O_DIRECTORY | os.O_CLOEXEC)
-    try:
-        os.fsync(folder)
-    except OSError as error:
-        if error.errno != errno.EINVAL:
-            raise
-    finally:
-        os.close(folder)

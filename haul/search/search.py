@@ -6,12 +6,12 @@ The census program takes one batch of soups after another, each in one call of `
     batch 2           while this batch runs, all that is done for batch 1
     ..
 
-One thread does everything except running soups. While a batch runs, it looks for finds, one object
-at a time, and waits for streams. """
+With more than sixteen workers, several batches run at once; they are added in the order of their
+soups. One thread does everything except running soups. While batches run, it looks for finds, one
+object at a time, and waits for streams. """
 
 from __future__ import annotations
 
-import io
 import os
 import time
 from collections.abc import Callable
@@ -19,102 +19,85 @@ from contextlib import suppress
 from dataclasses import dataclass
 from typing import TextIO
 
-from haul.census.children import NoCensus
+from haul.census.background import StreamWaiter
 from haul.census.client import Census
-from haul.census.command_lines import list_take_arguments
-from haul.formats.field_reader import BadHaul
 from haul.formats.haul import NUMBER_LIMIT, Haul
-from haul.formats.haul_reader import read_one_haul
+from haul.search.late import Late
 from haul.hauls.join import Joining
 from haul.plurals import write_count
-from haul.census.background import BackgroundTake, StreamWaiter
+from haul.search.batches import MOST_WORKERS, Batches, Plan, Taken
+from haul.search.companion import Companion
 from haul.search.find_calls import FindCalls
 from haul.search.finds import Finder
-from haul.search.keeper import Displaced, Keeper
+from haul.search.keeper import Beside, Displaced, Keeper
+from haul.search.late_soups import list_late_finds
 from haul.search.status_line import Status, StatusLine, format_duration
 from haul.search.stopping import Stopping
+from haul.search.telling import Telling
+from haul.search.untold import Untold
 
-MOST_WORKERS = 16
 # No more than a fiftieth of the running time goes to writing the file, unless batches have waited
 # for ten minutes.
 SHARE_OF_WRITING, MOST_SECONDS_UNKEPT = 50, 600.0
 # The longest time for which it waits for streams, and for which it looks for finds before it looks
 # at streams again.
 SECONDS_AT_A_TIME, SECONDS_OF_FINDING = 0.5, 0.02
-# On a terminal, what the reference doesn't have begins with this.
-UNKNOWN_MARK = "!"
 # The time for which finds are still told after a signal that ends the search at once.
 LAST_SECONDS = 1.0
 # If finds are still told this long after the last batch, a line says so.
 SECONDS_WITHOUT_A_WORD = 5.0
 
 
+# The first soup of a batch, and its new codes, each with its lowest soup.
+NewOfBatch = tuple[int, list[tuple[str, int]]]
+
+
 class Dropped(Exception):
-    """A signal ends the search without the batch that runs."""
-
-
-@dataclass(frozen=True)
-class Plan:
-    """What a search is asked to do."""
-
-    # The number of the next soup.
-    next: int
-    # How many soups the haul has at the end; none if there is no end.
-    until: int | None
-    # How many soups a batch has.
-    batch_size: int
-    workers: int
-    # The program that is called for each find.
-    finds: str | None
-    # A find is a part that fewer than one soup of the reference in this number has.
-    rarer: int
+    """A signal ends the search without the batches that run."""
 
 
 @dataclass
-class Batch:
-    """A batch that runs: the numbers of its soups, and the call that takes them."""
+class Kept:
+    """The files of a search, and what they had when it began."""
 
-    first: int
-    count: int
-    call: BackgroundTake
+    keeper: Keeper
+    haul: Haul
+    # FILE.late and its soups, which are none if they aren't kept.
+    late_file: Companion
+    late: Late | None
+    # FILE.finds, and what the search before didn't tell.
+    finds_file: Companion
+    untold: Untold
 
 
 class Search:
     """A search that runs."""
 
     def __init__(
-        self,
-        plan: Plan,
-        haul: Haul,
-        keeper: Keeper,
-        census: Census,
-        stopping: Stopping,
-        output: TextIO,
+        self, plan: Plan, kept: Kept, census: Census, stopping: Stopping, output: TextIO
     ) -> None:
-        """Makes a search that goes on with `haul`, and writes its finds to `output`."""
+        """Makes a search that goes on with the haul in a file, and writes its finds to `output`."""
         self.plan = plan
-        self.keeper = keeper
-        self.census = census
+        self.kept, self.keeper, self.late = kept, kept.keeper, kept.late
         self.stopping = stopping
-        self.output = output
         self.terminal = census.terminal
+        haul = kept.haul
         self.job = haul.job
         self.joining = Joining()
         self.joining.add(haul)
         self.objects = haul.objects()
-        # The soups of the haul with those of batches that were begun, and the next number.
-        self.begun, self.next = haul.soups, plan.next
         # The soups of finished batches.
         self.run_soups = 0
-        # The new codes of each batch that isn't in the file yet, each code with its lowest soup.
-        self.unkept: list[list[tuple[str, int]]] = []
-        self.batch: Batch | None = None
+        # What batches brought that aren't in the file yet, and the finds of their late soups.
+        self.unkept: list[NewOfBatch] = []
+        self.unkept_late: list[list[str]] = []
         self.waiter = StreamWaiter()
         self.waiter.add(stopping.reading, stopping.hear)
-        self.finder = Finder(haul.job, haul, plan.rarer)
+        self.batches = Batches(plan, haul.job, haul.soups, census, self.waiter)
+        self.finder = Finder(haul.job, haul, plan.rarer, kept.untold.since)
         self.calls = FindCalls(self.waiter, plan.finds, self.terminal.complain)
-        self.finds = 0
-        self.marks_finds = output.isatty()
+        self.telling = Telling(output, self.terminal, self.calls, kept.untold.finds)
+        self.late_is_changed = True
         self.line = StatusLine(self.terminal)
         self.said_that_it_finishes = self.said_what_is_left = False
         self.began = self.kept_at = time.monotonic()
@@ -128,74 +111,61 @@ class Search:
             try:
                 self.take_batches()
             finally:
-                self.drop_batch()
+                self.batches.drop()
                 self.keep()
         finally:
-            self.report_rest()
-            self.terminal.show_progress("")
+            try:
+                self.report_rest()
+            finally:
+                self.terminal.show_progress("")
+                self.keep_untold()
 
     # ---- Batches
 
     def take_batches(self) -> None:
-        self.batch = self.begin_batch()
-        if self.batch is None and not self.keeper.is_there():
-            self.keeper.write(self.joining.result())
-        while self.batch is not None:
-            self.wait_until(self.batch.call.is_ended)
-            taken = self.haul_of(self.batch)
-            self.batch = None
+        self.fill()
+        if not self.batches.queue and not self.keeper.is_there():
+            self.write()
+        while self.batches.queue:
+            self.wait_until(self.is_first_ended)
+            taken = self.batches.take_first()
             try:
                 # The next batch runs while this one is added, written and looked at.
-                self.batch = self.begin_batch()
+                self.fill()
             finally:
                 self.add(taken)
-            if self.batch is not None and self.may_keep():
+            if self.batches.queue and self.may_keep():
                 self.keep()
 
-    def begin_batch(self) -> Batch | None:
-        """Starts the next batch; there is none if the search is at its end."""
-        most = self.plan.until - self.begun if self.plan.until is not None else self.plan.batch_size
-        count = min(self.plan.batch_size, most, NUMBER_LIMIT - self.next)
-        if count <= 0 or self.stopping.finishes:
-            return None
-        words = list_take_arguments(self.job, [(self.next, count)], self.plan.workers, True)
-        batch = Batch(
-            self.next, count, BackgroundTake(self.waiter, [self.census.path, *words], count)
-        )
-        self.next += count
-        self.begun += count
-        return batch
+    def fill(self) -> None:
+        if not self.stopping.finishes:
+            self.batches.fill()
 
-    def haul_of(self, batch: Batch) -> Haul:
-        """Returns the haul of a batch that has ended. Raises `Ended` if its call failed."""
-        text = batch.call.haul_text()
-        try:
-            haul = read_one_haul(io.BytesIO(text))
-        except BadHaul:
-            raise NoCensus.at(self.census.path) from None
-        ranges = [(batch.first, batch.count)]
-        if (haul.job, haul.ranges, haul.soups) != (self.job, ranges, batch.count):
-            raise NoCensus.at(self.census.path)
-        return haul
+    def is_first_ended(self) -> bool:
+        if self.batches.is_first_ended():
+            return True
+        self.fill()
+        return False
 
-    def drop_batch(self) -> None:
-        if self.batch is not None:
-            self.batch.call.end()
-            self.batch = None
+    def add(self, taken: Taken) -> None:
+        haul = taken.haul
+        new = [
+            (code, soups[0])
+            for code, soups in haul.samples.items()
+            if code not in self.joining.totals
+        ]
+        self.unkept.append((haul.ranges[0][0], new))
+        if self.late is not None and taken.lines is not None:
+            latest = self.late.latest
+            if self.late.add(taken.lines.lines, taken.lines.left_out):
+                self.late_is_changed = True
+            if self.plan.tells_late:
+                self.unkept_late += list_late_finds(self.job, taken.lines, latest)
+        self.joining.add(haul)
+        self.objects += haul.objects()
+        self.run_soups += haul.soups
 
-    def add(self, taken: Haul) -> None:
-        self.unkept.append(
-            [
-                (code, soups[0])
-                for code, soups in taken.samples.items()
-                if code not in self.joining.totals
-            ]
-        )
-        self.joining.add(taken)
-        self.objects += taken.objects()
-        self.run_soups += taken.soups
-
-    # ---- The file
+    # ---- The files
 
     def may_keep(self) -> bool:
         """Checks whether there is time for writing."""
@@ -218,7 +188,7 @@ class Search:
         began = time.monotonic()
         self.stopping.is_writing = True
         try:
-            self.keeper.write(self.joining.result())
+            self.write()
         except Displaced:
             self.look_at_kept()
             raise
@@ -229,13 +199,43 @@ class Search:
         self.writing += self.latest_writing
         self.look_at_kept()
 
-    def look_at_kept(self) -> None:
-        """Has the objects of batches that were written looked at for finds."""
-        for codes in self.unkept:
-            self.finder.add(codes)
-        self.unkept.clear()
+    def write(self) -> None:
+        beside: list[Beside] = []
+        if self.late is not None:
+            beside.append(Beside(self.kept.late_file, self.late.write, self.late_is_changed))
+        untold = self.list_untold(self.unkept, self.unkept_late)
+        is_there = self.kept.finds_file.known is not None
+        beside.append(Beside(self.kept.finds_file, untold.write, is_there or not untold.is_empty()))
+        self.keeper.write(self.joining.result(), beside)
+        self.late_is_changed = False
 
-    # ---- What is done while a batch runs
+    def list_untold(self, batches: list[NewOfBatch], late: list[list[str]]) -> Untold:
+        """Returns what would be lost if the search ended when these batches and these late soups are
+        in the files."""
+        since = [new.first for new in self.finder.queue]
+        told = batches[1:] if self.finder.is_silent else batches
+        since += [first for first, codes in told if codes]
+        return Untold(self.job, min(since, default=NUMBER_LIMIT), self.telling.list_untold() + late)
+
+    def keep_untold(self) -> None:
+        """Writes what hasn't been told, for the next search."""
+        untold = self.list_untold([], [])
+        if untold.is_empty():
+            if self.kept.finds_file.known is not None:
+                self.kept.finds_file.remove()
+        elif self.keeper.is_there():
+            self.kept.finds_file.write(untold.write())
+
+    def look_at_kept(self) -> None:
+        """Has late soups told, and the objects of batches that were written looked at for finds."""
+        for fields in self.unkept_late:
+            self.telling.add(fields)
+        for first, codes in self.unkept:
+            self.finder.add(codes, first)
+        self.unkept.clear()
+        self.unkept_late.clear()
+
+    # ---- What is done while batches run
 
     def wait_until(self, is_over: Callable[[], bool]) -> None:
         while not is_over():
@@ -248,23 +248,25 @@ class Search:
             if self.must_keep():
                 self.keep()
             self.calls.step()
-            if self.finder.is_done():
+            if self.has_told():
                 self.waiter.wait(min(SECONDS_AT_A_TIME, self.line.seconds_left()))
             else:
                 self.find_for(SECONDS_OF_FINDING)
                 self.waiter.wait(0)
 
+    def has_told(self) -> bool:
+        """Checks whether all finds are told, besides those for which a call is to be made."""
+        return self.telling.is_done() and (self.finder.is_done() or self.telling.has_failed)
+
     def find_for(self, seconds: float) -> None:
         """Looks for finds for so long at most, and tells them."""
         end = time.monotonic() + seconds
-        while not self.finder.is_done() and time.monotonic() < end:
-            for find in self.finder.step():
-                fields = find.fields(self.job)
-                self.terminal.show_progress("")
-                mark = UNKNOWN_MARK if self.marks_finds and find.is_unknown(self.job) else ""
-                print(mark + "\t".join(fields), file=self.output, flush=True)
-                self.finds += 1
-                self.calls.add(fields)
+        while not self.has_told() and time.monotonic() < end:
+            if not self.telling.is_done():
+                self.telling.tell_next()
+            else:
+                for find in self.finder.step():
+                    self.telling.add(find.fields(self.job))
 
     def report_rest(self) -> None:
         """Tells the finds that are left, and waits for the calls of the program for finds. After a
@@ -274,26 +276,29 @@ class Search:
         def is_reported() -> bool:
             if time.monotonic() - began >= SECONDS_WITHOUT_A_WORD:
                 self.say_what_is_left()
-            return self.finder.is_done() and self.calls.is_done()
+            return self.has_told() and (self.calls.is_done() or self.telling.has_failed)
 
         try:
             with suppress(Dropped):
                 self.wait_until(is_reported)
             self.find_for(LAST_SECONDS)
-            if not self.finder.is_done() or not self.calls.is_done():
-                self.terminal.complain(f"not all finds are told: {self.what_is_left()}")
         finally:
+            if self.what_is_left() and not self.telling.has_no_reader:
+                self.terminal.complain(f"not all finds are told: {self.what_is_left()}")
             self.calls.end()
 
     def say_that_it_finishes(self) -> None:
         self.said_that_it_finishes = True
-        if self.batch is None:
+        batches = len(self.batches.queue)
+        if not batches:
             self.say_what_is_left()
             return
         rate = self.status().rate()
-        left = self.batch.count - self.batch.call.soups()
-        when = f", in about {format_duration(left / rate)}" if rate > 0 else ""
-        self.terminal.complain(f"stops after this batch{when}; Ctrl-C again drops the batch")
+        when = f", in about {format_duration(self.batches.soups_left() / rate)}" if rate > 0 else ""
+        these, them = (
+            ("this batch", "the batch") if batches == 1 else (f"these {batches} batches", "them")
+        )
+        self.terminal.complain(f"stops after {these}{when}; Ctrl-C again drops {them}")
 
     def say_what_is_left(self) -> None:
         """Says once what is still to be done after the last batch."""
@@ -309,15 +314,10 @@ class Search:
             if not self.finder.is_done()
             else []
         )
-        left += (
-            [write_count(self.calls.left(), "call") + f" of {self.plan.finds}"]
-            if not self.calls.is_done()
-            else []
-        )
-        return ", ".join(left)
+        return ", ".join(left + self.telling.what_is_left())
 
     def status(self) -> Status:
-        running = self.batch.call.soups() if self.batch is not None else 0
+        running = self.batches.soups()
         soups = self.joining.soups + running
         left = max(0, self.plan.until - soups) if self.plan.until is not None else None
         return Status(
@@ -325,7 +325,7 @@ class Search:
             self.run_soups + running,
             self.objects,
             len(self.joining.totals),
-            self.finds,
+            self.telling.count,
             time.monotonic() - self.began,
             left,
         )

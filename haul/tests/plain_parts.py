@@ -1,4 +1,4 @@
-"""Separation by brute force, written from the definition in docs/HAUL.md alone. It shares no code
+"""Separation by brute force, written from the definition in docs/PROFILE.md alone. It shares no code
 with the program."""
 
 from __future__ import annotations

@@ -13,10 +13,18 @@ import time
 import unittest
 from contextlib import suppress
 from pathlib import Path
+from typing import TextIO
 
 from haul.census.command_lines import list_take_arguments
+from haul.census.client import Census
 from haul.formats.haul import Haul
 from haul.formats.haul_reader import read_one_haul
+from haul.search.batches import Plan
+from haul.search.companion import Companion
+from haul.search.keeper import Keeper
+from haul.search.search import Kept, Search
+from haul.search.stopping import Stopping
+from haul.search.untold import Untold
 from haul.tests.called import CENSUS, HAUL, as_haul, census
 
 # A soup of the empty seed that leaves a clock, and the code of that. 100,000 soups leave two.
@@ -28,6 +36,18 @@ QUICK = ["--period=1", "--horizon=1", "--stride=1", "--limit=0"]
 def of_take(haul: Haul) -> bytes:
     """What `census take` prints over the soups of a haul."""
     return census(*list_take_arguments(haul.job, haul.ranges, 4, False))
+
+
+def make_search(
+    plan: Plan, haul: Haul, keeper: Keeper, client: Census, stopping: Stopping, output: TextIO
+) -> Search:
+    """A search that goes on with a haul, and knows of no late soups and no finds."""
+    late_file, finds_file = (
+        Companion(keeper.path, keeper.name, suffix, client.terminal.complain)
+        for suffix in ("late", "finds")
+    )
+    kept = Kept(keeper, haul, late_file, None, finds_file, Untold(haul.job))
+    return Search(plan, kept, client, stopping, output)
 
 
 class Searches(unittest.TestCase):

@@ -19,6 +19,9 @@ from haul.tests.called import HAUL, census, run
 from haul.tests.searching import QUICK
 
 
+MISSING = "haul with missing soups, which can't be taken again; --samples runs its sample soups"
+
+
 class Several(unittest.TestCase):
     """Three right hauls, a wrong one, a text that is no haul, and one with missing soups."""
 
@@ -44,7 +47,7 @@ class Several(unittest.TestCase):
             ("0 1", 0, "0.haul: right\n1.haul: right\n", ""),
             ("0 wrong 1", 7, f"0.haul: right\n{wrong}1.haul: right\n", ""),
             ("bad 1", 3, "1.haul: right\n", "haul: bad.haul: bad haul at line 2 column 7\n"),
-            ("few 1", 3, "1.haul: right\n", "haul: few.haul: haul with missing soups\n"),
+            ("few 1", 3, "1.haul: right\n", f"haul: few.haul: {MISSING}\n"),
             ("bad wrong", 7, wrong, "haul: bad.haul: bad haul at line 2 column 7\n"),
             ("wrong bad", 7, wrong, "haul: bad.haul: bad haul at line 2 column 7\n"),
         ):
@@ -56,7 +59,7 @@ class Several(unittest.TestCase):
 
     def test_one_file_has_no_name(self) -> None:
         self.assertEqual(run("check", "0.haul"), (0, "right\n", ""))
-        self.assertEqual(run("check", "few.haul"), (3, "", "haul: haul with missing soups\n"))
+        self.assertEqual(run("check", "few.haul"), (3, "", f"haul: few.haul: {MISSING}\n"))
 
     def test_standard_input_is_one_of_them(self) -> None:
         self.assertEqual(

@@ -292,6 +292,7 @@ class Usage(unittest.TestCase):
             ),
             ("soup", "print the soup of a sample on Catagolue"),
             ("soups", "list what report lines say about their soups"),
+            ("why", "say why soups are unsettled, or why a pattern is"),
             (
                 "cells",
                 "print a pattern in RLE as plaintext, which `census run` and `census name` read",

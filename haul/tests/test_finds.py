@@ -10,6 +10,7 @@ import subprocess
 import sys
 import time
 import unittest
+from collections import deque
 from contextlib import redirect_stderr, suppress
 from fcntl import ioctl
 from struct import pack
@@ -24,16 +25,18 @@ from haul.formats.profile import STANDARD, Profile
 from haul.life.generations import read_rule
 from haul.life.parts import Separator
 from haul.rarity.reference import SOUPS, find_occurrence, load_reference
-from haul.census.background import FIND, StreamWaiter, read_launcher
+from haul.census.background import FIND, StreamWaiter
+from haul.census.starters import read_launcher
 from haul.search.find_calls import FindCalls
 from haul.search.finds import Find, Finder, list_common_parts, Unread
-from haul.search.keeper import Keeper
-from haul.search.search import Batch, Dropped, Plan, Search
+from haul.search.keeper import Beside, Keeper
+from haul.search.batches import Batch, Plan, Taken
+from haul.search.search import Dropped
 from haul.search.status_line import Status, StatusLine, format_duration, format_short
 from haul.search.stopping import Stopping
 from haul.tests.called import CENSUS, HAUL, TOP, census, make_client
 from haul.terminal import Terminal
-from haul.tests.searching import CLOCK, CLOCK_SOUP, Searches
+from haul.tests.searching import CLOCK, CLOCK_SOUP, Searches, make_search
 
 LIFE, OTHER_RULE, OTHER_PROFILE = (
     Job("a", "b3s23", STANDARD),
@@ -86,9 +89,6 @@ class Common(unittest.TestCase):
         self.assertEqual(Find("xs99_0", 1).fields(LIFE)[5], "none in 100000000")
         for job in (OTHER_PROFILE, OTHER_RULE):
             self.assertEqual(Find(BIPOLE, 1).fields(job)[5], "-")
-            self.assertFalse(Find("xs99_0", 1).is_unknown(job))
-        self.assertTrue(Find("xs99_0", 1).is_unknown(LIFE))
-        self.assertFalse(Find(BIPOLE, 1).is_unknown(LIFE))
 
 
 class Finds(unittest.TestCase):
@@ -558,7 +558,7 @@ class Telling(Searches):
         """Its rate is that of the soups which this call has run."""
         with patch("time.monotonic", return_value=1000.0) as now:
             keeper = Keeper(str(self.file))
-            search = Search(
+            search = make_search(
                 Plan(100, 200, 30, 1, None, RARER),
                 haul_of(LIFE, BLOCK, BIPOLE),
                 keeper,
@@ -566,27 +566,27 @@ class Telling(Searches):
                 Stopping(),
                 sys.stdout,
             )
-            search.add(
-                Haul(
-                    LIFE,
-                    ranges=[(100, 30)],
-                    soups=30,
-                    unsettled=0,
-                    for_good=0,
-                    totals={BLINKER: 7, BLOCK: 1},
-                    samples={BLINKER: [100], BLOCK: [101]},
-                )
+            haul = Haul(
+                LIFE,
+                ranges=[(100, 30)],
+                soups=30,
+                unsettled=0,
+                for_good=0,
+                totals={BLINKER: 7, BLOCK: 1},
+                samples={BLINKER: [100], BLOCK: [101]},
             )
-            search.batch = Batch(130, 30, Mock(**{"soups.return_value": 10}))
+            search.add(Taken(haul, None))
+            running = Batch(130, 30, Mock(**{"soups.return_value": 10}), 1)
+            search.batches.queue.append(running)
             now.return_value = 1010.0
             self.assertEqual(search.status(), Status(140, 40, 10, 3, 0, 10.0, 60))
-            search.batch = None
+            search.batches.queue.clear()
             self.assertEqual(search.status(), Status(130, 30, 10, 3, 0, 10.0, 70))
         os.close(keeper.lock)
 
     def test_a_search_with_more_than_is_asked_for(self) -> None:
         keeper = Keeper(str(self.file))
-        search = Search(
+        search = make_search(
             Plan(100, 50, 30, 1, None, RARER),
             haul_of(LIFE, BLOCK),
             keeper,
@@ -602,7 +602,7 @@ class Telling(Searches):
         said = io.StringIO()
         with patch("time.monotonic", return_value=1000.0) as now:
             keeper = Keeper(str(self.file))
-            search = Search(
+            search = make_search(
                 Plan(0, None, 30, 1, None, RARER),
                 haul_of(LIFE),
                 keeper,
@@ -612,7 +612,8 @@ class Telling(Searches):
             )
             now.return_value = 1010.0
             for soups, when in ((0, ""), (1, ", in about 0:04:50"), (10, ", in about 0:00:20")):
-                search.batch = Batch(0, 30, Mock(**{"soups.return_value": soups}))
+                running = Batch(0, 30, Mock(**{"soups.return_value": soups}), 1)
+                search.batches.queue = deque([running])
                 said.truncate(0)
                 said.seek(0)
                 search.say_that_it_finishes()
@@ -758,7 +759,7 @@ class Pace(Searches):
     def test_a_fiftieth_of_the_time(self) -> None:
         with patch("time.monotonic", return_value=1000.0) as now:
             keeper = Keeper(str(self.file))
-            search = Search(
+            search = make_search(
                 Plan(0, None, 10, 1, None, RARER),
                 haul_of(LIFE),
                 keeper,
@@ -772,7 +773,7 @@ class Pace(Searches):
                 now.return_value = at
                 self.assertEqual(search.may_keep(), may)
             # Ten minutes after the latest writing, less the time that writing takes.
-            search.writing, search.unkept, search.kept_at = 500.0, [[]], 1200.0
+            search.writing, search.unkept, search.kept_at = 500.0, [(0, [])], 1200.0
             for at, must in ((1798.9, False), (1799.0, True)):
                 now.return_value = at
                 self.assertEqual((search.must_keep(), search.may_keep()), (must, must))
@@ -784,7 +785,7 @@ class Pace(Searches):
         """All of it counts. While it goes on, no signal ends the program."""
         with patch("time.monotonic", return_value=1000.0) as now:
             keeper, stopping = Keeper(str(self.file)), Stopping()
-            search = Search(
+            search = make_search(
                 Plan(0, None, 10, 1, None, RARER),
                 haul_of(LIFE),
                 keeper,
@@ -793,13 +794,13 @@ class Pace(Searches):
                 sys.stdout,
             )
 
-            def slow_write(_haul: Haul) -> None:
+            def slow_write(_haul: Haul, _beside: object) -> None:
                 self.assertTrue(stopping.is_writing)
                 now.return_value += 2
 
             with patch.object(keeper, "write", slow_write):
                 for writing in (2.0, 4.0):
-                    search.unkept = [[]]
+                    search.unkept = [(0, [])]
                     search.keep()
                     self.assertEqual(
                         (search.writing, search.latest_writing, search.unkept, stopping.is_writing),
@@ -809,7 +810,7 @@ class Pace(Searches):
                 now.return_value = at
                 self.assertEqual(search.may_keep(), may)
             with patch.object(keeper, "write", side_effect=OSError), self.assertRaises(OSError):
-                search.unkept = [[]]
+                search.unkept = [(0, [])]
                 search.keep()
             self.assertFalse(stopping.is_writing)
         os.close(keeper.lock)
@@ -822,7 +823,7 @@ class Pace(Searches):
         said, told = io.StringIO(), io.StringIO()
         client = Census(CENSUS, Terminal(said))
         with patch("time.monotonic", return_value=1000.0) as now:
-            search = Search(
+            search = make_search(
                 Plan(0, None, 10, 1, None, RARER), haul_of(LIFE), keeper, client, stopping, told
             )
             with patch.object(search, "find_for") as find_for, patch.object(
@@ -854,7 +855,7 @@ class Pace(Searches):
         with patch("time.monotonic", return_value=1000.0) as now, redirect_stderr(
             io.StringIO()
         ) as said:
-            search = Search(
+            search = make_search(
                 Plan(0, None, 10, 1, None, RARER),
                 haul_of(LIFE),
                 keeper,
@@ -883,7 +884,7 @@ class Pace(Searches):
     def test_a_signal_while_batches_wait(self) -> None:
         """They are written, and the batch that runs isn't."""
         keeper, stopping = Keeper(str(self.file)), Stopping()
-        search = Search(
+        search = make_search(
             Plan(0, None, 10, 1, None, RARER),
             haul_of(LIFE),
             keeper,
@@ -891,15 +892,15 @@ class Pace(Searches):
             stopping,
             sys.stdout,
         )
-        begin_batch = search.begin_batch
+        begin = search.batches.begin
 
-        def begin_the_last() -> Batch | None:
-            if search.next == 30:
+        def begin_the_last(workers: int) -> bool:
+            if search.batches.next == 30:
                 stopping.came(signal.SIGTERM)
-            return begin_batch()
+            return begin(workers)
 
         with patch.object(search, "may_keep", return_value=False), patch.object(
-            search, "begin_batch", begin_the_last
+            search.batches, "begin", begin_the_last
         ), self.assertRaises(Dropped):
             search.run()
         self.assertEqual(self.soups(), 30)
@@ -910,7 +911,7 @@ class Pace(Searches):
     def test_batches_that_wait_in_memory(self) -> None:
         """They are written together, at the end at the latest."""
         keeper = Keeper(str(self.file))
-        search = Search(
+        search = make_search(
             Plan(0, 60, 10, 2, None, RARER),
             haul_of(LIFE),
             keeper,
@@ -921,9 +922,9 @@ class Pace(Searches):
         written: list[int] = []
         write = keeper.write
 
-        def slow_write(haul: Haul) -> None:
+        def slow_write(haul: Haul, beside: list[Beside]) -> None:
             written.append(haul.soups)
-            write(haul)
+            write(haul, beside)
             time.sleep(0.3)
 
         with patch.object(keeper, "write", slow_write):

@@ -65,7 +65,10 @@ class Indexes(unittest.TestCase):
             ("across", "haul that shares a soup with another one"),
             ("0.haul", "haul that shares a soup with another one"),
             ("missing", "haul with missing soups"),
-            ("index", "bad haul at line 1 column 1"),
+            (
+                "index",
+                "bad haul at line 1 column 1: this looks like an index, which `haul check` reads",
+            ),
         ):
             with self.subTest(name=name):
                 self.assertEqual(self.refused("index", "0.haul", name), f"{name}: {why}")

@@ -10,7 +10,7 @@ from functools import lru_cache
 
 from haul.formats.haul import Haul
 from haul.formats.haul_reader import read_one_haul
-from haul.formats.plaintext import SIDE, trim_rows
+from haul.patterns.plaintext import SIDE, trim_rows
 from haul.life.apgcodes import find_code, list_orientations, read_wechsler, write_wechsler
 from haul.life.cells import Cells, draw_rows, fits_in, move, move_to_corner
 from haul.life.clusters import find_islands, is_cluster

@@ -174,7 +174,15 @@ class Checking(unittest.TestCase):
         text = subprocess.run(
             [CENSUS, "gather", "--count", "2"], input=lines, capture_output=True, check=False
         ).stdout
-        self.assertEqual(run("check", text=text), (3, "", "haul: haul with missing soups\n"))
+        self.assertEqual(
+            run("check", text=text),
+            (
+                3,
+                "",
+                "haul: haul with missing soups, which can't be taken again; --samples runs its sample "
+                "soups\n",
+            ),
+        )
         self.assertEqual(run("check", "--samples", text=text), (0, "right\n", ""))
 
     def test_a_second_haul(self) -> None:
@@ -266,10 +274,10 @@ class Comparing(unittest.TestCase):
             ),
         )
         heads = lines[4].split()
-        self.assertTrue(all(len(line.split()) == len(heads) for line in lines[5:-1]))
+        self.assertTrue(all(len(line.split()) >= len(heads) for line in lines[5:-1]))
         block = next(line.split() for line in lines if line.startswith("xs4_33 "))
-        self.assertEqual(block[1:3], ["block", "277"])
-        self.assertEqual(block[4], f"{277 / 40 * 1_000_000:.2f}")
+        self.assertEqual((block[1], block[-1]), ("277", "block"))
+        self.assertEqual(block[3], f"{277 / 40 * 1_000_000:.2f}")
         self.assertTrue(lines[-1].startswith("in A alone: "))
 
     def test_one_soup(self) -> None:

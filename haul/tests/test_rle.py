@@ -12,8 +12,8 @@ import time
 import unittest
 from pathlib import Path
 
-from haul.formats.rle import BadRle, format_rle, read_rle
-from haul.formats.rules import RULES, find_named_rule, parse_rule
+from haul.patterns.rle import BadRle, format_rle, read_rle
+from haul.patterns.rules import RULES, find_named_rule, parse_rule
 from haul.formats.syntax import RULE
 from haul.tests.called import CENSUS, HAUL, census, run
 
@@ -295,7 +295,7 @@ class Writing(unittest.TestCase):
         self.assertEqual(lines[2], "obo$10bo5bo7bo$11bo3bo$12b2o!")
 
     def test_rules(self) -> None:
-        for word in ("B3/S23", "b03s23", "b3", "b9s", "", "b32s23"):
+        for word in ("B3S23x", "b3", "b9s", "", "b3/23", "Nolife"):
             with self.subTest(word=word):
                 status, output, errors = run("rle", "--rule", word, text=b"O")
                 self.assertEqual((status, output), (2, ""))

@@ -21,9 +21,9 @@ from haul.formats.haul_reader import read_one_haul
 from haul.census.background import (
     BackgroundProgram,
     BackgroundTake,
-    CENSUS as LAUNCH_CENSUS,
     StreamWaiter,
 )
+from haul.census.starters import LAUNCH_CENSUS
 from haul.search.keeper import CantKeep, Keeper
 from haul.search.search import count_processors
 from haul.search.stopping import Stopping
@@ -37,7 +37,7 @@ class Soups(Searches):
     def test_begins_with_a_random_seed(self) -> None:
         seeds = set()
         for _ in range(2):
-            self.assertEqual(self.search("--until", "30", *QUICK), (0, "", ""))
+            self.assertEqual(self.search("--until", "30", "--late=never", *QUICK), (0, "", ""))
             self.assertRegex(self.haul().job.seed, "^h_[A-Za-z0-9]{12}$")
             seeds.add(self.haul().job.seed)
             self.assertEqual(self.haul().ranges, [(0, 30)])
@@ -121,6 +121,7 @@ class Soups(Searches):
                 ),
             )
         self.file.unlink()
+        (self.folder / "mine.haul.late").unlink()
         self.assertEqual(self.search("--seed=a", "--first", str(NUMBER_LIMIT)), (0, "", ""))
         self.assertEqual(self.file.read_bytes(), census("take", "--seed=a", "--count", "0"))
 
@@ -129,7 +130,7 @@ class Soups(Searches):
         program = self.stub('echo "$@" >> calls; real "$@"')
         self.search("--seed=a", "--until", "7", "--part", "4", *QUICK, program=program)
         with patch("os.sched_getaffinity", return_value=range(100)) as asked:
-            self.assertEqual(count_processors(), 16)
+            self.assertEqual(count_processors(), 100)
         asked.assert_called_once_with(0)
         usual = min(16, len(os.sched_getaffinity(0)))
         job = "--seed=a --rule=b3s23 --period=1 --horizon=1 --stride=1 --limit=0"
@@ -137,6 +138,7 @@ class Soups(Searches):
             (self.folder / "calls").read_text().splitlines(),
             [
                 f"take {job} --first={first} --count={count} --workers={usual} --progress"
+                " --report-from=12000"
                 for first, count in ((0, 4), (4, 3))
             ],
         )
@@ -155,7 +157,7 @@ class Soups(Searches):
         self.assertEqual(self.search("--until", "9", file="link")[0], 0)
         self.assertEqual((self.soups(), self.file.stat().st_mode & 0o777), (9, 0o640))
         self.assertTrue((self.folder / "link").is_symlink())
-        self.assert_left("link", "mine.haul", "mine.haul.lock")
+        self.assert_left("link", "mine.haul", "mine.haul.late", "mine.haul.lock")
 
 
 class Refusals(Searches):
@@ -227,7 +229,10 @@ class Refusals(Searches):
             ([""], "an empty path"),
             (["--part=0", "x"], "0 is not in 1 to 16777216"),
             (["--part=16777217", "x"], "16777217 is not in 1 to 16777216"),
-            (["--workers=17", "x"], "17 is not in 1 to 16"),
+            (["--workers=1025", "x"], "1025 is not in 1 to 1024"),
+            (["--workers=0", "x"], "0 is not in 1 to 1024"),
+            (["--late=100002", "x"], "100002 is not in 0 to 100001"),
+            (["--late=Never", "x"], "Never is no number"),
             (["--seed=a b", "x"], "no seed"),
             (["--seed=" + 65 * "a", "x"], "no seed"),
             (["--first=1099511627777", "x"], "is not in 0 to 1099511627776"),
@@ -352,12 +357,12 @@ class Faults(Searches):
             (5, "", "haul: mine.haul.new: File too large\n"),
         )
         self.assertEqual(self.file.read_bytes(), before)
-        self.assert_left("mine.haul", "mine.haul.lock")
+        self.assert_left("mine.haul", "mine.haul.late", "mine.haul.lock")
         # A file that an earlier search has left doesn't matter.
         (self.folder / "mine.haul.new").write_text("x" * 100000)
         self.assertEqual(self.search("--until", "400")[0], 0)
         self.assert_right()
-        self.assert_left("mine.haul", "mine.haul.lock")
+        self.assert_left("mine.haul", "mine.haul.late", "mine.haul.lock")
 
     def test_a_folder_that_refuses_new_files(self) -> None:
         (self.folder / "mine.haul.new").mkdir()
@@ -427,7 +432,7 @@ class Signals(Searches):
         self.assertEqual(self.soups() % 300, 0)
         self.assertGreaterEqual(self.soups(), 600)
         self.assert_right()
-        self.assert_left("mine.haul", "mine.haul.lock")
+        self.assert_left("mine.haul", "mine.haul.late", "mine.haul.lock")
 
     def test_signals_that_drop_the_batch(self) -> None:
         for numbers in (
@@ -580,7 +585,7 @@ class Keeping(Searches):
         os.close(keeper.lock)
         self.assertEqual(self.search("--until", "3", file="far/link", *QUICK)[0], 0)
         self.assertEqual(self.soups(), 3)
-        self.assert_left("far", "mine.haul", "mine.haul.lock", "near")
+        self.assert_left("far", "mine.haul", "mine.haul.late", "mine.haul.lock", "near")
         self.assertEqual(os.listdir(self.folder / "far"), ["link"])
 
     def test_steps_of_a_replacement(self) -> None:

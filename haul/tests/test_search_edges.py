@@ -119,7 +119,7 @@ class Arguments(Searches):
 
     def test_numbers_as_for_census(self) -> None:
         words = ["--seed=", "--first", "+5", "--limit", "+700"]
-        self.assertEqual(self.search(*words, "--until", "30"), (0, "", ""))
+        self.assertEqual(self.search(*words, "--late=never", "--until", "30"), (0, "", ""))
         self.assertEqual(self.file.read_bytes(), census("take", *words, "--count", "30"))
         self.assertEqual(self.search("--first", "++5")[0], 2)
 

@@ -3,15 +3,19 @@
 from __future__ import annotations
 
 import unittest
+from pathlib import Path
+from tempfile import TemporaryDirectory
 
-from haul.life.catagolue_soups import BadSample, format_soups
+from haul.patterns.rle import read_rle
+from haul.life.catagolue_soups import BadSample, read_sample
 from haul.tests.called import census, run
 
 
 def said_of(*names: str) -> str:
     """Why names are refused."""
     try:
-        list(format_soups(list(names)))
+        for name in names:
+            read_sample(name)
     except BadSample as bad:
         return str(bad)
     return "nothing"
@@ -30,19 +34,65 @@ class Soups(unittest.TestCase):
         ):
             soup = census("soup", f"--seed={seed}", number).decode().splitlines()
             for name in (f"C1/{seed}{number}", f"{seed}{number}"):
-                self.assertEqual(list(format_soups([name])), soup)
+                self.assertEqual(read_sample(name).rows(), soup)
         self.assertEqual(
             run("soup", "k_abcdef12345"),
             (0, census("soup", "--seed=k_abcdef", "12345").decode(), ""),
         )
 
+    def test_the_rule_behind_it(self) -> None:
+        """The address of a sample's page is read, too. Another rule than Life is told."""
+        soup = census("soup", "--seed=k_a", "1").decode()
+        page = "https://catagolue.hatsya.com/hashsoup/C1/k_a1"
+        for name, rule in (
+            ("C1/k_a1/b3s23", None),
+            (page, None),
+            (f"{page}/b3s23", None),
+            (f"{page}/b3s23/", None),
+            (f"{page}/b36s23", "b36s23"),
+            ("C1/k_a1/b36s23", "b36s23"),
+        ):
+            told = f"haul: {name}: the rule is --rule {rule}\n" if rule else ""
+            self.assertEqual(run("soup", name), (0, soup, told))
+        sign = "https://catagolue.hatsya.com/hashsoup/C1/%7E%211"
+        self.assertEqual(run("soup", sign), (0, census("soup", "--seed=~!", "1").decode(), ""))
+
     def test_several(self) -> None:
-        """Each comes after a comment, in the order in which they are named."""
-        soups = [
-            census("soup", f"--seed={seed}", number).decode()
-            for seed, number in (("b", "2"), ("a", "1"))
-        ]
-        self.assertEqual(run("soup", "C1/b2", "a1"), (0, f"!C1/b2\n{soups[0]}!a1\n{soups[1]}", ""))
+        """In one stream they would be one pattern, so they are refused."""
+        status, printed, told = run("soup", "C1/b2", "a1")
+        self.assertEqual((status, printed), (2, ""))
+        self.assertIn("several samples need --separate FOLDER or --rle", told)
+
+    def test_rle(self) -> None:
+        """It has the name and the rule, so several can stand in one stream."""
+        status, printed, told = run("soup", "--rle", "C1/b2/b36s23", "a1")
+        self.assertEqual((status, told), (0, ""))
+        first, second = printed.split("#N a1\n")
+        self.assertTrue(first.startswith("#N C1/b2/b36s23\nx = "))
+        for text, rule, seed, number in (
+            (first, "B36/S23", "b", "2"),
+            (second, "B3/S23", "a", "1"),
+        ):
+            self.assertIn(f", rule = {rule}\n", text)
+            rows, _ = read_rle(text.encode())
+            soup = census("soup", f"--seed={seed}", number).decode().splitlines()
+            self.assertEqual([row.rstrip(".") for row in rows], [row.rstrip(".") for row in soup])
+
+    def test_separate_files(self) -> None:
+        with TemporaryDirectory() as folder:
+            soups = str(Path(folder, "soups"))
+            self.assertEqual(run("soup", "--separate", soups, "C1/b2", "a1"), (0, "", ""))
+            for name, words in (("b2", ("--seed=b", "2")), ("a1", ("--seed=a", "1"))):
+                self.assertEqual(Path(soups, f"{name}.cells").read_bytes(), census("soup", *words))
+            # A file that is there is not written again.
+            Path(soups, "a1.cells").write_text("mine")
+            self.assertEqual(
+                run("soup", "--separate", soups, "a1"),
+                (3, "", f"haul: {soups}/a1.cells: the file exists\n"),
+            )
+            self.assertEqual(Path(soups, "a1.cells").read_text(), "mine")
+            self.assertEqual(run("soup", "--separate", soups, "--rle", "a1"), (0, "", ""))
+            self.assertTrue(Path(soups, "a1.rle").read_text().startswith("#N a1\nx = "))
 
     def test_other_symmetries(self) -> None:
         """They are refused by their names, and nothing is printed of a soup before."""
@@ -55,7 +105,7 @@ class Soups(unittest.TestCase):
         ):
             self.assertEqual(said_of("a1", name), f"{name}: the symmetry is {symmetry}, and not C1")
         self.assertEqual(
-            run("soup", "a1", "D8_1/a1"),
+            run("soup", "--rle", "a1", "D8_1/a1"),
             (3, "", "haul: D8_1/a1: the symmetry is D8_1, and not C1\n"),
         )
 

@@ -427,27 +427,27 @@ class OfSeveral(Tables):
             self.printed("compare", "a", "b"),
             JOBS
             + """\
-code          name            total_a  total_b  per_million_a  per_million_b  b_to_a
-xs4_33        block               500     1000      500000.00     2000000.00    4.00
-xp2_7         blinker              20        2       20000.00        4000.00    0.20
-xp15_4r4z4r4  pentadecathlon        0        4           0.00        8000.00       -
-xq4_153       glider                3        0        3000.00           0.00    0.00
-xs8_rr        bi-block              1        0        1000.00           0.00    0.00
+code          total_a  total_b  per_million_a  per_million_b  b_to_a  name
+xs4_33            500     1000      500000.00     2000000.00    4.00  block
+xp2_7              20        2       20000.00        4000.00    0.20  blinker
+xp15_4r4z4r4        0        4           0.00        8000.00       -  pentadecathlon
+xq4_153             3        0        3000.00           0.00    0.00  glider
+xs8_rr              1        0        1000.00           0.00    0.00  bi-block
 in A alone: xq4_153 xs8_rr; in B alone: xp15_4r4z4r4
 """,
         )
         self.assertEqual(
             self.printed("compare", "--least", "4", "a", "b").splitlines()[5:],
             [
-                "xs4_33        block               500     1000      500000.00     2000000.00    4.00",
-                "xp2_7         blinker              20        2       20000.00        4000.00    0.20",
-                "xp15_4r4z4r4  pentadecathlon        0        4           0.00        8000.00       -",
+                "xs4_33            500     1000      500000.00     2000000.00    4.00  block",
+                "xp2_7              20        2       20000.00        4000.00    0.20  blinker",
+                "xp15_4r4z4r4        0        4           0.00        8000.00       -  pentadecathlon",
                 "in A alone: none; in B alone: xp15_4r4z4r4",
             ],
         )
         self.assertEqual(
             self.printed("compare", "b", "a").splitlines()[5],
-            "xs4_33        block              1000      500     2000000.00      500000.00    0.25",
+            "xs4_33           1000      500     2000000.00      500000.00    0.25  block",
         )
 
     def test_intervals(self) -> None:
@@ -462,7 +462,6 @@ in A alone: xq4_153 xs8_rr; in B alone: xp15_4r4z4r4
             rows["code"],
             [
                 "code",
-                "name",
                 "total_a",
                 "per_million_a",
                 "interval_a",
@@ -470,13 +469,13 @@ in A alone: xq4_153 xs8_rr; in B alone: xp15_4r4z4r4
                 "per_million_b",
                 "interval_b",
                 "b_to_a",
+                "name",
             ],
         )
         self.assertEqual(
             rows["xp2_7"],
             [
                 "xp2_7",
-                "blinker",
                 "20",
                 "20000.00",
                 "~12216.52..30888.38",
@@ -484,13 +483,13 @@ in A alone: xq4_153 xs8_rr; in B alone: xp15_4r4z4r4
                 "4000.00",
                 "~484.42..14449.38",
                 "0.20",
+                "blinker",
             ],
         )
         self.assertEqual(
             rows["xq4_153"],
             [
                 "xq4_153",
-                "glider",
                 "3",
                 "3000.00",
                 "~618.67..8767.27",
@@ -498,9 +497,10 @@ in A alone: xq4_153 xs8_rr; in B alone: xp15_4r4z4r4
                 "0.00",
                 "~0.00..7377.76",
                 "0.00",
+                "glider",
             ],
         )
-        self.assertEqual([code for code, row in rows.items() if row[7].endswith("*")], [])
+        self.assertEqual([code for code, row in rows.items() if row[6].endswith("*")], [])
 
     def test_stars(self) -> None:
         """By parts, under Life with the standard profile, a star is a test by the reference."""
@@ -508,8 +508,8 @@ in A alone: xq4_153 xs8_rr; in B alone: xp15_4r4z4r4
         Path(self.folder.name, "m").write_text(haul("b3s23", 500, {"xs4_33": 700, "xp2_7": 12}))
         lines = self.printed("compare", "--parts", "--intervals", "l", "m").splitlines()
         self.assertEqual(lines[-1], "intervals: 95 %; *: differs from A (p < 0.001)")
-        self.assertEqual(lines[4].split()[-3:], ["one_in", "one_in_low", "one_in_high"])
-        self.assertEqual(lines[5].split()[-3:], ["1.10", "1.10", "1.10"])
+        self.assertEqual(lines[4].split()[-4:], ["one_in", "one_in_low", "one_in_high", "name"])
+        self.assertEqual(lines[5].split()[-4:], ["1.10", "1.10", "1.10", "block"])
         stars = [line.split()[0] for line in lines if "*" in line and line is not lines[-1]]
         self.assertEqual(stars, ["xs4_33"])
         rows = csv.DictReader(self.printed("compare", "--parts", "--csv", "l", "m").splitlines())
@@ -530,8 +530,8 @@ in A alone: xq4_153 xs8_rr; in B alone: xp15_4r4z4r4
         self.assertEqual(lines[-1], "intervals: 95 %; ~: as if objects came singly")
         self.assertNotIn("one_in", lines[4])
         row = next(line.split() for line in lines if line.startswith("xp2_7"))
-        self.assertFalse(row[4].startswith("~"))
-        self.assertTrue(row[7].startswith("~"))
+        self.assertFalse(row[3].startswith("~"))
+        self.assertTrue(row[6].startswith("~"))
 
     def test_parts_are_the_default(self) -> None:
         forms: list[list[str]] = [[], ["--csv"], ["--json"]]
@@ -552,12 +552,12 @@ in A alone: xq4_153 xs8_rr; in B alone: xp15_4r4z4r4
     def test_three(self) -> None:
         lines = self.printed("compare", "a", "b", "c").splitlines()
         self.assertEqual(lines[5], "C: 1000 soups, 1 unsettled, 2 for good, 535 objects")
-        self.assertEqual(lines[6].split()[-2:], ["b_to_a", "c_to_a"])
+        self.assertEqual(lines[6].split()[-3:], ["b_to_a", "c_to_a", "name"])
         self.assertEqual(
             [line.split()[0] for line in lines[7:-2]],
             ["xs4_33", "xp2_7", "xp15_4r4z4r4", "ov_p123", "xq4_153", "xs8_rr"],
         )
-        self.assertEqual(lines[7].split()[-2:], ["4.00", "1.02"])
+        self.assertEqual(lines[7].split()[-3:], ["4.00", "1.02", "block"])
         self.assertEqual(
             lines[-2], "in A alone: xq4_153 xs8_rr; in B alone: xp15_4r4z4r4; in C alone: ov_p123"
         )
@@ -572,7 +572,7 @@ in A alone: xq4_153 xs8_rr; in B alone: xp15_4r4z4r4
             "xq4_153": "glider",
             "xs8_rr": "bi-block",
             "xp15_4r4z4r4": "pentadecathlon",
-            "ov_p123": "not_separated",
+            "ov_p123": "not separated",
         }
         facts = {
             "a": (1000, {"xs4_33": 500, "xp2_7": 20, "xq4_153": 3, "xs8_rr": 1}),
@@ -614,14 +614,14 @@ in A alone: xq4_153 xs8_rr; in B alone: xp15_4r4z4r4
                 wanted.append(
                     " ".join(
                         [
-                            "code name",
+                            "code",
                             *(f"total_{x} per_{per}_{x} interval_{x}" for x in "abc"),
-                            "b_to_a c_to_a",
+                            "b_to_a c_to_a name",
                         ]
                     )
                 )
                 for code in codes:
-                    row, rates = [code, names.get(code, "-")], []
+                    row, rates = [code], []
                     for soups, totals in hauls:
                         total = totals.get(code, 0)
                         low, high = (end / soups * unit for end in ends[total])
@@ -632,6 +632,7 @@ in A alone: xq4_153 xs8_rr; in B alone: xp15_4r4z4r4
                             f"~{shown(low)}..{shown(high)}",
                         ]
                     row += [f"{rate / rates[0]:.2f}" if rates[0] else "-" for rate in rates[1:]]
+                    row.append(names.get(code, "-"))
                     wanted.append(" ".join(row))
                 has = {
                     x: [
@@ -665,7 +666,7 @@ in A alone: xq4_153 xs8_rr; in B alone: xp15_4r4z4r4
         lines = self.printed("compare", "--per", "soup", "a", "b").splitlines()
         self.assertIn("per_soup_a", lines[4])
         self.assertEqual(
-            lines[6].split()[2:8],
+            lines[6].split()[1:7],
             ["20", "0.02", "~0.0122..0.0309", "2", "0.004", "~0.000484..0.0144"],
         )
 
@@ -790,11 +791,11 @@ in A alone: xq4_153 xs8_rr; in B alone: xp15_4r4z4r4
         )
         Path(self.folder.name, "c").write_text(none)
         self.assertEqual(
-            self.printed("compare", "--intervals", "c", "a").splitlines()[5].split()[2:5],
+            self.printed("compare", "--intervals", "c", "a").splitlines()[5].split()[1:4],
             ["0", "0.00", "-"],
         )
         self.assertEqual(
-            self.printed("compare", "a", "c").splitlines()[5].split()[2:],
+            self.printed("compare", "a", "c").splitlines()[5].split()[1:-1],
             ["500", "0", "500000.00", "0.00", "0.00"],
         )
 

@@ -296,10 +296,13 @@ class Compares(unittest.TestCase):
                 [line[1:] for line in there[:4]], [line[1:] for line in (*back[2:4], *back[:2])]
             )
             turned = [
-                [code, name, b, a, rate_b, rate_a]
-                for code, name, a, b, rate_a, rate_b, _ in map(str.split, back[5:-1])
+                [code, b, a, rate_b, rate_a, name]
+                for code, a, b, rate_a, rate_b, _, name in (
+                    line.split(None, 6) for line in back[5:-1]
+                )
             ]
-            self.assertEqual([line.split()[:6] for line in there[5:-1]], turned)
+            rows_there = [line.split(None, 6) for line in there[5:-1]]
+            self.assertEqual([[*row[:5], row[6]] for row in rows_there], turned)
             in_a, in_b = back[-1].split("; ")
             self.assertEqual(there[-1], f"in A{in_b[4:]}; in B{in_a[4:]}")
             rows += len(turned)
@@ -333,8 +336,8 @@ class Compares(unittest.TestCase):
         self.assertEqual(
             rows,
             [
-                ["xp2_7", "blinker", "50", "5", "12500.00", "4995.00", "0.40"],
-                ["xs4_33", "block", "2", "3", "500.00", "2997.00", "5.99"],
+                ["xp2_7", "50", "5", "12500.00", "4995.00", "0.40", "blinker"],
+                ["xs4_33", "2", "3", "500.00", "2997.00", "5.99", "block"],
             ],
         )
 

@@ -11,11 +11,14 @@ from haul.formats.haul import Haul
 from haul.hauls.by_parts import Objects
 from haul.life.parts import Separation
 from haul.names.labels import find_label, mark_label
+from haul.rarity.counted import find_occurrence_of_counted
 from haul.rarity.equal_rates import STARRED_BELOW, compute_p_value
-from haul.rarity.reference import find_dispersion, find_occurrence, is_covered
+from haul.rarity.occurrence import Occurrence
+from haul.rarity.reference import find_dispersion, is_covered
 from haul.views.haul_facts import (
     describe_lettered_job,
     describe_soups,
+    list_csv_facts,
     list_haul_facts,
     list_part_facts,
 )
@@ -40,8 +43,6 @@ from haul.views.rates import MILLION, compute_rate
 LETTERS = "ABCDEFGHIJKLMNOP"
 MOST_HAULS = len(LETTERS)
 UNITS = {"million": MILLION, "soup": 1}
-# The columns of code and name. In those after them a number stands.
-TEXTS = {0, 1}
 # The columns about a haul in each row of comma-separated values: what the text says before its
 # table.
 FACTS = ("seed", "rule", "profile", "soups", "unsettled", "for_good", "objects")
@@ -159,7 +160,10 @@ class Comparison:
         for letter, haul in letter_hauls(self.hauls):
             yield describe_lettered_job(letter, haul)
             yield describe_soups(letter, haul, self.by_parts)
-        yield from align_columns([self.heads(), *map(self.row, self.codes)], TEXTS, 0, width)
+        heads = self.heads()
+        # Numbers stand between the code and the name.
+        texts = {0, len(heads) - 1}
+        yield from align_columns([heads, *map(self.row, self.codes)], texts, 0, width)
         yield self.alone_line()
         if self.has_intervals:
             yield self.explanation()
@@ -177,10 +181,10 @@ class Comparison:
         ]
         return [
             "code",
-            "name",
             *self.arranged(heads),
             *(f"{letter}_to_a" for letter in letters[1:]),
             *(RARITY_HEADS if self.has_rarity() else []),
+            "name",
         ]
 
     def row(self, code: str) -> list[str]:
@@ -190,8 +194,13 @@ class Comparison:
         ]
         ratios = [f"{cell.ratio:.2f}" if cell.ratio is not None else "-" for cell in cells[1:]]
         label = self.label(code) or mark_label("", self.separate(code)) or "-"
-        rarity = list_rarity_words(find_occurrence(code)) if self.has_rarity() else []
-        return [code, label.replace(" ", "_"), *self.arranged(shown), *ratios, *rarity]
+        rarity = list_rarity_words(self.occurrence(code)) if self.has_rarity() else []
+        return [code, *self.arranged(shown), *ratios, *rarity, label]
+
+    def occurrence(self, code: str) -> Occurrence | None:
+        """Returns how often the reference has a code, or `None` if `census` doesn't count such
+        objects."""
+        return find_occurrence_of_counted(code)
 
     def label(self, code: str) -> str:
         return find_label(code, self.separate(code))
@@ -258,8 +267,7 @@ class Comparison:
         for haul, objects, cell in zip(self.hauls, self.objects, cells, strict=True):
             low, high = map(str, cell.ends) if cell.ends else ("", "")
             ratio = "" if cell.ratio is None else str(cell.ratio)
-            facts = [haul.job.seed, haul.job.rule, haul.job.profile.format()]
-            facts += map(str, [haul.soups, haul.unsettled, haul.for_good, haul.objects()])
+            facts = list_csv_facts(haul)
             row += [
                 *facts,
                 str(cell.total),
@@ -271,7 +279,7 @@ class Comparison:
             ]
             row.append(" ".join(objects.separate(code).parts) if code in haul.totals else "")
         p_values = ["" if cell.p_value is None else str(cell.p_value) for cell in cells[1:]]
-        rarity = list_rarity_values(find_occurrence(code)) if self.has_rarity() else []
+        rarity = list_rarity_values(self.occurrence(code)) if self.has_rarity() else []
         return [*row, format_truth(self.by_parts), *p_values, *rarity]
 
     def json(self) -> Iterator[str]:
@@ -301,7 +309,7 @@ class Comparison:
             "ratios": [cell.ratio for cell in cells],
             "differs": [cell.differs for cell in cells],
             "p_values": [cell.p_value for cell in cells],
-            **(list_rarity_facts(find_occurrence(code)) if self.has_rarity() else {}),
+            **(list_rarity_facts(self.occurrence(code)) if self.has_rarity() else {}),
         }
 
 

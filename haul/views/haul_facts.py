@@ -13,13 +13,17 @@ def describe_job(job: Job) -> str:
 
 
 def describe_lettered_job(letter: str, haul: Haul) -> str:
-    return f"{letter}: {describe_job(haul.job)}"
+    job = haul.job
+    if haul.apgsearch:
+        how = f"apgsearch={haul.apgsearch} symmetry={job.symmetry}"
+        return f"{letter}: seed={job.seed} rule={job.rule} {how}"
+    return f"{letter}: {describe_job(job)}"
 
 
 def describe_soups(letter: str, haul: Haul, by_parts: bool = False) -> str:
     soups, objects = pluralize(haul.soups, "soup"), pluralize(haul.objects(), "object")
-    line = f"{letter}: {haul.soups} {soups}, {haul.unsettled} unsettled"
-    line += f", {haul.for_good} for good, {haul.objects()} {objects}"
+    ends = "" if haul.apgsearch else f"{haul.unsettled} unsettled, {haul.for_good} for good, "
+    line = f"{letter}: {haul.soups} {soups}, {ends}{haul.objects()} {objects}"
     return f"{line} by parts" if by_parts else line
 
 
@@ -28,13 +32,28 @@ def list_haul_facts(haul: Haul) -> dict[str, object]:
     return {
         "seed": haul.job.seed,
         "rule": haul.job.rule,
-        "profile": list(haul.job.profile),
-        "ranges": [list(range_) for range_ in haul.ranges],
+        **({"symmetry": haul.job.symmetry, "apgsearch": haul.apgsearch} if haul.apgsearch else {}),
+        "profile": None if haul.apgsearch else list(haul.job.profile),
+        "ranges": None if haul.apgsearch else [list(range_) for range_ in haul.ranges],
         "soups": haul.soups,
-        "unsettled": haul.unsettled,
-        "for_good": haul.for_good,
+        "unsettled": None if haul.apgsearch else haul.unsettled,
+        "for_good": None if haul.apgsearch else haul.for_good,
         "total": make_exact(haul.objects()),
     }
+
+
+def list_csv_facts(haul: Haul) -> list[str]:
+    """Returns the facts for comma-separated values. What a haul of apgsearch doesn't say is
+    empty."""
+    job = haul.job
+    if haul.apgsearch:
+        return [job.seed, job.rule, "", str(haul.soups), "", "", str(haul.objects())]
+    return [
+        job.seed,
+        job.rule,
+        job.profile.format(),
+        *map(str, [haul.soups, haul.unsettled, haul.for_good, haul.objects()]),
+    ]
 
 
 def list_part_facts(objects: Objects) -> dict[str, object]:

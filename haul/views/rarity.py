@@ -9,12 +9,14 @@ from haul.life.parts import Separator
 from haul.names.labels import NOT_SEPARATED, describe_parts
 from haul.names.objects import find_name
 from haul.plurals import pluralize
+from haul.rarity.counted import find_occurrence_of_counted
 from haul.rarity.occurrence import Occurrence, format_one_in
-from haul.rarity.reference import NONE, SOUPS, find_occurrence, load_reference
+from haul.rarity.reference import NONE, SOUPS, load_reference
 
 # The heads of the columns of rarity.
 RARITY_HEADS = ["one_in", "one_in_low", "one_in_high"]
 ROUNDED = 3
+NOT_COUNTED = "no object that `census` counts, so the reference can't have it"
 
 
 def describe_rarity(separator: Separator, code: str) -> Iterator[str]:
@@ -36,7 +38,9 @@ def name_object(code: str) -> str:
 
 def describe_part(code: str) -> str:
     """Returns how often a part occurs, with the interval of 95 %."""
-    occurrence, entry = find_occurrence(code), load_reference().get(code, NONE)
+    occurrence, entry = find_occurrence_of_counted(code), load_reference().get(code, NONE)
+    if occurrence is None:
+        return NOT_COUNTED
     high = occurrence.one_in_high()
     low = occurrence.one_in_low()
     if high is None:
@@ -54,20 +58,29 @@ def round_down(number: float) -> int:
     return int(number) // unit * unit
 
 
-def list_rarity_words(occurrence: Occurrence) -> list[str]:
-    """Returns the three columns for a reader; `none` stands for a number that there isn't."""
+def list_rarity_words(occurrence: Occurrence | None) -> list[str]:
+    """Returns the three columns for a reader. `none` stands for a number that there isn't, and `-`
+    for an object that `census` doesn't count."""
+    if occurrence is None:
+        return ["-"] * len(RARITY_HEADS)
     return [
         "none" if number is None else format_one_in(number) for number in list_numbers(occurrence)
     ]
 
 
-def list_rarity_values(occurrence: Occurrence) -> list[str]:
-    """Returns the three columns of comma-separated values."""
+def list_rarity_values(occurrence: Occurrence | None) -> list[str]:
+    """Returns the three columns of comma-separated values, which are empty for an object that
+    `census` doesn't count."""
+    if occurrence is None:
+        return [""] * len(RARITY_HEADS)
     return ["none" if number is None else str(number) for number in list_numbers(occurrence)]
 
 
-def list_rarity_facts(occurrence: Occurrence) -> dict[str, object]:
-    """Returns the three fields of JSON."""
+def list_rarity_facts(occurrence: Occurrence | None) -> dict[str, object]:
+    """Returns the three fields of JSON, which are null for an object that `census` doesn't
+    count."""
+    if occurrence is None:
+        return dict.fromkeys(RARITY_HEADS)
     return dict(zip(RARITY_HEADS, list_numbers(occurrence), strict=True))
 
 

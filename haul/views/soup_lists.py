@@ -6,13 +6,14 @@ from dataclasses import dataclass, field
 
 from haul.census.client import Census
 from haul.census.soup_runs import find_exact_generations, measure_growths
+from haul.fates.explain import Fates
 from haul.formats.haul import Job
 from haul.formats.report_lines import Report
 from haul.names.objects import find_name
 from haul.plurals import pluralize
 from haul.views.layout import make_exact
 from haul.views.settling import Settling
-from haul.views.soup_table import SoupTable, describe_settling
+from haul.views.soup_table import Row, SoupTable, describe_settling
 
 
 class SoupList:
@@ -58,7 +59,7 @@ class Longest(SoupList):
     def table(self, job: Job | None, _settling: Settling) -> SoupTable:
         """Returns the table by descending generation. If generations are equal, the lower number
         comes first."""
-        rows: list[list[int | None]] = [
+        rows: list[Row] = [
             [soup, checkpoint, objects]
             for checkpoint, soups in self.kept.items()
             for soup, objects in soups
@@ -73,7 +74,7 @@ class Longest(SoupList):
                 [soup, generation, *rest]
                 for (soup, *rest), generation in zip(rows, generations, strict=True)
             ]
-        rows.sort(key=lambda row: (-(row[1] or 0), row[0]))
+        rows.sort(key=lambda row: (-int(row[1] or 0), row[0]))
         return SoupTable("longest", heads, rows[: self.most])
 
 
@@ -83,6 +84,8 @@ class Unsettled(SoupList):
     that."""
 
     census: Census
+    # Whether it says what became of each soup.
+    says_why: bool = False
     soups: list[int] = field(default_factory=list)
 
     def add(self, report: Report) -> None:
@@ -90,7 +93,8 @@ class Unsettled(SoupList):
             self.soups.append(report.soup)
 
     def table(self, job: Job | None, _settling: Settling) -> SoupTable:
-        rows: list[list[int | None]] = []
+        rows: list[Row] = []
+        heads = ["soup", "generation", "population", "growth"]
         if job:
             soups = sorted(self.soups)
             rows = [
@@ -99,7 +103,12 @@ class Unsettled(SoupList):
                     soups, measure_growths(self.census, job, soups), strict=True
                 )
             ]
-        return SoupTable("growth", ["soup", "generation", "population", "growth"], rows)
+        if not self.says_why:
+            return SoupTable("growth", heads, rows)
+        if job:
+            for row, fate in zip(rows, Fates(self.census, job).find_all(soups), strict=True):
+                row.append(fate.kind.value)
+        return SoupTable("growth", [*heads, "kind"], rows)
 
 
 @dataclass
@@ -120,9 +129,7 @@ class Leaving(SoupList):
         title = (
             f"{called}: {total} {pluralize(total, 'object')} in {soups} {pluralize(soups, 'soup')}"
         )
-        rows: list[list[int | None]] = [
-            [soup, number] for soup, number in sorted(self.objects.items())
-        ]
+        rows: list[Row] = [[soup, number] for soup, number in sorted(self.objects.items())]
         return SoupTable(
             "leaving",
             ["soup", "objects"],

@@ -29,15 +29,18 @@ FACTS = [
 LONGEST_BAR = 50
 
 
+# A row of whole numbers, and perhaps a word at its end. A number that isn't known is none.
+Row = list[int | str | None]
+
+
 @dataclass
 class SoupTable:
-    """A table of whole numbers."""
+    """A table of whole numbers, and perhaps of words in its last column."""
 
     # What the list of its rows is called in JSON.
     name: str
     heads: list[str]
-    # A number that isn't known is none.
-    rows: list[list[int | None]]
+    rows: list[Row]
     # A line before the table; none if it is empty.
     title: str = ""
     # What JSON has besides.
@@ -55,12 +58,19 @@ class SoupTable:
         shown = [row + bar for row, bar in zip(rows, bars, strict=True)]
         heads = self.heads + [""] * self.has_bars
         # mutant: equal because without a width no column is cut
-        yield from align_columns([heads, *shown], {len(self.heads)}, 0, None)
+        yield from align_columns([heads, *shown], self.columns_of_text(), 0, None)
+
+    def columns_of_text(self) -> set[int]:
+        """Returns the columns that aren't numbers: that of the bars, and a last one of words."""
+        last = len(self.heads) - 1
+        return {last + 1} | (
+            {last} if any(isinstance(row[last], str) for row in self.rows) else set()
+        )
 
     def bars(self) -> list[str]:
         """Returns a bar for each row. The longest has `LONGEST_BAR` characters, and only that of 0
         is empty."""
-        numbers = [row[-1] or 0 for row in self.rows]
+        numbers = [int(row[-1] or 0) for row in self.rows]
         most = max(numbers)
         return ["#" * -(-number * LONGEST_BAR // most) if number else "" for number in numbers]
 
@@ -71,7 +81,10 @@ class SoupTable:
         yield from format_csv(rows)
 
     def json(self, job: Job | None, settling: Settling) -> Iterator[str]:
-        rows = ([None if cell is None else make_exact(cell) for cell in row] for row in self.rows)
+        rows = (
+            [make_exact(cell) if isinstance(cell, int) else cell for cell in row]
+            for row in self.rows
+        )
         return format_json(
             list_json_facts(job, settling) | self.facts,
             (dict(zip(self.heads, row, strict=True)) for row in rows),

@@ -5,13 +5,13 @@ from __future__ import annotations
 from collections.abc import Iterator
 from dataclasses import dataclass
 
-from haul.formats.codes import read_kind
+from haul.patterns.codes import read_kind
 from haul.formats.haul import Haul
 from haul.hauls.by_parts import Objects
 from haul.life.parts import Separation
 from haul.names.labels import find_label, mark_label
+from haul.rarity.counted import find_occurrence_of_counted
 from haul.rarity.occurrence import Occurrence
-from haul.rarity.reference import find_occurrence
 from haul.views.haul_facts import list_haul_facts, list_part_facts
 from haul.views.layout import (
     align_columns,
@@ -49,7 +49,9 @@ class TableRow:
     one_in_at_most: int
     samples: list[int]
     separation: Separation
-    # How often the reference has the code; none if it doesn't know such soups or objects.
+    # Whether the row says how often the reference has the code, and how often that is: `None` if
+    # `census` doesn't count such objects.
+    has_rarity: bool = False
     occurrence: Occurrence | None = None
 
     def label(self) -> str:
@@ -69,7 +71,7 @@ class TableRow:
         ]
 
     def rarity_words(self) -> list[str]:
-        if self.occurrence is None:
+        if not self.has_rarity:
             return [str(self.one_in_at_most)]
         return list_rarity_words(self.occurrence)
 
@@ -81,9 +83,9 @@ class TableRow:
             str(self.total),
             str(self.per_million),
             *(
-                [str(self.one_in_at_most)]
-                if self.occurrence is None
-                else list_rarity_values(self.occurrence)
+                list_rarity_values(self.occurrence)
+                if self.has_rarity
+                else [str(self.one_in_at_most)]
             ),
             samples,
             self.label(),
@@ -104,9 +106,9 @@ class TableRow:
             "total": make_exact(self.total),
             "per_million": self.per_million,
             **(
-                {"one_in_at_most": self.one_in_at_most}
-                if self.occurrence is None
-                else list_rarity_facts(self.occurrence)
+                list_rarity_facts(self.occurrence)
+                if self.has_rarity
+                else {"one_in_at_most": self.one_in_at_most}
             ),
             "samples": self.samples,
             "label": self.label() or None,
@@ -158,7 +160,7 @@ def choose_rows(
     rows = [make_row(haul, rank, code, separations[code]) for rank, code in shown]
     if has_rarity:
         for row in rows:
-            row.occurrence = find_occurrence(row.code)
+            row.has_rarity, row.occurrence = True, find_occurrence_of_counted(row.code)
     return rows
 
 

@@ -7,8 +7,8 @@ from __future__ import annotations
 
 import re
 
-from haul.formats.plaintext import SIDE, Rows
-from haul.formats.rules import format_rule, parse_rule
+from haul.patterns.plaintext import SIDE, Rows
+from haul.patterns.rules import format_rule, parse_rule
 
 # The longest line that is written.
 LINE_LENGTH = 70

@@ -5,18 +5,32 @@ from __future__ import annotations
 from haul.cli import commands
 from haul.cli.arguments import Argument, Command, Exclusive, flag, option
 from haul.cli.faults import find_fault_of_soups
+from haul.cli.pattern_commands import find_fault_of_soup, run_cells, run_rle, run_soup
 from haul.cli.shared_options import CENSUS, FORMS
-from haul.cli.values import read_code, read_count, read_rule_value
-from haul.formats.rules import LIFE
+from haul.cli.values import read_code, read_count, read_path, read_rule_value
+from haul.patterns.rules import LIFE
 
 SOUP = Command(
     "soup",
     "print the soup of a sample on Catagolue",
-    "The sample is C1/k_abcdef12345, or the part after\nthe slash. If there are several, a comment "
-    "with the sample comes before each soup.\n\n"
-    "example:\n  haul soup C1/k_abcdef12345 | census name",
-    (Argument("samples", "the sample", "ID", repeats="+"),),
-    commands.run_soup,
+    "The sample is C1/k_abcdef12345, or the part after\nthe slash, or the address of its page. A rule "
+    "behind it, as in C1/k_abcdef12345/b36s23, is told\non standard error.\n\n"
+    "examples:\n  haul soup C1/k_abcdef12345 | census name\n"
+    "  haul soup https://catagolue.hatsya.com/hashsoup/C1/k_abcdef12345/b3s23\n"
+    "  haul soup --separate soups C1/k_abcdef12345 C1/k_abcdef12346",
+    (
+        flag("--rle", "print RLE, with the sample and its rule"),
+        option(
+            "--separate",
+            "FOLDER",
+            "write each soup to a file in FOLDER, which is made if it isn't there; "
+            "the file has the name of the sample",
+            read_path,
+        ),
+        Argument("samples", "the sample", "ID", repeats="+"),
+    ),
+    run_soup,
+    find_fault_of_soup,
 )
 
 
@@ -46,6 +60,10 @@ SOUPS = Command(
                 ),
             )
         ),
+        flag(
+            "--why",
+            "with --unsettled: also say what became of each soup, as `haul why` does",
+        ),
         flag("--exact", "with --longest: find the exact generations, as `--stride 1` does"),
         FORMS,
         CENSUS,
@@ -62,13 +80,15 @@ CELLS = Command(
     "error.\nPlaintext passes through without its comments.\n\n"
     "example:\n  haul cells gun.rle | census run 30",
     (Argument("file", "the pattern (default: standard input)", repeats="?"),),
-    commands.run_cells,
+    run_cells,
 )
 
 RLE = Command(
     "rle",
     "print a plaintext pattern as RLE, which Golly and LifeWiki read",
-    "\n\nexample:\n  census show xq4_153 | haul rle > glider.rle",
+    "Coordinates, which\n`census run --coordinates` prints, are read too. They may be those of a pattern of any size.\n\n"
+    "examples:\n  census show xq4_153 | haul rle > glider.rle\n"
+    "  census soup 7778 | census run 14948 --coordinates | haul rle > ash.rle",
     (
         option(
             "--rule",
@@ -79,5 +99,5 @@ RLE = Command(
         ),
         Argument("file", "the pattern (default: standard input)", repeats="?"),
     ),
-    commands.run_rle,
+    run_rle,
 )

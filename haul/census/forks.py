@@ -1,0 +1,84 @@
+"""Work in processes that are forked from this one, so that several processors do it."""
+
+from __future__ import annotations
+
+import os
+import pickle
+import signal
+from collections.abc import Callable
+from typing import NoReturn, TypeVar
+
+from haul.census.children import children
+from haul.census.launcher import PR_SET_PDEATHSIG, SIGKILL, call_prctl
+
+Result = TypeVar("Result")
+# How a process ends that has done its work, that had no memory for it, or that failed otherwise.
+DONE, NO_MEMORY, FAILED = 0, 4, 5
+
+
+class Fork:
+    """A forked process, which `children` can end like the others."""
+
+    def __init__(self, pid: int) -> None:
+        self.pid = pid
+        self.status: int | None = None
+
+    def poll(self) -> int | None:
+        """Returns how the process has ended; `None` if it hasn't been waited for."""
+        return self.status
+
+    def wait(self) -> int:
+        _, ended = os.waitpid(self.pid, 0)
+        self.status = os.waitstatus_to_exitcode(ended)
+        return self.status
+
+
+def work_apart(work: Callable[[], Result]) -> Result:
+    """Does work in a process of its own, and returns its result. Raises `OSError` if no process can
+    be started or if it is killed, and `MemoryError` if it has no memory."""
+    reading, writing = os.pipe()
+    try:
+        with children.starts:
+            parent = os.getpid()
+            pid = os.fork()
+            if pid == 0:
+                become_worker(work, writing, parent)
+            fork = Fork(pid)
+            children.running.append(fork)
+    except OSError:
+        os.close(reading)
+        raise
+    finally:
+        os.close(writing)
+    try:
+        with open(reading, "rb") as pipe:
+            printed = pipe.read()
+    finally:
+        status = fork.wait()
+        children.running.remove(fork)
+    if status == NO_MEMORY:
+        raise MemoryError
+    if status != DONE:
+        raise OSError(None, "a process that looks at a soup was ended")
+    result: Result = pickle.loads(printed)
+    return result
+
+
+def become_worker(work: Callable[[], Result], writing: int, parent: int) -> NoReturn:
+    """Does the work, writes its result to a pipe, and ends this process. It ends with its parent,
+    which is the one that hears of Ctrl-C."""
+    status = FAILED
+    try:
+        signal.set_wakeup_fd(-1)
+        signal.signal(signal.SIGINT, signal.SIG_IGN)
+        for number in (signal.SIGTERM, signal.SIGHUP):
+            signal.signal(number, signal.SIG_DFL)
+        call_prctl(PR_SET_PDEATHSIG, SIGKILL)
+        if os.getppid() == parent:
+            with open(writing, "wb") as pipe:
+                pickle.dump(work(), pipe)
+            status = DONE
+    except MemoryError:
+        status = NO_MEMORY
+    finally:
+        os._exit(status)

@@ -1,0 +1,163 @@
+"""What `haul check` does with hauls and with an index, and what `haul index` does."""
+
+from __future__ import annotations
+
+import argparse
+from collections.abc import Iterator
+
+from haul.census.client import Census
+from haul.cli.statuses import DONE, NOT_RIGHT, REFUSED, USAGE
+from haul.cli.streams import Refused, Streams, format_place
+from haul.formats.field_reader import BadHaul
+from haul.formats.haul import Haul, Range
+from haul.formats.index import Index, compute_digest, format_index, is_index, name_part, read_index
+from haul.hauls.apgsearch_check import ApgsearchCheck, CantCheck
+from haul.hauls.check import find_wrong_samples, list_differences, retake
+from haul.hauls.file_choice import FileChoice
+from haul.hauls.indexing import CantIndex, Indexing
+
+
+RIGHT = "right"
+
+
+def run_check(asked: argparse.Namespace, streams: Streams) -> int:
+    if asked.files and is_index(asked.files[0]):
+        return run_index_check(asked, streams)
+    if len(asked.files) <= 1 and asked.random is None:
+        lines = check_haul(asked, streams, asked.files[0] if asked.files else None)
+        streams.write_lines(lines)
+        return DONE if lines == [RIGHT] else NOT_RIGHT
+    files = asked.files
+    if asked.random is not None:
+        choice = FileChoice(files, asked.random, asked.choice)
+        streams.write_lines([choice.text()])
+        streams.stdout.flush()
+        files = choice.choose()
+    return find_worst_status([check_one_file(asked, streams, name) for name in files])
+
+
+def check_one_file(asked: argparse.Namespace, streams: Streams, name: str) -> int:
+    """Checks one of several files, and returns the status for it. What is said begins with its
+    name."""
+    try:
+        lines = check_haul(asked, streams, name)
+    except Refused as why:
+        place = format_place(name)
+        streams.terminal.complain(str(why) if str(why).startswith(place) else f"{place}{why}")
+        return REFUSED
+    streams.write_lines(f"{name}: {line}" for line in lines)
+    streams.stdout.flush()
+    return DONE if lines == [RIGHT] else NOT_RIGHT
+
+
+def find_worst_status(statuses: list[int]) -> int:
+    """Returns the status for several files: a wrong haul counts more than a refused text."""
+    return max(statuses, default=DONE)
+
+
+def check_haul(asked: argparse.Namespace, streams: Streams, name: str | None) -> list[str]:
+    """Returns what `haul check` says of a haul."""
+    haul = streams.read_haul(name)
+    if haul.apgsearch:
+        return check_apgsearch_haul(asked, streams, haul, name)
+    if asked.totals:
+        raise Refused(f"{format_place(name)}--totals is for hauls of apgsearch")
+    census = Census(asked.census, streams.terminal)
+    if asked.samples:
+        wrong = list(find_wrong_samples(census, haul))
+    elif haul.soups != haul.size():
+        raise Refused(
+            f"{format_place(name)}haul with missing soups, which can't be taken again; --samples "
+            "runs its sample soups"
+        )
+    else:
+        wrong = list(list_differences(haul, retake(census, haul, asked.workers)))
+    return wrong or [RIGHT]
+
+
+def check_apgsearch_haul(
+    asked: argparse.Namespace, streams: Streams, haul: Haul, name: str | None
+) -> list[str]:
+    """Returns what `haul check` says of a haul of apgsearch, by its samples or by its totals."""
+    if not asked.samples and not asked.totals:
+        raise Refused(
+            f"{format_place(name)}a haul of apgsearch doesn't name its soups: --samples runs its "
+            "sample soups, and --totals takes a census of as many soups"
+        )
+    try:
+        check = ApgsearchCheck(Census(asked.census, streams.terminal), haul)
+        if asked.totals:
+            return list(check.find_other_totals(asked.first or 0, asked.workers)) or [RIGHT]
+        unchecked = check.list_unchecked()
+        if unchecked:
+            streams.terminal.complain(
+                f"{format_place(name)}not checked, since census doesn't count such objects: "
+                f"{' '.join(unchecked)}"
+            )
+        return list(check.find_wrong_samples()) or [RIGHT]
+    except CantCheck as why:
+        raise Refused(f"{format_place(name)}{why}") from None
+
+
+def run_index(asked: argparse.Namespace, streams: Streams) -> int:
+    indexing = Indexing()
+    for name in asked.files or [None]:
+        try:
+            indexing.add(streams.read_haul(name))
+        except CantIndex as why:
+            raise Refused(f"{format_place(name)}{why}") from None
+    streams.write_lines(format_index(indexing.result()))
+    return DONE
+
+
+def run_index_check(asked: argparse.Namespace, streams: Streams) -> int:
+    """Checks an index: its parts, or the hauls that are given after it."""
+    name, *hauls = asked.files
+    with streams.open_input(name) as stream:
+        try:
+            index = read_index(stream)
+        except BadHaul as bad:
+            raise Refused(f"{format_place(name)}{bad}") from None
+    if hauls:
+        # Each haul is read before the first line is printed.
+        return report(list(compare_hauls(streams, index, hauls)), streams)
+    parts = list(index.parts)
+    if asked.random is not None:
+        if asked.random > len(parts):
+            streams.terminal.complain(f"--random {asked.random} is more than there are parts")
+            return USAGE
+        choice = FileChoice(list(map(name_part, parts)), asked.random, asked.choice, "part")
+        streams.write_lines([choice.text()])
+        chosen = set(choice.choose())
+        parts = [part for part in parts if name_part(part) in chosen]
+    return report(retake_parts(asked, streams, index, parts), streams)
+
+
+def report(found: Iterator[tuple[Range, bool]] | list[tuple[Range, bool]], streams: Streams) -> int:
+    """Writes a line for each part, as soon as it is known whether it is right."""
+    status = DONE
+    for part, is_right in found:
+        streams.write_lines([f"{name_part(part)}: {'right' if is_right else 'other digest'}"])
+        streams.stdout.flush()
+        status = status if is_right else NOT_RIGHT
+    return status
+
+
+def compare_hauls(streams: Streams, index: Index, names: list[str]) -> Iterator[tuple[Range, bool]]:
+    """Yields the part of each of these hauls, and whether the haul has the digest of the index."""
+    for name in names:
+        haul = streams.read_haul(name)
+        if haul.job != index.job or len(haul.ranges) != 1 or haul.ranges[0] not in index.parts:
+            raise Refused(f"{format_place(name)}no part of the index")
+        part = haul.ranges[0]
+        yield part, compute_digest(haul) == index.parts[part]
+
+
+def retake_parts(
+    asked: argparse.Namespace, streams: Streams, index: Index, parts: list[Range]
+) -> Iterator[tuple[Range, bool]]:
+    """Takes the census of each part again, and yields whether it has the digest of the index."""
+    census = Census(asked.census, streams.terminal)
+    for part in parts:
+        right = retake(census, Haul(index.job, ranges=[part]), asked.workers)
+        yield part, compute_digest(right) == index.parts[part]

@@ -1,0 +1,93 @@
+"""What the commands about patterns do: `soup`, `cells` and `rle`."""
+
+from __future__ import annotations
+
+import argparse
+import os
+from pathlib import Path
+
+from haul.cli.statuses import DONE
+from haul.cli.streams import Refused, Streams, format_place
+from haul.life.catagolue_soups import BadSample, Sample, read_sample
+from haul.patterns.coordinates import (
+    BadCoordinates,
+    format_rle_of_cells,
+    is_coordinates,
+    read_coordinates,
+)
+from haul.patterns.plaintext import BadPlaintext, is_plaintext, read_plaintext
+from haul.patterns.rle import BadRle, format_rle, read_rle
+from haul.patterns.rules import LIFE, parse_rule
+
+
+def run_soup(asked: argparse.Namespace, streams: Streams) -> int:
+    try:
+        samples = [read_sample(name) for name in asked.samples]
+    except BadSample as bad:
+        raise Refused(str(bad)) from None
+    if asked.separate is not None:
+        write_files(samples, Path(asked.separate), asked.rle)
+    else:
+        for sample in samples:
+            streams.write_lines(list_lines(sample, asked.rle))
+    if not asked.rle:
+        for sample in samples:
+            if sample.rule_or_life() != LIFE:
+                streams.terminal.complain(f"{sample.name}: the rule is --rule {sample.rule}")
+    return DONE
+
+
+def list_lines(sample: Sample, is_rle: bool) -> list[str]:
+    """Returns the lines of a soup, as RLE or as plaintext. Only RLE has the name and the rule."""
+    if not is_rle:
+        return sample.rows()
+    return [f"#N {sample.name}", *format_rle(sample.rows(), sample.rule_or_life())]
+
+
+def write_files(samples: list[Sample], folder: Path, is_rle: bool) -> None:
+    """Writes each soup to a file of its own in a folder, which is made if it isn't there. A file
+    that is there stays as it is."""
+    folder.mkdir(exist_ok=True)
+    for sample in samples:
+        path = folder / f"{sample.text}.{'rle' if is_rle else 'cells'}"
+        if os.path.lexists(path):
+            raise Refused(f"{path}: the file exists")
+        path.write_text("".join(f"{line}\n" for line in list_lines(sample, is_rle)), "ascii")
+
+
+def find_fault_of_soup(asked: argparse.Namespace) -> str | None:
+    if len(asked.samples) > 1 and asked.separate is None and not asked.rle:
+        return (
+            "several samples need --separate FOLDER or --rle, since census reads several patterns in "
+            "plaintext as one"
+        )
+    return None
+
+
+def run_cells(asked: argparse.Namespace, streams: Streams) -> int:
+    text = streams.read_pattern(asked.file)
+    rule: str | None = None
+    try:
+        if is_plaintext(text):
+            rows = read_plaintext(text)
+        else:
+            rows, rule = read_rle(text)
+    except (BadPlaintext, BadRle) as bad:
+        raise Refused(f"{format_place(asked.file)}{bad}") from None
+    if rule is not None and parse_rule(rule) != LIFE:
+        streams.terminal.complain(f"rule {rule} is --rule {parse_rule(rule)}")
+    streams.write_lines(rows)
+    return DONE
+
+
+def run_rle(asked: argparse.Namespace, streams: Streams) -> int:
+    try:
+        with streams.open_pattern(asked.file) as (text, lines):
+            if is_coordinates(text):
+                rle = format_rle_of_cells(read_coordinates(lines), asked.rule)
+            else:
+                rle = iter(format_rle(read_plaintext(text), asked.rule))
+    except (BadPlaintext, BadCoordinates) as bad:
+        raise Refused(f"{format_place(asked.file)}{bad}") from None
+    streams.write_lines(rle)
+    return DONE

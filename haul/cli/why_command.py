@@ -1,0 +1,152 @@
+"""The command `why`, and what it does."""
+
+from __future__ import annotations
+
+import argparse
+from collections.abc import Iterator
+
+from haul.census.client import Census
+from haul.cli.arguments import Argument, Command, option
+from haul.cli.faults import find_fault_of_why
+from haul.cli.shared_options import CENSUS, FORMS, list_profile_options
+from haul.cli.statuses import DONE
+from haul.cli.streams import Refused, Streams, format_place
+from haul.cli.values import read_count, read_path, read_rule_value, read_seed, read_subject
+from haul.fates.explain import Fates, TooLate
+from haul.fates.fate import Kind
+from haul.patterns.coordinates import BadCoordinates, is_coordinates, read_coordinates
+from haul.formats.haul import Job
+from haul.patterns.plaintext import SIDE, BadPlaintext, Rows, is_plaintext, read_plaintext
+from haul.formats.profile import STANDARD, Profile
+from haul.formats.report_files import Reports
+from haul.patterns.rle import BadRle, read_rle
+from haul.patterns.rules import LIFE, parse_rule
+from haul.views.fates import FateTable
+
+# So many soups of a file are explained, unless another number is asked for.
+USUAL_MOST = 20
+
+
+def run_why(asked: argparse.Namespace, streams: Streams) -> int:
+    census = Census(asked.census, streams.terminal)
+    try:
+        table = (
+            explain_pattern(asked, streams, census)
+            if asked.pattern is not None
+            else explain_file(asked, streams, census)
+            if isinstance(asked.soups[0], str)
+            else explain_soups(asked, census)
+        )
+    except TooLate as why:
+        raise Refused(str(why)) from None
+    streams.write_lines(table.csv() if asked.csv else table.json() if asked.json else table.text())
+    return DONE
+
+
+def explain_soups(asked: argparse.Namespace, census: Census) -> FateTable:
+    job = Job(asked.seed or "", asked.rule or LIFE, read_profile(asked))
+    fates = Fates(census, job)
+    return FateTable(job, list(zip(asked.soups, fates.find_all(asked.soups), strict=True)))
+
+
+def explain_file(asked: argparse.Namespace, streams: Streams, census: Census) -> FateTable:
+    """Explains the unsettled soups with the lowest numbers in a file of report lines."""
+    (name,) = asked.soups
+    reports = Reports(streams.terminal)
+    with streams.open_input(name) as stream:
+        unsettled = [
+            report.soup
+            for report in reports.read(stream, format_place(name))
+            if report.settled is None
+        ]
+    reports.tell_skipped()
+    if reports.job is None:
+        return FateTable(None, [])
+    soups = sorted(unsettled)[: USUAL_MOST if asked.most is None else asked.most]
+    found = list(zip(soups, Fates(census, reports.job).find_all(soups), strict=True))
+    for soup, fate in found:
+        if fate.kind is Kind.SETTLED:
+            streams.terminal.complain(
+                f"{format_place(name)}soup {soup} isn't unsettled: its line is wrong"
+            )
+    return FateTable(reports.job, found)
+
+
+def explain_pattern(asked: argparse.Namespace, streams: Streams, census: Census) -> FateTable:
+    rows, rule = read_any_pattern(asked.pattern, streams)
+    job = Job("", asked.rule or rule or LIFE, read_profile(asked))
+    pattern = "".join(f"{row}\n" for row in rows).encode("ascii")
+    return FateTable(job, [(asked.pattern, Fates(census, job).find(pattern))], is_of_pattern=True)
+
+
+def read_any_pattern(name: str, streams: Streams) -> tuple[Rows, str | None]:
+    """Reads a pattern in any format, and the rule that stands in it."""
+    try:
+        with streams.open_pattern(name) as (text, lines):
+            if is_coordinates(text):
+                return draw_columns(lines), None
+            if is_plaintext(text):
+                return read_plaintext(text), None
+            rows, rule = read_rle(text)
+            return rows, None if rule is None else parse_rule(rule)
+    except (BadPlaintext, BadRle, BadCoordinates) as bad:
+        raise Refused(f"{format_place(name)}{bad}") from None
+
+
+def draw_columns(lines: Iterator[bytes]) -> Rows:
+    """Draws coordinates. Raises `BadPlaintext` if the pattern is too large."""
+    rows = read_coordinates(lines)
+    left, right = min(min(row) for row in rows.values()), max(max(row) for row in rows.values())
+    top, bottom = min(rows), max(rows)
+    if right - left >= SIDE or bottom - top >= SIDE:
+        raise BadPlaintext(f"pattern larger than {SIDE} by {SIDE}")
+    return [
+        "".join("O" if x in rows.get(y, ()) else "." for x in range(left, right + 1))
+        for y in range(top, bottom + 1)
+    ]
+
+
+def read_profile(asked: argparse.Namespace) -> Profile:
+    numbers = zip((getattr(asked, name) for name in Profile._fields), STANDARD, strict=True)
+    return Profile._make(usual if said is None else said for said, usual in numbers)
+
+
+WHY = Command(
+    "why",
+    "say why soups are unsettled, or why a pattern is",
+    "Each soup has a line: it `settled`, an object\n`falls apart`, or has a `period` that is too long, "
+    "it `settles` soon, shows `linear growth`,\n`collides soon` or is `still active`; and then what "
+    "explains that. Soups are given by their\nnumbers, or by a FILE of report lines, such as the "
+    "FILE.late of `haul search`.\n\n"
+    "examples:\n  haul why 33569\n  haul why --most 5 mine.haul.late\n  haul why --pattern gun.rle",
+    (
+        option("--seed", "SEED", "the seed of the soups (default: the empty seed)", read_seed),
+        option(
+            "--rule", "RULE", "the rule, such as b36s23 (default: b3s23, Life)", read_rule_value
+        ),
+        *list_profile_options("the profile's"),
+        option(
+            "--pattern",
+            "FILE",
+            "explain a pattern, in plaintext, RLE or coordinates (`-`: standard input)",
+            read_path,
+        ),
+        option(
+            "--most",
+            "N",
+            f"explain the first N unsettled soups of FILE (default: {USUAL_MOST})",
+            read_count,
+        ),
+        FORMS,
+        CENSUS,
+        Argument(
+            "soups",
+            "the number of a soup, or a file of report lines",
+            "SOUP|FILE",
+            read_subject,
+            repeats="*",
+        ),
+    ),
+    run_why,
+    find_fault_of_why,
+)

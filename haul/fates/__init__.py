@@ -1,0 +1,1 @@
+"""`haul why`: what becomes of soups that a census calls unsettled."""

@@ -1,0 +1,99 @@
+"""The fates of soups, and how they are told."""
+
+from __future__ import annotations
+
+from collections import Counter
+from dataclasses import dataclass
+from enum import Enum
+
+from haul.fates.growth import Growth
+from haul.fates.rest import Rest
+from haul.names.objects import find_name
+from haul.plurals import write_count
+
+# `census run` takes at most this number of generations.
+MOST_GENERATIONS = 100_000
+USUAL_LIMIT = 30_300
+
+
+class Kind(Enum):
+    """The kinds of fates, as they are printed."""
+
+    SETTLED = "settled"
+    FALLS_APART = "falls apart"
+    PERIOD = "period"
+    SETTLES = "settles"
+    GROWS = "linear growth"
+    COLLIDES = "collides soon"
+    ACTIVE = "still active"
+
+
+@dataclass(frozen=True)
+class Fate:
+    """What becomes of a pattern: the kind, and what explains it."""
+
+    kind: Kind
+    why: str
+
+    def text(self) -> str:
+        """Returns the fate as a line has it, such as `settled 1818` or `collides soon: generation
+        30512`."""
+        between = " " if self.kind in (Kind.SETTLED, Kind.PERIOD, Kind.SETTLES) else ": "
+        return f"{self.kind.value}{between}{self.why}"
+
+
+@dataclass(frozen=True)
+class Size:
+    """How large a pattern is: its cells, and the columns and rows of its bounding box."""
+
+    cells: int
+    width: int
+    height: int
+
+
+def tell_settled(checkpoint: int) -> Fate:
+    return Fate(Kind.SETTLED, str(checkpoint))
+
+
+def tell_rest(rest: Rest, limit: int) -> Fate:
+    """Tells of a pattern whose groups recur, and don't meet."""
+    if rest.apart:
+        objects = [name_object(code, count) for code, count in sorted(Counter(rest.apart).items())]
+        return Fate(Kind.FALLS_APART, ", ".join([*objects, *map(name_period, list_periods(rest))]))
+    if rest.periods:
+        return Fate(Kind.PERIOD, ", ".join(map(str, list_periods(rest))))
+    return Fate(Kind.SETTLES, f"after {limit}")
+
+
+def list_periods(rest: Rest) -> list[int]:
+    return sorted(set(rest.periods))
+
+
+def name_period(period: int) -> str:
+    return f"{Kind.PERIOD.value} {period}"
+
+
+def name_object(code: str, count: int) -> str:
+    """Writes a code and the name of its object, with a number if there are several."""
+    several = f"{count} " if count > 1 else ""
+    name = find_name(code)
+    return f"{several}{code}" + (f" ({name})" if name else "")
+
+
+def tell_growth(growth: Growth) -> Fate:
+    rate = (
+        f"+{write_count(growth.cells, 'cell')} in {write_count(growth.generations, 'generation')}"
+    )
+    engine = growth.engine()
+    return Fate(Kind.GROWS, f"{rate} ({engine})" if engine else rate)
+
+
+def tell_collision(generation: int) -> Fate:
+    return Fate(Kind.COLLIDES, f"generation {generation}")
+
+
+def tell_activity(size: Size, limit: int) -> Fate:
+    """Tells that nothing else was found, and which limit may show more."""
+    more = min(max(2 * limit, USUAL_LIMIT), MOST_GENERATIONS)
+    extent = f"{write_count(size.cells, 'cell')}, {size.width:,} by {size.height:,}"
+    return Fate(Kind.ACTIVE, f"{extent}; try --limit {more}")

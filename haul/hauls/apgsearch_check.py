@@ -1,0 +1,93 @@
+"""Checks a haul of apgsearch: its samples one by one, or its totals by a census of the same
+soups."""
+
+from __future__ import annotations
+
+from collections.abc import Iterator
+from dataclasses import replace
+
+from haul.census.client import Census
+from haul.patterns.codes import is_large
+from haul.formats.haul import NUMBER_LIMIT, SYMMETRY, Haul
+from haul.formats.syntax import SEED
+from haul.hauls.by_parts import Objects
+from haul.hauls.check import find_codes_left, retake
+from haul.life.generations import read_rule
+from haul.life.parts import Separator, is_counted, read_object
+from haul.plurals import pluralize
+
+LINEAR_GROWTH = "linear growth isn't counted here"
+FALLS_APART = "it is several clusters in every phase"
+NO_CODE = "census has no such code"
+
+
+class CantCheck(Exception):
+    """Why a haul of apgsearch can't be checked."""
+
+
+def refuse_unchecked(haul: Haul) -> None:
+    """Raises `CantCheck` if `census` can't run the soups of a haul."""
+    if haul.job.symmetry != SYMMETRY:
+        raise CantCheck(f"the symmetry is {haul.job.symmetry}, and census runs {SYMMETRY} only")
+    if not SEED.fullmatch(f"seed={haul.job.seed}".encode("ascii")):
+        raise CantCheck("the seed is longer than 64 bytes")
+
+
+class ApgsearchCheck:
+    """A check of one haul."""
+
+    def __init__(self, census: Census, haul: Haul) -> None:
+        refuse_unchecked(haul)
+        self.census = census
+        self.haul = haul
+        self.rule = read_rule(haul.job.rule)
+
+    def find_wrong_samples(self) -> Iterator[str]:
+        """Yields the samples whose soup leaves no part of the code."""
+        samples = {
+            code: numbers for code, numbers in self.haul.samples.items() if self.is_known(code)
+        }
+        left = find_codes_left(self.census, replace(self.haul, samples=samples))
+        separator = Separator(self.rule)
+        parts = {
+            number: {part for code in codes for part in separator.separate(code).parts}
+            for number, codes in left.items()
+        }
+        for code, numbers in samples.items():
+            for number in numbers:
+                if code not in parts[number]:
+                    yield f"{code}: soup {number} leaves no such part"
+
+    def list_unchecked(self) -> list[str]:
+        """Returns the codes whose samples aren't checked, because `census` doesn't count such
+        objects."""
+        return [code for code in self.haul.samples if not self.is_known(code)]
+
+    def find_other_totals(self, first: int, workers: int) -> Iterator[str]:
+        """Takes the census of as many soups, from number `first` on, and yields each code whose
+        total by parts is another one, with the reason if it is known."""
+        if first + self.haul.soups > NUMBER_LIMIT:
+            raise CantCheck("census can't run so many soups")
+        job = self.haul.job
+        ranges = [(first, self.haul.soups)] if self.haul.soups else []
+        taken = retake(self.census, Haul(job, ranges=ranges), workers)
+        here = Objects(taken, self.census.terminal).by_parts().totals
+        for code in sorted(self.haul.totals.keys() | here.keys()):
+            there = self.haul.totals.get(code, 0)
+            if there != here.get(code, 0):
+                reason = self.find_reason(code, taken.unsettled)
+                yield f"{code}: {there}, and {here.get(code, 0)} here" + (
+                    f" ({reason})" if reason else ""
+                )
+
+    def is_known(self, code: str) -> bool:
+        """Checks whether `census` counts objects of a code."""
+        return is_counted(self.rule, code)
+
+    def find_reason(self, code: str, unsettled: int) -> str:
+        """Returns why a total may be another one here."""
+        if code.startswith("yl"):
+            return LINEAR_GROWTH
+        if not is_large(code) and not self.is_known(code):
+            return FALLS_APART if read_object(self.rule, code) else NO_CODE
+        return f"{unsettled} {pluralize(unsettled, 'soup')} unsettled here" if unsettled else ""

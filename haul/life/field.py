@@ -1,0 +1,95 @@
+"""A pattern that runs for hundreds of generations. Each generation takes time only for cells near
+those that changed in the one before, since most of what a soup leaves is still.
+
+A cell is one number here: its row times `ROW`, plus its column. """
+
+from __future__ import annotations
+
+from collections.abc import Iterable
+from typing import NamedTuple
+
+from haul.life.cells import Cell, Cells
+from haul.life.generations import Rule
+
+# Every column is between half of this and its negative, since no pattern runs for as many
+# generations.
+ROW = 2**20
+# From a cell to its eight neighbours, and to all cells that are at most two columns and two rows
+# away.
+NEIGHBOURS = tuple(dy * ROW + dx for dy in (-1, 0, 1) for dx in (-1, 0, 1) if (dx, dy) != (0, 0))
+NEAR = tuple(dy * ROW + dx for dy in range(-2, 3) for dx in range(-2, 3) if (dx, dy) != (0, 0))
+
+
+# A pattern with more cells isn't run, since it would take minutes.
+MOST_CELLS = 100_000
+
+
+class TooManyCells(Exception):
+    """A pattern has grown too large to run."""
+
+
+class Change(NamedTuple):
+    """The cells that are born in a generation, and those that die."""
+
+    births: list[int]
+    deaths: list[int]
+
+
+def pack(cell: Cell) -> int:
+    x, y = cell
+    return y * ROW + x
+
+
+def unpack(number: int) -> Cell:
+    x = (number + ROW // 2) % ROW - ROW // 2
+    return x, (number - x) // ROW
+
+
+def unpack_all(numbers: Iterable[int]) -> Cells:
+    return frozenset(map(unpack, numbers))
+
+
+class Field:
+    """A pattern under a rule, which goes on from generation to generation."""
+
+    def __init__(self, rule: Rule, cells: Iterable[int]) -> None:
+        self.rule = rule
+        self.live = set(cells)
+        # How many live neighbours cells have; nothing for most cells that have none.
+        self.counts: dict[int, int] = {}
+        self.changed = list(self.live)
+        self.count(self.changed, 1)
+
+    def count(self, cells: list[int], change: int) -> None:
+        """Changes the counts of the neighbours of these cells."""
+        counts = self.counts
+        for cell in cells:
+            for step in NEIGHBOURS:
+                counts[cell + step] = counts.get(cell + step, 0) + change
+
+    def step(self) -> Change:
+        """Goes on by a generation, and returns what has changed. Raises `TooManyCells` if the pattern
+        is too large for that."""
+        live, counts = self.live, self.counts
+        if len(live) > MOST_CELLS:
+            raise TooManyCells
+        births, survivals = self.rule.births, self.rule.survivals
+        touched = set(self.changed)
+        for cell in self.changed:
+            touched.update([cell + step for step in NEIGHBOURS])
+        born = [c for c in touched if c not in live and counts.get(c, 0) in births]
+        dead = [c for c in touched if c in live and counts.get(c, 0) not in survivals]
+        live.update(born)
+        live.difference_update(dead)
+        self.count(born, 1)
+        self.count(dead, -1)
+        self.changed = born + dead
+        return Change(born, dead)
+
+
+def find_move(one: set[int], other: set[int]) -> int | None:
+    """Returns by how much one pattern has to be moved to be the other; `None` if no move does it."""
+    if len(one) != len(other):
+        return None
+    move = min(other) - min(one)
+    return move if all(cell + move in other for cell in one) else None

@@ -1,0 +1,262 @@
+"""The section *Long lives* of a page: the late and the unsettled soups that a search has kept."""
+
+from __future__ import annotations
+
+from collections import Counter
+from collections.abc import Iterator
+from dataclasses import dataclass, field
+from html import escape
+
+from haul.census.client import Census
+from haul.census.soup_runs import draw_soup, find_exact_generation
+from haul.fates.explain import Fates
+from haul.fates.fate import Fate, Kind
+from haul.formats.haul import Haul, Job
+from haul.search.late import ONLY_UNSETTLED, Late, LateLine
+from haul.formats.report_lines import read_report_line
+from haul.life.drawing import draw_path
+from haul.life.soups import SOUP_SIDE, make_soup
+from haul.plurals import write_count
+
+# So many of the longest-lived soups, and of the unsettled ones, are shown.
+MOST_SHOWN = 20
+# The chart of lifespans: how many bars it has about, and its size.
+BARS, WIDTH, HEIGHT = 24, 640, 100
+TIDY_STEPS = (100, 200, 500, 1000, 2000, 5000, 10_000)
+KINDS = {
+    Kind.FALLS_APART: "An object falls apart",
+    Kind.PERIOD: "The period is too long",
+    Kind.SETTLES: "Settles after the limit",
+    Kind.GROWS: "Linear growth",
+    Kind.COLLIDES: "Objects collide soon",
+    Kind.ACTIVE: "Still active",
+    Kind.SETTLED: "Settled after all",
+}
+
+
+@dataclass
+class LongLife:
+    """A soup that settled late."""
+
+    soup: int
+    checkpoint: int
+    objects: int
+    # The generation in which it settled exactly, and the number of cells there; none if its line is
+    # wrong, since it doesn't settle.
+    generation: int | None = None
+    cells: int = 0
+
+
+@dataclass
+class Lives:
+    """What the section shows."""
+
+    job: Job
+    late: Late
+    longest: list[LongLife] = field(default_factory=list)
+    unsettled: list[tuple[int, Fate]] = field(default_factory=list)
+
+    def soups(self) -> list[int]:
+        """Returns the soups that play, in the order in which they are listed."""
+        ordered = [soup for _, soups in self.by_kind() for soup, _ in soups]
+        return [*(life.soup for life in self.longest), *ordered]
+
+    def by_kind(self) -> list[tuple[Kind, list[tuple[int, Fate]]]]:
+        """Returns the unsettled soups by the kinds of their fates."""
+        groups = [
+            (kind, [(soup, fate) for soup, fate in self.unsettled if fate.kind is kind])
+            for kind in KINDS
+        ]
+        return [(kind, soups) for kind, soups in groups if soups]
+
+    def checkpoints(self) -> list[int]:
+        return [line.settled for line in self.late.lines if line.settled is not None]
+
+    def count_unsettled(self) -> int:
+        return len(self.late.lines) - len(self.checkpoints())
+
+
+def find_lives(census: Census, haul: Haul, late: Late) -> tuple[Lives, list[str]]:
+    """Returns what the section shows of the late soups of a haul, and what is wrong with their
+    lines."""
+    lives = Lives(haul.job, late)
+    settled = sorted(
+        (line for line in late.lines if line.settled is not None),
+        key=lambda line: (-(line.settled or 0), line.soup),
+    )
+    lives.longest = [read_life(line) for line in settled[:MOST_SHOWN]]
+    unsettled = [line.soup for line in late.lines if line.settled is None][:MOST_SHOWN]
+    fates = Fates(census, haul.job)
+    wrong = list(find_exact_ends(fates, lives.longest))
+    lives.longest.sort(key=lambda life: (-(life.generation or life.checkpoint), life.soup))
+    lives.unsettled = list(zip(unsettled, fates.find_all(unsettled), strict=True))
+    wrong += [
+        f"soup {soup} isn't unsettled: its line is wrong"
+        for soup, fate in lives.unsettled
+        if fate.kind is Kind.SETTLED
+    ]
+    return lives, wrong
+
+
+def read_life(line: LateLine) -> LongLife:
+    report = read_report_line(line.text)
+    return LongLife(line.soup, line.settled or 0, report.objects())
+
+
+def find_exact_ends(fates: Fates, lives: list[LongLife]) -> Iterator[str]:
+    """Finds the exact generations in which soups settled, and yields which lines are wrong."""
+    census, job = fates.census, fates.job
+
+    def find_end(soups: list[int]) -> tuple[int, int] | None:
+        generation = find_exact_generation(census, job, soups)
+        if generation is None:
+            return None
+        return generation, fates.list_populations(draw_soup(job, *soups), generation, generation)[0]
+
+    found = census.ask_in_parts(find_end, [life.soup for life in lives], 1, "soups run")
+    for life, end in zip(lives, found, strict=True):
+        if end is not None:
+            life.generation, life.cells = end
+        before = life.checkpoint - job.profile.stride
+        if life.generation is None or not before < life.generation <= life.checkpoint:
+            yield f"soup {life.soup} doesn't settle at {life.checkpoint}: its line is wrong"
+
+
+# ---- Data for the script
+
+
+def describe_lives(lives: Lives) -> list[dict[str, object]]:
+    """Returns what the script has to know of each soup that plays."""
+    known: dict[int, dict[str, object]] = {}
+    for life in lives.longest:
+        known[life.soup] = {"words": describe_life(life), "end": list_end(life)}
+    for soup, fate in lives.unsettled:
+        known[soup] = {"words": f"unsettled; {fate.text()}", "end": [0]}
+    return [{"soup": soup, **known[soup]} for soup in lives.soups()]
+
+
+def list_end(life: LongLife) -> list[int]:
+    """Returns the generation up to which a soup plays, and the least and the most live cells there;
+    a zero if it doesn't settle."""
+    return [0] if life.generation is None else [life.generation, life.cells, life.cells]
+
+
+def describe_life(life: LongLife) -> str:
+    exact = f"generation {life.generation:,}" if life.generation is not None else "not settled"
+    objects = write_count(life.objects, "object")
+    return f"settled in {exact} (checkpoint {life.checkpoint:,}), {objects}"
+
+
+# ---- The section
+
+
+def write_lives(lives: Lives) -> Iterator[str]:
+    """Yields the section, piece by piece."""
+    yield '<section id="lives" aria-labelledby="lives-title"><h2 id="lives-title">Long lives</h2>\n'
+    yield f"<p>{write_summary(lives)}</p>\n"
+    if lives.checkpoints():
+        yield from write_chart(lives.checkpoints())
+    if lives.longest:
+        title = write_count(len(lives.longest), "longest-lived soup")
+        yield from write_list(
+            f"The {title}", lives.job, [(life.soup, caption(life)) for life in lives.longest]
+        )
+    for kind, soups in lives.by_kind():
+        yield from write_list(
+            f"{KINDS[kind]}: {write_count(len(soups), 'unsettled soup')}",
+            lives.job,
+            [(soup, escape(fate.text())) for soup, fate in soups],
+        )
+    yield "</section>\n"
+
+
+def write_summary(lives: Lives) -> str:
+    """Writes which soups are late, and how many there are."""
+    late, limit = lives.late, lives.job.profile.limit
+    from_then = (
+        f"{write_count(len(lives.checkpoints()), 'soup')} from number {late.since:,} on settled in "
+        f"generation {late.generation:,} or later, and "
+        if late.generation < ONLY_UNSETTLED
+        else f"From number {late.since:,} on, "
+    )
+    text = f"{from_then}{write_count(lives.count_unsettled(), 'soup')} had not settled by generation {limit:,}."
+    if lives.count_unsettled() > len(lives.unsettled):
+        text += f" The first {len(lives.unsettled)} of these are shown."
+    if late.left_out:
+        text += f" {write_count(late.left_out, 'further soup')} of both kinds were left out."
+    return text + " What unsettled soups leave isn’t counted among the objects below."
+
+
+def caption(life: LongLife) -> str:
+    exact = f"{life.generation:,}" if life.generation is not None else "–"
+    return f"generation {exact}, {write_count(life.objects, 'object')}"
+
+
+def write_list(title: str, job: Job, soups: list[tuple[int, str]]) -> Iterator[str]:
+    """Yields a list of soups, each of which plays when its link is followed."""
+    yield f'<details open><summary>{title}</summary><ul class="soups">'
+    for soup, words in soups:
+        address = f"#life={soup}"
+        yield (
+            f'<li><a class="soup" href="{address}" aria-label="Play soup {soup}">'
+            f'{draw_small(f"{job.seed}{soup}")}</a><span><a href="{address}">Soup {soup}</a>'
+            f"<small>{words}</small></span></li>\n"
+        )
+    yield "</ul></details>\n"
+
+
+def draw_small(text: str) -> str:
+    side = SOUP_SIDE + 2
+    path = draw_path(make_soup(text))
+    return (
+        f'<svg class="cells-4" width="72" height="72" viewBox="-1 -1 {side} {side}" '
+        f'aria-hidden="true"><path d="{path}"/></svg>'
+    )
+
+
+def write_chart(checkpoints: list[int]) -> Iterator[str]:
+    """Yields a chart of the checkpoints at which late soups settled, as bars and as a table."""
+    step = choose_step(checkpoints)
+    bars = count_bars(checkpoints, step)
+    first, last, most = bars[0][0], bars[-1][0] + step, max(count for _, count in bars)
+    width = WIDTH / len(bars)
+    shapes = "".join(
+        f'<rect x="{place * width:.1f}" y="{HEIGHT - height:.1f}" width="{max(1, width - 2):.1f}" '
+        f'height="{height:.1f}"><title>{describe_bar(start, step, count)}</title></rect>'
+        for place, (start, count) in enumerate(bars)
+        if (height := HEIGHT * count / most)
+    )
+    said = f"When late soups settled: from generation {min(checkpoints):,} to {max(checkpoints):,}"
+    yield (
+        '<figure class="lifespans"><figcaption>When the late soups settled, by the checkpoint'
+        f"</figcaption><p>The highest bar is {write_count(most, 'soup')} in {step:,} generations.</p>"
+        f'<svg viewBox="0 0 {WIDTH} {HEIGHT}" preserveAspectRatio="none" role="img" '
+        f'aria-label="{said}">{shapes}</svg>'
+        f'<div class="ends" aria-hidden="true"><span>generation {first:,}</span>'
+        f"<span>{last:,}</span></div>\n"
+    )
+    rows = "".join(
+        f'<tr><th scope="row">{start:,} to {start + step - 1:,}</th><td>{count:,}</td></tr>'
+        for start, count in bars
+    )
+    yield (
+        '<details><summary>The same as a table</summary><table class="lifespans"><thead><tr>'
+        '<th scope="col">Generations</th><th scope="col">Soups</th></tr></thead>'
+        f"<tbody>{rows}</tbody></table></details></figure>\n"
+    )
+
+
+def describe_bar(start: int, step: int, count: int) -> str:
+    return f"generations {start:,} to {start + step - 1:,}: {write_count(count, 'soup')}"
+
+
+def choose_step(checkpoints: list[int]) -> int:
+    """Returns how many generations a bar has."""
+    extent = max(checkpoints) - min(checkpoints) + 1
+    return next((step for step in TIDY_STEPS if step * BARS >= extent), TIDY_STEPS[-1])
+
+
+def count_bars(checkpoints: list[int], step: int) -> list[tuple[int, int]]:
+    """Returns the first generation of each bar, and its number of soups."""
+    counts = Counter(checkpoint // step for checkpoint in checkpoints)
+    return [(bar * step, counts[bar]) for bar in range(min(counts), max(counts) + 1)]

@@ -1,0 +1,1 @@
+"""Texts of patterns: plaintext, RLE and coordinates, rules and codes."""

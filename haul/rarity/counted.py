@@ -1,0 +1,28 @@
+"""Which objects `census` counts, so that the reference can have them."""
+
+from __future__ import annotations
+
+from functools import cache
+
+from haul.patterns.codes import is_large, read_kind
+from haul.patterns.rules import LIFE
+from haul.life.generations import read_rule
+from haul.life.parts import is_counted
+from haul.rarity.occurrence import Occurrence
+from haul.rarity.reference import find_occurrence, load_reference
+
+
+@cache
+def find_occurrence_of_counted(code: str) -> Occurrence | None:
+    """Returns in how many soups of the reference a code occurs, or `None` if `census` can't count
+    its objects: the code isn't one of its own, or the object is several clusters in every phase, as
+    a queen bee shuttle is."""
+    if code in load_reference() or is_counted_under_life(code):
+        return find_occurrence(code)
+    return None
+
+
+def is_counted_under_life(code: str) -> bool:
+    if is_large(code):
+        return read_kind(code) is not None
+    return is_counted(read_rule(LIFE), code)

@@ -1,0 +1,111 @@
+"""The late and unsettled soups of a search, which FILE.late keeps."""
+
+from __future__ import annotations
+
+import argparse
+
+from haul.census.background import BackgroundTake
+from haul.census.children import NoCensus
+from haul.census.command_lines import format_find_command
+from haul.formats.haul import Haul, Job
+from haul.search.late import MOST_LINES, ONLY_UNSETTLED, BadLate, Late, LateLine, read_late
+from haul.formats.report_lines import BadLine, read_report_line
+from haul.patterns.rules import LIFE
+from haul.search.companion import Companion
+from haul.search.finds import format_time
+from haul.search.keeper import CantKeep
+from haul.search.untold import is_in
+
+# The value of `--late` with which no soup is kept.
+NEVER = -1
+# From this generation on, a checkpoint is usually late under Life.
+USUAL_LATE = 12_000
+UNSETTLED, SETTLED = "unsettled", "settled"
+
+
+def open_late(
+    asked: argparse.Namespace, haul: Haul, next_soup: int, kept: Companion
+) -> Late | None:
+    """Returns the late soups that a search goes on with; `None` if it keeps none. Raises `CantKeep`
+    if the file has fewer of them than are asked for."""
+    if asked.late == NEVER:
+        kept.remove()
+        return None
+    found = kept.read(read_late, BadLate)
+    usual = USUAL_LATE if haul.job.rule == LIFE else ONLY_UNSETTLED
+    if found is None:
+        return Late(usual if asked.late is None else asked.late, next_soup)
+    late, job = found
+    generation = late.generation if asked.late is None else asked.late
+    if generation < late.generation:
+        raise CantKeep(
+            f"{kept.name}: has soups from generation {late.generation} on, and not from {generation}"
+        )
+    why = find_other_file(late, job, haul, next_soup)
+    if why is not None:
+        kept.reject(why)
+        return Late(generation, next_soup)
+    going_on = Late(generation, min(late.since, next_soup), late.left_out)
+    going_on.add(line for line in late.lines if line.soup < next_soup and going_on.is_late(line))
+    if list(going_on.write()) != list(late.write()):
+        kept.write(going_on.write())
+    return going_on
+
+
+def find_other_file(late: Late, job: Job | None, haul: Haul, next_soup: int) -> str | None:
+    """Returns why lines aren't about soups of a haul; `None` if they may be. A search that was
+    killed may have written lines of the soups after those of the haul."""
+    if job not in (None, haul.job):
+        return "other job"
+    for line in late.lines:
+        if line.soup < next_soup and not is_in(line.soup, haul.ranges):
+            return f"soup {line.soup} isn't in the haul"
+    return None
+
+
+def list_late_finds(job: Job, lines: BatchLines, latest: int) -> list[list[str]]:
+    """Returns what is told of each late or unsettled soup of a batch. `latest` is the latest
+    checkpoint of the soups before the batch."""
+    now = format_time()
+    finds: list[list[str]] = []
+    for line in lines.lines:
+        kind, name = UNSETTLED, "-"
+        if line.settled is not None:
+            so_far = ", the latest so far" if line.settled > latest else ""
+            kind, name = SETTLED, f"checkpoint {line.settled}{so_far}"
+        command = format_find_command(job, line.soup)
+        finds.append([now, kind, name, str(line.soup), command, "-"])
+    return finds
+
+
+class BatchLines:
+    """The report lines of a batch that has ended."""
+
+    def __init__(self, call: BackgroundTake, haul: Haul, generation: int, path: str) -> None:
+        """Reads the lines. Raises `NoCensus` for the program at this path if they aren't those of
+        the late and the unsettled soups of the haul."""
+        lines = sorted(call.reports)[:MOST_LINES]
+        read = [read_line(text, haul.job, generation) for _, text in lines]
+        self.lines = [line for line in read if line is not None]
+        # How many lines were left out.
+        self.left_out = call.reported - len(lines)
+        soups = {line.soup for line in self.lines}
+        unsettled = sum(line.settled is None for line in self.lines)
+        ((first, count),) = haul.ranges
+        if (
+            len(soups) < len(lines)
+            or any(not first <= soup < first + count for soup in soups)
+            or (not self.left_out and unsettled != haul.unsettled)
+        ):
+            raise NoCensus.at(path)
+
+
+def read_line(text: bytes, job: Job, generation: int) -> LateLine | None:
+    """Reads a report line of a batch; none if it isn't that of a late soup of the job."""
+    try:
+        report = read_report_line(text)
+    except BadLine:
+        return None
+    line = LateLine(report.soup, report.settled, text)
+    is_late = line.settled is None or line.settled >= generation
+    return line if report.job == job and is_late else None

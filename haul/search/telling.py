@@ -1,0 +1,67 @@
+"""Tells finds: prints each, and has the program for finds called."""
+
+from __future__ import annotations
+
+from collections import deque
+from typing import TextIO
+
+from haul.plurals import write_count
+from haul.search.find_calls import FindCalls
+from haul.terminal import Terminal
+
+# On a terminal, what the reference doesn't have begins with this. Its last field says so.
+UNKNOWN_MARK, UNKNOWN = "!", "none"
+
+
+class Telling:
+    """The finds that are still to be told."""
+
+    def __init__(
+        self, output: TextIO, terminal: Terminal, calls: FindCalls, finds: list[list[str]]
+    ) -> None:
+        """Begins with finds that the search before didn't tell."""
+        self.output = output
+        self.terminal = terminal
+        self.calls = calls
+        self.waiting = deque(finds)
+        self.marks_finds = output.isatty()
+        self.count = 0
+        # Whether a find couldn't be printed. Nothing is printed after that.
+        self.has_failed = False
+        # Whether that was because the program that reads the finds has ended.
+        self.has_no_reader = False
+
+    def add(self, fields: list[str]) -> None:
+        self.waiting.append(fields)
+
+    def tell_next(self) -> None:
+        """Tells a find, which there is. Raises `OSError` if it can't be printed."""
+        fields = self.waiting[0]
+        self.terminal.show_progress("")
+        is_unknown = self.marks_finds and fields[-1].startswith(UNKNOWN)
+        try:
+            print(
+                (UNKNOWN_MARK if is_unknown else "") + "\t".join(fields),
+                file=self.output,
+                flush=True,
+            )
+        except OSError as error:
+            self.has_failed = True
+            self.has_no_reader = isinstance(error, BrokenPipeError)
+            raise
+        self.waiting.popleft()
+        self.count += 1
+        self.calls.add(fields)
+
+    def is_done(self) -> bool:
+        return not self.waiting or self.has_failed
+
+    def list_untold(self) -> list[list[str]]:
+        """Returns the finds that weren't printed, and before them those whose calls haven't
+        ended."""
+        return [*self.calls.list_open(), *self.waiting]
+
+    def what_is_left(self) -> list[str]:
+        finds = [write_count(len(self.waiting), "find") + " to print"] if self.waiting else []
+        calls = write_count(self.calls.left(), "call") + f" of {self.calls.program}"
+        return finds + ([] if self.calls.is_done() else [calls])

@@ -1,0 +1,114 @@
+"""Files that are whole at any time: a new text is written beside a file, and then takes its
+place."""
+
+from __future__ import annotations
+
+import errno
+import os
+import stat
+from collections.abc import Iterable, Iterator
+from contextlib import contextmanager, suppress
+
+# A file is made with these rights, less those that the user's mask takes away.
+ANY_RIGHTS = 0o666
+# What files have in common that are written at the same time.
+Stamp = tuple[int, int, int]
+
+
+def find_stamp(path: str) -> Stamp | None:
+    """Returns what a file is known by: its inode, its size and when it was written. `None` if it
+    isn't there."""
+    try:
+        return make_stamp(os.stat(path))
+    except FileNotFoundError:
+        return None
+
+
+def make_stamp(found: os.stat_result) -> Stamp:
+    return found.st_ino, found.st_size, found.st_mtime_ns
+
+
+@contextmanager
+def write_new_text(path: str, lines: Iterable[bytes], rights_of: str) -> Iterator[Stamp | None]:
+    """Writes a new text for a file, with the rights of another one, and yields what the file will be
+    known by. The text takes the place of the file afterwards. The file has its old text until the
+    new one is safe on the disk, also if something fails with an exception."""
+    new = f"{path}.new"
+    # A search that was killed may have left one.
+    with suppress(FileNotFoundError):
+        os.unlink(new)
+    with removed_on_failure(new):
+        with named_in_faults(new):
+            write_file(new, lines, rights_of)
+        yield find_stamp(new)
+        with named_in_faults(new):
+            os.replace(new, path)
+    sync_folder(os.path.dirname(path) or os.curdir)
+
+
+@contextmanager
+def removed_on_failure(path: str) -> Iterator[None]:
+    try:
+        yield
+    except BaseException:
+        with suppress(OSError):
+            os.unlink(path)
+        raise
+
+
+@contextmanager
+def named_in_faults(path: str) -> Iterator[None]:
+    """Names this file in each `OSError`."""
+    try:
+        yield
+    except OSError as error:
+        raise OSError(error.errno, error.strerror, path) from None
+
+
+def replace_file(path: str, lines: Iterable[bytes], rights_of: str) -> Stamp | None:
+    """Replaces a file by a new text, with the rights of another file. Returns what the file is known
+    by now."""
+    with write_new_text(path, lines, rights_of) as stamp:
+        return stamp
+
+
+def write_file(new: str, lines: Iterable[bytes], rights_of: str) -> None:
+    """Writes a file that isn't there yet, with the rights of another one."""
+    number = os.open(new, os.O_WRONLY | os.O_CREAT | os.O_EXCL | os.O_CLOEXEC, ANY_RIGHTS)
+    with open(number, "wb") as file:
+        with suppress(FileNotFoundError):
+            os.fchmod(number, stat.S_IMODE(os.stat(rights_of).st_mode))
+        file.writelines(lines)
+        file.flush()
+        os.fsync(number)
+
+
+def remove_file(path: str) -> None:
+    """Removes a file if it is there."""
+    with suppress(FileNotFoundError):
+        os.unlink(path)
+        sync_folder(os.path.dirname(path) or os.curdir)
+
+
+def move_aside(path: str) -> str:
+    """Renames a file that can't be used, and returns its new name, which no other file has."""
+    name, number = f"{path}.bad", 1
+    while os.path.lexists(name):
+        number += 1
+        name = f"{path}.bad.{number}"
+    os.rename(path, name)
+    sync_folder(os.path.dirname(path) or os.curdir)
+    return name
+
+
+def sync_folder(path: str) -> None:
+    """Makes sure that a new name in a folder is on the disk. Some file systems can't do that for a
+    folder."""
+    folder = os.open(path, os.O_RDONLY | os.O_DIRECTORY | os.O_CLOEXEC)
+    try:
+        os.fsync(folder)
+    except OSError as error:
+        if error.errno != errno.EINVAL:
+            raise
+    finally:
+        os.close(folder)
