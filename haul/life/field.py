@@ -49,6 +49,13 @@ def unpack_all(numbers: Iterable[int]) -> Cells:
     return frozenset(map(unpack, numbers))
 
 
+def list_around(cell: int) -> tuple[int, ...]:
+    """Returns the neighbours of a cell. This is `NEIGHBOURS` without its loop, which would take half
+    of the time of a run."""
+    above, below = cell - ROW, cell + ROW
+    return (above - 1, above, above + 1, cell - 1, cell + 1, below - 1, below, below + 1)
+
+
 class Field:
     """A pattern under a rule, which goes on from generation to generation."""
 
@@ -63,9 +70,10 @@ class Field:
     def count(self, cells: list[int], change: int) -> None:
         """Changes the counts of the neighbours of these cells."""
         counts = self.counts
+        known = counts.get
         for cell in cells:
-            for step in NEIGHBOURS:
-                counts[cell + step] = counts.get(cell + step, 0) + change
+            for other in list_around(cell):
+                counts[other] = known(other, 0) + change
 
     def step(self) -> Change:
         """Goes on by a generation, and returns what has changed. Raises `TooManyCells` if the pattern
@@ -76,9 +84,10 @@ class Field:
         births, survivals = self.rule.births, self.rule.survivals
         touched = set(self.changed)
         for cell in self.changed:
-            touched.update([cell + step for step in NEIGHBOURS])
-        born = [c for c in touched if c not in live and counts.get(c, 0) in births]
-        dead = [c for c in touched if c in live and counts.get(c, 0) not in survivals]
+            touched.update(list_around(cell))
+        known = counts.get
+        born = [c for c in touched if known(c, 0) in births and c not in live]
+        dead = [c for c in touched & live if known(c, 0) not in survivals]
         live.update(born)
         live.difference_update(dead)
         self.count(born, 1)

@@ -37,14 +37,15 @@ def open_late(
         return Late(usual if asked.late is None else asked.late, next_soup)
     late, job = found
     generation = late.generation if asked.late is None else asked.late
-    if generation < late.generation:
-        raise CantKeep(
-            f"{kept.name}: has soups from generation {late.generation} on, and not from {generation}"
-        )
     why = find_other_file(late, job, haul, next_soup)
     if why is not None:
         kept.reject(why)
         return Late(generation, next_soup)
+    # It may cover no soup of the haul, and then it is begun anew.
+    if generation < late.generation and late.since < next_soup:
+        raise CantKeep(
+            f"{kept.name}: has soups from generation {late.generation} on, and not from {generation}"
+        )
     going_on = Late(generation, min(late.since, next_soup), late.left_out)
     going_on.add(line for line in late.lines if line.soup < next_soup and going_on.is_late(line))
     if list(going_on.write()) != list(late.write()):

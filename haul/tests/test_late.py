@@ -76,6 +76,13 @@ class Kept(LateSearches):
         self.search("--late=100001", "--until=90")
         self.assert_kept(100001, 90, 30)
 
+    def test_a_lower_generation_without_a_soup(self) -> None:
+        """FILE.late covers no soup of FILE, so it may begin anew."""
+        self.search("--seed=a", *SHORT, "--late=606", "--until=30")
+        self.file.unlink()
+        self.assertEqual(self.search("--seed=a", *SHORT, "--late=303", "--until=40")[::2], (0, ""))
+        self.assert_kept(303, 40)
+
     def test_a_file_from_before(self) -> None:
         """It has no lines for its first soups."""
         self.file.write_bytes(census("take", "--seed=a", *SHORT, "--count=40"))
