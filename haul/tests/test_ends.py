@@ -5,6 +5,7 @@ from __future__ import annotations
 
 import io
 import os
+import resource
 import shutil
 import signal
 import subprocess
@@ -389,6 +390,24 @@ class Unforeseen(unittest.TestCase):
         ):
             with patch("haul.cli.main.run_command", side_effect=error):
                 self.assertEqual(run(), (4, "", f"haul: {line}\n"))
+
+
+class LittleMemory(unittest.TestCase):
+    def test_room_for_nothing(self) -> None:
+        """Python has room to start, but not for all modules: a line, and no traceback."""
+        for megabytes in range(16, 37, 4):
+            limit = megabytes * 2**20
+            ended = subprocess.run(
+                [HAUL, "rarity", "block"],
+                capture_output=True,
+                check=False,
+                preexec_fn=lambda: resource.setrlimit(resource.RLIMIT_AS, (limit, limit)),
+            )
+            self.assertEqual(
+                (ended.returncode, ended.stdout, ended.stderr.decode()),
+                (4, b"", "haul: out of memory\n"),
+                megabytes,
+            )
 
 
 class OtherPrograms(unittest.TestCase):

@@ -124,7 +124,13 @@ fn survey_left<G: Gate, R: Wait>(
             Ok(()) => {}
             Err(Stop) => return End::Stopped,
         }
-        let report = match Report::make_with_surveyor(alloc, surveyor, &shared.job, worker, number) {
+        let report = match Report::make_with_surveyor(
+            alloc,
+            surveyor,
+            &shared.job,
+            worker,
+            number,
+        ) {
             Ok(report) => report,
             Err(ReportError::Memory(error)) => return End::Memory(error),
             Err(ReportError::BadWorker) => unreachable!(),
