@@ -42,7 +42,7 @@ def make_lives_page(folder: Path) -> tuple[Path, list[str]]:
         if line.endswith(" unsettled") or int(line.split("at=")[1].split()[0]) >= LATE
     ]
     late.write_text("\n".join([f"# late {LATE} since 600 left-out 0", *lines, ""]))
-    words = [HAUL, "page", f"--census={CENSUS}", "--play=3", "--lives", late, haul]
+    words = [str(HAUL), "page", f"--census={CENSUS}", "--play=3", "--lives", str(late), str(haul)]
     with page.open("wb") as file:
         subprocess.run(words, stdout=file, check=True)
     return page, lines

@@ -309,7 +309,9 @@ class Told(unittest.TestCase):
         status, output, errors = why("603", "1", "--limit", "7070")
         self.assertEqual((status, errors), (0, ""))
         first, second = output.splitlines()
-        self.assertRegex(first, r"^603 still active: [\d,]+ cells, \d+ by \d+; try --limit 30300$")
+        self.assertRegex(
+            first, r"^603 still active: [\d,]+ cells, [\d,]+ by [\d,]+; try --limit 30300$"
+        )
         self.assertRegex(second, r"^1 settled \d+$")
         self.assertEqual(why("+1")[1].split()[0], "1")
 

@@ -6,8 +6,8 @@ use Rattle.clap.specs.Words.{Text}
 use Rattle.requests.specs.declared.form.PatternForm.{PatternForm}
 use Rattle.requests.specs.declared.form.RunForm.{RunForm}
 use Rattle.requests.specs.declared.plan.Plan.{Plan}
-use Rattle.requests.specs.declared.profile_numbers.ProfileNumbers.{ProfileNumbers}
-use Rattle.requests.specs.declared.soup_set.SoupSet.{SoupSet}
+use Rattle.requests.specs.declared.plan.ProfileNumbers.{ProfileNumbers}
+use Rattle.requests.specs.declared.plan.SoupSet.{SoupSet}
 use Rattle.arguments.specs.Entries.{Entry}
 use Rattle.arguments.specs.Forms.{pattern_form, run_form}
 use Rattle.arguments.specs.Table as table

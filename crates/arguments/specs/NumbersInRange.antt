@@ -1,7 +1,7 @@
 -- The numbers of a request are in the ranges of their arguments.
 use Rattle.std.specs.Prelude.{IfSome}
 use Rattle.requests.specs.declared.plan.Plan.{Plan}
-use Rattle.requests.specs.declared.profile_numbers.ProfileNumbers.{ProfileNumbers}
+use Rattle.requests.specs.declared.plan.ProfileNumbers.{ProfileNumbers}
 use Rattle.arguments.specs.declared.request.Request.{Request}
 use Rattle.arguments.specs.declared.request.Request.TheVariants.{Run, Name, Show, Soup, Take, Work, Gather, Version}
 use Rattle.arguments.specs.Forms.{BeginsUpTo}

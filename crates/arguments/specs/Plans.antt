@@ -2,8 +2,8 @@
 use Rattle.std.specs.Prelude.{ℕ, List, Option, None, Some}
 use Rattle.clap.specs.Words.{Row, Text}
 use Rattle.requests.specs.declared.plan.Plan.{Plan}
-use Rattle.requests.specs.declared.profile_numbers.ProfileNumbers.{ProfileNumbers}
-use Rattle.requests.specs.declared.soup_set.SoupSet.{SoupSet}
+use Rattle.requests.specs.declared.plan.ProfileNumbers.{ProfileNumbers}
+use Rattle.requests.specs.declared.plan.SoupSet.{SoupSet}
 use Rattle.arguments.specs.Table.{also, count, first, horizon, limit, period, rule, seed, stride}
 use Rattle.arguments.specs.Values.{number_found, text_found}
 

@@ -21,9 +21,7 @@ use crate::request::Request;
 use crate::values::{is_given, number_found, text_found};
 use clap::ArgMatches;
 use requests::form::{PatternForm, RunForm};
-use requests::plan::Plan;
-use requests::profile_numbers::ProfileNumbers;
-use requests::soup_set::SoupSet;
+use requests::plan::{Plan, ProfileNumbers, SoupSet};
 
 /// Returns the numbers of the profile, or `None` if one is missing.
 pub fn profile_in(found: &ArgMatches<'_>) -> Option<ProfileNumbers>

@@ -1,9 +1,7 @@
 //! What the arguments of a call may ask for: a command with its values.
 
 use requests::form::{PatternForm, RunForm};
-use requests::plan::Plan;
-use requests::profile_numbers::ProfileNumbers;
-use requests::text::Text;
+use requests::plan::{Plan, ProfileNumbers, Text};
 
 /// A command with its values.
 ///

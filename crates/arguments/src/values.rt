@@ -7,7 +7,7 @@ ghost use Rattle.arguments.specs.Values.{IsInRange, is_given, number_found, numb
 
 use crate::options::{Parameter, ValueKind};
 use clap::ArgMatches;
-use requests::text::Text;
+use requests::plan::Text;
 
 /// Returns the number that was found for the argument of a row. Returns `None` if no number was found, if it is out of
 /// the row's range, or if the row's kind isn't a number.

@@ -14,7 +14,7 @@ use Rattle.survey_core.specs.declared.seed.SeedFault.{SeedFault}
 use Rattle.survey_core.specs.declared.finding.Finding.{Finding}
 use Rattle.survey_core.specs.Findings.{IsFinding}
 use Rattle.requests.specs.declared.plan.Plan.{Plan}
-use Rattle.requests.specs.declared.profile_numbers.ProfileNumbers.{ProfileNumbers}
+use Rattle.requests.specs.declared.plan.ProfileNumbers.{ProfileNumbers}
 use Rattle.survey_core.specs.Profiles.{Settling}
 use Rattle.survey_core.specs.Seeds.{is_invisible, most_bytes, seed_read, seed_with_fault}
 use Rattle.pattern_commands.specs.declared.ending.complaint.Complaint.{Complaint}

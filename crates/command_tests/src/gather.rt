@@ -8,10 +8,7 @@ use crate::streams::{
 use commands::gather::do_gather;
 use pattern_commands::ending::status::Status;
 use plane_core::output::Out;
-use requests::plan::Plan;
-use requests::profile_numbers::ProfileNumbers;
-use requests::soup_set::SoupSet;
-use requests::text::Text;
+use requests::plan::{Plan, ProfileNumbers, SoupSet, Text};
 use std::alloc::Global;
 use std::io::ErrorKind;
 

@@ -19,7 +19,7 @@ use Rattle.pattern_commands.specs.declared.ending.complaint.Complaint.{Complaint
 use Rattle.pattern_commands.specs.declared.ending.complaint.Complaint.TheVariants.{Refused, Memory, ReadFailed, TooLong, WriteFailed}
 use Rattle.requests.specs.declared.plan.Plan.{Plan}
 use Rattle.pattern_commands.specs.declared.ending.refusal.Refusal.{Refusal}
-use Rattle.requests.specs.declared.soup_set.SoupSet.{SoupSet}
+use Rattle.requests.specs.declared.plan.SoupSet.{SoupSet}
 use Rattle.pattern_commands.specs.declared.ending.status.Status.TheVariants as statuses
 use Rattle.pattern_commands.specs.Answers.{IsInput, NeedsMemory}
 use Rattle.pattern_commands.specs.Complaints.{status_of}

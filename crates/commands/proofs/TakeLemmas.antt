@@ -36,7 +36,7 @@ use Rattle.requests.specs.declared.plan.Plan.{Plan}
 use Rattle.pattern_commands.specs.declared.ending.refusal.Refusal.{Refusal}
 use Rattle.pattern_commands.specs.declared.ending.refusal.Refusal.TheVariants.{BadRule, BirthZero, HorizonBelowPeriod}
 use Rattle.pattern_commands.specs.declared.ending.refusal.Refusal.TheVariants.{SeedBadByte, SeedTooLong}
-use Rattle.requests.specs.declared.soup_set.SoupSet.{SoupSet}
+use Rattle.requests.specs.declared.plan.SoupSet.{SoupSet}
 use Rattle.pattern_commands.specs.declared.ending.status.Status.{Status}
 use Rattle.pattern_commands.specs.declared.ending.status.Status.TheVariants as statuses
 use Rattle.pattern_commands.specs.Answers.{NeedsMemory, Right, given, IsRightGiven, output_text}

@@ -21,7 +21,7 @@ use Rattle.haul_core.specs.Reports.{Reported}
 use Rattle.pattern_commands.specs.declared.ending.complaint.Complaint.{Complaint}
 use Rattle.pattern_commands.specs.declared.ending.complaint.Complaint.TheVariants.{Refused, Memory, ReadFailed, TooLong, WriteFailed}
 use Rattle.requests.specs.declared.plan.Plan.{Plan}
-use Rattle.requests.specs.declared.soup_set.SoupSet.{SoupSet}
+use Rattle.requests.specs.declared.plan.SoupSet.{SoupSet}
 use Rattle.pattern_commands.specs.Answers.{Answer, Right, output_text}
 use Rattle.commands.specs.SoupSets.{Bad_list, Overlapping, Too_large, IsRightForSet}
 use Rattle.pattern_commands.specs.Streams.{Stream, Has, HasPrefix}

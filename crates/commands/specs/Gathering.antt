@@ -14,7 +14,7 @@ use Rattle.survey_core.specs.declared.job.Job.{Job}
 use Rattle.pattern_commands.specs.declared.ending.complaint.Complaint.TheVariants.{Refused, TooLong}
 use Rattle.pattern_commands.specs.Behaviours.{Made, Makes}
 use Rattle.requests.specs.declared.plan.Plan.{Plan}
-use Rattle.requests.specs.declared.soup_set.SoupSet.{SoupSet}
+use Rattle.requests.specs.declared.plan.SoupSet.{SoupSet}
 use Rattle.commands.specs.GatheredLines.{Gathered}
 use Rattle.commands.specs.Lines.{input_lines}
 use Rattle.commands.specs.SoupSets.{AreRangesOf, IsRefused, job_named}

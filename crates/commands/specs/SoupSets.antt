@@ -10,7 +10,7 @@ use Rattle.pattern_commands.specs.declared.ending.complaint.Complaint.TheVariant
 use Rattle.requests.specs.declared.plan.Plan.{Plan}
 use Rattle.pattern_commands.specs.declared.ending.refusal.Refusal.{Refusal}
 use Rattle.pattern_commands.specs.declared.ending.refusal.Refusal.TheVariants.{BadList, RangeTooLarge, RangesOverlap}
-use Rattle.requests.specs.declared.soup_set.SoupSet.{SoupSet}
+use Rattle.requests.specs.declared.plan.SoupSet.{SoupSet}
 use Rattle.pattern_commands.specs.Answers.{Right, given}
 use Rattle.pattern_commands.specs.Inputs.{rule_named}
 use Rattle.pattern_commands.specs.Profiles.{profile_named}

@@ -34,13 +34,13 @@ use Rattle.haul_core.proofs.CheckLemmas.{report_is_claim, report_is_confirmed}
 use Rattle.haul_core.proofs.MissingLemmas.{counted_numbers}
 use Rattle.haul_core.proofs.NumberLemmas.{any_counted}
 use Rattle.requests.specs.declared.plan.Plan.{Plan}
-use Rattle.requests.specs.declared.soup_set.SoupSet.{SoupSet}
+use Rattle.requests.specs.declared.plan.SoupSet.{SoupSet}
 use Rattle.pattern_commands.specs.Answers.{IsRightGiven, given}
 use Rattle.pattern_commands.specs.declared.ending.complaint.Complaint.{Complaint}
 use Rattle.pattern_commands.specs.declared.ending.complaint.Complaint.TheVariants.{Memory, ReadFailed, Refused, TooLong, WriteFailed}
 use Rattle.pattern_commands.specs.declared.ending.refusal.Refusal.{Refusal}
 use Rattle.pattern_commands.specs.declared.ending.refusal.Refusal.TheVariants.{HorizonBelowPeriod}
-use Rattle.requests.specs.declared.profile_numbers.ProfileNumbers.{ProfileNumbers}
+use Rattle.requests.specs.declared.plan.ProfileNumbers.{ProfileNumbers}
 use Rattle.pattern_commands.specs.Profiles.{AreInRange, profile_named, settling}
 use Rattle.pattern_commands.specs.Inputs.{rule_complaint, rule_named}
 use Rattle.pattern_commands.specs.Soup.{seed_complaint}

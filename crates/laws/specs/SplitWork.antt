@@ -5,7 +5,7 @@ use Rattle.survey_core.specs.declared.job.Job.{Job}
 use Rattle.ranges.specs.declared.range.Range.{Range}
 use Rattle.ranges.specs.Ranges.{AreSmall, Overlap, is_in}
 use Rattle.requests.specs.declared.plan.Plan.{Plan}
-use Rattle.requests.specs.declared.soup_set.SoupSet.{SoupSet}
+use Rattle.requests.specs.declared.plan.SoupSet.{SoupSet}
 use Rattle.pattern_commands.specs.Behaviours.{Made}
 use Rattle.pattern_commands.specs.declared.ending.complaint.Complaint.{Complaint}
 use Rattle.pattern_commands.specs.Profiles.{AreInRange}

@@ -8,7 +8,7 @@ use Rattle.survey_core.specs.declared.finding.Finding.{Finding}
 use Rattle.survey_core.specs.Findings.{IsFinding}
 use Rattle.survey_core.specs.Profiles.{Settling}
 use Rattle.pattern_commands.specs.declared.ending.complaint.Complaint.{Complaint}
-use Rattle.requests.specs.declared.profile_numbers.ProfileNumbers.{ProfileNumbers}
+use Rattle.requests.specs.declared.plan.ProfileNumbers.{ProfileNumbers}
 use Rattle.pattern_commands.specs.declared.ending.complaint.Complaint.TheVariants.{Refused}
 use Rattle.pattern_commands.specs.declared.ending.refusal.Refusal.TheVariants.{HorizonBelowPeriod}
 use Rattle.pattern_commands.specs.TextSteps.{ReachesText}

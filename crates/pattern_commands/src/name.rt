@@ -28,7 +28,7 @@ use code_core::apgcode::Apgcode;
 use code_core::decimal::put_number;
 use plane_core::output::{Out, WriteError};
 use plane_core::plane::rule::Rule;
-use requests::profile_numbers::ProfileNumbers;
+use requests::plan::ProfileNumbers;
 use std::alloc::Global;
 use std::io::{Read, Write};
 use survey_core::finding::{Finding, survey_pattern};

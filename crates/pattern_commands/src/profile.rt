@@ -5,7 +5,7 @@ ghost use Rattle.pattern_commands.specs.Profiles.{AreInRange, profile_named};
 
 use crate::ending::complaint::Complaint;
 use crate::ending::refusal::Refusal;
-use requests::profile_numbers::ProfileNumbers;
+use requests::plan::ProfileNumbers;
 use survey_core::profile::{Profile, ProfileError};
 
 /// Returns the profile with these numbers, each of which has to be in its range.

@@ -5,11 +5,5 @@
 
 /// The forms in which patterns are printed.
 pub mod form;
-/// Plans of a census: soups, profile and rule.
+/// Plans of a census, and what they consist of.
 pub mod plan;
-/// The numbers of a profile.
-pub mod profile_numbers;
-/// Sets of soups.
-pub mod soup_set;
-/// A text among the command-line arguments.
-pub mod text;
