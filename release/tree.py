@@ -1,4 +1,5 @@
-"""The contents of the archive and of the package: the place, the bytes and the mode of each file.
+"""The contents of the archive and of the package: the place, the bytes and the mode of each
+file.
 """
 
 from __future__ import annotations
