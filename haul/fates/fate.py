@@ -36,8 +36,8 @@ class Fate:
     why: str
 
     def text(self) -> str:
-        """Returns the fate as printed, such as `settled 1818` or `collides soon: generation
-        30512`."""
+        """Returns the fate as printed, such as `settled 1818` or
+        `collides soon: generation 30512`."""
         between = " " if self.kind in (Kind.SETTLED, Kind.PERIOD, Kind.SETTLES) else ": "
         return f"{self.kind.value}{between}{self.why}"
 
