@@ -1,5 +1,5 @@
 """The table of commands and their arguments. The parser, the help, the manual and the completions
-are made from it, the last two by `checks/options --write`."""
+are made from it, the last two by `checks/repository/options --write`."""
 
 from __future__ import annotations
 

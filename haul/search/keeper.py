@@ -27,7 +27,7 @@ from haul.search.whole_files import (
     write_new_text,
 )
 
-# How long to try to lock a file, and how often, in seconds.
+# How long to try to lock a file, and the pause between two tries, in seconds.
 SECONDS_FOR_LOCK, SECONDS_BETWEEN_TRIES = 2.0, 0.02
 
 
