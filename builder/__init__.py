@@ -1,4 +1,4 @@
-"""Proves the crates and builds the program. `bin/census` and `bin/programs` call this package by
+"""Proves the crates and builds the program. `bin/census` and `bin/programs` call this package with
 bin/prove.bash.
 
 Proved crates are kept in a folder beside the program, so that an interrupted build continues where
@@ -15,7 +15,7 @@ NOT_BUILT = 70
 
 
 class Failed(Exception):
-    """The program could not be built. The message is the reason, in one line."""
+    """Raised if the program can't be built. The message is the reason, in one line."""
 
 
 def cannot_build(why: str) -> Failed:
@@ -23,8 +23,8 @@ def cannot_build(why: str) -> Failed:
 
 
 def tell(text: str) -> None:
-    """Writes to standard error in a single write, since other processes share it. Ignores that
-    nobody reads it any more.
+    """Writes to standard error in a single write, since other processes share it. A write that
+    fails is ignored, since nobody may be reading any more.
     """
     try:
         os.write(2, text.encode())

@@ -1,6 +1,6 @@
 """The basis of a build: the toolchain's version and the digests of the sources.
 
-bin/built.bash computes it, because `bin/census` uses the same functions in every call to test
+bin/built.bash computes it, because every call of `bin/census` uses the same functions to check
 whether the program is fresh.
 """
 
@@ -15,18 +15,18 @@ from builder import cannot_build
 from builder.crates import Crates
 from builder.places import Places
 
-# Finds the crate in the line of a file.
+# Finds the crate's name in the line of a file.
 OF_CRATE = re.compile(r"  crates/([^/]*)")
 
 
 class Built:
-    """The functions of bin/built.bash."""
+    """Calls the functions of bin/built.bash."""
 
     def __init__(self, places: Places) -> None:
         self.places = places
 
     def _called(self, command: str, *words: str, given: str = "") -> str | None:
-        """Returns what a command prints after the functions are loaded, or None if it fails."""
+        """Loads the functions and runs a command. Returns what it prints, or `None` if it fails."""
         script = f'. "$0" && {command}'
         ended = subprocess.run(
             ["bash", "-c", script, str(self.places.top / "bin" / "built.bash"), *words],
@@ -42,7 +42,7 @@ class Built:
         return self._called("basis")
 
     def cpu(self) -> str:
-        """Returns the level of this machine's processor, as `LEVELS` names it."""
+        """Returns the level of this machine's processor, by its name in `LEVELS`."""
         return self._called('get_cpu && printf %s "$cpu"') or ""
 
     def is_fresh(self) -> bool:
@@ -54,7 +54,7 @@ class Built:
 
 
 def part_of(basis: str, crates: Crates, name: str) -> str:
-    """Returns the lines of a basis that a proof of this crate depends on: the toolchain's version,
+    """Returns the lines of a basis on which the proof of a crate depends: the toolchain's version,
     the list of crates, and the files of the crate and of all crates below it.
     """
     below = crates.below[name]

@@ -1,4 +1,4 @@
-"""A build of the program. It starts from the crates that are kept."""
+"""A build of the program, which starts from the crates that are kept."""
 
 from __future__ import annotations
 
@@ -28,7 +28,7 @@ class Build:
     basis: str
     crates: Crates
     kept: Kept
-    # How many copies of the prover the crate with the longest way to the end gets.
+    # Returns the number of copies of the prover for the crate with the longest path to the program.
     copies: Callable[[], int] = copies_for_longest
 
     def part_of(self, crate: str) -> str:
@@ -43,8 +43,8 @@ class Build:
         return replace(self, kept=replace(self.kept, made=made))
 
     def build_program(self, cpu: str) -> None:
-        """Proves the crates that aren't kept, builds the program for a level of processors, and
-        keeps them.
+        """Proves and keeps the crates that aren't kept yet, and builds the program for a level of
+        processors.
         """
         with self.places.log.open("wb") as log:
             try:
@@ -69,7 +69,7 @@ class Work:
     def run(self) -> None:
         order = self.build.crates.order
         weights = weights_of({crate: self.build.places.crate(crate) for crate in order}, order)
-        # Remove what an interrupted prover has left.
+        # Remove the files of an interrupted prover.
         shutil.rmtree(self.prover.room, ignore_errors=True)
         try:
             Schedule(self.build.crates, weights, self.build.copies).run(self)
@@ -92,7 +92,7 @@ class Work:
         self.commands.end()
 
     def prove(self, crate: str, share: Share) -> None:
-        """Proves a crate, and keeps it if its sources have not changed meanwhile."""
+        """Proves a crate, and keeps it if its sources haven't changed meanwhile."""
         try:
             verdict = self.prover.prove(crate, share.copies, share.yielding)
         except OSError as error:

@@ -1,4 +1,4 @@
-"""The graph of the crates that the program consists of."""
+"""The graph of the program's crates."""
 
 from __future__ import annotations
 
@@ -15,7 +15,7 @@ KILOBYTE = 1024
 
 
 def uses_in(text: str) -> dict[str, list[str]]:
-    """Reads which libraries each crate uses from the text of crates.txt."""
+    """Reads the text of crates.txt, and returns the libraries that each crate uses."""
     lines = [
         line.partition(":")
         for line in text.splitlines()
@@ -34,7 +34,7 @@ class Crates:
         self.graph: dict[str, list[str]] = {}
         self._add(root)
         try:
-            # Every crate comes after those that it uses.
+            # Every crate comes after the crates that it uses.
             self.order = list(TopologicalSorter(self.graph).static_order())
         except CycleError as error:
             raise cannot_build(f"crates.txt has a circle: {', '.join(error.args[1])}") from None
@@ -56,8 +56,8 @@ class Crates:
         return [other for other in self.order if name in self.below[other]]
 
     def ways(self, weights: Mapping[str, int]) -> dict[str, int]:
-        """Returns the length of the longest path from each crate to the root: the sum of the
-        weights on it.
+        """Returns the length of the longest path from each crate to the root. The length of a path
+        is the sum of the weights on it.
         """
         longest: dict[str, int] = {}
         for name in reversed(self.order):
@@ -67,8 +67,8 @@ class Crates:
 
 
 def weights_of(folders: Mapping[str, Path], names: Iterable[str]) -> dict[str, int]:
-    """Estimates how long it takes to prove each crate: the size of its sources in kilobytes, plus
-    one, since even an empty crate takes some time.
+    """Returns an estimate of how long it takes to prove each crate: the size of its sources in
+    kilobytes plus one, since even an empty crate takes some time.
     """
     return {name: 1 + bytes_in(folders[name]) // KILOBYTE for name in names}
 
@@ -77,7 +77,7 @@ def bytes_in(folder: Path) -> int:
     """Returns the size of a crate's sources."""
     size = 0
     for above, folders, files in os.walk(folder):
-        # This folder has what was built, and may be large.
+        # This folder has the results of builds, and may be large.
         folders[:] = [name for name in folders if name != "out"]
         size += sum(
             os.path.getsize(os.path.join(above, name))

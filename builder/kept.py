@@ -1,9 +1,9 @@
-"""The crates that are kept: of each library its statements, NAME.rlib, and the program for each
+"""The crates that are kept: the statements of each library, in NAME.rlib, and the program for each
 level of processors.
 
-Beside each of them are NAME.verdict, the prover's last line, and NAME.from, the part of the basis
-that it was proved from. NAME.from is written last, so a crate that was interrupted doesn't count as
-proved.
+Beside each of them are NAME.verdict, which has the prover's last line, and NAME.from, which has the
+part of the basis from which it was proved. NAME.from is written last, so a crate that was
+interrupted doesn't count as proved.
 """
 
 from __future__ import annotations
@@ -17,7 +17,7 @@ from builder.places import LEAST, LEVELS, PROGRAM
 
 
 def text_of(path: Path) -> str | None:
-    """Returns the text of a file without trailing line feeds, or None if it can't be read."""
+    """Returns the text of a file without trailing line feeds, or `None` if it can't be read."""
     try:
         return path.read_text().rstrip("\n")
     except (OSError, UnicodeDecodeError):
@@ -25,7 +25,7 @@ def text_of(path: Path) -> str | None:
 
 
 def write_whole(path: Path, text: str) -> None:
-    """Writes a file that gets its name only when it is complete."""
+    """Writes a file under another name, and renames it when it is complete."""
     following = path.with_name(f"{path.name}.next")
     following.write_text(text)
     os.replace(following, path)
@@ -39,24 +39,24 @@ class Kept:
     crates: Crates
 
     def name(self, crate: str, cpu: str) -> str:
-        """Returns the name under which a crate is kept, without a suffix. The program has one for
-        each level of processors.
+        """Returns the name under which a crate is kept, without a suffix. The program has a
+        different name for each level of processors.
         """
         return f"{crate}-{LEVELS[cpu]}" if crate == PROGRAM else crate
 
     def result(self, crate: str, cpu: str) -> Path:
-        """The program, or a library's statements."""
+        """Returns the path of the program or of a library's statements."""
         return self.made / (self.name(crate, cpu) + ("" if crate == PROGRAM else ".rlib"))
 
     def verdict(self, crate: str, cpu: str) -> Path:
         return self.made / f"{self.name(crate, cpu)}.verdict"
 
     def origin(self, crate: str, cpu: str) -> Path:
-        """The file with the part of the basis that a crate was proved from."""
+        """Returns the path of the file with the part of the basis from which a crate was proved."""
         return self.made / f"{self.name(crate, cpu)}.from"
 
     def has(self, crate: str, cpu: str, part: str) -> bool:
-        """Checks whether a crate is kept that was proved from this part of a basis."""
+        """Checks whether a crate that was proved from this part of a basis is kept."""
         result = self.result(crate, cpu)
         is_there = os.access(result, os.X_OK) if crate == PROGRAM else result.is_dir()
         return (
@@ -66,15 +66,15 @@ class Kept:
         )
 
     def keep(self, crate: str, cpu: str, verdict: str, part: str) -> None:
-        """Records that a crate was proved, with its verdict and the part of the basis that it was
-        proved from.
+        """Records that a crate was proved, with the verdict and the part of the basis from which it
+        was proved.
         """
         write_whole(self.verdict(crate, cpu), f"{verdict}\n")
         write_whole(self.origin(crate, cpu), f"{part}\n")
 
     def forget(self, crate: str, cpu: str) -> None:
-        """Forgets a crate and all crates above it, which were proved with its earlier state. If it
-        is the program, the programs for other levels are still kept.
+        """Forgets a crate and all crates above it, since they were proved with its earlier state.
+        The programs for other levels are kept if the crate is the program.
         """
         if crate == PROGRAM:
             self.origin(crate, cpu).unlink(missing_ok=True)

@@ -1,4 +1,4 @@
-"""Builds the program for this machine, which `bin/census` needs if the program isn't fresh."""
+"""Builds the program for this machine when `bin/census` finds that the program isn't fresh."""
 
 from __future__ import annotations
 
@@ -13,7 +13,7 @@ from builder.places import PROGRAM, Places
 
 
 def tell_what_is_done() -> None:
-    """Says that the program is being built, and that this takes long. On a terminal it also names a
+    """Says that the program is being built, and that this takes long. On a terminal, also names a
     faster way to try the program.
     """
     meanwhile = " (bin/unproved runs it in a minute, without proof)" if is_terminal() else ""
@@ -24,7 +24,7 @@ def tell_what_is_done() -> None:
 
 
 def build_for_this_machine(places: Places) -> None:
-    """Builds the program and writes its stamp, unless another call has done this meanwhile."""
+    """Builds the program and writes its stamp, unless another call has done so meanwhile."""
     lock = take_lock(places)
     built = Built(places)
     if built.is_fresh():

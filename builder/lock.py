@@ -12,8 +12,8 @@ from builder.places import Places
 
 
 def take_lock(places: Places) -> int:
-    """Waits for the lock and returns it. It is released when this process and all its commands have
-    ended.
+    """Waits for the lock, and returns it. The lock is released when this process and all its
+    commands have ended.
     """
     try:
         places.out.mkdir(parents=True, exist_ok=True)
@@ -33,7 +33,7 @@ def take_lock(places: Places) -> int:
 
 
 def is_free(lock: int) -> bool:
-    """Takes the lock if no other call has it, and returns whether it did."""
+    """Takes the lock if no other call has it. Returns whether it was taken."""
     try:
         fcntl.flock(lock, fcntl.LOCK_EX | fcntl.LOCK_NB)
     except BlockingIOError:

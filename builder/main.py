@@ -15,12 +15,13 @@ from builder.places import Places
 from builder.programs import Asked, look_at, make_programs
 
 SIGNALS = (signal.SIGINT, signal.SIGTERM, signal.SIGHUP)
-# The exit status for wrong arguments of `bin/programs`, which then prints its usage.
+# The exit status if the arguments of `bin/programs` are wrong. `bin/programs` then prints its
+# usage.
 BAD_WORDS = 2
 
 
 class Interrupted(BaseException):
-    """A signal stops the build."""
+    """Raised when a signal stops the build."""
 
 
 def interrupt(_number: int, _frame: FrameType | None) -> None:
@@ -30,7 +31,7 @@ def interrupt(_number: int, _frame: FrameType | None) -> None:
 
 
 def run(words: list[str]) -> int:
-    """Runs the command that the arguments name, and returns the exit status."""
+    """Runs the command that the arguments name, and returns its exit status."""
     places = Places(Path(__file__).resolve().parents[1])
     if words == ["program"]:
         build_for_this_machine(places)
@@ -39,7 +40,7 @@ def run(words: list[str]) -> int:
 
 
 def run_programs(places: Places, words: list[str]) -> int:
-    """Runs `bin/programs`."""
+    """Runs `bin/programs`, and returns its exit status."""
     again = words[:1] == ["--again"]
     words = words[1:] if again else words
     ci_log = None

@@ -1,4 +1,4 @@
-"""The paths of sources and of what is built."""
+"""The paths of sources and of built files."""
 
 from __future__ import annotations
 
@@ -7,9 +7,9 @@ from pathlib import Path
 
 # The crate of the program. All others are libraries.
 PROGRAM = "census"
-# The levels of processors for which the program is built, as `rattle --cpu` names them, each with
-# the suffix of the program's name: the lowest level for which the toolchain builds, and the one for
-# which the program is about a fifth faster.
+# The levels of processors for which the program is built, as named by `rattle --cpu`, each with the
+# suffix of the program's name. The first is the lowest level for which the toolchain builds. On the
+# other, the program is about a fifth faster.
 LEAST = "default"
 LEVELS = {LEAST: "v2", "x86-64-v3": "v3"}
 
@@ -46,7 +46,7 @@ class Places:
 
     @property
     def made(self) -> Path:
-        """The folder of the crates that are kept between calls."""
+        """Returns the folder of the crates that are kept between calls."""
         return self.out / "made"
 
     def crate(self, name: str) -> Path:

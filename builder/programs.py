@@ -21,17 +21,17 @@ from builder.kept import text_of, write_whole
 from builder.lock import take_lock
 from builder.places import LEAST, LEVELS, PROGRAM, Places
 
-# The files in the folder besides `from`.
+# The files in the folder, apart from `from`.
 FILES = [*(f"{PROGRAM}-{level}" for level in LEVELS.values()), "verdicts"]
 # The length of the digests that `b2sum -l 256` prints.
 DIGEST_BYTES = 32
 
 
 class Asked(NamedTuple):
-    """A call of `bin/programs`."""
+    """The arguments of a call of `bin/programs`."""
 
     folder: Path
-    # The output of `rt ci`, if that has just proved the crates of this checkout.
+    # The output of `rt ci`, if it has just proved the crates of this checkout.
     ci_log: Path | None
     # Whether to build both programs even if they are kept.
     again: bool
@@ -43,8 +43,8 @@ def make_programs(places: Places, asked: Asked) -> None:
     if asked.ci_log is not None:
         with own_folder(build) as own:
             take_from_ci(own, asked.ci_log, asked.again)
-            # A second copy of the prover would load the libraries once more, and the rest of `rt
-            # ci` needs the processors.
+            # A second copy of the prover would load the libraries again, and the rest of `rt ci`
+            # needs the processors.
             build_both(replace(own, copies=lambda: 1))
             fill_folder(own, asked.folder)
     elif asked.again:
@@ -59,7 +59,7 @@ def make_programs(places: Places, asked: Asked) -> None:
 
 @contextmanager
 def own_folder(build: Build) -> Iterator[Build]:
-    """Returns the build with a temporary folder of kept crates."""
+    """Yields the build with a temporary folder of kept crates."""
     with tempfile.TemporaryDirectory(dir=build.places.out, prefix="made.") as made:
         yield build.with_made(Path(made))
 
@@ -82,9 +82,9 @@ def take_libraries(build: Build, own: Build) -> None:
 
 
 def take_from_ci(own: Build, log: Path, again: bool) -> None:
-    """Fills the temporary folder with what `rt ci` has proved: its libraries, its verdicts and,
-    unless it is to be built again, its program. A library with a stamp is from another run: `rt`
-    has put it back after `rt ci` had ended.
+    """Fills the temporary folder with what `rt ci` has proved: the libraries, the verdicts and,
+    unless it is to be built again, the program. A library with a stamp is from another run, since
+    `rt` put it back after `rt ci` had ended.
     """
     verdicts = verdicts_in(text_of(log) or "")
     for crate in own.crates.order:
@@ -107,7 +107,7 @@ def take_from_ci(own: Build, log: Path, again: bool) -> None:
 
 
 def verdicts_in(log: str) -> dict[str, str]:
-    """Finds the verdict that `rt ci` printed for each crate, or its reason for not proving the
+    """Returns the verdict on each crate in the output of `rt ci`, or the reason for not proving the
     crate again.
     """
     verdicts: dict[str, str] = {}
@@ -164,7 +164,7 @@ def fill_folder(build: Build, folder: Path) -> None:
 
 
 def digests_of(folder: Path) -> str:
-    """Returns what `b2sum -l 256` prints for the files in a folder besides `from`."""
+    """Returns what `b2sum -l 256` prints for the files in a folder, apart from `from`."""
     there = [name for name in FILES if (folder / name).is_file()]
     return "".join(
         f"{hashlib.blake2b((folder / name).read_bytes(), digest_size=DIGEST_BYTES).hexdigest()}  {name}\n"
@@ -173,8 +173,8 @@ def digests_of(folder: Path) -> str:
 
 
 def look_at(places: Places, folder: str) -> int:
-    """Compares a folder's programs with this checkout. Returns 0 if they belong together, and
-    otherwise names the first difference.
+    """Compares a folder's programs with this checkout. Returns 0 if they belong together, otherwise
+    names the first difference.
     """
     wrong = fault_of(places, folder)
     if wrong:

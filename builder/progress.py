@@ -1,4 +1,4 @@
-"""The progress of a build: on a terminal one line that is rewritten, and elsewhere one line per
+"""The progress of a build: on a terminal a line that is rewritten in place, elsewhere one line per
 crate.
 """
 
@@ -18,7 +18,7 @@ NO_WRAP, WRAP = "\x1b[?7l", "\x1b[?7h"
 
 @dataclass
 class Progress:
-    """Which crates are being proved, and how many there are in all."""
+    """The crates that are being proved, and the total number of crates."""
 
     room: Path
     crates: int
@@ -56,8 +56,8 @@ class Progress:
         return f"crate {self.places[crate]} of {self.crates}, {crate}"
 
     def _functions(self, crate: str) -> str:
-        """Returns how many functions of a crate have been started. For each function the prover
-        first writes a file with its code, and later one with what the logic sees of it.
+        """Returns the number of functions of a crate that have been started. For each function, the
+        prover first writes a file with its code, and later a file with what the logic sees of it.
         """
         seen, coded = (
             len(list(self.room.glob(f"{crate}/*/Rattle-{crate}-proofs.*.{kind}.oantt")))

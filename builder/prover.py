@@ -17,12 +17,14 @@ from builder.kept import Kept
 from builder.places import LEAST, PROGRAM, Places
 
 TARGET = "x86_64-unknown-linux-gnu"
-# Begins the prover's last line if everything is proved.
+# The beginning of the prover's last line if everything is proved.
 VERDICT = b"logic=proved "
 
 
 class Ended(Exception):
-    """A crate isn't proved: a command ended with this status, or the build is being stopped."""
+    """Raised if a crate isn't proved because a command ended with this status, or because the build
+    is being stopped.
+    """
 
     def __init__(self, status: int) -> None:
         super().__init__(status)
@@ -30,7 +32,7 @@ class Ended(Exception):
 
 
 class Log:
-    """The output of the provers. Each line begins with its crate's name."""
+    """The output of the provers. Each line begins with the name of its crate."""
 
     def __init__(self, file: BinaryIO) -> None:
         self.file = file
@@ -111,12 +113,12 @@ class Prover:
 
     @property
     def room(self) -> Path:
-        """The folder for the prover's temporary files."""
+        """Returns the folder for the prover's temporary files."""
         return self.kept.made / "room"
 
     def prove(self, crate: str, copies: int, yielding: int) -> str:
-        """Proves a crate with `copies` copies of the prover, whose niceness is `yielding`, and
-        returns the verdict. Of a library only the statements are written: crates above need no
+        """Proves a crate with `copies` copies of the prover at the niceness `yielding`, and returns
+        the verdict. For a library, only the statements are written, since crates above it need no
         more, and load them faster than the proofs.
         """
         folder, room = self.places.crate(crate), self.room / crate
@@ -138,7 +140,7 @@ class Prover:
 
     def _words(self, crate: str, copies: int) -> list[str]:
         """Returns the prover's arguments for a crate: its root, the libraries that it names, and
-        where to find what these use.
+        where to find the libraries that these use.
         """
         kit, made = self.kit, self.kept.made
         words = [
@@ -171,7 +173,7 @@ class Prover:
         )
 
     def _link(self, crate: str, made: Path, result: Path, room: Path) -> list[bytes]:
-        """Links the program, and replaces the kept program only if that succeeds."""
+        """Links the program, and replaces the kept program only if linking succeeds."""
         kit, linked = self.kit, room / crate
         words = [
             f"{kit}/bin/rattle-link",

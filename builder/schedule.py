@@ -1,9 +1,9 @@
-"""The order in which crates are proved: each after those that it uses, and side by side if neither
-is above the other.
+"""The order in which crates are proved. Each crate comes after the crates that it uses. Two crates
+are proved side by side if neither is above the other.
 
-The crate with the longest path to the program starts first and gets a copy of the prover for each
+The crate with the longest path to the program starts first, and gets a copy of the prover for each
 processor. Crates that are proved beside it have a higher niceness, so they use the processor time
-that it leaves, and one copy each, since each copy loads the same libraries.
+that it leaves. They get one copy each, since each copy loads the same libraries.
 """
 
 from __future__ import annotations
@@ -18,7 +18,7 @@ from typing import Protocol
 
 from builder.crates import Crates
 
-# More copies need more memory and are no faster.
+# More copies need more memory and aren't faster.
 MOST_COPIES = 8
 # The memory that each copy needs.
 COPY_KILOBYTES = 1_500_000
@@ -30,7 +30,9 @@ MEMORY = Path("/proc/meminfo")
 
 
 def copies_for_longest() -> int:
-    """Returns how many copies of the prover the crate with the longest path gets on this machine."""
+    """Returns the number of copies of the prover for the crate with the longest path, on this
+    machine.
+    """
     try:
         available = next(
             (
@@ -47,7 +49,7 @@ def copies_for_longest() -> int:
 
 def copies_with(processors: int, kilobytes: int | None) -> int:
     """Returns one copy for each processor, or fewer if there isn't enough memory for them. `None`
-    means unknown.
+    means that the memory isn't known.
     """
     copies = min(processors, MOST_COPIES)
     return copies if kilobytes is None else max(1, min(copies, kilobytes // COPY_KILOBYTES))
@@ -62,19 +64,19 @@ class Share:
 
 
 class Work(Protocol):
-    """What a schedule calls for each crate."""
+    """The functions that a schedule calls for each crate."""
 
     def is_kept(self, crate: str) -> bool:
         """Checks whether an earlier call has proved the crate."""
 
     def begin(self, crate: str) -> None:
-        """Is called when the crate starts, in the main thread."""
+        """Called in the main thread when the crate starts."""
 
     def prove(self, crate: str, share: Share) -> None:
         """Proves the crate in another thread. Raises an exception if that fails."""
 
     def show(self) -> None:
-        """Is called about once a second, and after each proof."""
+        """Called about once a second, and after each proof."""
 
     def end_all(self) -> None:
         """Stops all proofs."""
@@ -92,7 +94,7 @@ class Schedule:
         self.running: set[str] = set()
 
     def share_of(self, crate: str) -> Share:
-        """Returns the share of a crate that starts now, beside those that are running."""
+        """Returns the share of a crate that starts now, beside the crates that are running."""
         longer = [other for other in self.running if self._rank(other) < self._rank(crate)]
         if not longer:
             return Share(self.copies(), 0)
@@ -100,11 +102,11 @@ class Schedule:
         return Share(1, min(MOST_YIELDING, 1 + rank))
 
     def _rank(self, crate: str) -> tuple[int, int]:
-        """The crate with the longest path comes first."""
+        """Returns the sort key of a crate. The crate with the longest path comes first."""
         return -self.ways[crate], self.crates.order.index(crate)
 
     def run(self, work: Work) -> None:
-        """Proves all crates that aren't kept. If one fails, stops the others and raises its
+        """Proves all crates that aren't kept. If a proof fails, stops the others and raises its
         exception.
         """
         with ThreadPoolExecutor(max_workers=len(self.crates.order)) as pool:

@@ -1,10 +1,11 @@
-"""Numbers with their nouns, as a reader expects them."""
+"""Numbers with their nouns in singular or plural."""
 
 from __future__ import annotations
 
 
 def pluralize(number: int, one: str, more: str = "") -> str:
-    """Returns the noun for a number. `more` is the plural if it isn't the noun with an `s`."""
+    """Returns the form of a noun for a number. `more` is the plural if it isn't the noun with an
+    `s`."""
     return one if number == 1 else more or one + "s"
 
 

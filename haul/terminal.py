@@ -9,34 +9,34 @@ from contextlib import suppress
 from typing import TextIO
 
 CONTROLS = re.compile(r"[\x00-\x1f\x7f-\x9f]")
-# The columns of a terminal that doesn't say how many it has.
+# The number of columns of a terminal that doesn't say how wide it is.
 USUAL_WIDTH = 80
 
 
 class Terminal:
-    """Standard error, which may be a terminal. A line that can't be written is left out."""
+    """Standard error, which may be a terminal. A line that can't be written is dropped."""
 
     def __init__(self, stderr: TextIO) -> None:
         self.stderr = stderr
 
     def is_interactive(self) -> bool:
-        """Checks whether somebody may read the lines of progress."""
+        """Checks whether this is a terminal, where someone may read progress lines."""
         return self.stderr.isatty()
 
     def show_progress(self, line: str) -> None:
-        """Replaces the line of progress if this is a terminal. An empty line wipes it."""
+        """Replaces the progress line if this is a terminal. An empty line erases it."""
         if self.is_interactive():
             with suppress(OSError):
                 print(f"\r\033[K{line}", end="", file=self.stderr, flush=True)
 
     def pass_progress_on(self, line: bytes) -> None:
-        """Writes a line of progress of another program as it is, if this is a terminal."""
+        """Writes another program's progress line unchanged if this is a terminal."""
         if self.is_interactive():
             with suppress(OSError):
                 os.write(self.stderr.fileno(), line)
 
     def complain(self, line: str) -> None:
-        """Writes a line of its own."""
+        """Erases the progress line, and writes a line about a problem."""
         self.show_progress("")
         with suppress(OSError):
             print(f"haul: {escape_controls(line)}", file=self.stderr, flush=True)
@@ -50,12 +50,11 @@ class Terminal:
 
 
 def escape_controls(text: str) -> str:
-    """Writes control characters as escapes, such as `\\x1b`, so that the name of a file can't move
+    """Replaces control characters by escapes such as `\\x1b`, so that the name of a file can't move
     the cursor or end a line."""
     return CONTROLS.sub(lambda found: f"\\x{ord(found[0]):02x}", text)
 
 
 def find_output_width(stdout: TextIO) -> int | None:
-    """Returns the number of columns of the terminal to which standard output goes, or `None` if it
-    goes elsewhere."""
+    """Returns the number of columns if standard output is a terminal, otherwise `None`."""
     return shutil.get_terminal_size().columns if stdout.isatty() else None

@@ -1,14 +1,14 @@
-"""Makes a release of a checkout, and compares one with what the checkout makes. `bin/release`
+"""Makes a release of a checkout, or compares a release with what the checkout makes. `bin/release`
 starts it.
 
-What goes into the archive and the package beside the programs and pages of the repository is in
-this folder too: what starts the program, `uninstall`, and what Debian's tools want to know.
-`bin/install` packs `haul` by `zipped.py`, as a release does.
+This folder also has the files that are only in the archive and the package: the script that starts
+the program, `uninstall`, and the files that Debian's tools need. Like a release, `bin/install`
+packs `haul` with `zipped.py`.
 """
 
 
 class Failed(Exception):
-    """It can't be made or compared, for the reason in this line, or these lines."""
+    """Raised if a release can't be made or compared. The arguments are the lines of the reason."""
 
     def __init__(self, *lines: str, status: int = 1) -> None:
         super().__init__(*lines)

@@ -1,4 +1,4 @@
-"""Archives by `tarfile` and `gzip`, whose bytes depend on nothing but the files in them, their date
+"""Makes archives with `tarfile` and `gzip`. Their bytes depend only on the files in them, the date
 and the version of zlib.
 """
 
@@ -12,13 +12,13 @@ from pathlib import PurePosixPath
 
 from release.files import PROGRAM, Tree
 
-# What an archive is made by.
+# The library that packs an archive.
 PACKED_BY = f"zlib {zlib.ZLIB_RUNTIME_VERSION}"
 BEST = 9
 
 
 def gzipped(data: bytes) -> bytes:
-    """The data by gzip, without a name or a date."""
+    """Returns the data compressed with gzip, without a name or a date."""
     packed = io.BytesIO()
     with gzip.GzipFile(filename="", mode="wb", compresslevel=BEST, fileobj=packed, mtime=0) as file:
         file.write(data)
@@ -26,8 +26,8 @@ def gzipped(data: bytes) -> bytes:
 
 
 def archive(tree: Tree, date: int) -> bytes:
-    """The archive of files and of the folders that they are in, all with one date and as the files
-    of user 0.
+    """Returns an archive of files and of the folders that contain them. All have the same date and
+    belong to user 0.
     """
     packed = io.BytesIO()
     with tarfile.open(fileobj=packed, mode="w", format=tarfile.USTAR_FORMAT) as file:
@@ -44,7 +44,7 @@ def archive(tree: Tree, date: int) -> bytes:
 
 
 def places_in(tree: Tree) -> list[str]:
-    """The places of all files and folders: each folder comes before what is in it."""
+    """Returns the places of all files and folders. Each folder comes before its contents."""
     paths = {
         path for place in tree for path in (PurePosixPath(place), *PurePosixPath(place).parents)
     }

@@ -1,4 +1,4 @@
-"""The checkout that a release is made of: its commit and what differs from it."""
+"""The checkout from which a release is made: its commit, and the files that differ from it."""
 
 from __future__ import annotations
 
@@ -20,24 +20,26 @@ class Checkout:
 
     top: Path
     commit: str
-    # When the commit was made, in seconds since 1970.
+    # The time of the commit, in seconds since 1970.
     date: int
     version: str
     # The files of the commit.
     files: frozenset[str]
 
     def sum_of_files(self) -> str:
-        """The SHA-256 of the list of the commit's files, each with its mode and its own sum by git."""
+        """Returns the SHA-256 of the list of the commit's files, each with its mode and its digest
+        in git.
+        """
         return hashlib.sha256(git(self.top, "ls-tree", "-r", self.commit)).hexdigest()
 
 
 def clean_checkout(top: Path) -> Checkout:
-    """The checkout in a folder, if it is its commit and nothing else."""
+    """Returns the checkout in a folder. Raises `Failed` if it differs from its commit."""
     commit = git(top, "rev-parse", "--verify", "HEAD^{commit}").decode().strip()
     above = git(top, "rev-parse", "--show-toplevel").decode().removesuffix("\n")
     if not os.path.samefile(above, top):
         raise Failed(f"{top} isn't the top of a checkout")
-    # Each entry is two letters and a blank before the path, and a nul after it.
+    # Each entry has two letters and a blank before the path, and a NUL after it.
     said = git(
         top,
         "status",
@@ -68,8 +70,8 @@ def version_of(top: Path) -> str:
 
 
 def git(top: Path, *words: str) -> bytes:
-    """What git prints of a checkout, which it leaves as it is."""
-    # A hook of git that calls this has another checkout in the environment.
+    """Returns what git prints about a checkout, without changing the checkout."""
+    # A git hook that calls this has another checkout in its environment.
     environment = {name: value for name, value in os.environ.items() if not name.startswith("GIT_")}
     environment |= {"GIT_OPTIONAL_LOCKS": "0", "LC_ALL": "C"}
     try:

@@ -1,5 +1,5 @@
-"""Compares a file of a release with the one that was made anew: byte for byte, and if they differ,
-file for file.
+"""Compares a file of a release with the same file made anew: byte for byte and, if they differ,
+file by file.
 """
 
 from __future__ import annotations
@@ -12,7 +12,7 @@ import zlib
 from collections import Counter
 from collections.abc import Iterator
 
-# What is told of a file in an archive.
+# The facts about a file in an archive that are compared.
 FACTS = ("bytes", "kind", "mode", "owner", "group", "date", "link")
 KINDS = {
     tarfile.REGTYPE: "file",
@@ -26,11 +26,13 @@ Facts = dict[str, str]
 
 
 class Unreadable(Exception):
-    """It is no archive or package."""
+    """Raised if a file isn't an archive or a package."""
 
 
 def differences(name: str, given: bytes, made: bytes) -> list[str]:
-    """What differs in the file that is given; nothing if each byte is the same."""
+    """Returns how the given file differs from the one that was made, or nothing if all bytes are
+    the same.
+    """
     if given == made:
         return []
     if not name.endswith((".tar.gz", ".deb")):
@@ -76,7 +78,9 @@ def told(fact: str, known: Facts, wanted: Facts) -> str:
 
 
 def members(name: str, data: bytes) -> list[tuple[str, Facts]]:
-    """What is in an archive, or in a package, whose two archives are read as one."""
+    """Returns the contents of an archive or a package. The two archives in a package are read as
+    one.
+    """
     if name.endswith(".tar.gz"):
         return list(members_of_archive("", data))
     parts = dict(parts_of_package(data))
@@ -121,8 +125,8 @@ def members_of_archive(front: str, data: bytes) -> Iterator[tuple[str, Facts]]:
 
 
 def parts_of_package(data: bytes) -> Iterator[tuple[str, bytes]]:
-    """The files of an archive by `ar`: each has a head of 60 bytes, and a byte more if its length
-    is odd.
+    """Yields the files of an `ar` archive. Each file has a header of 60 bytes, and a further byte
+    if its length is odd.
     """
     if not data.startswith(b"!<arch>\n"):
         raise Unreadable("it doesn't begin as a package does")

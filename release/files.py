@@ -1,4 +1,4 @@
-"""Files of an archive or a package: for each its place, its bytes and its mode."""
+"""The files of an archive or a package: the place, the bytes and the mode of each file."""
 
 from __future__ import annotations
 
@@ -13,5 +13,5 @@ class File:
     mode: int
 
 
-# Each file by its place.
+# The files, by their places.
 Tree = dict[str, File]

@@ -41,7 +41,7 @@ def parser() -> argparse.ArgumentParser:
 
 
 def files_made(checkout: Checkout, built: Path | None) -> dict[str, bytes]:
-    """The files of the release, by programs that were built before or are built now."""
+    """Returns the files of the release. If `built` is `None`, the programs are built now."""
     if built is not None:
         call(TOP, ["--look", str(built)])
         return files_of_release(checkout, built)
@@ -57,7 +57,7 @@ def make(built: Path | None, folder: Path) -> int:
 
 
 def look_at_commit(checkout: Checkout, file: Path) -> None:
-    """Refuses a file of which nothing says that it is of the commit that is checked out."""
+    """Raises `Failed` unless the provenance beside a file names the commit that is checked out."""
     path = file.parent / PROVENANCE
     try:
         found = COMMIT.search(path.read_text(errors="replace"))

@@ -24,8 +24,8 @@ def sha256(data: bytes) -> str:
 
 
 def files_of_release(checkout: Checkout, programs: Path) -> dict[str, bytes]:
-    """The files of the release of a checkout, with the programs in a folder. Where there is no
-    dpkg-deb, it has no package.
+    """Returns the files of the release of a checkout, with the programs in a folder. There is no
+    package if dpkg-deb isn't installed.
     """
     said = said_version(programs)
     if said != checkout.version:
@@ -45,8 +45,8 @@ def files_of_release(checkout: Checkout, programs: Path) -> dict[str, bytes]:
 
 
 def write_tree(tree: Tree, folder: Path, date: int) -> None:
-    """Writes the files below a folder, whatever is masked from the modes of new files, and all with
-    one date.
+    """Writes the files below a folder, with their modes (regardless of the umask) and all with the
+    same date.
     """
     for place, file in tree.items():
         path = folder / place
@@ -61,7 +61,9 @@ def write_tree(tree: Tree, folder: Path, date: int) -> None:
 
 
 def provenance(checkout: Checkout, programs: Path, archives: list[str]) -> str:
-    """From what a release was made, by what, and how anyone makes sure."""
+    """Returns a text that says from what a release was made, with which tools, and how anyone can
+    verify it.
+    """
     lines = [f"Gokzerd {checkout.version}", "", f"commit {checkout.commit}"]
     lines.append(
         f"files {checkout.sum_of_files()} (the SHA-256 of what `git ls-tree -r` prints of the commit)"
@@ -89,7 +91,7 @@ def provenance(checkout: Checkout, programs: Path, archives: list[str]) -> str:
 
 
 def write_release(made: dict[str, bytes], folder: Path) -> None:
-    """Puts the files into a folder, each under its name only when it is whole."""
+    """Writes the files into a folder. Each file gets its name only when it is complete."""
     try:
         folder.mkdir(parents=True, exist_ok=True)
         for name, data in made.items():

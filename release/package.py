@@ -1,4 +1,4 @@
-"""The program that packs a package, called so that it makes the same bytes of the same files."""
+"""Calls the program that makes a package, so that it makes the same bytes from the same files."""
 
 from __future__ import annotations
 
@@ -14,7 +14,9 @@ PACKER = "dpkg-deb"
 
 
 def environment(date: int = 0) -> dict[str, str]:
-    """Nothing else of the caller's environment changes what these programs make."""
+    """Returns the only environment variables that these programs get, so that nothing else in the
+    caller's environment changes what they make.
+    """
     return {
         "PATH": os.environ.get("PATH", "/usr/bin:/bin"),
         "LC_ALL": "C",
@@ -28,7 +30,7 @@ def has(tool: str) -> bool:
 
 
 def called(words: list[str], given: bytes | None = None, date: int = 0) -> bytes:
-    """What a program prints, which must end well."""
+    """Returns what a program prints. Raises `Failed` if it fails."""
     try:
         ended = subprocess.run(
             words,
@@ -47,14 +49,14 @@ def called(words: list[str], given: bytes | None = None, date: int = 0) -> bytes
 
 
 def version_of(tool: str) -> str:
-    """The line in which a program says its version."""
+    """Returns the line in which a program states its version."""
     if not has(tool):
         return f"no {tool}"
     return called([tool, "--version"]).decode("utf-8", "replace").splitlines()[0].rstrip(".")
 
 
 def package(folder: Path, date: int) -> bytes:
-    """The Debian package of a folder that has its description."""
+    """Returns the Debian package made from a folder that includes the package's description."""
     with tempfile.TemporaryDirectory() as room:
         made = Path(room) / "made.deb"
         called(

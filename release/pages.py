@@ -1,5 +1,5 @@
-"""Pages for another place: each link leads to where its file is there, and is plain text if the
-file isn't there.
+"""Adapts pages to their place in a release: each link leads to the new place of its file, or
+becomes plain text if the release doesn't have the file.
 """
 
 from __future__ import annotations
@@ -8,7 +8,7 @@ import posixpath
 import re
 from collections.abc import Mapping
 
-# Code, in which there is no link, or a link, perhaps to a picture.
+# Code, which can't contain a link, or a link, possibly to a picture.
 PIECE = re.compile(
     r"(?P<code>^```.*?^```$|``.*?``|`[^`\n]*`)|(?P<picture>!?)\[(?P<text>(?:[^\[\]`]|`[^`\n]*`)*)\]\((?P<target>[^()\s]+)\)",
     re.MULTILINE | re.DOTALL,
@@ -16,8 +16,8 @@ PIECE = re.compile(
 
 
 def moved_page(text: str, path: str, places: Mapping[str, str]) -> str:
-    """The text of a page of the repository in its place in a release. `places` says where files and
-    folders of the repository are there; the page is one of them.
+    """Returns the text of a page of the repository, adapted to its place in a release. `places`
+    maps paths in the repository, including the page's own path, to places in the release.
     """
 
     def moved(found: re.Match[str]) -> str:

@@ -8,13 +8,14 @@ from pathlib import Path
 
 from release import Failed
 
-# The one for each processor from the level v2 on is first: it runs wherever a release does.
+# The program for all processors from level v2 on comes first, since it runs wherever a release
+# does.
 LEVELS = ("v2", "v3")
 
 
 def call(top: Path, words: list[str]) -> None:
-    """Calls bin/programs, which says itself what is wrong."""
-    # Ctrl-C is for that program too, which then ends the prover. Till then this one waits for it.
+    """Calls bin/programs, which reports errors itself."""
+    # Ctrl-C also reaches that program, which then ends the prover. Until then, this one waits.
     before = signal.signal(signal.SIGINT, lambda _number, _frame: None)
     try:
         status = subprocess.run(
@@ -27,7 +28,7 @@ def call(top: Path, words: list[str]) -> None:
 
 
 def said_version(programs: Path) -> str:
-    """The version that a program says."""
+    """Returns the version that a program states."""
     try:
         said = subprocess.run(
             [str(programs / "census-v2"), "--version"],
@@ -41,7 +42,7 @@ def said_version(programs: Path) -> str:
 
 
 def rt_version(programs: Path) -> str:
-    """The version of the toolchain that the programs were proved by."""
+    """Returns the version of the toolchain with which the programs were proved."""
     return (programs / "from").read_text().partition("\n")[0]
 
 

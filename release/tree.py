@@ -1,4 +1,6 @@
-"""What is in the archive and in the package: for each file its place, its bytes and its mode."""
+"""The contents of the archive and of the package: the place, the bytes and the mode of each
+file.
+"""
 
 from __future__ import annotations
 
@@ -23,8 +25,8 @@ LIBEXEC = "libexec/gokzerd"
 
 
 def places_of(checkout: Checkout, zsh: str) -> dict[str, str]:
-    """Where the files of the repository are below the folder that they are installed in. The
-    completions for zsh have a folder of their own on each system.
+    """Returns the places of the repository's files below the folder in which a release is
+    installed. `zsh` is the name of the folder for zsh's completions, which depends on the system.
     """
     places = {"release/census": "bin/census", "release/processor.sh": f"{LIBEXEC}/processor.sh"}
     places |= {
@@ -48,9 +50,10 @@ def places_of(checkout: Checkout, zsh: str) -> dict[str, str]:
 
 
 def installed(checkout: Checkout, programs: Path, zsh: str) -> Tree:
-    """What is below the folder that a release is installed in."""
+    """Returns the files below the folder in which a release is installed."""
     places = places_of(checkout, zsh)
-    # Some pages link to folders, and to the page on the examples, of which one is in a release.
+    # Some pages link to folders, and to the page about the examples. A release has one of the
+    # examples.
     linked = {
         **places,
         "cluster": "share/census/cluster",
@@ -72,7 +75,7 @@ def installed(checkout: Checkout, programs: Path, zsh: str) -> Tree:
 
 
 def archive_tree(checkout: Checkout, programs: Path) -> Tree:
-    """What the archive has, below one folder with the release's name."""
+    """Returns the contents of the archive, below a folder with the release's name."""
     tree = installed(checkout, programs, "site-functions")
     tree["install"] = File((checkout.top / "bin" / "install").read_bytes(), PROGRAM)
     tree["uninstall"] = File((checkout.top / "release" / "uninstall").read_bytes(), PROGRAM)
@@ -84,8 +87,8 @@ def name_of(checkout: Checkout) -> str:
 
 
 def package_tree(checkout: Checkout, programs: Path) -> Tree:
-    """What the package has: the same below /usr, in the form that Debian wants, and the package's
-    own description.
+    """Returns the contents of the package: the same files below /usr, in the form that Debian
+    requires, and the package's description.
     """
     own = checkout.top / "release"
     tree = {}
@@ -125,7 +128,7 @@ def maintainer(checkout: Checkout) -> str:
 
 
 def debian_changelog(checkout: Checkout) -> bytes:
-    """What Debian's tools read; what has changed is on the page beside it."""
+    """Returns the changelog for Debian's tools, which only refers to CHANGELOG.md beside it."""
     return (
         f"gokzerd ({checkout.version}) unstable; urgency=medium\n\n  * What has changed is in CHANGELOG.md, beside this file.\n\n"
         f" -- {maintainer(checkout)}  {formatdate(checkout.date)}\n"

@@ -1,11 +1,11 @@
-"""A few crates, for the checks of the builder."""
+"""A few crates, for testing the builder."""
 
 from __future__ import annotations
 
 from builder.crates import Crates, uses_in
 
-# `low` is below all, `long` is the way that takes longest, and `side` has a way of its own. `apart`
-# is of no concern.
+# `low` is below all other crates, `long` is on the path that takes longest, and `side` is on a path
+# of its own. `apart` isn't part of the program.
 LIST = """\
 # a comment: with a colon
 low: core

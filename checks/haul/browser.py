@@ -1,5 +1,5 @@
-"""A browser that opens the page of `haul page`, and what it shows. It needs Selenium, Pillow and
-Chromium.
+"""A browser that opens the page of `haul page`, and functions that read what it shows. Needs
+Selenium, Pillow and Chromium.
 """
 
 from __future__ import annotations
@@ -24,14 +24,14 @@ Driver: TypeAlias = webdriver.Chrome
 Element: TypeAlias = WebElement
 
 HEIGHT = 1000
-# A point that is darker than this is one of a live cell.
+# A point that is darker than this belongs to a live cell.
 DARK = 128
-# How often a picture is taken until it no longer changes, and how long it may take between two.
+# How many pictures to take until a picture no longer changes, and the time between two of them.
 MOST_PICTURES, SECONDS_BETWEEN = 40, 0.05
 
-# The texts in sight whose colour has too little contrast with what is behind them, each with its
-# contrast, by the formula of WCAG. In an open dialog only its own texts count, and a control that
-# is switched off doesn't.
+# Finds the visible texts that have too little contrast with their background, each with its
+# contrast, according to WCAG's formula. If a dialog is open, only its texts count. Disabled
+# controls don't count.
 CONTRASTS = """
 const numbers = color => { const [r, g, b, a = 1] = color.match(/[\\d.]+/g).map(Number); return [r, g, b, a]; };
 const over = ([r, g, b, a], under) => [r, g, b].map((value, at) => value * a + under[at] * (1 - a)).concat(1);
@@ -59,7 +59,9 @@ return faults;
 
 
 def browser(width: int, dark: bool = False, still: bool = True) -> Driver:
-    """Starts a browser of this width in points. Unless `still` is false, it prefers reduced motion."""
+    """Starts a browser that is this wide, in points. It prefers reduced motion unless `still` is
+    false.
+    """
     options = webdriver.ChromeOptions()
     for word in [
         "--headless=new",
@@ -79,8 +81,8 @@ def browser(width: int, dark: bool = False, still: bool = True) -> Driver:
 def look_like(
     driver: Driver, width: int, dark: bool = False, still: bool = True, medium: str = ""
 ) -> None:
-    """Gives a browser a width and what it prefers. A window may not be as narrow as a telephone,
-    but what it shows may.
+    """Sets the width and the preferences of a browser. A window can't be as narrow as a telephone,
+    but its contents can.
     """
     driver.execute_cdp_cmd(
         "Emulation.setDeviceMetricsOverride",
@@ -99,14 +101,14 @@ def look_like(
 
 
 def opened(driver: Driver, path: Path, address: str = "") -> Driver:
-    """Opens a page anew, at an address in it."""
+    """Loads a page again, at an address within it."""
     driver.get("about:blank")
     driver.get(path.as_uri() + address)
     return driver
 
 
 def texts(driver: Driver, selector: str) -> list[str]:
-    """Returns the texts of all elements of a kind, whether or not they are in sight."""
+    """Returns the texts of all elements that match a selector, visible or not."""
     found: list[str] = driver.execute_script(
         "return [...document.querySelectorAll(arguments[0])].map(one => one.textContent)", selector
     )
@@ -118,7 +120,7 @@ def text(driver: Driver, selector: str) -> str:
 
 
 def all_of(driver: Driver) -> list[str]:
-    """Returns the codes of the list, all of which are drawn as for paper, in their order."""
+    """Returns the codes of the list in order. All of them are drawn, as for printing."""
     driver.execute_script("dispatchEvent(new Event('beforeprint'))")
     return texts(driver, "#list .card code, #list .name code")
 
@@ -128,7 +130,7 @@ def click(driver: Driver, selector: str) -> None:
 
 
 def choose(driver: Driver, name: str, value: str) -> None:
-    """Chooses from a list of choices."""
+    """Chooses a value from a drop-down list."""
     driver.execute_script(
         "const one = document.querySelector(arguments[0]); one.value = arguments[1]; one.dispatchEvent(new Event('change', {bubbles: true}))",
         name,
@@ -142,7 +144,7 @@ def press(driver: Driver, *keys: str) -> None:
 
 
 def focused(driver: Driver) -> str:
-    """Returns what has the focus: its text, label or identity."""
+    """Returns the text, label or id of the element that has the focus."""
     found: str = driver.execute_script(
         "const one = document.activeElement; return one.getAttribute('aria-label') || one.textContent.trim() || one.name || one.id || one.tagName"
     )
@@ -154,8 +156,8 @@ def address(driver: Driver) -> str:
 
 
 def settled(element: Element) -> bytes:
-    """Takes pictures of an element until two in a row are the same, since the first after a click
-    may be taken before all is painted.
+    """Takes pictures of an element until two in a row are the same, and returns the last one. The
+    first picture after a click may be taken before everything is painted.
     """
     before = b""
     for _ in range(MOST_PICTURES):
@@ -168,8 +170,8 @@ def settled(element: Element) -> bytes:
 
 
 def cells_in_picture(driver: Driver, selector: str) -> tuple[Cells, float]:
-    """Returns the live cells in a picture, by the colour of the point in the middle of each cell,
-    and the width of a cell in points.
+    """Returns the live cells in a picture, according to the colour of the point in the middle of
+    each cell, and the width of a cell in points.
     """
     element = driver.find_element(By.CSS_SELECTOR, selector)
     driver.execute_script("arguments[0].scrollIntoView({block: 'center'})", element)
@@ -184,13 +186,15 @@ def cells_in_picture(driver: Driver, selector: str) -> tuple[Cells, float]:
 
 
 def cells_of_path(path: str) -> Cells:
-    """Returns the cells that a picture's path draws, moved to the corner: a bar for each run."""
+    """Returns the cells that a picture's path draws, moved to the corner. Each run of cells is a
+    bar.
+    """
     runs = re.findall(r"M(\d+) (\d+)h(\d+)v1h-\d+z", path)
     return to_corner((int(x) + k, int(y)) for x, y, length in runs for k in range(int(length)))
 
 
 def paths_seen(driver: Driver, selector: str, seconds: float) -> list[str]:
-    """Returns the paths that a picture has within some seconds, in order. The page notes each
+    """Returns the paths that a picture has within `seconds` seconds, in order. The page notes each
     change, so that none is missed.
     """
     seen: list[str] = driver.execute_async_script(
@@ -210,8 +214,8 @@ def is_narrow(driver: Driver) -> bool:
 
 
 def has_live_points(driver: Driver) -> bool:
-    """Checks whether the player's picture has points of the colour that live cells have on the
-    page, within a second.
+    """Checks whether, within a second, the player's picture has points in the colour of live
+    cells.
     """
     return wait_for(
         lambda: bool(
@@ -227,7 +231,7 @@ return data.some((value, at) => at % 4 === 0 && live.every((part, color) => data
 
 
 def complaints(driver: Driver) -> list[str]:
-    """Returns what is on the console since the last call, but for what it says about this module's
+    """Returns the messages on the console since the last call, except for those about this module's
     reading of a canvas.
     """
     return [
@@ -243,7 +247,7 @@ def low_contrasts(driver: Driver, least: float) -> list[str]:
 
 
 def nameless(driver: Driver) -> list[str]:
-    """Returns the controls of a page that a screen reader has no name for."""
+    """Returns the controls of a page for which a screen reader has no name."""
     nodes: list[dict[str, Any]] = driver.execute_cdp_cmd("Accessibility.getFullAXTree", {})["nodes"]
     roles = {
         "button",
@@ -274,7 +278,7 @@ def wait_for(holds: Callable[[], bool], seconds: float = 10) -> bool:
 
 
 def seconds_to_open(driver: Driver, path: Path) -> float:
-    """Returns how long it takes to load a page and lay it out."""
+    """Returns how many seconds it takes to load a page and lay it out."""
     driver.get("about:blank")
     began = time.monotonic()
     driver.get(path.as_uri())
@@ -283,9 +287,9 @@ def seconds_to_open(driver: Driver, path: Path) -> float:
 
 
 def longest_frame(driver: Driver) -> float:
-    """Returns the most milliseconds that the page's main thread works in two frames, in 40 steps in
-    which it scrolls by 300 points. The processor's time is counted, so that other work on the
-    machine doesn't count.
+    """Returns the longest time, in milliseconds, that the page's main thread works in two frames,
+    while the page is scrolled in 40 steps of 300 points. Only the thread's own processor time
+    counts, so other work on the machine doesn't matter.
     """
     driver.execute_cdp_cmd("Performance.enable", {"timeDomain": "threadTicks"})
 
@@ -307,8 +311,8 @@ def longest_frame(driver: Driver) -> float:
 
 
 def least_of(measure: Callable[[], float], tries: int, enough: float) -> float:
-    """Returns the smallest of up to `tries` measurements. Stops when one is less than `enough`,
-    since other work on the machine counts too.
+    """Returns the smallest of up to `tries` measurements, since other work on the machine may make
+    a measurement larger. Stops when a measurement is below `enough`.
     """
     least = measure()
     for _ in range(tries - 1):

@@ -1,5 +1,5 @@
-"""Hauls and the pages that `haul page` makes of them, for the checks in a browser, and how these
-count.
+"""Hauls, and the pages that `haul page` makes of them, for the checks in a browser. Also the
+counter of these checks.
 """
 
 from __future__ import annotations
@@ -20,8 +20,8 @@ count = Count()
 HAUL = TOP / "bin" / "haul"
 WIDTHS = (390, 900, 1400)
 PULSAR = "xp3_co9nas0san9oczgoldlo0oldlogz1047210127401"
-# A haul that is lawful, though no census gives it: three objects of each code. By parts these are 3
-# + 2 * 3 + 4 * 3 blinkers, 3 + 2 * 3 blocks, three boats, three tumblers and three beehives.
+# A valid haul that no census gives: three objects of each code. By parts, these are 3 + 2 * 3 + 4 *
+# 3 blinkers, 3 + 2 * 3 blocks, three boats, three tumblers and three beehives.
 CODES = [
     "xp14_j9d0d9j",
     "xp2_1110s",
@@ -40,7 +40,7 @@ def census(*words: str, pattern: bytes = b"") -> bytes:
 
 
 def page_of(path: Path, *hauls: bytes, more: tuple[str, ...] = ()) -> Path:
-    """The page of hauls, in a file."""
+    """Writes the page of some hauls to a file, and returns the path."""
     names = [f"{path}.{place}" for place in range(len(hauls))]
     for name, haul in zip(names, hauls, strict=True):
         Path(name).write_bytes(haul)
@@ -69,15 +69,15 @@ def rows_of(haul: bytes, table: str) -> Iterator[list[str]]:
 
 
 def in_order(code: str) -> tuple[str, int, str]:
-    """What codes of one frequency are sorted by: the number of cells and the period count as
-    numbers.
+    """Returns the sort key of codes that are equally frequent. The number of cells and the period
+    are compared as numbers.
     """
     kind, number, rest = re.fullmatch(r"(\D*)(\d*)(.*)", code).groups()  # type: ignore[union-attr]
     return kind, int(number or 0), rest
 
 
 def drawn(code: str, generation: int = 0) -> Cells:
-    """The cells of an object after this many generations, moved to the corner."""
+    """Returns the cells of an object after `generation` generations, moved to the corner."""
     return drawing(
         *census("run", str(generation), pattern=census("show", code)).decode().splitlines()
     )

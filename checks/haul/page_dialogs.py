@@ -1,4 +1,4 @@
-"""The dialogs of a page: objects in motion, and what is copied."""
+"""Checks the dialogs of a page: objects in motion, and copied texts."""
 
 from __future__ import annotations
 
@@ -83,7 +83,7 @@ def wait_for_object(driver: Driver, code: str) -> None:
 
 
 def try_motion(driver: Driver) -> None:
-    """Phases play, unless no motion is wanted."""
+    """Checks that phases play, unless reduced motion is preferred."""
     count.equal("who wants no motion sees none", len(browser.paths_seen(driver, ".frame", 0.7)), 1)
     look_like(driver, 1400, still=False)
     driver.refresh()
@@ -106,7 +106,7 @@ def try_motion(driver: Driver) -> None:
 
 
 def try_copies(driver: Driver, path: Path, haul: bytes) -> None:
-    """What is copied is the object or the soup, as RLE that `haul` and Golly read."""
+    """Checks that the copied text is the object or the soup, as RLE that `haul` and Golly read."""
     samples = {row[0]: row[1] for row in rows_of(haul, "@SAMPLE_SOUPIDS")}
     for code in ("xs4_33", "xq4_153", PULSAR, "xp2_318c"):
         opened(driver, path, f"#{code}&soup=A{samples[code]}")
@@ -150,8 +150,8 @@ def places_of_buttons(driver: Driver) -> list[float]:
 
 
 def try_refused_copies(driver: Driver, path: Path) -> None:
-    """If the browser doesn't copy, the text is selected beside the button, until something else is
-    pressed.
+    """Checks that the text is selected beside the button if the browser doesn't copy, until
+    something else is pressed.
     """
     opened(driver, path, "#xs4_33&soup=A1")
     wait_for(lambda: text(driver, "#player h3") == "Soup 1")
@@ -179,7 +179,7 @@ return [area === document.activeElement, area.value.slice(area.selectionStart, a
 
 
 def keep_copies(driver: Driver) -> None:
-    """Keeps what the page copies in its variable `copied`."""
+    """Stores the texts that the page copies in its variable `copied`."""
     driver.execute_script(
         "window.copied = []; Object.defineProperty(navigator, 'clipboard', {value: {writeText: async text => { copied.push(text) }}})"
     )
@@ -194,7 +194,7 @@ def by_haul(rle: str) -> bytes:
 
 
 def by_golly(rle: str) -> bytes:
-    """A pattern as Golly writes it after it has read it, as plaintext."""
+    """Returns a pattern, as plaintext, in the form in which Golly writes it after reading it."""
     with tempfile.TemporaryDirectory() as room:
         folder = Path(room)
         (folder / "in.rle").write_text(rle)

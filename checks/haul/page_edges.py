@@ -1,5 +1,5 @@
-"""Pages in hard conditions: with the keyboard only, on a telephone, at 200 % zoom, on paper, in
-forced colours, without scripts and after long scrolling.
+"""Checks pages under difficult conditions: with the keyboard only, on a telephone, at 200 % zoom,
+on paper, in forced colours, without scripts, and after long scrolling.
 """
 
 from __future__ import annotations
@@ -15,14 +15,16 @@ from checks.haul.page_dialogs import wait_for_object
 SHIFT_TAB, LEFT, RIGHT = "\ue008\ue004", "\ue012", "\ue014"
 HARD_WIDTHS = (390, 800, 1400)
 STEPS_BACK = 22
-# What has the focus, if what sticks at the top of the page or of the dialog covers its middle.
+# Finds the element with the focus if a sticky part at the top of the page or of the dialog covers
+# its middle.
 COVERED = """
 const one = document.activeElement, { left, right, top, bottom } = one.getBoundingClientRect();
 if (one === document.body || right <= 0) return '';
 const x = Math.min(Math.max((left + right) / 2, 0), innerWidth - 1), y = top + Math.min(10, (bottom - top) / 2);
 const over = document.elementFromPoint(x, y), sticky = over?.closest('#controls, thead, dialog > header');
 return y < 0 || sticky && !sticky.contains(one) ? `${one.textContent.trim().slice(0, 20)} at ${y}` : '';"""
-# Controls in sight that are less than 24 points high or wide. Links within lines of text don't count.
+# Finds visible controls that are less than 24 points high or wide. Links within lines of text don't
+# count.
 SMALL = """
 return [...document.querySelectorAll(arguments[0])].filter(one => one.checkVisibility())
   .filter(one => { const { width, height } = one.getBoundingClientRect(); return width < 24 || height < 24; })
@@ -30,7 +32,7 @@ return [...document.querySelectorAll(arguments[0])].filter(one => one.checkVisib
 TARGETS = (
     ".frequencies > a, .card > a, #controls button, #controls select, #query, dialog button, .step"
 )
-# The contrasts between the borders of inputs and chips and what is behind them.
+# Finds the contrasts between the borders of inputs and chips and their backgrounds.
 BORDERS = """
 const numbers = color => color.match(/[\\d.]+/g).slice(0, 3).map(Number);
 const light = color => numbers(color).map(value => value / 255).map(value => value <= .03928 ? value / 12.92 : ((value + .055) / 1.055) ** 2.4)
@@ -69,7 +71,7 @@ def try_edges(driver: Driver, path: Path, folder: Path) -> None:
 
 
 def try_focus(driver: Driver, page: Path, width: int, view: str) -> None:
-    """Steps back by Tab from an object far down, none of which is hidden."""
+    """Checks that no object is hidden when Shift+Tab goes back from an object far down."""
     opened(driver, page, f"#&strict=0&view={view}")
     driver.execute_script("scrollTo(0, 2500)")
     time.sleep(0.3)
@@ -97,7 +99,9 @@ def try_focus_in_dialog(driver: Driver, page: Path, width: int) -> None:
 
 
 def try_targets(driver: Driver, page: Path, width: int) -> None:
-    """Targets and borders, in light and dark, with the charts open and a dialog."""
+    """Checks sizes of targets and contrasts of borders, in light and dark, with the charts and a
+    dialog open.
+    """
     for address in ("", "#xs4_33"):
         opened(driver, page, address)
         driver.execute_script("document.querySelector('#charts').open = true")
@@ -120,7 +124,7 @@ def try_targets(driver: Driver, page: Path, width: int) -> None:
 
 
 def try_telephone(driver: Driver, two: Path) -> None:
-    """Only the search stays in sight, and a button shows the other choices."""
+    """Checks that only the search stays visible, and that a button shows the other choices."""
     look_like(driver, 390)
     opened(driver, two)
     height = "return document.querySelector('#controls').offsetHeight"
@@ -145,7 +149,9 @@ def try_telephone(driver: Driver, two: Path) -> None:
 
 
 def try_columns(driver: Driver, path: Path) -> None:
-    """One column up to 800 points, and above that two, the right one of which is used."""
+    """Checks that there is one column up to 800 points, and two above that, the right one of which
+    is used.
+    """
     sides = "return [...document.querySelectorAll('.columns > div')].map(one => one.offsetLeft)"
     for width, columns in ((390, 1), (641, 1), (700, 1), (800, 1), (1400, 2)):
         look_like(driver, width)
@@ -166,7 +172,9 @@ def try_columns(driver: Driver, path: Path) -> None:
 
 
 def try_chart(driver: Driver, two: Path) -> None:
-    """Dots on the logarithmic axis, and bars on the linear one; after the search, below a head."""
+    """Checks that the logarithmic axis has dots and the linear one bars, and that after a search
+    the chart is below a heading.
+    """
     look_like(driver, 1400)
     drawn = """
 const bars = [...document.querySelectorAll('.frequencies .bar')];
@@ -210,8 +218,8 @@ return zero.length > 0 && zero.every(one => [one, ...one.querySelectorAll('.diff
 
 
 def try_keys(driver: Driver, path: Path) -> None:
-    """Arrow keys go through the objects, and a soup that is clicked plays, unless no motion is
-    wanted.
+    """Checks that arrow keys move between the objects, and that a clicked soup plays unless reduced
+    motion is preferred.
     """
     opened(driver, path, "#xs4_33")
     wait_for_object(driver, "xs4_33")
@@ -293,7 +301,9 @@ return [...document.querySelectorAll('.bar, .letter')].filter(one => getComputed
 
 
 def try_without_scripts(driver: Driver, two: Path, folder: Path) -> None:
-    """The table has the first thousand objects, and two hauls fit the window."""
+    """Checks that the table has the first thousand objects, and that two hauls fit into the
+    window.
+    """
     codes = [f"xp{period}_{period:x}" for period in range(2, 1302)]
     many = page_of(folder / "many.html", haul_of(codes, 6000), more=("--play=0",))
     driver.execute_cdp_cmd("Emulation.setScriptExecutionDisabled", {"value": True})
@@ -319,7 +329,7 @@ def try_without_scripts(driver: Driver, two: Path, folder: Path) -> None:
 
 
 def try_long_scrolling(driver: Driver, folder: Path) -> None:
-    """Cards that are far from the screen are removed, on a telephone too."""
+    """Checks that cards that are far from the screen are removed, also on a telephone."""
     look_like(driver, 390)
     opened(driver, folder / "many.html", "#&strict=0")
     nodes = "return document.querySelectorAll('*').length"

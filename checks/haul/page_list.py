@@ -1,4 +1,4 @@
-"""How the list of objects on a page looks: its orders, parts and charts."""
+"""Checks the list of objects on a page: its orders, parts and charts."""
 
 from __future__ import annotations
 
@@ -23,7 +23,7 @@ from checks.haul.page_dialogs import wait_for_object
 
 
 def try_list(driver: Driver, path: Path, haul: bytes) -> None:
-    """All objects of a census, in each order; search and chips."""
+    """Checks the list of all objects of a census, in each order, with the search and the chips."""
     totals = {code: int(total) for code, total in rows_of(haul, "@CENSUS TABLE")}
     opened(driver, path, "#&strict=0")
     count.equal("nothing is on the console", browser.complaints(driver), [])
@@ -113,7 +113,7 @@ def try_orders(driver: Driver, totals: dict[str, int], by_total: list[str]) -> N
         ("-period", lambda code: -period(code)),
     ):
         choose(driver, "#sort", order)
-        # Equals come in the order of frequency, and then of their codes.
+        # Equals are in the order of frequency, then of their codes.
         count.equal(f"the order {order}", all_of(driver), sorted(by_total, key=key))
     click(driver, "[name=view][value=table]")
     for head, order in (
@@ -140,7 +140,7 @@ def try_orders(driver: Driver, totals: dict[str, int], by_total: list[str]) -> N
 
 
 def try_parts(driver: Driver, path: Path) -> None:
-    """Which objects are strict, and what is counted by parts."""
+    """Checks which objects are strict, and what is counted by parts."""
     opened(driver, path)
     count.equal(
         "strict objects are shown at first", all_of(driver), ["xp2_7", "xp14_j9d0d9j", "xs5_253"]
@@ -258,9 +258,7 @@ def try_parts(driver: Driver, path: Path) -> None:
 
 
 def try_charts(driver: Driver, folder: Path) -> None:
-    """The charts, and how often objects are said to come at the bound between the two ways of
-    saying it.
-    """
+    """Checks the charts, and how frequencies are written at the bound between the two notations."""
     path = page_of(
         folder / "charts.html",
         haul_of(

@@ -1,5 +1,5 @@
-"""The section *Long lives* of a page: its lists and its chart, and how its soups play in the dialog,
-by the mouse and by keys.
+"""Checks the section *Long lives* of a page: its lists and its chart, and how its soups play in the
+dialog, with the mouse and with the keyboard.
 """
 
 from __future__ import annotations
@@ -27,12 +27,12 @@ from checks.haul.page_looks import ENTER
 from checks.lib.program import CENSUS
 
 LEFT, RIGHT, ESCAPE = "\ue012", "\ue014", "\ue00c"
-# Soups from the first number on, of which some are unsettled under this limit.
+# Soups from this number on. Some of them are unsettled under this limit.
 SOUPS, LIMIT, LATE = 40, 3030, 1000
 
 
 def make_lives_page(folder: Path) -> tuple[Path, list[str]]:
-    """Makes a page with long lives. Returns it, and the report lines of its late soups."""
+    """Makes a page with long lives. Returns its path, and the report lines of its late soups."""
     job = (f"--limit={LIMIT}", f"--count={SOUPS}", "--first=600")
     haul, late, page = folder / "lives.haul", folder / "lives.late", folder / "lives.html"
     haul.write_bytes(census("take", *job))
@@ -73,7 +73,7 @@ def try_lives(driver: Driver, folder: Path) -> None:
 
 
 def try_one_life(driver: Driver, name: str) -> None:
-    """The longest-lived soup plays to its end, which is as `census` says."""
+    """Checks that the longest-lived soup plays to its end, as reported by `census`."""
     number = name.removeprefix("Soup ")
     driver.execute_script("document.querySelector('#lives .soups a').focus()")
     press(driver, ENTER)
@@ -92,7 +92,9 @@ def try_one_life(driver: Driver, name: str) -> None:
 
 
 def try_steps(driver: Driver, links: list[str]) -> None:
-    """Arrow keys go through the lists, and the dialog closes to where it was."""
+    """Checks that arrow keys move through the lists, and that the page is where it was after the
+    dialog is closed.
+    """
     driver.execute_script("document.querySelector('#object-name').focus()")
     press(driver, RIGHT)
     count.holds("the next one", wait_for(lambda: text(driver, "#object-name") == links[1]))

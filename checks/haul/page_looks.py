@@ -1,5 +1,5 @@
-"""How pages look and work: at three widths, in light and dark, with the keyboard only, printed,
-without scripts, with 12,124 objects.
+"""Checks how pages look and work: at three widths, in light and dark, with the keyboard only,
+printed, without scripts, and with 12,124 objects.
 """
 
 from __future__ import annotations
@@ -34,8 +34,8 @@ STATES = {
 
 
 def try_looks(driver: Driver, path: Path, both: Path, haul: bytes) -> None:
-    """Each state at each width, in light and in dark: nothing is too wide, nothing too pale, and
-    everything has a name.
+    """Checks each state at each width, in light and in dark: nothing is too wide, no text has too
+    little contrast, and every control has a name.
     """
     sample = dict((row[0], row[1]) for row in rows_of(haul, "@SAMPLE_SOUPIDS"))[PULSAR]
     states = [
@@ -97,7 +97,7 @@ return [...document.querySelectorAll('.card .total, #chips .chip')].filter(one =
 
 
 def try_keyboard(driver: Driver, path: Path) -> None:
-    """From the start of the page to a dialog and back, with the keyboard only."""
+    """Goes from the start of the page to a dialog and back, with the keyboard only."""
     opened(driver, path)
     press(driver, TAB, ENTER)
     count.equal("a first link skips to the objects", browser.focused(driver), "Objects")
@@ -144,7 +144,7 @@ def try_keyboard(driver: Driver, path: Path) -> None:
 
 
 def try_other_readers(driver: Driver, path: Path, haul: bytes) -> None:
-    """On paper, without scripts, and with a browser that can't tell what is in sight."""
+    """Checks a page on paper, without scripts, and in a browser that can't tell what is visible."""
     totals = [row[0] for row in rows_of(haul, "@CENSUS TABLE")]
     for address in ("#&strict=0", "#&strict=0&view=table"):
         opened(driver, path, address)
@@ -200,15 +200,15 @@ def try_other_readers(driver: Driver, path: Path, haul: bytes) -> None:
 
 
 def seconds_of_children() -> float:
-    """Returns the time that processors have spent on programs that were started and have ended.
-    Other work on the machine doesn't count.
+    """Returns the processor time of programs that were started and have ended. Other work on the
+    machine doesn't count.
     """
     times = os.times()
     return times.children_user + times.children_system
 
 
 def try_large_page(driver: Driver, folder: Path) -> None:
-    """A page of 12,124 objects, each of which is three still lifes in a row."""
+    """Checks a page of 12,124 objects, each of which is three still lifes in a row."""
     stills = [
         "33",
         "252",

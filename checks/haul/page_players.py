@@ -1,5 +1,5 @@
-"""How soups play on pages: to the ends that `census` says, in views of the ash and of all cells,
-and by keys.
+"""Checks how soups play on pages: up to the ends that `census` reports, in views of the ash and of
+all cells, and with the keyboard.
 """
 
 from __future__ import annotations
@@ -12,9 +12,9 @@ from checks.haul.browser import Driver, all_of, click, opened, press, text, wait
 from checks.haul.made_pages import census, count, go_to, rows_of
 from checks.haul.page_looks import ENTER, SPACE
 
-# Soups that are played to their ends.
+# The soups that are played to their ends.
 SOUPS = 10
-# How many points of the player's picture have the colour of live cells.
+# Counts the points of the player's picture that have the colour of live cells.
 LIVE_POINTS = """
 const canvas = document.querySelector('.player canvas'), { data } = canvas.getContext('2d').getImageData(0, 0, canvas.width, canvas.height);
 const live = getComputedStyle(canvas).getPropertyValue('--live').match(/[0-9a-f]{2}/g).map(byte => parseInt(byte, 16));
@@ -24,7 +24,9 @@ return count;"""
 
 
 def try_players(driver: Driver, path: Path, haul: bytes) -> None:
-    """Ten soups, played to their ends, have as many cells as `census` says, and as many rings."""
+    """Checks that ten soups, played to their ends, have as many cells as `census` reports, and as
+    many rings.
+    """
     opened(driver, path, "#&strict=0")
     labels: dict[str, str] = driver.execute_script(
         "return Object.fromEntries(JSON.parse(document.querySelector('#data').textContent).objects.map(one => [one.code, one.label]))"
@@ -63,7 +65,7 @@ def try_players(driver: Driver, path: Path, haul: bytes) -> None:
     click(driver, "[data-act=ring]")
     click(driver, "[data-act=back]")
     live = census("soup", number).count(b"O")
-    # A cell has sixteen points a side, less those of the grid.
+    # A cell has sixteen by sixteen points, minus the points of the grid.
     count.holds(
         "at the start, all is in sight again",
         live_points(driver) >= live * 14 * 14,
@@ -84,7 +86,7 @@ def try_players(driver: Driver, path: Path, haul: bytes) -> None:
 
 
 def plural_of(label: str, code: str) -> str:
-    """Returns what several objects are called: the plural of a name, if it has one."""
+    """Returns the label for several objects: the plural of the name, if there is a name."""
     if label == code or re.search(r"[0-9]| and ", label):
         return "objects with this code"
     for end, plural in (("loaf", "loaves"), ("fly", "flies"), ("ry", "ries")):
@@ -104,7 +106,7 @@ def play_to_end(driver: Driver, code: str, number: str) -> None:
 
 
 def try_view(driver: Driver) -> None:
-    """Soup 1 leaves two gliders. The view follows the ash without them."""
+    """Checks that the view follows the ash of soup 1 without the two gliders that it leaves."""
     play_to_end(driver, "xs4_33", "1")
     followed = live_points(driver)
     count.equal(
@@ -133,7 +135,7 @@ def pressed(driver: Driver) -> list[list[str]]:
 
 
 def try_end(driver: Driver) -> None:
-    """At its end, a soup plays again from the start."""
+    """Checks that a soup at its end plays again from the start."""
     play_to_end(driver, "xs4_33", "1")
     count.equal(
         "at the end, nothing is left to step to",
@@ -168,7 +170,7 @@ return [least(xs) / width, 1 - (most(xs) + 1) / width, least(ys) / height, 1 - (
 
 
 def try_keys_of_player(driver: Driver, number: str) -> None:
-    """The buttons of the player, by keys."""
+    """Checks the keys of the player's buttons."""
 
     def said() -> str:
         return text(driver, ".player output")

@@ -1,7 +1,7 @@
-"""What the checks share.
+"""Modules that the checks share.
 
-`count` counts and prints, and `program` says which program is tried. `plain` has the definitions of
-the census, `patterns` and `stills` known patterns and soups, `formats` the texts that the program
-reads and writes, and `calls` calls with the answers that they must give. None of them uses `haul/`,
-so that one mistake can't hide in both.
+`count` counts and prints, and `program` finds the program to test. `plain` has the definitions of
+the census, `patterns` and `stills` have known patterns and soups, `formats` has the texts that the
+program reads and writes, and `calls` has calls with the answers that they must give. None of them
+uses `haul/`, so that one mistake can't hide in both.
 """

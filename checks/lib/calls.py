@@ -8,7 +8,7 @@ from typing import NamedTuple
 from checks.lib import program
 
 MOST_SECONDS = 120
-# A longer text is shown by its beginning and its length.
+# Only the beginning and the length of a longer text are shown.
 SHOWN_WHOLE, SHOWN = 100, 60
 
 
@@ -24,7 +24,7 @@ class Call(NamedTuple):
 
 
 def fault_of(call: Call) -> str:
-    """Makes the call, and returns what is wrong with its answer: nothing if it is right."""
+    """Makes the call, and returns what is wrong with its answer, or nothing if it is right."""
     try:
         ended = subprocess.run(
             [program.CENSUS, *call.words],

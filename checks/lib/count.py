@@ -1,4 +1,4 @@
-"""The one way in which checks in Python count and print."""
+"""The only way in which checks in Python count and print."""
 
 from __future__ import annotations
 
@@ -8,33 +8,33 @@ from collections.abc import Iterable
 from dataclasses import dataclass
 from typing import NoReturn
 
-# Everything has to be installed in CI, so that nothing is skipped there unnoticed.
+# In CI everything must be installed, so that nothing is skipped there unnoticed.
 IN_CI = os.environ.get("CI") == "true"
 
 
 @dataclass
 class Count:
-    """The numbers of checks that passed, failed and were skipped."""
+    """The numbers of checks that passed, failed or were skipped."""
 
     passed: int = 0
     failed: int = 0
     skipped: int = 0
 
     def check(self, name: str, fault: str = "") -> None:
-        """Counts a check. It failed if there is a fault, which is printed then."""
+        """Counts a check. If there is a fault, the check failed and the fault is printed."""
         self.add([f"{name}: {fault}" if fault else ""])
 
     def equal(self, name: str, got: object, wanted: object) -> None:
-        """Counts a check that failed unless two values are equal."""
+        """Counts a check that two values are equal."""
         self.check(name, "" if got == wanted else f"{got!r}, and not {wanted!r}")
 
     def holds(self, name: str, condition: bool, seen: object = "") -> None:
-        """Counts a check that failed unless a condition holds. What was seen instead may be given."""
+        """Counts a check that a condition holds. `seen` is what was seen instead."""
         self.check(name, "" if condition else f"it doesn't hold{f': {seen}' if seen else ''}")
 
     def add(self, faults: Iterable[str]) -> None:
-        """Counts checks by their faults. A fault is empty if its check passed, and otherwise names
-        the check.
+        """Counts checks by their faults. An empty fault means that its check passed. Any other
+        fault names its check.
         """
         for fault in faults:
             if fault:
@@ -43,14 +43,12 @@ class Count:
             self.passed += fault == ""
 
     def skip(self, what: str, why: str, checks: int = 1) -> None:
-        """Counts checks that can't run here, and says why."""
+        """Counts checks that can't run here, and prints why."""
         print(f"skipped: {what}, since {why}")
         self.skipped += checks
 
     def lack(self, what: str, package: str, checks: int = 1) -> None:
-        """Counts checks whose package isn't installed: they are skipped, but in CI that is a
-        failure.
-        """
+        """Counts checks whose package isn't installed. They are skipped, but in CI they fail."""
         if IN_CI:
             self.check(what, f"{package} isn't installed")
         else:

@@ -1,7 +1,7 @@
-"""The texts that the program reads and writes, as docs/FORMATS.md and docs/COMMANDS.md describe
-them: profiles, hauls and report lines.
+"""The texts that the program reads and writes, as described in docs/FORMATS.md and
+docs/COMMANDS.md: profiles, hauls and report lines.
 
-It is independent of `haul/`, which reads the same texts, on purpose.
+It is deliberately independent of `haul/`, which reads the same texts.
 """
 
 from __future__ import annotations
@@ -10,19 +10,19 @@ from collections.abc import Mapping, Sequence
 
 from checks.lib.plain import Profile
 
-# A range is its first number and how many numbers it has.
+# The first number and the size of a range.
 Range = tuple[int, int]
 
 STANDARD = Profile(64, 512, 101, 30300)
-# One checkpoint, at generation 0. Under Life no soup is at rest there.
+# A single checkpoint, at generation 0. Under Life no soup is at rest there.
 ONE_CHECKPOINT = Profile(1, 1, 1, 0)
 # Two checkpoints.
 TWO_CHECKPOINTS = Profile(1, 1, 1, 1)
 LIFE = "b3s23"
-# Everything dies, or nothing does.
+# Rules under which everything dies, or nothing does.
 DEADLY, STILL = "bs", "bs012345678"
 
-# How many samples a code has at most.
+# The most samples of a code.
 MOST_SAMPLES = 3
 
 
@@ -38,11 +38,11 @@ def profile_pairs(profile: Profile) -> list[str]:
     ]
 
 
-# Under it no soup settles.
+# Under this profile no soup settles.
 NEVER = profile_words(ONE_CHECKPOINT)
-# Under it every soup is dead at the second checkpoint.
+# Under this rule and profile every soup is dead at the second checkpoint.
 DEAD = [*profile_words(TWO_CHECKPOINTS), f"--rule={DEADLY}"]
-# Under it every soup is at rest at generation 0, since no cell dies.
+# Under this rule and profile every soup is at rest at generation 0, since no cell dies.
 ALL_LIVE = [*profile_words(ONE_CHECKPOINT), f"--rule={STILL}"]
 
 
@@ -58,7 +58,7 @@ def haul_text(
     counts: Mapping[str, int] | None = None,
     samples: Mapping[str, Sequence[int]] | None = None,
 ) -> bytes:
-    """Returns the text of a haul. Of the samples of a code only the first three are written."""
+    """Returns the text of a haul. Only the first three samples of a code are written."""
     counts, samples = counts or {}, samples or {}
     return "".join(
         f"{line}\n"
@@ -96,7 +96,7 @@ def report_line(
     version: int = 2,
     found: Sequence[bytes] = (b"unsettled",),
 ) -> bytes:
-    """Returns the report line of a soup, with its line feed. `found` are the fields after the
+    """Returns the report line of a soup, with its line feed. `found` has the fields after the
     soup's number.
     """
     return b"report %d rule=%s profile=%d,%d,%d,%d seed=%s worker=%d soup=%d %s\n" % (

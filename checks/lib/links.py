@@ -1,5 +1,5 @@
-"""Links within the pages below a folder: each has to lead to a file that is there, and to a
-heading, an element or a line in it.
+"""Checks links in the pages below a folder. Each must lead to a file that exists, and to a heading,
+an element or a line in it.
 
 usage: python3 -m checks.lib.links FOLDER        prints the links that lead nowhere, and fails if
 there is one
@@ -17,21 +17,21 @@ FENCE = re.compile(r"^```.*?^```$", re.MULTILINE | re.DOTALL)
 CODE = re.compile(r"`[^`\n]+`")
 LINK = re.compile(r"\[[^\[\]]*\]\(([^()\s]+)\)")
 HEADING = re.compile(r"^#+ (.*)$", re.MULTILINE)
-# The scripts of a page of HTML build the addresses of their links.
+# The scripts of an HTML page build the addresses of their links.
 SCRIPT = re.compile(r"<script.*?</script>", re.DOTALL)
 ADDRESS = re.compile(r'(?:href|src)="([^"]*)"')
 ELEMENT = re.compile(r' id="([^"]*)"')
 
 
 class Link(NamedTuple):
-    """A link of a page, and what is wrong with it: nothing if it is right."""
+    """A link of a page, and what is wrong with it, or nothing if it is right."""
 
     name: str
     fault: str
 
 
 def links_below(top: Path) -> Iterator[Link]:
-    """Yields the links of all pages below a folder that lead to a file there."""
+    """Yields the links to files in all pages below a folder."""
     for page in sorted(path for path in top.rglob("*") if path.suffix in (".md", ".html")):
         if "out" not in page.parts:
             for target in targets_in(page):
@@ -58,8 +58,8 @@ def fault_of(page: Path, target: str) -> str:
 
 
 def anchors_in(path: Path) -> set[str]:
-    """Returns the anchors of a file: headings of Markdown, elements of HTML, and lines of any other
-    text.
+    """Returns the anchors of a file: the headings of Markdown, the elements of HTML, or the lines
+    of any other text.
     """
     text = path.read_text()
     if path.suffix == ".html":

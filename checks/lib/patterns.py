@@ -7,7 +7,7 @@ from collections.abc import Iterator
 
 from checks.lib.plain import Cells, to_corner
 
-# The side of a soup.
+# The number of columns and rows of a soup.
 SOUP_SIDE = 16
 
 
@@ -60,7 +60,8 @@ SPACESHIPS = [
     drawing("...O..", ".O...O", "O.....", "O....O", "OOOOO."),
     drawing("...OO..", ".O....O", "O......", "O.....O", "OOOOOO."),
 ]
-# These two grow without end: the one lays blocks, and the other goes at half the speed of light.
+# These two patterns grow without end. One lays blocks, and the other flies at half the speed of
+# light.
 SWITCH_ENGINE = drawing("......O.", "....O.OO", "....O.O.", "....O...", "..O.....", "O.O.....")
 PUFFER = drawing(
     ".OOO......O.....O......OOO.",

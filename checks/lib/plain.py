@@ -1,8 +1,7 @@
-"""A plain program of the definitions: sets of cells, nothing clever, and none of the shortcuts that
-the census takes.
+"""A plain program of the definitions. It uses sets of cells, and none of the census's shortcuts.
 
-It was written from docs/PROFILE.md and docs/FORMATS.md, and is independent of `haul/` and of the
-crates on purpose.
+It was written from docs/PROFILE.md and docs/FORMATS.md, and is deliberately independent of `haul/`
+and of the crates.
 """
 
 from __future__ import annotations
@@ -11,12 +10,12 @@ from collections import Counter
 from collections.abc import Iterable, Iterator
 from typing import NamedTuple
 
-# A cell is (x, y), and a pattern is a set of cells.
+# A cell is a pair (x, y), and a pattern is a set of cells.
 Cell = tuple[int, int]
 Cells = frozenset[Cell]
 
 DIGITS = "0123456789abcdefghijklmnopqrstuvwxyz"
-# The longest side of a pattern that has a text.
+# The most columns and rows of a pattern that has a text.
 MOST_SIDE = 40
 # The number of rows of a strip.
 STRIP = 5
@@ -30,7 +29,7 @@ class Rule(NamedTuple):
 
 
 class Profile(NamedTuple):
-    """The numbers that say when a pattern counts as at rest, and at which generations that is
+    """The numbers that define when a pattern counts as at rest, and in which generations that is
     tested.
     """
 
@@ -47,7 +46,7 @@ def rule_named(text: str) -> Rule:
 
 # ---- Generations
 
-# The displacements of the eight neighbours of a cell.
+# The offsets to the eight neighbours of a cell.
 NEIGHBOURS = [(dx, dy) for dx in (-1, 0, 1) for dy in (-1, 0, 1) if dx or dy]
 
 
@@ -73,7 +72,9 @@ def to_corner(cells: Iterable[Cell]) -> Cells:
 
 
 def clusters_of(cells: Cells) -> list[Cells]:
-    """Returns the sets of cells that are joined by steps of at most two cells in any direction."""
+    """Returns the sets of cells that are connected by steps of at most two cells in any
+    direction.
+    """
     left, clusters = set(cells), []
     while left:
         cluster, edge = set(), [left.pop()]
@@ -88,8 +89,8 @@ def clusters_of(cells: Cells) -> list[Cells]:
 
 
 def phases_of(rule: Rule, cells: Cells, period: int) -> tuple[list[Cells], Cells] | None:
-    """Returns all phases, and the pattern when it recurs, possibly displaced. `None` if that takes
-    more than `period` generations.
+    """Returns all phases, and the pattern when it recurs, possibly displaced, or `None` if it
+    doesn't recur within `period` generations.
     """
     phases, shape = [cells], to_corner(cells)
     for _ in range(period):
@@ -169,7 +170,7 @@ def code_of(phases: list[Cells], again: Cells) -> str:
 
 
 def objects_at_rest(rule: Rule, period: int, horizon: int, cells: Cells) -> Counter[str] | None:
-    """Returns the number of objects of each code, or `None` if the pattern is not at rest."""
+    """Returns the number of objects of each code, or `None` if the pattern isn't at rest."""
     clusters = clusters_of(cells)
     codes: Counter[str] = Counter()
     for cluster in clusters:
@@ -189,7 +190,7 @@ def objects_at_rest(rule: Rule, period: int, horizon: int, cells: Cells) -> Coun
 
 
 def finding(rule: Rule, profile: Profile, cells: Cells) -> str:
-    """Returns what `census name` prints."""
+    """Returns what `census name` must print."""
     for generation in range(profile.limit + 1):
         if generation % profile.stride == 0:
             objects = objects_at_rest(rule, profile.period, profile.horizon, cells)

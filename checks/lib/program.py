@@ -1,7 +1,7 @@
-"""The program that the checks test.
+"""The program under test.
 
 `LAUNCHER` is the command that starts the program, and `CENSUS` is the program's file. If the
-variable CENSUS names another program, both are that program.
+environment variable CENSUS names another program, both are that program.
 """
 
 from __future__ import annotations

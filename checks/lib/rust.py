@@ -1,4 +1,4 @@
-"""The tokens of Rattle's code. pygments finds its comments and string literals as those of Rust."""
+"""The tokens of Rattle's code. pygments finds comments and string literals, as in Rust."""
 
 from __future__ import annotations
 
@@ -9,19 +9,19 @@ from pygments.token import Comment, String
 
 # A token of a source in which string literals are `""` and comments are blanks.
 TOKEN = re.compile(r'""|\'\w+|\w+|::|=>|==|!=|[^\w\s]')
-# pygments counts attributes among the comments, and they are code.
+# pygments counts attributes as comments, but they are code.
 ATTRIBUTE = Comment.Preproc
 
 
 class Token(str):
-    """A token's text, with the number of its line, counted from 0."""
+    """The text of a token, with the number of its line, counted from 0."""
 
     line = 0
 
 
 def without_comments(source: str) -> str:
-    """Replaces comments by blanks and each string or character literal by `""`. Line numbers stay
-    the same.
+    """Replaces comments by blanks, and each string or character literal by `""`. Line numbers don't
+    change.
     """
     parts: list[str] = []
     in_text = False

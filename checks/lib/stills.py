@@ -1,4 +1,5 @@
-"""Soups under the rule of which nothing dies, in which each cluster is an object, and their haul.
+"""Soups under a rule by which nothing dies, so that each cluster is an object, and the haul of such
+soups.
 """
 
 from __future__ import annotations
@@ -12,7 +13,7 @@ from checks.lib.plain import objects_at_rest, rule_named
 
 
 def objects_of_still_soup(number: int) -> dict[str, int]:
-    """Returns the number of objects of each code in a soup, by the plain program of the
+    """Returns the number of objects of each code in a soup, according to the plain program of the
     definitions.
     """
     objects = objects_at_rest(

@@ -1,4 +1,4 @@
-"""Tools that may be missing: modules of Debian's packages for Python."""
+"""Tools that may be missing: modules of Debian's Python packages."""
 
 from __future__ import annotations
 
@@ -15,7 +15,7 @@ DEBIANS_PYTHON = "/usr/bin/python3"
 def has_module(name: str) -> bool:
     """Checks whether a module can be imported.
 
-    If it can't, first restarts the script with the Python that can import Debian's packages.
+    If it can't, the script is first restarted with the Python that can import Debian's packages.
     """
     if importlib.util.find_spec(name):
         return True

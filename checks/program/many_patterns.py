@@ -21,14 +21,14 @@ from checks.lib.plain import (
     to_corner,
 )
 
-# The columns and rows of a cluster.
+# The number of columns and rows of a cluster.
 Shape = tuple[int, int]
 
 RULE = rule_named(LIFE)
 
 
-# Seeds of `confined`, found by a search: what the first draws comes back after a generation, what
-# the second draws after two, and so on.
+# Seeds of `confined`, found by a search. The pattern of the first seed recurs after one generation,
+# the pattern of the second after two, and so on.
 SEEDS = [
     int(seed)
     for seed in (
@@ -42,8 +42,8 @@ SEEDS = [
 
 
 def numbers(most: int, dense: int = 300) -> list[int]:
-    """All numbers up to `dense`, and up to `most` the powers of two, the round numbers, those of
-    one digit, and their neighbours.
+    """Returns all numbers up to `dense`. Above that and up to `most`, returns the powers of two,
+    round numbers, numbers that repeat a digit (such as 777), and their neighbours.
     """
     special = {2**k for k in range(41)} | {
         digit * 10**k for digit in range(1, 10) for k in range(13)
@@ -56,7 +56,7 @@ def numbers(most: int, dense: int = 300) -> list[int]:
 
 
 def tiled(kind: Cells, count: int, side: int) -> list[str]:
-    """So many of a shape in square tiles, as rows of a text."""
+    """Returns the rows of a text with `count` copies of a shape in square tiles."""
     across = 1000 // side
     rows = [["."] * min(count, across) * side for _ in range(side * -(-count // across))]
     for place in range(count):
@@ -70,12 +70,14 @@ def text(rows: list[str]) -> bytes:
 
 
 def drawn(cells: Cells) -> bytes:
-    """The text of a pattern from the corner on."""
+    """Returns the text of a pattern, from the corner on."""
     return plaintext(cells).encode()
 
 
 def generations() -> Iterator[Call]:
-    """Of run: a blinker, a glider, and the two far apart, so many generations later."""
+    """Yields calls of `run` with a blinker, a glider, and both far apart, for many numbers of
+    generations.
+    """
     phases = [later(RULE, GLIDER, k) for k in range(4)]
     for count in numbers(100_000):
         blinker = later(RULE, BLINKER, count % 2)
@@ -102,7 +104,7 @@ def generations() -> Iterator[Call]:
 
 
 def live_cells() -> Iterator[Call]:
-    """Of run: so many cells of which none dies, in rows of 1,000."""
+    """Yields calls of `run` with many cells of which none dies, in rows of 1,000."""
     for count in numbers(10**6):
         rows = ["O" * 1000] * (count // 1000) + ["O" * (count % 1000)] * (count % 1000 > 0)
         shown = [row.ljust(min(count, 1000), ".") for row in rows]
@@ -110,7 +112,9 @@ def live_cells() -> Iterator[Call]:
 
 
 def places() -> Iterator[Call]:
-    """Of run: a blinker so far from a block, to the right and below, a generation later."""
+    """Yields calls of `run` with a blinker far to the right of a block and far below it, for one
+    generation.
+    """
     for far in numbers(996, 996):
         if far < 6:
             continue
@@ -125,7 +129,7 @@ def places() -> Iterator[Call]:
 
 
 def rules() -> Iterator[Call]:
-    """Of run: a pattern under many rules."""
+    """Yields calls of `run` with a pattern under many rules."""
     draw = random.Random("rules")
     for _ in range(400):
         rule = (
@@ -147,7 +151,7 @@ def rules() -> Iterator[Call]:
 
 
 def clusters() -> Iterator[Call]:
-    """Of name: so many blocks, and so many blinkers that turn."""
+    """Yields calls of `name` with many blocks, and with many blinkers."""
     for count in numbers(40_000):
         said = b"settled 0\n" + b"xs4_33 %d\n" % count * (count > 0)
         yield Call(
@@ -164,7 +168,7 @@ def clusters() -> Iterator[Call]:
 
 
 def members() -> Iterator[Call]:
-    """Of name: one cluster of so many cells of which none dies."""
+    """Yields calls of `name` with one cluster of many cells of which none dies."""
     for count in numbers(1600):
         cells = frozenset((place % 40, place // 40) for place in range(count))
         said = f"settled 0\n{code_of([cells], cells)} 1\n" if cells else "settled 0\n"
@@ -183,7 +187,7 @@ def members() -> Iterator[Call]:
 
 
 def shelved(shapes: list[Shape]) -> list[str]:
-    """Full rectangles in rows of a text, as many beside each other as there is room for."""
+    """Returns full rectangles as rows of a text, with as many side by side as there is room for."""
     rows: list[str] = []
     shelf: list[Shape] = []
     used = 0
@@ -200,7 +204,7 @@ def shelved(shapes: list[Shape]) -> list[str]:
 
 
 def kinds() -> Iterator[Call]:
-    """Of name: so many full rectangles of which no two are of one kind."""
+    """Yields calls of `name` with many full rectangles, all of different kinds."""
     shapes = sorted(
         ((w, h) for w in range(1, 31) for h in range(1, w + 1)),
         key=lambda shape: (shape[1], shape[0]),
@@ -220,8 +224,8 @@ def kinds() -> Iterator[Call]:
 
 
 def profiles() -> Iterator[Call]:
-    """Of name: seven cells in a row, which settle, under each horizon, stride and limit; and
-    objects under each period.
+    """Yields calls of `name` with seven cells in a row, which settle, under each horizon, stride
+    and limit; and with objects under each period.
     """
     row = frozenset((x, 0) for x in range(7))
     first = next(
@@ -268,8 +272,9 @@ def profiles() -> Iterator[Call]:
 
 
 def confined(seed: int) -> tuple[str, Cells]:
-    """A rule, and a pattern that has gone on under it for 300 generations. Where four neighbours or
-    more are needed for a birth, no pattern leaves its box, so in the end each comes back.
+    """Returns a rule, and a pattern that has been run under it for 300 generations. If a birth
+    needs four neighbours or more, no pattern leaves its bounding box, so each pattern eventually
+    recurs.
     """
     draw = random.Random(seed)
     births = "".join(str(k) for k in range(4, 9) if draw.random() < 0.5)
@@ -280,8 +285,8 @@ def confined(seed: int) -> tuple[str, Cells]:
 
 
 def periods() -> Iterator[Call]:
-    """Of name: an object of each period, where the period may be as long, or not quite, or 64,
-    which not all of them are.
+    """Yields calls of `name` with an object of each period. The profile's period is the same, one
+    less, or 64, which some of the objects exceed.
     """
     for period, seed in enumerate(SEEDS, 1):
         rule, cells = confined(seed)
@@ -300,7 +305,9 @@ def periods() -> Iterator[Call]:
 
 
 def fleet() -> list[Cells]:
-    """Gliders that fly away from the middle of the largest pattern, in the four directions."""
+    """Returns gliders that fly away from the middle of the largest pattern in the four
+    directions.
+    """
     spots = [
         (120 + 24 * row + 12 * step, 120 + 24 * row - 12 * step)
         for row in range(4)
@@ -316,8 +323,8 @@ def fleet() -> list[Cells]:
 
 
 def spaceships() -> Iterator[Call]:
-    """Of name: so many gliders that fly side by side; and so many that fly away from an
-    R-pentomino.
+    """Yields calls of `name` with many gliders that fly side by side, and with many that fly away
+    from an R-pentomino.
     """
     for count in numbers(2500):
         said = b"settled 0\n" + b"xq4_153 %d\n" % count * (count > 0)
@@ -327,7 +334,7 @@ def spaceships() -> Iterator[Call]:
             text(tiled(moved(GLIDER, 1, 1), count, 20)),
             said,
         )
-    # What LifeWiki's page says an R-pentomino leaves after 1103 generations.
+    # What an R-pentomino leaves after 1103 generations, according to LifeWiki.
     left = Counter(
         {
             "xs4_33": 8,
@@ -355,7 +362,9 @@ def spaceships() -> Iterator[Call]:
 
 
 def soups_by_number() -> Iterator[Call]:
-    """Of soup: the square that the digest gives, cut to its least box."""
+    """Yields calls of `soup`, which must print the square given by the digest, cropped to its
+    bounding box.
+    """
     draw = random.Random("seeds")
     seeds = ["".join(chr(draw.randint(33, 126)) for _ in range(length)) for length in range(65)]
     for seed, number in [("", number) for number in numbers(2**40 - 1)] + [
@@ -370,8 +379,8 @@ def soups_by_number() -> Iterator[Call]:
 
 
 def codes() -> Iterator[Call]:
-    """Of show: a text of so many bytes, of which all but two are columns without a cell, or strips
-    without one.
+    """Yields calls of `show` with codes of many bytes. All but two bytes are columns or strips
+    without live cells.
     """
     for length in numbers(10_002):
         if length < 2:

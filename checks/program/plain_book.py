@@ -1,5 +1,5 @@
-"""A plain program of `gather`: what it prints of lines in any order, written from docs/FORMATS.md
-and docs/COMMANDS.md.
+"""A plain program of `gather`: what it prints for lines in any order. It was written from
+docs/FORMATS.md and docs/COMMANDS.md.
 """
 
 from __future__ import annotations
@@ -34,7 +34,9 @@ class Job(NamedTuple):
 
 
 def decimal(text: bytes, least: int, most: int) -> int | None:
-    """The number that a field has in decimal, if it is one of these."""
+    """Returns the decimal number in a field, or `None` if it isn't a number from `least` to
+    `most`.
+    """
     if re.fullmatch(rb"0|[1-9][0-9]*", text) and least <= int(text) <= most:
         return int(text)
     return None
@@ -68,7 +70,7 @@ def is_number(field: bytes, name: bytes, least: int, most: int) -> bool:
     return field.startswith(name) and decimal(field.removeprefix(name), least, most) is not None
 
 
-# What the first fields of a line may be.
+# The conditions for the first fields of a line.
 HEAD: list[Callable[[bytes], bool]] = [
     lambda field: field == b"report",
     lambda field: field in (b"1", b"2"),
@@ -81,7 +83,7 @@ HEAD: list[Callable[[bytes], bool]] = [
 
 
 def may_follow(before: list[bytes], field: bytes) -> bool:
-    """Whether a field may stand after those before it, which are lawful."""
+    """Checks whether a field may follow the fields before it, which are valid."""
     place = len(before)
     if place < len(HEAD):
         return HEAD[place](field)
@@ -95,7 +97,7 @@ def may_follow(before: list[bytes], field: bytes) -> bool:
 
 
 def fault_in(line: bytes) -> int | None:
-    """The place of a line's first fault, if it has one."""
+    """Returns the place of a line's first fault, or `None` if the line is valid."""
     fields = line.split(b" ")
     place = 0
     for number, field in enumerate(fields):
@@ -108,7 +110,7 @@ def fault_in(line: bytes) -> int | None:
 
 @functools.cache
 def finding_of(job: Job, number: int) -> tuple[bytes, ...]:
-    """What `work` says of a soup, after the head of the line."""
+    """Returns the fields of a soup's line of `work`, without the fields before the findings."""
     asked = [CENSUS, "work", "--worker", "1", "--first", str(number), "--count", "1", *job.words()]
     line = subprocess.run(asked, stdin=subprocess.DEVNULL, capture_output=True, check=True).stdout
     return tuple(line.removesuffix(b"\n").split(b" ")[7:])
@@ -119,7 +121,7 @@ def without_mark(finding: tuple[bytes, ...]) -> tuple[bytes, ...]:
 
 
 class Book:
-    """The haul of a job, of the numbers of some ranges, and of so many workers."""
+    """The haul of a job, with the soups of some ranges and a number of workers."""
 
     def __init__(self, job: Job, ranges: list[Range], workers: int) -> None:
         self.job, self.workers = job, workers
@@ -127,7 +129,7 @@ class Book:
         self.taken: list[tuple[int, int]] = []
 
     def why_not(self, line: bytes) -> str | None:
-        """Takes a line, or says what is wrong with it."""
+        """Accepts a line and returns `None`, or returns why the line is refused."""
         place = fault_in(line)
         if place is not None:
             return f"bad line at {place}"
@@ -149,7 +151,9 @@ class Book:
         return None
 
     def ranges(self) -> list[Range]:
-        """The ranges as they are told: they ascend, and between two of them a number is left out."""
+        """Returns the ranges as they are printed: in ascending order, with at least one number
+        missing between two of them.
+        """
         firsts = [number for number in self.numbers if number - 1 not in self.numbers]
         lasts = [number for number in self.numbers if number + 1 not in self.numbers]
         return [(first, last + 1 - first) for first, last in zip(firsts, lasts)] or [(0, 0)]
@@ -178,7 +182,7 @@ class Book:
 
 
 def answer(job: Job, ranges: list[Range], workers: int, given: bytes) -> tuple[int, str, str]:
-    """The status, the output and the errors of `gather`."""
+    """Returns the status, the output and the error output of `gather`."""
     book, told = Book(job, ranges, workers), []
     lines = given.split(b"\n")
     if not lines[-1]:

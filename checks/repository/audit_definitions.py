@@ -1,5 +1,5 @@
 """The definitions and types of the crates, for `audit`: where each one is, and which others it
-names.
+uses.
 """
 
 from __future__ import annotations
@@ -11,7 +11,7 @@ from pathlib import Path
 
 from checks.lib.program import TOP
 
-# From the ground up, as they are best read. The first is the toolchain's.
+# From the lowest crate up, which is the best order for reading. The first crate is the toolchain's.
 CRATES = [
     "clap",
     "memory",
@@ -39,7 +39,7 @@ IMPORT = re.compile(
 )
 
 
-# The name of a record's field, where it is declared or gets its value: a definition may have the
+# The name of a record's field, where it is declared or gets its value. A definition may have the
 # same name.
 FIELD = re.compile(r"^(\s+(?:pub )?|.*?[{;] *)[A-Za-z_][A-Za-z0-9_']* (?=[=:] )", re.MULTILINE)
 
@@ -55,18 +55,18 @@ TYPE = re.compile(r"^pub(?:\([a-z]+\))? (?:struct|enum|trait) (\w+)")
 WORD = re.compile(r"[A-Za-z_◌][A-Za-z0-9_'◌]*(?:\.[A-Za-z_][A-Za-z0-9_]*)*")
 
 
-# A module, as `haul_core.Books` or, of the code, `haul_core.book.haul`, and a name there.
+# A module, such as `haul_core.Books` or (for code) `haul_core.book.haul`, and a name in it.
 Key = tuple[str, str]
 
 
 @dataclass
 class Definition:
-    """A definition of a file in `specs/`, with the comment above it; or a type, whose view may be
+    """A definition in a file of `specs/`, with the comment above it; or a type, whose view may be
     elsewhere in its file.
     """
 
     path: str
-    # Where its own first line is, and how many lines it has in all.
+    # The number of its own first line, and the number of all its lines.
     line: int
     lines: int
     text: str
@@ -77,7 +77,7 @@ class Definition:
 
 @dataclass
 class Names:
-    """What the imports of a file bring in: names, and other names of whole modules."""
+    """The imports of a file: names, and other names of whole modules."""
 
     single: dict[str, Key] = field(default_factory=dict)
     modules: dict[str, str] = field(default_factory=dict)
@@ -89,7 +89,7 @@ class Names:
             return
         module, own = f"{found[1]}.{found[2]}", ""
         if ".declared." in module:
-            # A declared type is one of the code. Its variants, and its view, say which.
+            # A declared type is a type of the code. Its variants and its view name it.
             parts = (
                 module.replace(".declared.", ".")
                 .removesuffix(".TheVariants")
@@ -119,13 +119,13 @@ class Names:
 
 
 def toolchain() -> Path:
-    """Where the toolchain's crates are."""
+    """Returns the folder of the toolchain's crates."""
     rt = shutil.which("rt")
     return Path(rt).resolve().parents[1] / "rattle" if rt else Path("/nowhere")
 
 
 def folder_of(crate: str) -> Path:
-    """Where a crate's folders `specs` and `src` are."""
+    """Returns the folder that has a crate's folders `specs` and `src`."""
     return toolchain() / crate if crate == "clap" else TOP / "crates" / crate
 
 
@@ -137,7 +137,7 @@ def read_definitions() -> dict[Key, Definition]:
             if "declared" not in path.parts:
                 read_file(path, f"{crate}.{module_of(path, folder / 'specs')}", found)
         for path in sorted((folder / "src").rglob("*.rt")) if crate != "clap" else []:
-            # What is in the root file is the crate's own.
+            # The contents of the root file belong to the crate itself.
             read_types(
                 path,
                 crate,
@@ -174,17 +174,20 @@ def read_file(path: Path, module: str, found: dict[Key, Definition]) -> None:
             found[module, head[1]] = now
             comment = 0
         else:
-            # An equation, or the rest of a definition; after an empty line it says whose it is.
+            # This is an equation, or the rest of a definition. After an empty line, it begins with
+            # the name.
             now = now or found.get((module, line.split(" ")[0]))
             if now:
                 now.lines, now.text = now.lines + 1, f"{now.text}\n{line}"
-    # What a module hands on is a name there, too.
+    # The names that a module re-exports belong to it, too.
     for name in names.handed_on:
         found[module, name] = Definition("", 0, 0, "", names)
 
 
 def read_types(path: Path, crate: str, module: str, found: dict[Key, Definition]) -> None:
-    """The types of a source file: each from its head to its end, and what contracts see of it."""
+    """Reads the types of a source file: each from its head to its end, and what contracts see of
+    it.
+    """
     text = path.read_text()
     lines = text.splitlines()
     names = Names()
@@ -204,8 +207,8 @@ def read_types(path: Path, crate: str, module: str, found: dict[Key, Definition]
 
 
 def add_view(of_type: Definition, lines: list[str]) -> None:
-    """Contracts see the value, by the view. What always holds of it, and how it is got back, is for
-    the prover.
+    """Adds its view to a type. Contracts see a value through the view. The invariants of a type,
+    and how a value is recovered from its view, are only for the prover.
     """
     names, kept, keeps = Names(), [], False
     for line in lines[1:-1]:
@@ -221,13 +224,13 @@ def add_view(of_type: Definition, lines: list[str]) -> None:
 
 
 def block(lines: list[str], first: int) -> list[str]:
-    """The lines of what begins on one and ends with a brace at its left."""
+    """Returns the lines from line `first` to the next closing brace at the left margin."""
     last = next(number for number in range(first, len(lines)) if lines[number].startswith("}"))
     return lines[first - 1 : last + 1]
 
 
 def without_fields(text: str) -> str:
-    """Leaves out the names of fields, of which a line may have several."""
+    """Removes the names of fields, of which a line may have several."""
     before = ""
     while before != text:
         before, text = text, FIELD.sub(r"\1", text)
@@ -235,7 +238,7 @@ def without_fields(text: str) -> str:
 
 
 def named(text: str, names: Names, module: str, definitions: dict[Key, Definition]) -> set[Key]:
-    """The definitions and types that a text names."""
+    """Returns the definitions and types that a text names."""
     found: set[Key] = set()
     for word in WORD.findall(without_fields(text)):
         first, _, rest = word.partition(".")
@@ -245,7 +248,7 @@ def named(text: str, names: Names, module: str, definitions: dict[Key, Definitio
             (module, first),
             (names.modules.get(first, ""), rest.split(".")[0]),
         ):
-            # Where it is, if a module only hands it on.
+            # If a module only re-exports it, continue with the place of the definition.
             while key in definitions and not definitions[key].line:
                 key = definitions[key].names.single[key[1]]
             if key in definitions:

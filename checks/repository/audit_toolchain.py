@@ -8,8 +8,8 @@ from dataclasses import dataclass
 
 from checks.repository.audit_definitions import CRATES, HEAD, WORD, Key, Names, toolchain
 
-# The toolchain's names that are read as in Rust or in mathematics. Operators, such as `◌+◌`, and
-# Rust's types are too.
+# The toolchain's names that have the same meaning as in Rust or in mathematics. So do operators,
+# such as `◌+◌`, and Rust's types.
 NOTATION = set(
     "Bool true false not IsTrue MatchBool List length map take drop zero suc pos negsuc max min nat_eq nat_le nat_lt int_eq int_lt int_le unsigned_abs "
     "Option Some None IfSome OnSome IsSomeAnd is_some unwrap_or option_map option_and_then "
@@ -17,14 +17,15 @@ NOTATION = set(
 )
 
 
-# Where the libraries are, below the toolchain's folder, of which its crates hand names on.
+# The folders of the libraries from which the toolchain's crates re-export names, below the
+# toolchain's folder.
 LIBRARIES = {"lib": "logic/Lib", "mathlib": "antt/port/mathlib/src"}
 
 
 HANDED_ON = re.compile(r"pub use ((?:Rattle|lib|mathlib)\.[\w.]+)\.\{(.*)\}$")
 
 
-# The libraries' definitions may have no `pub`.
+# The definitions of the libraries may lack `pub`.
 PLAIN_HEAD = re.compile(r"^([^\s:(){}.]+)(?: : | \()")
 
 
@@ -33,7 +34,7 @@ OPERATOR = re.compile(r"[^A-Za-z0-9_']")
 
 @dataclass
 class Told:
-    """A definition of the toolchain: its file and line, and what the comment above it says."""
+    """A definition of the toolchain: its file and line, and the comment above it."""
 
     path: str
     line: int
@@ -41,7 +42,7 @@ class Told:
 
 
 def told_by_toolchain(module: str, name: str) -> Told | None:
-    """Finds a name where it is defined, if a module only hands it on."""
+    """Finds a name where it is defined, even if the module only re-exports it."""
     crate, _, rest = module.partition(".")
     path = toolchain() / LIBRARIES.get(crate, f"{crate}/specs") / f"{rest.replace('.', '/')}.antt"
     if not path.is_file():
@@ -66,7 +67,7 @@ def told_by_toolchain(module: str, name: str) -> Told | None:
 
 
 def home_of(crate: str, rest: str) -> str | None:
-    """The module that a crate hands on under this name, if it does."""
+    """Returns the module that a crate re-exports under this name, or `None` if it doesn't."""
     first, _, more = rest.partition(".")
     everything = toolchain() / crate / "specs" / "Lib.antt"
     for line in everything.read_text().splitlines() if everything.is_file() else []:
@@ -77,7 +78,9 @@ def home_of(crate: str, rest: str) -> str | None:
 
 
 def comment_above(lines: list[str], number: int) -> str:
-    """What is said above a definition, or above those that it follows without an empty line."""
+    """Returns the comment above a definition, or above the definitions that it follows without an
+    empty line.
+    """
     lines, first = [line.strip() for line in lines], number - 1
     while first and lines[first - 1] and not lines[first - 1].startswith("--"):
         first -= 1
@@ -89,7 +92,7 @@ def comment_above(lines: list[str], number: int) -> str:
 
 
 def names_of_toolchain(text: str, names: Names) -> set[Key]:
-    """The names of the toolchain's definitions in a text."""
+    """Returns the names of the toolchain's definitions in a text."""
     known = {*CRATES[1:], "clap"}
     return {
         key
@@ -100,8 +103,8 @@ def names_of_toolchain(text: str, names: Names) -> set[Key]:
 
 
 def is_meant(key: Key) -> bool:
-    """Whether the table of the toolchain's definitions has this name. Modules of Rust's types begin
-    with a small letter.
+    """Checks whether the table of the toolchain's definitions has this name. The names of modules
+    of Rust's types begin with a lower-case letter.
     """
     return (
         key[1] not in NOTATION
@@ -111,7 +114,7 @@ def is_meant(key: Key) -> bool:
 
 
 def told_rows(keys: Iterable[Key]) -> list[str]:
-    """A row for each of the toolchain's definitions that carry meaning."""
+    """Returns a row for each of the toolchain's definitions that carry meaning."""
     found = {
         (told.path, key[1]): told
         for key in keys

@@ -1,4 +1,4 @@
-"""Sources on which `errors` is tried: what it must refuse, and what it must not."""
+"""Sources on which `errors` is tested: what it must refuse, and what it must accept."""
 
 from __future__ import annotations
 
@@ -18,7 +18,7 @@ LEXED = [
 ]
 
 
-# What follows a comment that doesn't end would be hidden.
+# Code after a comment that doesn't end would be hidden.
 UNENDED = "/* a comment /* in a comment */ AllocError"
 
 

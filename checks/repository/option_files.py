@@ -1,4 +1,6 @@
-"""What is made from the tables of commands and options: completions, and lists of options."""
+"""The files that are made from the tables of commands and options: completions, and lists of
+options.
+"""
 
 from __future__ import annotations
 
@@ -181,8 +183,8 @@ def fish(program: str, commands: list[Command]) -> str:
 
 
 def grouped(commands: list[Command]) -> list[tuple[Option, list[str]]]:
-    """Each option once, with the commands that have it. Options of one name with other help are
-    other options.
+    """Returns each option once, with the commands that have it. Options with the same name but
+    different help are different options.
     """
     found: dict[Option, list[str]] = {}
     for command in commands:
@@ -192,7 +194,7 @@ def grouped(commands: list[Command]) -> list[tuple[Option, list[str]]]:
 
 
 def sentences(option: Option) -> list[str]:
-    """The help as sentences, each of which is a line of a manual, and the default."""
+    """Returns the sentences of the help, each of which is a line of a manual, and the default."""
     said = upper(option.help) + ("" if option.help.endswith(".") else ".")
     found = re.split(r"(?<=[a-z0-9`)]\.) (?=[A-Z])", said)
     if option.default is not None:
@@ -203,13 +205,13 @@ def sentences(option: Option) -> list[str]:
 
 
 def roff(text: str) -> str:
-    """A text as a manual has it: quoted words and hyphens."""
+    """Returns a text in the form for a manual, with marked quotations and escaped hyphens."""
     quoted = re.sub(r"`([^`]*)`", r"\\(oq\1\\(cq", text.replace("\\", "\\e"))
     return quoted.replace("--", "\\-\\-")
 
 
 def manual(commands: list[Command]) -> str:
-    """The list of options of a manual, in mdoc."""
+    """Returns the list of options of a manual, in mdoc."""
     lines = [".Bl -tag -width indent"]
     for option, names in grouped(commands):
         if option.flag:
@@ -227,7 +229,7 @@ def manual(commands: list[Command]) -> str:
 
 
 def table(commands: list[Command]) -> str:
-    """The table of options of a page."""
+    """Returns the table of options of a page."""
     lines = ["| Option | Meaning | Default | Commands |", "|---|---|---|---|"]
     for option, names in grouped(commands):
         if option.flag:

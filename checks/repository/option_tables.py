@@ -13,13 +13,15 @@ from haul.cli.command_table import COMMANDS as HAUL_COMMANDS
 OPTIONS, COMMANDS = (
     TOP / "crates" / "arguments" / "src" / name for name in ("options.rt", "commands.rt")
 )
-# The values of options that are files.
+# The placeholders of values that are files.
 FILES = {"PATH", "PROGRAM"}
 
 
 @dataclass(frozen=True)
 class Option:
-    """An option, or a positional argument if `flag` is false. Without a `value` it is given or not."""
+    """An option, or a positional argument if `flag` is false. An option without a `value` takes no
+    value.
+    """
 
     name: str
     value: str
@@ -28,16 +30,16 @@ class Option:
     flag: bool = True
     choices: tuple[str, ...] = ()
     is_file: bool = False
-    # Positional arguments may be several.
+    # Whether there may be several values, for a positional argument.
     several: bool = False
-    # Options that can't be given together with this one.
+    # The options that can't be given together with this one.
     excludes: tuple[str, ...] = ()
-    # It may be left out, although it has a value and no default.
+    # Whether it may be left out although it has a value and no default.
     optional: bool = False
 
     @property
     def short(self) -> str:
-        """The first words of the help, for a list of options."""
+        """Returns the first words of the help, for a list of options."""
         said = re.sub(r"^with --\w+: ", "", self.help)
         return shell_text(
             re.split(r"[.:;(]|, (?:from|such|also|and|with|up|[0-9]) ?", said, maxsplit=1)[
@@ -47,7 +49,7 @@ class Option:
 
 
 def shell_text(text: str) -> str:
-    """A text that may stand between single quotes in a shell's file."""
+    """Returns a text in a form that is safe between single quotes in a shell's file."""
     return text.replace("`", "").replace("'", "’")
 
 
@@ -74,7 +76,7 @@ STRING = r'"((?:[^"\\]|\\.)*)"'
 
 
 def text_of(literal: str) -> str:
-    """The text of a literal: a backslash at a line's end joins the lines."""
+    """Returns the text of a literal. A backslash at the end of a line joins the lines."""
     joined = re.sub(r"\\\n\s*", "", literal)
     return joined.replace("\\n", " ").replace('\\"', '"')
 

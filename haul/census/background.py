@@ -1,4 +1,4 @@
-"""Programs that run in sessions of their own, which Ctrl-C doesn't reach, and that end when `haul`
+"""Programs that run in their own sessions, which Ctrl-C doesn't reach, and that end when `haul`
 ends."""
 
 from __future__ import annotations
@@ -16,27 +16,27 @@ from haul.census.client import FAILED, Ended, check_ending
 from haul.census.starters import LAUNCH_CENSUS, list_starter_words
 from haul.formats.report_lines import LINE_LIMIT
 
-# What the launcher does with the program.
+# The launcher's mode for the program of `haul search --finds`.
 FIND = "find"
 # mutant: equal because the size of a read doesn't change what is printed
 BYTES_AT_A_TIME = 65_536
-# How many bytes a program may print, and for each soup that it takes; how many it may write to
-# standard error, beside lines of progress.
+# The most bytes that a program may print, and the further bytes for each soup that it takes; and
+# the most bytes that it may write to standard error, apart from progress lines.
 MOST_PRINTED, BYTES_OF_A_SOUP, MOST_COMPLAINED = 2**26, 4096, 2**20
-# A program whose streams are closed is waited for so long at a time.
+# How long to wait at a time for a program that has closed its streams.
 SECONDS_TO_END = 0.05
-# The starter of a program has so long for ending all that the program has started.
+# How long the starter of a program may take to end everything that the program has started.
 MOST_SECONDS_TO_END = 2.0
-# The line of progress of `census take`.
+# The progress line of `census take`.
 PROGRESS = re.compile(rb"([0-9]{1,8}) of [0-9]{1,8} soups")
-# Its report lines, of which so many are kept.
+# The report lines of `census take`, and how many of them are kept.
 REPORT_BEGINS = b"report "
 MOST_REPORTS = 100_000
 REPORT_OF = re.compile(rb"report [^\n]*? soup=([0-9]{1,13}) ")
 
 
 class StreamWaiter:
-    """Waits for streams, each of which has a function that is called when there is something to
+    """Waits for streams. Each stream has a function that is called when there is something to
     read."""
 
     def __init__(self) -> None:
@@ -49,27 +49,27 @@ class StreamWaiter:
         self.selector.unregister(stream)
 
     def wait(self, seconds: float) -> None:
-        """Waits until something can be read, or for so long."""
+        """Waits until something can be read, but at most `seconds` seconds."""
         for key, _ in self.selector.select(seconds):
             key.data()
 
 
 class BackgroundProgram:
-    """A program that runs, with the text that it has printed on a pipe so far."""
+    """A running program, with the text that it has printed to a pipe so far."""
 
-    # How many bytes it may print, and how many that aren't read yet it may write to standard error.
+    # The most bytes that the program may print, and the most unread bytes on its standard error.
     most_printed = MOST_PRINTED
     most_complained = MOST_COMPLAINED
 
     def __init__(
         self, waiter: StreamWaiter, how: str, words: list[str], stderr: int | None
     ) -> None:
-        """Starts a program by `launcher.py`, with `LAUNCH_CENSUS` or `FIND`. Raises `OSError` if that
-        fails."""
+        """Starts a program with `launcher.py`. `how` is `LAUNCH_CENSUS` or `FIND`. Raises `OSError`
+        if that fails."""
         starts = list_starter_words(how)
         self.waiter = waiter
-        # Ctrl-C mustn't end it before it is in its own session. The starter drops a Ctrl-C that
-        # came until then.
+        # Ctrl-C mustn't end the starter before it is in its own session. It drops a Ctrl-C that
+        # came earlier.
         mask = signal.pthread_sigmask(signal.SIG_BLOCK, {signal.SIGINT})
         try:
             self.process = subprocess.Popen(
@@ -82,9 +82,9 @@ class BackgroundProgram:
         finally:
             signal.pthread_sigmask(signal.SIG_SETMASK, mask)
         self.printed, self.complained = bytearray(), bytearray()
-        # The stream on which the program wrote more than it may; none if it didn't.
+        # The name of the stream on which the program has written too much, or `None`.
         self.flooded: str | None = None
-        # How many of the two streams are open.
+        # The number of streams that are still open.
         self.open = 0
         for stream, text in (
             (self.process.stdout, self.printed),
@@ -107,7 +107,7 @@ class BackgroundProgram:
         return read
 
     def refuse_floods(self) -> None:
-        """Kills a program that has written too much. What it wrote is given up."""
+        """Kills a program that has written too much, and discards what it wrote."""
         for text, most, stream in (
             (self.printed, self.most_printed, "output"),
             (self.complained, self.most_complained, "error"),
@@ -118,18 +118,18 @@ class BackgroundProgram:
                 text.clear()
 
     def is_ended(self) -> bool:
-        """Checks whether the program has ended and all that it printed has been read."""
+        """Checks whether the program has ended and everything that it printed has been read."""
         if self.open == 0:
-            # It ends at this moment, unless it has closed its streams before.
+            # The program is about to end, unless it has only closed its streams.
             with suppress(subprocess.TimeoutExpired):
                 self.process.wait(SECONDS_TO_END)
         elif self.process.poll() is not None:
-            # What it may have left running would keep the streams open.
+            # Processes that the program has left running would keep the streams open.
             self.kill()
         return self.open == 0 and self.process.returncode is not None
 
     def kill(self) -> None:
-        """Kills all processes that the program has started. The starter does that, and then it is
+        """Kills all processes that the program has started. The starter does this, and is then
         killed itself."""
         if self.process.poll() is None:
             self.process.terminate()
@@ -139,7 +139,7 @@ class BackgroundProgram:
             os.killpg(self.process.pid, signal.SIGKILL)
 
     def end(self) -> None:
-        """Kills the program and waits for its end. What it printed is given up."""
+        """Kills the program, waits for its end, and discards what it printed."""
         self.kill()
         self.process.wait()
         for stream in (self.process.stdout, self.process.stderr):
@@ -149,23 +149,24 @@ class BackgroundProgram:
 
 
 class BackgroundTake(BackgroundProgram):
-    """A call of `census take`. On standard error, it writes lines of progress and report lines."""
+    """A call of `census take`. It writes progress lines and report lines to standard error."""
 
     def __init__(self, waiter: StreamWaiter, words: list[str], soups: int = 0) -> None:
-        """Starts a call that takes this number of soups."""
+        """Starts a call that takes `soups` soups."""
         self.most_printed = MOST_PRINTED + BYTES_OF_A_SOUP * soups
-        # Whole lines that are neither progress nor reports.
+        # Complete lines that are neither progress nor reports.
         self.remarks = bytearray()
-        # The report lines with the lowest numbers of soups, and the number of all of them.
+        # The report lines with the lowest soup numbers. `reported` counts all report lines.
         self.reports: list[tuple[int, bytes]] = []
         self.reported = 0
         self.reported_bytes = 0
-        # How many soups its line of progress said last.
+        # The number of soups in the latest progress line.
         self.latest = 0
         super().__init__(waiter, LAUNCH_CENSUS, words, subprocess.PIPE)
 
     def refuse_floods(self) -> None:
-        # Lines of progress and reports don't count, unless these are too many themselves.
+        # Progress lines and report lines don't count as complaints, but there may be too many
+        # reports.
         self.read_errors()
         if self.reported_bytes > self.most_printed or len(self.remarks) > MOST_COMPLAINED:
             self.flooded = self.flooded or "error"
@@ -175,8 +176,8 @@ class BackgroundTake(BackgroundProgram):
         super().refuse_floods()
 
     def read_errors(self) -> None:
-        """Takes the lines of progress, the reports and other whole lines from what was written to
-        standard error."""
+        """Splits the text on standard error into progress, report lines and other complete lines.
+        Keeps an incomplete last line."""
         *lines, last = self.complained.split(b"\n")
         for line in lines:
             rest = self.pass_progress(line)
@@ -189,34 +190,34 @@ class BackgroundTake(BackgroundProgram):
         self.most_complained = LINE_LIMIT if is_report else MOST_COMPLAINED
 
     def pass_progress(self, line: bytearray) -> bytearray:
-        """Reads the progress in a line, and returns what follows it."""
+        """Reads the progress in a line. Returns the text that follows it."""
         found = PROGRESS.findall(line)
         if found:
             self.latest = int(found[-1])
-        # What stands before the last carriage return has been read.
+        # Everything up to the last carriage return is progress, which has been read.
         return line.rpartition(b"\r")[2]
 
     def add_report(self, line: bytes) -> None:
         soup = REPORT_OF.match(line)
         self.reported += 1
         self.reported_bytes += len(line)
-        # A line that says no soup is refused later.
+        # A line without a soup number is refused later.
         self.reports.append((int(soup[1]) if soup else -1, line))
         if len(self.reports) > 2 * MOST_REPORTS:
             self.reports = sorted(self.reports)[:MOST_REPORTS]
 
     def soups(self) -> int:
-        """Returns how many soups it has run so far, by its line of progress."""
+        """Returns the number of soups run so far, according to the progress line."""
         self.read_errors()
         return self.latest
 
     def haul_text(self) -> bytes:
-        """Returns what was printed. Raises `Ended` if the program failed."""
+        """Returns the text that was printed. Raises `Ended` if the program failed."""
         if self.flooded is not None:
             raise Ended(FAILED, f"census wrote too much to its standard {self.flooded}")
         last = bytes(self.complained)
         if PROGRESS.match(last):
-            # It was killed, and its line of progress is still there.
+            # The program was killed before it could erase its progress line.
             last = b""
         complaint = bytes(self.remarks) + last
         return check_ending(self.process.returncode, bytes(self.printed), complaint)

@@ -1,5 +1,4 @@
-"""The programs that are started from here, none of which may go on when this one is ended by a
-signal."""
+"""The programs that this process has started. They must not outlive it if a signal ends it."""
 
 from __future__ import annotations
 
@@ -12,8 +11,8 @@ from collections.abc import Iterator
 from contextlib import contextmanager, suppress
 from typing import Protocol
 
-# Why a program can't be started where there is none, or none of this machine. With any other reason
-# there may be one.
+# The reasons that mean that there is no such program, or none for this machine. If starting fails
+# for any other reason, there may be such a program.
 NOT_THERE = (
     errno.ENOENT,
     errno.ENOTDIR,
@@ -24,12 +23,13 @@ NOT_THERE = (
     errno.ENAMETOOLONG,
     errno.EINVAL,
 )
-# So much can be written to a pipe before somebody reads it, on any Linux.
+# The number of bytes that fit into a pipe before anyone reads from it, on every Linux.
 BYTES_OF_A_PIPE = 65_536
 
 
 class NoThread(Exception):
-    """A thread can't be started: there is no memory for one, or the system starts no more."""
+    """Raised if a thread can't be started, because there is no memory for it or the system has
+    reached its limit."""
 
 
 def start_thread(thread: threading.Thread) -> None:
@@ -40,38 +40,40 @@ def start_thread(thread: threading.Thread) -> None:
 
 
 class SignalHandler(Protocol):
-    """Work that ends by itself when a signal comes."""
+    """Work that ends by itself after a signal."""
 
-    # The signal that ends the program, or `None` if there isn't one.
+    # The signal that ends the program, or `None` if there hasn't been one.
     number: int | None
 
     def came(self, number: int) -> bool:
-        """Notes a signal, and returns whether the work may go on until it ends by itself."""
+        """Notes a signal. Returns whether the work may go on until it ends by itself."""
 
 
 class Running(Protocol):
-    """A process that was started from here."""
+    """A process that was started by this one."""
 
     pid: int
 
     def poll(self) -> int | None:
-        """Returns how it has ended; `None` if it runs."""
+        """Returns how the process has ended, or `None` if it is still running."""
 
 
 class Children:
-    """The programs that run."""
+    """The running programs."""
 
     def __init__(self) -> None:
         self.running: list[Running] = []
-        # Held while one is started, so that each that runs is known.
+        # Held while a program is started, so that every running program is known.
         self.starts = threading.Lock()
-        # The work that ends by itself when a signal comes; none if a signal ends it.
+        # The work to notify of signals, which then ends by itself, or `None` if a signal ends this
+        # process.
         self.stopping: SignalHandler | None = None
 
     def start(
         self, words: list[str], stdout: int, stderr: int | None, stdin: int, new_session: bool
     ) -> subprocess.Popen[bytes]:
-        """Starts a program, perhaps in a session of its own. Raises `OSError` if that fails."""
+        """Starts a program, in its own session if `new_session` is set. Raises `OSError` if that
+        fails."""
         with self.starts:
             program = subprocess.Popen(
                 words, stdin=stdin, stdout=stdout, stderr=stderr, start_new_session=new_session
@@ -80,12 +82,13 @@ class Children:
         return program
 
     def heed(self, stopping: SignalHandler) -> None:
-        """Passes signals to the work from here on, which then ends by itself."""
+        """From now on, passes signals to the work, which then ends by itself."""
         self.stopping = stopping
 
     @contextmanager
     def track(self, program: subprocess.Popen[bytes]) -> Iterator[None]:
-        """Keeps a program that was started in the list until it ends, which it has after this."""
+        """Keeps a started program in the list until it ends. It has ended when the context is
+        left."""
         try:
             with program:
                 yield
@@ -93,7 +96,7 @@ class Children:
             self.running.remove(program)
 
     def end(self) -> None:
-        """Ends all of them. None is started from here on, since the lock is kept."""
+        """Ends all programs. No further program can start, since the lock isn't released."""
         self.starts.acquire()
         for program in list(self.running):
             if program.poll() is None:
@@ -101,12 +104,12 @@ class Children:
                     os.kill(program.pid, signal.SIGTERM)
 
 
-# All of them are here, since a signal is for the whole program.
+# The only instance, since a signal is for the whole process.
 children = Children()
 
 
 class NoCensus(Exception):
-    """There is no program to ask, or it doesn't answer as the census program does."""
+    """Raised if there is no census program, or if the program doesn't answer like one."""
 
     @classmethod
     def at(cls, path: str) -> NoCensus:
@@ -115,7 +118,7 @@ class NoCensus(Exception):
 
 @contextmanager
 def open_text(text: bytes) -> Iterator[int]:
-    """Opens a pipe from which a text can be read, and yields its end; a file in memory if the text
+    """Yields the reading end of a pipe that contains a text, or a file in memory if the text
     doesn't fit into a pipe."""
     if len(text) > BYTES_OF_A_PIPE:
         with os.fdopen(os.memfd_create("pattern"), "w+b") as file:
@@ -140,8 +143,8 @@ def start_child(
     stdin: int = subprocess.DEVNULL,
     new_session: bool = False,
 ) -> Iterator[subprocess.Popen[bytes]]:
-    """Starts a program, which has ended after this. Without a number for the errors, it writes
-    them to standard error. Raises `NoCensus` if there is no such program."""
+    """Starts a program. It has ended when the context is left. If `stderr` is `None`, the program
+    writes to this process's standard error. Raises `NoCensus` if there is no such program."""
     try:
         program = children.start(words, stdout, stderr, stdin, new_session)
     except OSError as error:

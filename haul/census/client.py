@@ -1,4 +1,4 @@
-"""The census program, which decides whether a haul is right, and when a soup has settled."""
+"""Calls the census program, which decides whether a haul is right and when a soup has settled."""
 
 from __future__ import annotations
 
@@ -17,16 +17,16 @@ from haul.census.locate import find_beside
 from haul.formats.haul import Job, Range
 from haul.terminal import Terminal
 
-# The statuses of the program that are passed on; each other one counts as a read that failed.
+# The program's exit statuses that are passed on. Every other status counts as a failed read.
 PASSED_ON = (2, 3, 4, 5)
 FAILED = 5
 
-# How much is read at a time of a pattern that isn't kept, and the byte of a live cell in it.
+# How much of a pattern that isn't kept is read at a time, and the byte of a live cell in it.
 # mutant: equal because the size of a read doesn't change what is printed
 BYTES_AT_A_TIME = 2**20
 LIVE = b"O"
 
-# A line of `work` after the job: a number, and what was found.
+# The part of a line of `work` that follows the job: the soup's number, and what was found.
 REPORT = re.compile(rb"([0-9]{1,13}) ([a-z0-9_=* ]+)")
 
 Asked = TypeVar("Asked")
@@ -34,7 +34,8 @@ Said = TypeVar("Said")
 
 
 class Ended(Exception):
-    """The program ended with another status than 0, and this line."""
+    """Raised if the program ended with a status other than 0. Has the line that the program
+    wrote."""
 
     def __init__(self, status: int, line: str) -> None:
         super().__init__(line)
@@ -49,11 +50,11 @@ class Census:
         if found is None:
             raise NoCensus("no census beside this program or on the PATH")
         self.path = found
-        # Where it shows how far it is.
+        # The terminal on which the program shows its progress.
         self.terminal = terminal
 
     def ask(self, words: list[str], pattern: bytes = b"") -> bytes:
-        """Returns what the program prints when it reads this pattern."""
+        """Calls the program with a pattern on standard input, and returns what it prints."""
         with open_text(pattern) as read, start_child(
             [self.path, *words], subprocess.PIPE, subprocess.PIPE, read
         ) as program:
@@ -62,7 +63,7 @@ class Census:
 
     def live_cells(self, words: list[str], pattern: bytes) -> int:
         """Counts the live cells of the pattern that the program prints. The pattern isn't kept,
-        since it may be larger than memory."""
+        since it may be too large for memory."""
         cells = 0
         with open_text(pattern) as read, start_child(
             [self.path, *words], subprocess.PIPE, subprocess.PIPE, read
@@ -78,8 +79,8 @@ class Census:
     def ask_in_parts(
         self, ask: Callable[[list[Asked]], Said], asked: list[Asked], size: int, done_what: str
     ) -> Iterator[Said]:
-        """Asks about parts of `size` of a list, several parts at a time, and yields the answers
-        in order. `done_what` says what has been done, for the line of progress."""
+        """Splits a list into parts of `size`, asks about several parts at a time, and yields the
+        answers in order. `done_what` is the end of the progress line."""
         parts = [asked[start : start + size] for start in range(0, len(asked), size)]
         done = 0
         # mutant: equal because the size of a read doesn't change what is printed
@@ -91,8 +92,8 @@ class Census:
         self.terminal.show_progress("")
 
     def reports(self, job: Job, numbers: list[int]) -> dict[int, list[str]]:
-        """Returns what these soups leave, by one call: the fields of each report line after the
-        number of the soup."""
+        """Returns, from a single call, what each of these soups leaves: the fields of its report
+        line after the number of the soup."""
         printed = self.ask(list_work_arguments(job, [(number, 1) for number in numbers]))
         start = f"report 2 rule={job.rule} profile={job.profile.format()} seed={job.seed}"
         before = f"{start} worker=1 soup=".encode("ascii")
@@ -107,8 +108,8 @@ class Census:
         return reports
 
     def take(self, job: Job, ranges: list[Range], workers: int, out: IO[bytes]) -> None:
-        """Writes the haul of a set of soups, which one call can take, to a file. The program's line
-        of progress is shown on a terminal."""
+        """Writes the haul of a set of soups, which must be small enough for one call, to a file.
+        The program's progress line is shown on a terminal."""
         words = list_take_arguments(job, ranges, workers, self.terminal.is_interactive())
         with start_child([self.path, *words], subprocess.PIPE, subprocess.PIPE) as program:
             # mutant: equal because both streams exist
@@ -119,7 +120,7 @@ class Census:
                 start_thread(watcher)
                 shutil.copyfileobj(program.stdout, out)
             except BaseException:
-                # Otherwise, this would wait for it, perhaps for hours.
+                # Otherwise, leaving the block would wait for the program, perhaps for hours.
                 program.terminate()
                 raise
             finally:
@@ -128,8 +129,8 @@ class Census:
         check_ending(program.returncode, b"", bytes(errors))
 
     def pass_progress_on(self, stream: IO[bytes], errors: bytearray) -> None:
-        """Shows what ends with a carriage return, which is a line of progress, and keeps the
-        rest."""
+        """Shows the progress lines, which end in carriage returns, and keeps the rest in
+        `errors`."""
         # mutant: equal because the size of a read doesn't change what is printed
         while piece := os.read(stream.fileno(), 4096):
             errors += piece
@@ -142,7 +143,7 @@ class Census:
 def ask_all(
     pool: ThreadPoolExecutor, ask: Callable[[list[Asked]], Said], parts: list[list[Asked]]
 ) -> Iterator[Said]:
-    """Asks all parts, in threads that are started at once."""
+    """Asks about all parts, in threads that are started at once."""
     try:
         return pool.map(ask, parts)
     except RuntimeError as error:

@@ -10,11 +10,12 @@ from haul.formats.haul import Haul, Job, Range
 from haul.formats.profile import STANDARD
 from haul.patterns.rules import LIFE
 
-# `census` takes at most this number of soups in one call.
+# The most soups that `census` takes in one call.
 NUMBERS_IN_A_CALL = 2**24
-# The most ranges in one call: an argument has at most 131,071 bytes on Linux, and a range 31.
+# The most ranges in one call: on Linux an argument has at most 131,071 bytes, and a range takes up
+# to 31.
 RANGES_IN_A_CALL = 2000
-# A command for more ranges would be longer than a reader copies.
+# The most ranges in a command to copy. A longer command would be too long for a reader to copy.
 RANGES_TO_COPY = 12
 
 # ---- Arguments of calls
@@ -23,9 +24,9 @@ RANGES_TO_COPY = 12
 def list_take_arguments(
     job: Job, ranges: list[Range], workers: int, has_progress: bool, late: int | None = None
 ) -> list[str]:
-    """Returns the arguments for the haul of a set of soups, which one call can take. With `late`,
-    the call also writes the report lines of soups that settle in this generation or later, and of
-    unsettled soups."""
+    """Returns the arguments for taking a set of soups that is small enough for one call. If `late`
+    is given, the call also writes the report lines of soups that settle in that generation or
+    later, and of unsettled soups."""
     options = [f"--workers={workers}"]
     options += ["--progress"] if has_progress else []
     options += [f"--report-from={late}"] if late is not None else []
@@ -33,32 +34,34 @@ def list_take_arguments(
 
 
 def list_work_arguments(job: Job, ranges: list[Range]) -> list[str]:
-    """Returns the arguments for report lines about a set of soups, which one call can take."""
+    """Returns the arguments for the report lines of a set of soups that is small enough for one
+    call."""
     return ["work", "--worker=1", *list_set_options(job, ranges)]
 
 
 def list_name_arguments(job: Job) -> list[str]:
-    """Returns the arguments for what a pattern, which has no seed, becomes."""
+    """Returns the arguments for naming what a pattern becomes. A pattern has no seed."""
     return ["name", *list_pattern_options(job)]
 
 
 def list_run_arguments(job: Job, generations: int) -> list[str]:
-    """Returns the arguments for a pattern some generations later."""
+    """Returns the arguments for advancing a pattern by `generations` generations."""
     return ["run", f"--rule={job.rule}", str(generations)]
 
 
 def list_coordinates_arguments(rule: str, generations: int) -> list[str]:
-    """Returns the arguments for the live cells of a pattern some generations later."""
+    """Returns the arguments for the live cells of a pattern after `generations` generations."""
     return ["run", f"--rule={rule}", "--coordinates", str(generations)]
 
 
 def list_sizes_arguments(rule: str, first: int, last: int) -> list[str]:
-    """Returns the arguments for the sizes of a pattern, from one generation to another."""
+    """Returns the arguments for the sizes of a pattern, from generation `first` to generation
+    `last`."""
     return ["run", f"--rule={rule}", f"--sizes={first}", str(last)]
 
 
 def list_set_options(job: Job, ranges: list[Range]) -> list[str]:
-    """Returns the options of a job and of a set of soups."""
+    """Returns the options for a job and a set of soups."""
     # mutant: equal because an empty set is the same wherever it begins
     (first, count), *more = ranges or [(0, 0)]
     options = [f"--seed={job.seed}", *list_pattern_options(job)]
@@ -74,8 +77,8 @@ def list_pattern_options(job: Job) -> list[str]:
 
 
 def split_ranges(ranges: list[Range], numbers: int = NUMBERS_IN_A_CALL) -> Iterator[list[Range]]:
-    """Yields sets that together are these ranges. One call can take each set, which has at most
-    `numbers` soups."""
+    """Splits ranges into sets that are small enough for one call, with at most `numbers` soups
+    each, and yields the sets."""
     piece: list[Range] = []
     room = numbers
     for first, count in ranges:
@@ -95,8 +98,8 @@ def split_ranges(ranges: list[Range], numbers: int = NUMBERS_IN_A_CALL) -> Itera
 
 def format_find_command(job: Job, soup: int) -> str:
     """Returns the command that runs the soup of a find and names what it leaves. If the profile
-    isn't the standard one, the command has all of it."""
-    # A value that begins with a hyphen has to be attached.
+    isn't the standard one, the command has the whole profile."""
+    # A value that begins with a hyphen has to be attached to its option.
     seed = ["--seed", job.seed] if not job.seed.startswith("-") else [f"--seed={job.seed}"]
     profile: list[str] = []
     if job.profile != STANDARD:
@@ -107,7 +110,8 @@ def format_find_command(job: Job, soup: int) -> str:
 
 
 def format_soup_commands(job: Job) -> tuple[str, str]:
-    """Returns the command that shows what becomes of a soup, before and after the soup's number."""
+    """Returns the command that shows what becomes of a soup, as the texts before and after the
+    soup's number."""
     before = ["census soup", *list_quoted_seed(job), ""]
     after = [" | census name", *list_changed_options(job)]
     return " ".join(before), " ".join(after)
@@ -128,11 +132,11 @@ def format_unsettled_command(haul: Haul) -> str:
 
 
 def list_quoted_seed(job: Job) -> list[str]:
-    """Returns the option of the seed for a shell; none for the empty seed."""
+    """Returns the option for the seed, quoted for a shell, or no option if the seed is empty."""
     return [f"--seed={shlex.quote(job.seed)}"] if job.seed else []
 
 
 def list_changed_options(job: Job) -> list[str]:
-    """Returns the options of rule and profile whose values aren't the defaults."""
+    """Returns the options for the rule and the profile whose values differ from the defaults."""
     rule = [f"--rule={job.rule}"] if job.rule != LIFE else []
     return rule + [f"{option}={number}" for option, number in job.profile.list_changed_options()]

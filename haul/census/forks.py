@@ -1,4 +1,4 @@
-"""Work in processes that are forked from this one, so that several processors do it."""
+"""Runs work in forked processes, so that it uses several processors."""
 
 from __future__ import annotations
 
@@ -12,7 +12,8 @@ from haul.census.children import children
 from haul.census.launcher import PR_SET_PDEATHSIG, SIGKILL, call_prctl
 
 Result = TypeVar("Result")
-# How a process ends that has done its work, that had no memory for it, or that failed otherwise.
+# The exit statuses of a process that has done its work, has run out of memory, or has failed
+# otherwise.
 DONE, NO_MEMORY, FAILED = 0, 4, 5
 
 
@@ -24,7 +25,7 @@ class Fork:
         self.status: int | None = None
 
     def poll(self) -> int | None:
-        """Returns how the process has ended; `None` if it hasn't been waited for."""
+        """Returns how the process has ended, or `None` if it hasn't been waited for yet."""
         return self.status
 
     def wait(self) -> int:
@@ -34,8 +35,8 @@ class Fork:
 
 
 def work_apart(work: Callable[[], Result]) -> Result:
-    """Does work in a process of its own, and returns its result. Raises `OSError` if no process can
-    be started or if it is killed, and `MemoryError` if it has no memory."""
+    """Does the work in a process of its own, and returns the result. Raises `OSError` if no process
+    can be started or if the process is killed, and `MemoryError` if it runs out of memory."""
     reading, writing = os.pipe()
     try:
         with children.starts:
@@ -65,8 +66,8 @@ def work_apart(work: Callable[[], Result]) -> Result:
 
 
 def become_worker(work: Callable[[], Result], writing: int, parent: int) -> NoReturn:
-    """Does the work, writes its result to a pipe, and ends this process. It ends with its parent,
-    which is the one that hears of Ctrl-C."""
+    """Does the work, writes the result to a pipe, and ends this process. The process also ends when
+    its parent does, and leaves Ctrl-C to the parent."""
     status = FAILED
     try:
         signal.set_wakeup_fd(-1)

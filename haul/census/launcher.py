@@ -1,16 +1,16 @@
-"""Starts a program that ends when `haul` ends, even if `haul` is killed. It is a tiny program of
+"""Starts a program that ends when `haul` ends, even if `haul` is killed. This is a tiny program of
 its own, whose text `haul` passes to Python.
 
 usage: python3 -I -S -c TEXT HOW PARENT PROGRAM [ARGUMENT ..]
 
-It runs in a session of its own, and PARENT is the process that started it. `HOW` is one of two:
+It runs in its own session. PARENT is the process that started it. HOW is one of:
 
-    census    runs PROGRAM, and ends as it did
+    census    runs PROGRAM, and ends in the same way
     find      runs PROGRAM with standard input and output closed, and prints `done` or what went
               wrong
 
-At the end, or if `haul` ends, all processes that PROGRAM has started are killed, so none of them
-goes on, even in a session of its own.
+When PROGRAM or `haul` ends, all processes that PROGRAM has started are killed, even those in
+sessions of their own.
 """
 
 from __future__ import annotations
@@ -18,14 +18,14 @@ from __future__ import annotations
 import os
 import sys
 
-# Other modules are imported only where they are needed, since `signal` takes longer than all the
-# rest, and `haul` imports this module too.
+# Other modules are imported only where they are needed, since `haul` imports this module too, and
+# importing `signal` takes longer than everything else.
 SIGKILL = 9
-# Options of the system's call `prctl`. This one: which signal comes when the parent ends.
+# Options of the system call `prctl`. The first one sets which signal to send when the parent ends.
 PR_SET_PDEATHSIG = 1
-# What descendants of the process leave when they end becomes its child.
+# With this option, orphaned descendants of the process become its children.
 PR_SET_CHILD_SUBREAPER = 36
-# Why a program can't be started if there is none; FAILED is the status with any other reason.
+# The reasons that mean that there is no such program. FAILED is the status for any other reason.
 NOT_THERE = (
     "No such file or directory",
     "Not a directory",
@@ -39,20 +39,20 @@ DONE = "done"
 
 
 def drop_interrupts() -> None:
-    """Drops a Ctrl-C that came before this was in its own session, and lets later ones through.
-    `haul` blocks the signal until then."""
-    # `signal` without its enums, which take long; mypy knows nothing of it.
+    """Drops a Ctrl-C that came before this process was in its own session, and lets later ones
+    through. `haul` blocks the signal until then."""
+    # This is `signal` without its enums, which take long to import. mypy doesn't know it.
     import _signal  # type: ignore[import]
 
     if _signal.getsignal(_signal.SIGINT) != _signal.SIG_IGN:
-        # What waits is dropped when a signal is ignored.
+        # Ignoring a signal drops it if it is pending.
         _signal.signal(_signal.SIGINT, _signal.SIG_IGN)
         _signal.signal(_signal.SIGINT, _signal.SIG_DFL)
     _signal.pthread_sigmask(_signal.SIG_UNBLOCK, [_signal.SIGINT])
 
 
 def end_with(parent: int, number: int) -> None:
-    """Asks for a signal when the parent ends. Ends at once if it has ended already."""
+    """Asks for a signal when the parent ends. If the parent has ended already, ends at once."""
     call_prctl(PR_SET_PDEATHSIG, number)
     if os.getppid() != parent:
         os._exit(FAILED)
@@ -77,7 +77,7 @@ def run_census(parent: int, words: list[str]) -> None:
     if ended < 0:
         import _signal
 
-        # `haul` says by which signal the program was ended.
+        # `haul` reports the signal that ended the program.
         if -ended != SIGKILL:
             _signal.signal(-ended, _signal.SIG_DFL)
         os.kill(os.getpid(), -ended)
@@ -91,17 +91,17 @@ def run_find(parent: int, words: list[str]) -> None:
 
 
 def run_program(parent: int, words: list[str], closes_streams: bool) -> tuple[int, str]:
-    """Runs a program to its end, and then ends all processes that it has left, also those in
-    sessions of their own. Returns its exit status, or less than 0 for a signal, and why it can't be
-    started. Ends with all of them if the parent ends, or if SIGTERM asks for that."""
+    """Runs a program to its end, then ends all processes that it has left, even those in sessions
+    of their own. Returns the program's exit status (below 0 for a signal), and the reason if it
+    can't be started. If the parent ends or SIGTERM is received, ends together with all of them."""
     import _signal
 
-    # What a process of the program leaves when it ends becomes a child of this one.
+    # Orphaned processes of the program become children of this one.
     call_prctl(PR_SET_CHILD_SUBREAPER, 1)
     _signal.signal(_signal.SIGTERM, lambda _number, _frame: end_session())
     end_with(parent, _signal.SIGTERM)
     itself = os.getpid()
-    # It is closed when the program begins. If it can't, the reason is written to it first.
+    # This pipe is closed when the program starts. If it can't start, the reason is written first.
     reason, writing = os.pipe()
     program = os.fork()
     if program == 0:
@@ -111,7 +111,8 @@ def run_program(parent: int, words: list[str], closes_streams: bool) -> tuple[in
     with open(reason, encoding="utf-8") as pipe:
         why = pipe.read()
     if not closes_streams and not why:
-        # Only the program has them, so `haul` sees when it closes them. They may be closed already.
+        # Only the program has these streams, so `haul` notices when it closes them. They may be
+        # closed already.
         os.closerange(1, 3)
     _, ended = os.waitpid(program, 0)
     end_descendants()
@@ -119,14 +120,14 @@ def run_program(parent: int, words: list[str], closes_streams: bool) -> tuple[in
 
 
 def become(parent: int, writing: int, words: list[str], closes_streams: bool) -> None:
-    """Becomes a program. If that fails, writes why."""
+    """Replaces this process by a program. If that fails, writes the reason."""
     import _signal
 
     end_with(parent, SIGKILL)
     if closes_streams:
         os.close(0)
         os.close(1)
-    # Python ignores these two, and what it starts would as well.
+    # Python ignores these two signals, and programs that it starts would inherit that.
     for number in (_signal.SIGPIPE, _signal.SIGXFSZ):
         _signal.signal(number, _signal.SIG_DFL)
     try:
@@ -137,13 +138,14 @@ def become(parent: int, writing: int, words: list[str], closes_streams: bool) ->
 
 
 def end_session() -> None:
-    """Kills all descendants, and then all processes of this session, this one too."""
+    """Kills all descendants, then all processes of this session, including this one."""
     end_descendants()
     os.killpg(os.getpgrp(), SIGKILL)
 
 
 def end_descendants() -> None:
-    """Kills all children, and what becomes a child of this process by that, until none is left."""
+    """Kills all children, and descendants that become children when their parents are killed, until
+    none is left."""
     while True:
         for child in list_children():
             try:

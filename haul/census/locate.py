@@ -1,4 +1,4 @@
-"""Finds the census program that is installed with this one, or built in this checkout."""
+"""Finds the census program that is installed with this program, or built in this checkout."""
 
 from __future__ import annotations
 
@@ -10,25 +10,25 @@ from pathlib import Path
 from haul.census.children import NoCensus, start_child
 from haul.census.starters import LAUNCH_CENSUS, list_starter_words
 
-# A release has a program for each level of processors, and this shell script says which one is for
-# the processor that is there.
+# A release has a program for each level of processors. This shell script says which one is right
+# for this processor.
 SHELL = ["/bin/sh", "-c"]
 CHOOSES = 'libexec=$1; . "$libexec/processor.sh"; printf %s "$program"'
 
 
 def find_beside() -> str | None:
-    """Returns the program that is installed beside this one, or that of this checkout, which its
-    launcher builds if need be; `None` if there is neither."""
+    """Returns the program that is installed beside this one, or the launcher's program in this
+    checkout, which is built if need be. Returns `None` if there is neither."""
     starter = Path(sys.argv[0]).resolve().parent / "census"
     if not os.access(starter, os.X_OK):
         return None
     top = starter.parent.parent
-    # The program itself is asked in place of what starts it, since there may be thousands of calls.
+    # The program itself is called rather than its starter, since there may be thousands of calls.
     if (top / "libexec" / "gokzerd" / "processor.sh").is_file():
         return choose_for_processor(starter, top / "libexec" / "gokzerd")
     if not (starter.parent / "built.bash").is_file():
         return str(starter)
-    # It may build the program. All that it starts ends with this one.
+    # The launcher may build the program. Everything that it starts ends with this process.
     words = [*list_starter_words(LAUNCH_CENSUS), str(starter), "--version"]
     with start_child(words, subprocess.DEVNULL, None, new_session=True) as launcher:
         launcher.wait()
@@ -38,7 +38,7 @@ def find_beside() -> str | None:
 
 
 def choose_for_processor(starter: Path, libexec: Path) -> str:
-    """Returns the program of a release for this processor."""
+    """Returns a release's program for this processor."""
     with start_child([*SHELL, CHOOSES, "sh", str(libexec)], subprocess.PIPE, None) as shell:
         chosen = shell.communicate()[0]
     if shell.returncode != 0:

@@ -1,4 +1,4 @@
-"""When soups have settled, which `census` says, and how many live cells they have then."""
+"""Asks `census` when soups settle, and computes how many live cells they have then."""
 
 from __future__ import annotations
 
@@ -11,17 +11,18 @@ from haul.formats.haul import Job
 from haul.life.generations import Rule, read_rule
 from haul.life.parts import read_object
 
-# So many soups are run by one call, several of which are made at a time.
+# The number of soups in one call. Several calls run at a time.
 SOUPS_IN_A_CALL = 100
 
 
 @dataclass(frozen=True)
 class End:
-    """The checkpoint at which a soup has settled, and how many live cells the objects have that it
-    leaves.
+    """The checkpoint at which a soup has settled, and the number of live cells in the objects that
+    it leaves.
 
-    Both numbers are the same unless an object has more cells in some phases, since `census` doesn't
-    say in which phase it is."""
+    `least` and `most` are equal unless the number of cells of an object depends on its phase, since
+    `census` doesn't report the phase.
+    """
 
     generation: int
     least: int
@@ -29,8 +30,8 @@ class End:
 
 
 def find_ends(census: Census, job: Job, numbers: list[int]) -> dict[int, End]:
-    """Returns the ends of these soups, without those that don't settle, or leave an object whose
-    cells aren't known."""
+    """Returns the ends of these soups, except for soups that don't settle, or that leave an object
+    whose number of cells isn't known."""
     rule = read_rule(job.rule)
     ends: dict[int, End] = {}
     for reports in census.ask_in_parts(
@@ -44,8 +45,8 @@ def find_ends(census: Census, job: Job, numbers: list[int]) -> dict[int, End]:
 
 
 def read_end(rule: Rule, fields: list[str]) -> End | None:
-    """Reads the fields of a report line after the number: `unsettled`, or `at=`, `good=` and the
-    objects with their numbers."""
+    """Reads the fields of a report line after the soup's number: either `unsettled`, or `at=`,
+    `good=` and the objects with their counts. Returns `None` for a soup without a known end."""
     settled, *found = fields
     if not settled.startswith("at="):
         return None
@@ -60,7 +61,8 @@ def read_end(rule: Rule, fields: list[str]) -> End | None:
 
 @cache
 def list_populations(rule: Rule, code: str) -> frozenset[int]:
-    """Returns how many live cells an object has in its phases; nothing if they aren't known."""
+    """Returns the numbers of live cells that an object has in its phases, or nothing if they aren't
+    known."""
     known = read_kind(code)
     if is_large(code) and known is not None and known.letter == "s":
         return frozenset([known.number])

@@ -1,4 +1,4 @@
-"""Asks `census` about the patterns of soups: in which generation exactly they settle, and how they
+"""Asks `census` about the patterns of soups: in which exact generation they settle, and how they
 grow."""
 
 from __future__ import annotations
@@ -14,10 +14,10 @@ from haul.census.command_lines import list_name_arguments, list_run_arguments
 from haul.formats.haul import Job
 from haul.life.soups import make_soup
 
-# The generations over which growth is counted.
+# The number of generations over which growth is measured.
 GENERATIONS_OF_GROWTH = 1000
 EVERY_GENERATION = 1
-# A call of `census` runs one soup, so that several can run at a time.
+# Each call of `census` runs a single soup, so that several calls can run at a time.
 SOUPS_IN_A_CALL = 1
 SETTLED = re.compile(rb"settled (0|[1-9][0-9]{0,5})\n")
 
@@ -28,8 +28,8 @@ def draw_soup(job: Job, soup: int) -> bytes:
 
 
 def find_exact_generations(census: Census, job: Job, soups: list[int]) -> Iterator[int | None]:
-    """Yields the first generation at which each soup is at rest; none if there isn't one up to the
-    limit."""
+    """Yields the first generation at which each soup is at rest, or `None` if there is none up to
+    the limit."""
     return census.ask_in_parts(
         partial(find_exact_generation, census, job), soups, SOUPS_IN_A_CALL, "soups run"
     )
@@ -46,8 +46,9 @@ def find_exact_generation(census: Census, job: Job, soups: list[int]) -> int | N
 
 
 def measure_growths(census: Census, job: Job, soups: list[int]) -> Iterator[tuple[int, int, int]]:
-    """Yields three numbers for each soup: the last checkpoint, the population there, and its growth
-    in the `GENERATIONS_OF_GROWTH` before it, or since the soup if there are fewer."""
+    """Yields three numbers for each soup: the last checkpoint, the population there, and the growth
+    in the `GENERATIONS_OF_GROWTH` generations before it, or since generation 0 if there are
+    fewer."""
     return census.ask_in_parts(
         partial(measure_growth, census, job), soups, SOUPS_IN_A_CALL, "soups run"
     )

@@ -1,1 +1,1 @@
-"""The command line of `haul`: options, commands, and the end of the process."""
+"""The command line of `haul`: options, commands, and how the process ends."""

@@ -1,4 +1,4 @@
-"""Commands and their arguments, as the table of commands describes them."""
+"""The types of entries in the table of commands: commands and their arguments."""
 
 from __future__ import annotations
 
@@ -16,16 +16,17 @@ class Argument:
 
     name: str
     help: str
-    # What stands for the value in the help, or `None` for the name. A flag has no value.
+    # The placeholder for the value in the help, or `None` for the argument's name. A flag has no
+    # value.
     value: str | None = None
-    # Reads the value. Raises `argparse.ArgumentTypeError` if it isn't one.
+    # Reads the value. Raises `argparse.ArgumentTypeError` if it is invalid.
     read: Callable[[str], Any] = str
     default: Any = None
     choices: tuple[str, ...] = ()
     is_flag: bool = False
-    # How many values: `?`, `*` or `+` as in a regular expression; one if it is empty.
+    # The number of values: `?`, `*` or `+` as in a regular expression, or empty for exactly one.
     repeats: str = ""
-    # The most hauls, of which some are given by other arguments.
+    # The most hauls, including those that other arguments give.
     most_hauls: int | None = None
     other_hauls: int = 0
 
@@ -46,7 +47,7 @@ def flag(name: str, help: str) -> Argument:
 
 
 class Exclusive(NamedTuple):
-    """Options of which at most one can be given."""
+    """Options of which at most one may be given."""
 
     arguments: tuple[Argument, ...]
 
@@ -56,16 +57,16 @@ class Command:
     """A command of `haul`."""
 
     name: str
-    # What it does, and what the help says after that.
+    # What the command does, and the rest of its help.
     about: str
     more: str
     groups: tuple[Argument | Exclusive, ...]
     run: Callable[[argparse.Namespace, Streams], int]
-    # Returns why arguments don't go together, or `None` if they do.
+    # Returns why the arguments don't go together, or `None` if they do.
     find_fault: Callable[[argparse.Namespace], str | None] = lambda _: None
 
     def arguments(self) -> Iterator[tuple[Argument, tuple[Argument, ...]]]:
-        """Yields each argument with those that can't be given together with it."""
+        """Yields each argument, with the arguments that can't be given together with it."""
         for group in self.groups:
             if isinstance(group, Argument):
                 yield group, ()

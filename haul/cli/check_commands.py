@@ -1,4 +1,4 @@
-"""What `haul check` does with hauls and with an index, and what `haul index` does."""
+"""Runs `haul check` on hauls and on an index, and `haul index`."""
 
 from __future__ import annotations
 
@@ -37,8 +37,8 @@ def run_check(asked: argparse.Namespace, streams: Streams) -> int:
 
 
 def check_one_file(asked: argparse.Namespace, streams: Streams, name: str) -> int:
-    """Checks one of several files, and returns the status for it. What is said begins with its
-    name."""
+    """Checks one of several files, and returns its status. Each line of output begins with the name
+    of the file."""
     try:
         lines = check_haul(asked, streams, name)
     except Refused as why:
@@ -51,12 +51,12 @@ def check_one_file(asked: argparse.Namespace, streams: Streams, name: str) -> in
 
 
 def find_worst_status(statuses: list[int]) -> int:
-    """Returns the status for several files: a wrong haul counts more than a refused text."""
+    """Returns the status for several files. A wrong haul takes precedence over a refused text."""
     return max(statuses, default=DONE)
 
 
 def check_haul(asked: argparse.Namespace, streams: Streams, name: str | None) -> list[str]:
-    """Returns what `haul check` says of a haul."""
+    """Returns the lines that `haul check` prints about a haul."""
     haul = streams.read_haul(name)
     if haul.apgsearch:
         return check_apgsearch_haul(asked, streams, haul, name)
@@ -78,7 +78,8 @@ def check_haul(asked: argparse.Namespace, streams: Streams, name: str | None) ->
 def check_apgsearch_haul(
     asked: argparse.Namespace, streams: Streams, haul: Haul, name: str | None
 ) -> list[str]:
-    """Returns what `haul check` says of a haul of apgsearch, by its samples or by its totals."""
+    """Returns the lines that `haul check` prints about a haul of apgsearch, from checking either
+    its samples or its totals."""
     if not asked.samples and not asked.totals:
         raise Refused(
             f"{format_place(name)}a haul of apgsearch doesn't name its soups: --samples runs its "
@@ -111,7 +112,7 @@ def run_index(asked: argparse.Namespace, streams: Streams) -> int:
 
 
 def run_index_check(asked: argparse.Namespace, streams: Streams) -> int:
-    """Checks an index: its parts, or the hauls that are given after it."""
+    """Checks an index: either its parts, or the hauls that are given after it."""
     name, *hauls = asked.files
     with streams.open_input(name) as stream:
         try:
@@ -119,7 +120,7 @@ def run_index_check(asked: argparse.Namespace, streams: Streams) -> int:
         except BadHaul as bad:
             raise Refused(f"{format_place(name)}{bad}") from None
     if hauls:
-        # Each haul is read before the first line is printed.
+        # All hauls are read before the first line is printed.
         return report(list(compare_hauls(streams, index, hauls)), streams)
     parts = list(index.parts)
     if asked.random is not None:
@@ -134,7 +135,7 @@ def run_index_check(asked: argparse.Namespace, streams: Streams) -> int:
 
 
 def report(found: Iterator[tuple[Range, bool]] | list[tuple[Range, bool]], streams: Streams) -> int:
-    """Writes a line for each part, as soon as it is known whether it is right."""
+    """Writes a line for each part as soon as it has been checked, and returns the status."""
     status = DONE
     for part, is_right in found:
         streams.write_lines([f"{name_part(part)}: {'right' if is_right else 'other digest'}"])
@@ -144,7 +145,7 @@ def report(found: Iterator[tuple[Range, bool]] | list[tuple[Range, bool]], strea
 
 
 def compare_hauls(streams: Streams, index: Index, names: list[str]) -> Iterator[tuple[Range, bool]]:
-    """Yields the part of each of these hauls, and whether the haul has the digest of the index."""
+    """Yields the part of each haul, and whether the haul has the digest in the index."""
     for name in names:
         haul = streams.read_haul(name)
         if haul.job != index.job or len(haul.ranges) != 1 or haul.ranges[0] not in index.parts:
@@ -156,7 +157,8 @@ def compare_hauls(streams: Streams, index: Index, names: list[str]) -> Iterator[
 def retake_parts(
     asked: argparse.Namespace, streams: Streams, index: Index, parts: list[Range]
 ) -> Iterator[tuple[Range, bool]]:
-    """Takes the census of each part again, and yields whether it has the digest of the index."""
+    """Takes the census of each part again, and yields whether the new haul has the digest in the
+    index."""
     census = Census(asked.census, streams.terminal)
     for part in parts:
         right = retake(census, Haul(index.job, ranges=[part]), asked.workers)

@@ -1,4 +1,4 @@
-"""What each command of `haul` does."""
+"""The functions that run the commands of `haul`."""
 
 from __future__ import annotations
 
@@ -56,7 +56,7 @@ def run_join(asked: argparse.Namespace, streams: Streams) -> int:
                 for haul in read_hauls(stream):
                     joining.add(haul, format_place(name))
             except BadHaul as fault:
-                # The first one is told; the files after it are not read.
+                # Only the first fault is reported. The files after it aren't read.
                 bad = f"{format_place(name)}{fault}"
                 break
         streams.terminal.show_progress(f"{done} of {len(asked.files or [None])} files")
@@ -92,7 +92,7 @@ def run_compare(asked: argparse.Namespace, streams: Streams) -> int:
 
 
 def read_counted_haul(streams: Streams, name: str | None, counts_parts: bool) -> Haul:
-    """Reads a haul whose objects are counted by their parts or whole."""
+    """Reads a haul. If `counts_parts` is set, its objects are replaced by their parts."""
     haul = streams.read_haul(name)
     if haul.apgsearch and not counts_parts:
         raise Refused(
@@ -140,7 +140,8 @@ def run_page(asked: argparse.Namespace, streams: Streams) -> int:
 
 
 def read_lives(name: str, streams: Streams, census: Census, haul: Haul) -> Lives:
-    """Returns what a page shows of the late soups in a file, as far as a haul has them."""
+    """Returns the part of a page about the late soups in a file. Only late soups of the haul are
+    included."""
     try:
         with streams.open_input(name) as stream:
             late, job = read_late(stream)
@@ -184,7 +185,7 @@ def run_soups(asked: argparse.Namespace, streams: Streams) -> int:
 
 
 def choose_soup_list(asked: argparse.Namespace, terminal: Terminal) -> SoupList:
-    """Returns the list of soups that is asked for."""
+    """Returns the list of soups that the arguments ask for."""
     if asked.longest is not None:
         return Longest(asked.longest, Census(asked.census, terminal) if asked.exact else None)
     if asked.unsettled:
@@ -210,7 +211,7 @@ def open_files(asked: argparse.Namespace, terminal: Terminal) -> Kept:
 def run_search(asked: argparse.Namespace, streams: Streams) -> int:
     try:
         kept = open_files(asked, streams.terminal)
-        # The file of this program may be replaced while the search goes on.
+        # The file of this program may be replaced while the search is running.
         load_names()
         plan = Plan(
             find_next_soup(asked, kept.haul),

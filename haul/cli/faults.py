@@ -73,7 +73,7 @@ def find_fault_of_why(asked: argparse.Namespace) -> str | None:
 
 
 def is_horizon_low(asked: argparse.Namespace) -> bool:
-    """Checks whether a horizon or a period was given so that the horizon is below the period."""
+    """Checks whether the horizon is below the period, and at least one of the two was given."""
     period = asked.period or STANDARD.period
     horizon = STANDARD.horizon if asked.horizon is None else asked.horizon
     return (asked.period, asked.horizon) != (None, None) and horizon < period

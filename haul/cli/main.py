@@ -1,4 +1,4 @@
-"""Runs a call of `haul`: reads its arguments, runs the command, and says why it failed."""
+"""Runs a call of `haul`: reads its arguments, runs the command, and reports failures."""
 
 from __future__ import annotations
 
@@ -50,7 +50,7 @@ def run_command(arguments: list[str], streams: Streams) -> int:
         with redirect_stdout(streams.stdout), redirect_stderr(streams.terminal.stderr):
             asked = parse_arguments(arguments)
     except SystemExit as ended:
-        # The help, the version or the fault of the arguments has been written.
+        # argparse has written the help, the version or the fault in the arguments.
         return DONE if ended.code == 0 else USAGE
     for value in vars(asked).values():
         if isinstance(value, RuleValue) and value.given != value:

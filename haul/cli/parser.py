@@ -1,4 +1,4 @@
-"""Reads the arguments of a call by the table of commands, and writes the help."""
+"""Reads the arguments of a call according to the table of commands, and writes the help."""
 
 from __future__ import annotations
 
@@ -40,8 +40,8 @@ exit status: 0 done, 2 usage, 3 a text is refused, 4 out of memory, 5 a read or 
 
 
 def parse_arguments(words: list[str]) -> argparse.Namespace:
-    """Reads the arguments of a call. Raises `SystemExit` after it has written the help, the
-    version, or why it doesn't understand them."""
+    """Reads the arguments of a call. Raises `SystemExit` after writing the help, the version, or
+    why the arguments are invalid."""
     asked = make_parser().parse_args(words)
     fault = asked.command.find_fault(asked)
     if fault is not None:
@@ -50,7 +50,7 @@ def parse_arguments(words: list[str]) -> argparse.Namespace:
 
 
 class Parser(argparse.ArgumentParser):
-    """A parser whose complaints have no control characters of the arguments."""
+    """A parser that escapes control characters of the arguments in its error messages."""
 
     def error(self, message: str) -> NoReturn:
         super().error(escape_controls(message))
@@ -90,7 +90,7 @@ def add_arguments(command: Command, parser: argparse.ArgumentParser) -> None:
 
 
 def list_settings(argument: Argument) -> dict[str, Any]:
-    """Returns what `argparse` has to know of an argument besides its name."""
+    """Returns the settings of an argument for `argparse`, except for its name."""
     if argument.is_flag:
         return {"action": "store_true", "help": argument.help}
     settings: dict[str, Any] = {
@@ -110,7 +110,7 @@ def list_settings(argument: Argument) -> dict[str, Any]:
 
 
 class HaulList(argparse.Action):
-    """Takes the names of hauls, if they aren't too many."""
+    """Accepts the names of hauls if there aren't too many."""
 
     def __init__(self, *names: Any, most: int, others: int, **settings: Any) -> None:
         super().__init__(*names, **settings)

@@ -1,4 +1,4 @@
-"""What the commands about patterns do: `soup`, `cells` and `rle`."""
+"""Runs the commands about patterns: `soup`, `cells` and `rle`."""
 
 from __future__ import annotations
 
@@ -38,15 +38,16 @@ def run_soup(asked: argparse.Namespace, streams: Streams) -> int:
 
 
 def list_lines(sample: Sample, is_rle: bool) -> list[str]:
-    """Returns the lines of a soup, as RLE or as plaintext. Only RLE has the name and the rule."""
+    """Returns the lines of a soup, as RLE or as plaintext. Only RLE includes the name and the
+    rule."""
     if not is_rle:
         return sample.rows()
     return [f"#N {sample.name}", *format_rle(sample.rows(), sample.rule_or_life())]
 
 
 def write_files(samples: list[Sample], folder: Path, is_rle: bool) -> None:
-    """Writes each soup to a file of its own in a folder, which is made if it isn't there. A file
-    that is there stays as it is."""
+    """Writes each soup to its own file in a folder, which is created if it doesn't exist. Files
+    that already exist aren't changed."""
     folder.mkdir(exist_ok=True)
     for sample in samples:
         path = folder / f"{sample.text}.{'rle' if is_rle else 'cells'}"

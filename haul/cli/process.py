@@ -17,29 +17,32 @@ from haul.cli.main import main as run
 from haul.cli.statuses import FAILED, NO_MEMORY
 from haul.terminal import Terminal
 
-# What ends this program, unless it was started so that it takes no notice of it.
+# The signals that end this program, except for those that were ignored when it was started.
 ENDING = (signal.SIGINT, signal.SIGTERM, signal.SIGHUP)
-# What is told in place of a signal when the work is done. No signal has this number.
+# Takes the place of a signal when the work is done. No signal has this number.
 IS_DONE = 0
-# What is told when the work begins. It begins within this time, if there is memory.
+# Takes the place of a signal when the work begins, which must happen within this time. It does if
+# there is enough memory.
 HAS_BEGUN, SECONDS_TO_BEGIN = 128, 10.0
 
 
 def run_heeding_signals(work: Callable[[], int]) -> int:
-    """Does the work in a thread of its own, and returns its status. A signal ends the programs that
-    were started, and then this one, as if nothing had been done about it. If the work heeds
-    signals, it is told of them instead, and the one that it ended for ends this program after it.
+    """Does the work in a separate thread, and returns its status. A signal ends the programs that
+    were started, then this one, as if the signal hadn't been handled. If the work handles signals
+    itself, it is notified instead. If it then ends because of a signal, this program is ended by
+    the same signal.
 
-    Python looks for signals between two steps of its main thread, so one that comes just before
-    that thread begins to wait would be seen only after the wait. Here it waits for nothing but a
-    byte, which each signal writes as soon as it comes."""
+    Python checks for signals between two steps of its main thread. If a signal came just before the
+    main thread started to wait, it would be noticed only after the wait. Therefore the main thread
+    waits only for a byte, which each signal writes at once.
+    """
     reading, writing = os.pipe()
     os.set_blocking(writing, False)
     signal.set_wakeup_fd(writing)
     for number in ENDING:
         if signal.getsignal(number) is not signal.SIG_IGN:
             signal.signal(number, lambda _number, _frame: None)
-    # What is left if the work fails in a way that isn't foreseen.
+    # The status if the work fails unexpectedly.
     status = 1
 
     def do() -> None:
@@ -65,9 +68,9 @@ def run_heeding_signals(work: Callable[[], int]) -> int:
 
 
 def begin_thread(do: Callable[[], None], reading: int) -> None:
-    """Starts a thread that writes a byte to a pipe when it has begun. Raises `MemoryError` if it
-    doesn't: a thread for which there is no memory ends without a word, and Python's own way of
-    starting one would wait for it forever."""
+    """Starts a thread whose first action is to write a byte to a pipe. Raises `MemoryError` if it
+    doesn't. If there is no memory for a thread, it ends silently, and `threading` would wait for
+    its start forever."""
     try:
         _thread.start_new_thread(do, ())
     except RuntimeError as error:
@@ -76,19 +79,19 @@ def begin_thread(do: Callable[[], None], reading: int) -> None:
         raise MemoryError
     came = os.read(reading, 1)[0]
     if came != HAS_BEGUN:
-        # A signal was faster, and nothing has been started that it has to end.
+        # A signal came first. Nothing that it would have to end has been started yet.
         signal.signal(came, signal.SIG_DFL)
         os.kill(os.getpid(), came)
 
 
 def open_streams() -> None:
-    """Makes standard output a buffered stream of UTF-8, whatever the environment says; the name of
-    a file is written byte for byte. Where a standard stream is closed, each read or write of it
-    fails from here on, and no file that is opened later takes its place."""
+    """Makes standard output a buffered UTF-8 stream, regardless of the environment. File names are
+    written byte for byte. If a standard stream is closed, reading from it or writing to it will
+    fail, and no file that is opened later takes its place."""
     for number, stream in enumerate((sys.stdin, sys.stdout, sys.stderr)):
         if stream is None:
-            # This is the lowest number that is free. What is opened for reading can't be written,
-            # and the other way round.
+            # The lowest free number is this one. A file opened for reading can't be written, and
+            # vice versa.
             os.open(os.devnull, os.O_WRONLY if number == 0 else os.O_RDONLY)
     if sys.stdin is None:
         sys.stdin = open(0, encoding="utf-8", closefd=False)
@@ -110,11 +113,11 @@ def main() -> NoReturn:
         status = fail("out of memory", NO_MEMORY)
     except OSError as error:
         status = fail(describe_error(error), FAILED)
-    # Python's own end would write once more what couldn't be written.
+    # At a normal exit, Python would try again to write what couldn't be written.
     os._exit(status)
 
 
 def fail(line: str, status: int) -> int:
-    """Complains, and returns the status."""
+    """Writes a line about the failure, and returns the status."""
     Terminal(sys.stderr).complain(line)
     return status

@@ -1,4 +1,4 @@
-"""Options that several commands have."""
+"""Options that several commands share."""
 
 from __future__ import annotations
 
@@ -21,8 +21,8 @@ FORMS = Exclusive(
 
 
 def list_profile_options(before: str) -> tuple[Argument, ...]:
-    """Returns the options for the four numbers of a profile, which are described as `before` and
-    their names."""
+    """Returns the options for the four numbers of a profile. The description of each is `before`,
+    followed by the number's name."""
     ranges = (PERIOD, (0, MOST_HORIZON), STRIDE, LIMIT)
     return tuple(
         option(

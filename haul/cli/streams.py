@@ -16,18 +16,18 @@ from haul.formats.haul_reader import read_any_haul
 from haul.formats.report_files import INPUT_LIMIT
 from haul.terminal import Terminal
 
-# A pattern has at most this number of bytes, as in `census`.
+# The most bytes of a pattern, as in `census`.
 PATTERN_LIMIT = 2**24
-# A line of coordinates is shorter.
+# Every line of coordinates is shorter than this.
 MOST_LINE = 64
 
 
 class Refused(Exception):
-    """A text is refused for this reason."""
+    """Raised if a text is refused. Gives the reason."""
 
 
 class Streams:
-    """The standard streams. A file that isn't named, or is named `-`, is standard input."""
+    """The standard streams. If a file isn't named, or is named `-`, standard input is read."""
 
     def __init__(self, stdin: BinaryIO, stdout: TextIO, stderr: TextIO) -> None:
         self.stdin = stdin
@@ -36,7 +36,7 @@ class Streams:
 
     @contextmanager
     def open_input(self, name: str | None) -> Iterator[BinaryIO]:
-        """Opens a file. It is closed at the end, except for standard input."""
+        """Opens a file. It is closed when the context is left, unless it is standard input."""
         if name is None or name == "-":
             yield self.stdin
         else:
@@ -44,8 +44,8 @@ class Streams:
                 yield file
 
     def read_haul(self, name: str | None) -> Haul:
-        """Reads the only haul of a file, which may be one of apgsearch. Raises `Refused` if the file
-        isn't one haul."""
+        """Reads a file that consists of a single haul, which may be a haul of apgsearch. Raises
+        `Refused` if it doesn't."""
         with self.open_input(name) as stream:
             try:
                 haul = read_any_haul(stream)
@@ -66,13 +66,14 @@ class Streams:
 
     @contextmanager
     def open_pattern(self, name: str | None) -> Iterator[tuple[bytes, Iterator[bytes]]]:
-        """Opens a pattern. Yields its text, and if that is coordinates, which may have any number of
-        cells, its lines. Raises `OSError` if another pattern is too long."""
+        """Opens a pattern, and yields its text. If the text is coordinates, which may have any
+        number of cells, also yields its lines. Raises `OSError` if any other pattern is too
+        long."""
         with self.open_input(name) as stream:
             # mutant: equal because what is longer is refused, however much of it is read
             text = stream.read(PATTERN_LIMIT + 1)
             if is_coordinates(text):
-                # The last of these lines may have been cut.
+                # The last of these lines may have been cut off.
                 start = io.BytesIO(text + stream.readline(MOST_LINE))
                 yield text, limit_input(chain(read_short_lines(start), read_short_lines(stream)))
                 return
@@ -83,7 +84,7 @@ class Streams:
 
 
 def check_length(text: bytes, name: str | None) -> bytes:
-    """Returns the text of a pattern. Raises `OSError` if it is too long."""
+    """Returns the text of a pattern unchanged. Raises `OSError` if it is too long."""
     if len(text) > PATTERN_LIMIT:
         raise OSError(
             errno.EFBIG, "pattern longer than 16777216 bytes", name if name != "-" else None
@@ -92,13 +93,14 @@ def check_length(text: bytes, name: str | None) -> bytes:
 
 
 def read_short_lines(stream: BinaryIO) -> Iterator[bytes]:
-    """Yields the lines of a stream. A line that is too long for coordinates comes in pieces."""
+    """Yields the lines of a stream. A line that is too long for coordinates is split into
+    pieces."""
     # mutant: equal because a longer line is bad, however it is cut
     return iter(lambda: stream.readline(MOST_LINE), b"")
 
 
 def limit_input(lines: Iterable[bytes]) -> Iterator[bytes]:
-    """Yields lines. Raises `OSError` if they are too long together."""
+    """Yields the lines unchanged. Raises `OSError` if their total length is too large."""
     size = 0
     for line in lines:
         size += len(line)
@@ -108,5 +110,5 @@ def limit_input(lines: Iterable[bytes]) -> Iterator[bytes]:
 
 
 def format_place(name: str | None) -> str:
-    """Returns what stands before a complaint about a file."""
+    """Returns the beginning of a message about a file."""
     return "" if name is None or name == "-" else f"{name}: "

@@ -1,4 +1,4 @@
-"""Values of options: reads each from its word, and refuses others."""
+"""Reads the values of options from their words, and refuses invalid ones."""
 
 from __future__ import annotations
 
@@ -44,7 +44,7 @@ def read_late(text: str) -> int:
 
 
 def read_within(least: int, most: int) -> Callable[[str], int]:
-    """Returns what reads a number from `least` to `most`."""
+    """Returns a function that reads a number from `least` to `most`."""
 
     def read(text: str) -> int:
         if not least <= read_count(text) <= most:
@@ -55,14 +55,14 @@ def read_within(least: int, most: int) -> Callable[[str], int]:
 
 
 def read_as_census(least: int, most: int) -> Callable[[str], int]:
-    """Returns what reads a number from `least` to `most` as `census` does, which lets a `+` stand
-    before it."""
+    """Returns a function that reads a number from `least` to `most` in the same way as `census`,
+    which accepts a `+` before the number."""
     read = read_within(least, most)
     return lambda text: read(text.removeprefix("+"))
 
 
 def read_subject(text: str) -> int | str:
-    """Reads the number of a soup, or else the name of a file."""
+    """Reads the number of a soup or, if it isn't a number, the name of a file."""
     if text.removeprefix("+").isascii() and text.removeprefix("+").isdigit():
         return read_as_census(0, NUMBER_LIMIT - 1)(text)
     return read_path(text)
@@ -81,7 +81,7 @@ def read_count(text: str) -> int:
 
 
 def read_periods(text: str) -> tuple[int, int | None]:
-    """Reads `3`, `3+` or `3-8` as the least and the most period."""
+    """Reads a value such as `3`, `3+` or `3-8` as the smallest and the largest period."""
     least, between, most = text.partition("-")
     if text.endswith("+"):
         return read_count(text[:-1]), None
@@ -92,14 +92,14 @@ def read_periods(text: str) -> tuple[int, int | None]:
 
 
 def read_kinds(text: str) -> str:
-    """Reads the letters of kinds, each at most once."""
+    """Reads letters of kinds, each of which may occur at most once."""
     if not text or not set(text) <= set("spq") or len(set(text)) < len(text):
         raise argparse.ArgumentTypeError(f"{text!r} isn't made of the letters s, p and q")
     return text
 
 
 def read_code(text: str) -> str:
-    """Reads a code, or the name of an object."""
+    """Reads a code or the name of an object, and returns the code."""
     code = find_code_of_name(text)
     if code is not None:
         return code
@@ -111,7 +111,7 @@ def read_code(text: str) -> str:
 
 
 class RuleValue(str):
-    """A rule as `census` takes it, and as it was given."""
+    """A rule in the form that `census` accepts, which remembers the form in which it was given."""
 
     given: str
 

@@ -1,4 +1,4 @@
-"""The command `why`, and what it does."""
+"""The command `why`: its entry in the table, and its function."""
 
 from __future__ import annotations
 
@@ -23,7 +23,7 @@ from haul.patterns.rle import BadRle, read_rle
 from haul.patterns.rules import LIFE, parse_rule
 from haul.views.fates import FateTable
 
-# So many soups of a file are explained, unless another number is asked for.
+# How many soups of a file are explained by default.
 USUAL_MOST = 20
 
 
@@ -80,7 +80,7 @@ def explain_pattern(asked: argparse.Namespace, streams: Streams, census: Census)
 
 
 def read_any_pattern(name: str, streams: Streams) -> tuple[Rows, str | None]:
-    """Reads a pattern in any format, and the rule that stands in it."""
+    """Reads a pattern in any format, and the rule in it, or `None` if it has no rule."""
     try:
         with streams.open_pattern(name) as (text, lines):
             if is_coordinates(text):
@@ -94,7 +94,7 @@ def read_any_pattern(name: str, streams: Streams) -> tuple[Rows, str | None]:
 
 
 def draw_columns(lines: Iterator[bytes]) -> Rows:
-    """Draws coordinates. Raises `BadPlaintext` if the pattern is too large."""
+    """Draws a pattern from its coordinates. Raises `BadPlaintext` if it is too large."""
     rows = read_coordinates(lines)
     left, right = min(min(row) for row in rows.values()), max(max(row) for row in rows.values())
     top, bottom = min(rows), max(rows)

@@ -1,1 +1,1 @@
-"""`haul why`: what becomes of soups that a census calls unsettled."""
+"""`haul why`: the fates of soups that a census calls unsettled."""

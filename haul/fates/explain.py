@@ -1,5 +1,5 @@
-"""Finds the fates of soups and of patterns. `census` says whether they settle, and how they go on;
-what explains that is looked for here."""
+"""Finds the fates of soups and patterns. `census` decides whether they settle and computes their
+generations. The explanation is found here."""
 
 from __future__ import annotations
 
@@ -33,7 +33,7 @@ from haul.formats.haul import Job
 from haul.life.field import pack, unpack
 from haul.life.generations import read_rule
 
-# The growth of a pattern is looked at for so many generations after the limit.
+# Linear growth is looked for in this many generations after the limit.
 GENERATIONS_OF_SIZES = GENERATIONS + MOST_CYCLE
 MOST_LIMIT = MOST_GENERATIONS - GENERATIONS_OF_SIZES
 FINDING = re.compile(rb"settled (0|[1-9][0-9]{0,5})\n|unsettled\n")
@@ -42,7 +42,7 @@ SIZE = re.compile(rb"([0-9]{1,6}) (?:0|([1-9][0-9]{0,9})(?: -?[0-9]{1,6}){4})\n"
 
 
 class TooLate(Exception):
-    """A limit is too large."""
+    """Raised if the limit of a profile is too large."""
 
 
 @dataclass(frozen=True)
@@ -60,7 +60,7 @@ class Fates:
             )
 
     def find_all(self, soups: list[int]) -> Iterator[Fate]:
-        """Yields the fates of soups, several of which are looked at at a time."""
+        """Yields the fates of soups. Several soups are examined at a time."""
         return self.census.ask_in_parts(self.find_of_soup, soups, SOUPS_IN_A_CALL, "soups run")
 
     def find_of_soup(self, soups: list[int]) -> Fate:
@@ -85,14 +85,14 @@ class Fates:
         return tell_activity(measure(cells), limit)
 
     def find_checkpoint(self, pattern: bytes) -> int | None:
-        """Returns the checkpoint at which a pattern has settled; `None` if it is unsettled."""
+        """Returns the checkpoint at which a pattern has settled, or `None` if it is unsettled."""
         found = FINDING.match(self.census.ask(list_name_arguments(self.job), pattern))
         if found is None:
             raise NoCensus.at(self.census.path)
         return int(found[1]) if found[1] else None
 
     def list_cells(self, pattern: bytes, generation: int) -> set[int]:
-        """Returns the live cells of a pattern in a generation."""
+        """Returns the live cells of a pattern in generation `generation`."""
         text = self.census.ask(list_coordinates_arguments(self.job.rule, generation), pattern)
         cells: set[int] = set()
         for line in text.splitlines(keepends=True):
@@ -103,7 +103,7 @@ class Fates:
         return cells
 
     def list_populations(self, pattern: bytes, first: int, last: int) -> list[int]:
-        """Returns the number of live cells in each of these generations."""
+        """Returns the number of live cells in each generation from `first` to `last`."""
         text = self.census.ask(list_sizes_arguments(self.job.rule, first, last), pattern)
         found = [SIZE.fullmatch(line) for line in text.splitlines(keepends=True)]
         generations = [int(size[1]) for size in found if size is not None]

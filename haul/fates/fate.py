@@ -1,4 +1,4 @@
-"""The fates of soups, and how they are told."""
+"""The fates of soups, and the words for them."""
 
 from __future__ import annotations
 
@@ -11,7 +11,7 @@ from haul.fates.rest import Rest
 from haul.names.objects import find_name
 from haul.plurals import write_count
 
-# `census run` takes at most this number of generations.
+# The most generations that `census run` advances a pattern.
 MOST_GENERATIONS = 100_000
 USUAL_LIMIT = 30_300
 
@@ -30,21 +30,22 @@ class Kind(Enum):
 
 @dataclass(frozen=True)
 class Fate:
-    """What becomes of a pattern: the kind, and what explains it."""
+    """What becomes of a pattern: the kind of its fate, and an explanation."""
 
     kind: Kind
     why: str
 
     def text(self) -> str:
-        """Returns the fate as a line has it, such as `settled 1818` or `collides soon: generation
-        30512`."""
+        """Returns the fate as printed, such as `settled 1818` or
+        `collides soon: generation 30512`."""
         between = " " if self.kind in (Kind.SETTLED, Kind.PERIOD, Kind.SETTLES) else ": "
         return f"{self.kind.value}{between}{self.why}"
 
 
 @dataclass(frozen=True)
 class Size:
-    """How large a pattern is: its cells, and the columns and rows of its bounding box."""
+    """The size of a pattern: its number of live cells, and the columns and rows of its bounding
+    box."""
 
     cells: int
     width: int
@@ -56,7 +57,7 @@ def tell_settled(checkpoint: int) -> Fate:
 
 
 def tell_rest(rest: Rest, limit: int) -> Fate:
-    """Tells of a pattern whose groups recur, and don't meet."""
+    """Returns the fate of a pattern whose groups recur and don't meet."""
     if rest.apart:
         objects = [name_object(code, count) for code, count in sorted(Counter(rest.apart).items())]
         return Fate(Kind.FALLS_APART, ", ".join([*objects, *map(name_period, list_periods(rest))]))
@@ -74,7 +75,7 @@ def name_period(period: int) -> str:
 
 
 def name_object(code: str, count: int) -> str:
-    """Writes a code and the name of its object, with a number if there are several."""
+    """Returns the code and the name of an object, with the count if there are several."""
     several = f"{count} " if count > 1 else ""
     name = find_name(code)
     return f"{several}{code}" + (f" ({name})" if name else "")
@@ -93,7 +94,8 @@ def tell_collision(generation: int) -> Fate:
 
 
 def tell_activity(size: Size, limit: int) -> Fate:
-    """Tells that nothing else was found, and which limit may show more."""
+    """Returns the fate of a pattern about which nothing else was found. The explanation suggests a
+    limit that may show more."""
     more = min(max(2 * limit, USUAL_LIMIT), MOST_GENERATIONS)
     extent = f"{write_count(size.cells, 'cell')}, {size.width:,} by {size.height:,}"
     return Fate(Kind.ACTIVE, f"{extent}; try --limit {more}")

@@ -1,4 +1,4 @@
-"""Looks at a pattern whether it rests in a wider sense than that of a census. docs/HAUL.md has the
+"""Checks whether a pattern is at rest in a wider sense than in a census. docs/HAUL.md has the
 definition."""
 
 from __future__ import annotations
@@ -20,27 +20,29 @@ from haul.life.field import (
 from haul.life.generations import Recurrence, Rule
 from haul.life.groups import Group, Watched, find_period, run_alone, split_clusters
 
-# The longest period of an object that recurs soon, and that of one whose period is told.
+# The longest period of an object that recurs soon, and the longest period that is searched for.
 PERIOD, LONG_PERIOD = 64, 1152
-# Groups have to keep apart for so many generations, or as many as the profile says if that is more.
+# Groups must stay apart for this number of generations, or for the profile's horizon if that is
+# larger.
 HORIZON = 512
 
 
 @dataclass
 class Rest:
-    """What was found about a pattern all of whose groups recur."""
+    """What was found about a pattern if all its groups recur."""
 
-    # The codes of the objects that fall apart, each as often as there is one.
+    # The codes of the objects that fall apart, one for each such object.
     apart: list[str] = field(default_factory=list)
     # The periods of other objects that a census doesn't recognise.
     periods: list[int] = field(default_factory=list)
-    # The generation, counted from that of the pattern, in which two groups meet; none if none do.
+    # The generation in which two groups meet, counted from the generation of the pattern, or `None`
+    # if no groups meet.
     meeting: int | None = None
 
 
 @dataclass
 class Recurring:
-    """A group that recurs: its phases, and by how much it is moved after the last of them."""
+    """A group that recurs: its phases, and how far it has moved when the first one recurs."""
 
     phases: list[set[int]]
     move: int
@@ -50,8 +52,8 @@ class Recurring:
 
 
 def look_for_rest(rule: Rule, cells: set[int], profile: Profile) -> Rest | None:
-    """Returns what was found about a pattern; `None` if one of its groups doesn't recur, or if there
-    are too many cells to see that."""
+    """Returns what was found about a pattern, or `None` if one of its groups doesn't recur or there
+    are too many cells to tell."""
     try:
         return look_at_groups(rule, cells, profile)
     except TooManyCells:
@@ -76,8 +78,8 @@ def look_at_groups(rule: Rule, cells: set[int], profile: Profile) -> Rest | None
 
 
 def find_recurring(rule: Rule, group: Group) -> Recurring | None:
-    """Returns how a group recurs, without a phase if it is what is left of a spark; `None` if it
-    doesn't recur."""
+    """Returns how a group recurs, or `None` if it doesn't. A group that has died, such as a spark,
+    has a single phase without cells."""
     phases = group.phases(PERIOD, 2 * PERIOD)
     if not phases[0]:
         return Recurring([set()], 0)
@@ -89,7 +91,7 @@ def find_recurring(rule: Rule, group: Group) -> Recurring | None:
 
 
 def find_late_recurrence(rule: Rule, cells: set[int]) -> Recurring | None:
-    """Returns how a pattern recurs within the longest period that is told; `None` if it doesn't."""
+    """Returns how a pattern recurs within `LONG_PERIOD` generations, or `None` if it doesn't."""
     field = Field(rule, cells)
     for period in range(1, LONG_PERIOD + 1):
         field.step()
@@ -100,8 +102,8 @@ def find_late_recurrence(rule: Rule, cells: set[int]) -> Recurring | None:
 
 
 def find_meeting(field: Field, groups: list[Group], last: int) -> int | None:
-    """Lets a pattern go on up to a generation, and returns the first one in which two groups are
-    near one another; `None` if none are."""
+    """Advances a pattern up to generation `last`. Returns the first generation in which two groups
+    are near one another, or `None` if there is none."""
     owners = {
         cell: number
         for number, group in enumerate(groups)
@@ -115,8 +117,8 @@ def find_meeting(field: Field, groups: list[Group], last: int) -> int | None:
 
 
 def pass_on(owners: dict[int, int], change: Change) -> bool:
-    """Gives each cell that is born to the group of its parents, and returns whether none of them
-    has come near another group."""
+    """Assigns each newborn cell to the group of its parents. Returns whether none of these cells is
+    near another group."""
     born = {
         cell: next(owners[cell + step] for step in NEIGHBOURS if cell + step in owners)
         for cell in change.births
@@ -130,8 +132,9 @@ def pass_on(owners: dict[int, int], change: Change) -> bool:
 
 
 def is_recognised(rule: Rule, one: Recurring, most: int) -> bool:
-    """Checks whether a census would recognise a group as objects in one of its phases: each of its
-    clusters there, run alone, recurs soon enough and does what it does in the group."""
+    """Checks whether a census would recognise a group as objects. It does if, in one of the group's
+    phases, each cluster recurs soon enough when it is run alone, and does what it does in the
+    group."""
     phases = one.phases
     for place in range(min(one.period(), PERIOD)):
         wanted = [*phases[place:], *({c + one.move for c in phase} for phase in phases[:place])]
@@ -146,7 +149,8 @@ def is_recognised(rule: Rule, one: Recurring, most: int) -> bool:
 def are_independent(
     rule: Rule, clusters: list[set[int]], wanted: list[set[int]], most: int
 ) -> bool:
-    """Checks whether clusters recur soon enough, each by itself, and are these phases together."""
+    """Checks whether each cluster recurs soon enough when it is run alone, and whether the clusters
+    together make up these phases."""
     together: list[set[int]] = [set() for _ in wanted]
     for cluster in clusters:
         runs = list(run_alone(rule, cluster, max(len(wanted), most)))
@@ -162,7 +166,7 @@ def are_independent(
 
 
 def describe(one: Recurring, rest: Rest) -> None:
-    """Notes what a census doesn't recognise."""
+    """Adds to `rest` an object that a census doesn't recognise."""
     is_apart = all(len(split_clusters(phase)) > 1 for phase in one.phases)
     if is_apart and one.period() <= PERIOD:
         recurrence = Recurrence(

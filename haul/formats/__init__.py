@@ -1,1 +1,1 @@
-"""Texts of censuses that are read and written: hauls, report lines, indexes, late soups, tables."""
+"""The texts that censuses read and write: hauls, report lines, indexes, late soups and tables."""

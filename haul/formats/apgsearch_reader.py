@@ -1,4 +1,4 @@
-"""Reads hauls of apgsearch as Catagolue shows them, as far as docs/FORMATS.md describes them."""
+"""Reads hauls of apgsearch in the form that Catagolue shows, as described in docs/FORMATS.md."""
 
 from __future__ import annotations
 
@@ -11,13 +11,13 @@ from haul.formats.haul import NUMBER_LIMIT, TOTAL_LIMIT, Haul, Job
 from haul.formats.profile import STANDARD
 from haul.patterns.rules import parse_rule
 
-# What a haul of apgsearch begins with. A haul of `census` has a number there.
+# The first bytes of a haul of apgsearch. A haul of `census` has a number in this place.
 BEGINNING = b"@VERSION v"
-# A longer line is refused.
+# A line with more bytes than this is refused.
 LINE_LIMIT = 2**20
-# The most bytes of a code, a seed or a name.
+# The most bytes that a code, a seed or a name may have.
 WORD_LIMIT = 1000
-# The lines without which a haul can't be read, and the ones that begin the two tables.
+# The lines that a haul must have before its tables, and the lines that begin the two tables.
 NEEDED = ("@VERSION", "@ROOT", "@RULE", "@SYMMETRY", "@NUM_SOUPS", "@NUM_OBJECTS")
 TABLE, SAMPLES = "@CENSUS", "@SAMPLE_SOUPIDS"
 
@@ -35,12 +35,12 @@ OTHER_RULE = "only rules such as b3s23 are read"
 
 
 def is_apgsearch_haul(first: bytes) -> bool:
-    """Checks whether a text with this first line is a haul of apgsearch."""
+    """Checks whether `first` is the first line of a haul of apgsearch."""
     return first.startswith(BEGINNING)
 
 
 class Line:
-    """A line with its number and its words, each with the column in which it begins."""
+    """A line, given by its number and its words. Each word has the column in which it begins."""
 
     def __init__(self, number: int, text: bytes) -> None:
         self.number = number
@@ -53,7 +53,8 @@ class Line:
         ]
 
     def bad_word(self, place: int, why: str) -> BadHaul:
-        """Returns the fault of a word, or of a missing word after the others."""
+        """Returns the fault that the word at `place` is wrong, or that there is no word at
+        `place`."""
         if place < len(self.words):
             return BadHaul(self.number, self.words[place][1], why)
         last, column = self.words[-1]
@@ -74,8 +75,8 @@ class Line:
 
 
 def split_lines(first: bytes, number: int, stream: IO[bytes]) -> Iterator[Line]:
-    """Yields the lines that aren't blank, from the first one, which has been read and has this
-    number. They may end in a carriage return and a line feed."""
+    """Yields the lines that aren't blank. `first` is a line that has already been read, and
+    `number` is its number. A line may end in a carriage return and a line feed."""
     text = first
     while text:
         if len(text) > LINE_LIMIT:
@@ -87,8 +88,8 @@ def split_lines(first: bytes, number: int, stream: IO[bytes]) -> Iterator[Line]:
 
 
 def read_apgsearch_haul(first: bytes, number: int, stream: IO[bytes]) -> Haul:
-    """Reads a haul of apgsearch, of which the first line has been read. Raises `BadHaul` at the
-    first fault."""
+    """Reads a haul of apgsearch whose first line, `first`, has already been read. Raises `BadHaul`
+    at the first fault."""
     lines = split_lines(first, number, stream)
     said: dict[str, Line] = {}
     for line in lines:
@@ -128,7 +129,7 @@ def build_haul(
 
 
 def read_tables(lines: Iterator[Line]) -> tuple[dict[str, int], dict[str, list[int]]]:
-    """Reads the rows of the census table, and those of the samples if there are any."""
+    """Reads the rows of the census table, and the rows of samples if there are any."""
     totals: dict[str, int] = {}
     samples: dict[str, list[int]] = {}
     has_samples = False

@@ -1,4 +1,4 @@
-"""Reads a text field by field, and says where a wrong field begins."""
+"""Reads a text field by field, and finds where a wrong field begins."""
 
 from __future__ import annotations
 
@@ -7,15 +7,16 @@ from typing import IO
 
 from haul.formats.syntax import DECIMAL
 
-# No line of a haul has as many bytes: the longest one is a code of 400 with three numbers. The rest
-# of a longer line isn't read.
+# Every line of a haul is shorter than this: the longest one has a code of 400 characters and three
+# numbers. The rest of a longer line isn't read.
 # mutant: equal because what is longer is refused, however much of it is read
 LINE_LIMIT = 1000
 
 
 class BadHaul(Exception):
-    """A text is not that of a haul, or of `what` else, from a place on: line and column count from
-    1, and a column is a byte. If the words there are well formed, it says why they are wrong."""
+    """Raised if a text isn't a haul (or whatever `what` says it should be). Gives the line and the
+    column of the first wrong field. Both count from 1, and columns count bytes. If the field itself
+    is well formed, `why` says why it is wrong."""
 
     def __init__(self, line: int, column: int, why: str = "", what: str = "haul") -> None:
         reason = f": {why}" if why else ""
@@ -24,8 +25,8 @@ class BadHaul(Exception):
 
 
 class FieldReader:
-    """The lines of an input, and where reading is: the latest line, its fields, and how many of
-    these have been read."""
+    """Reads an input line by line, and each line field by field. Keeps the current line, its
+    fields, and how many of these have been read."""
 
     def __init__(self, stream: IO[bytes]) -> None:
         self.stream = stream
@@ -34,17 +35,17 @@ class FieldReader:
         self.is_ended = False
         # mutant: equal because each line begins anew
         self.read = 0
-        # A line that was looked at before it is wanted.
+        # The next line, if it has been peeked at.
         self.held: bytes | None = None
 
     def peek(self) -> bytes:
-        """Returns the next line with its line feed, or no byte at the end of the input."""
+        """Returns the next line with its line feed, or an empty text at the end of the input."""
         if self.held is None:
             self.held = self.stream.readline(LINE_LIMIT)
         return self.held
 
     def skip(self) -> None:
-        """Takes the next line, which has been looked at whole."""
+        """Skips the next line, after `peek` has returned it."""
         self.held = None
         self.number += 1
 
@@ -54,21 +55,21 @@ class FieldReader:
         self.number += 1
         self.is_ended = line.endswith(b"\n")
         body = line[:-1] if self.is_ended else line
-        # An empty line has no field, and the end of the input none either.
+        # An empty line has no fields, and neither has the end of the input.
         self.fields = body.split(b" ") if body else []
         self.read = 0
 
     def bad_field(self, back: int = 0, why: str = "") -> BadHaul:
-        """Returns the fault that the next field is wrong, or one that was read `back` fields
-        before it."""
+        """Returns the fault that the next field is wrong, or that the field `back` fields before it
+        is wrong."""
         before = self.fields[: self.read - back]
         return BadHaul(
             self.number, sum(map(len, before)) + len(before) + 1 - (self.is_missing(back)), why
         )
 
     def is_missing(self, back: int) -> int:
-        """Returns 1 if there is no such field: what is missing would begin after a space that
-        isn't there."""
+        """Returns 1 if the field at this place is missing, otherwise 0. A missing field would begin
+        after a space that isn't there."""
         return 1 if self.read - back >= len(self.fields) and self.fields else 0
 
     def field(self) -> bytes:
@@ -89,8 +90,8 @@ class FieldReader:
         return found.decode("ascii")
 
     def number_in(self, least: int, most: int, too_small: str = "", too_large: str = "") -> int:
-        """Reads the next field, a number. The texts say what is wrong with one that isn't
-        between `least` and `most`."""
+        """Reads the next field as a number. `too_small` and `too_large` are the reasons to give for
+        a number that isn't between `least` and `most`."""
         found = self.field()
         if not DECIMAL.fullmatch(found):
             raise self.bad_field(1)
@@ -106,7 +107,7 @@ class FieldReader:
             raise self.bad_field()
 
     def only_number(self, name: bytes, most: int, too_large: str) -> int:
-        """Reads a line of a name and a number."""
+        """Reads a line that consists of a name and a number."""
         self.next_line()
         self.word(name)
         number = self.number_in(0, most, too_large=too_large)
@@ -114,7 +115,7 @@ class FieldReader:
         return number
 
     def only_words(self, *words: bytes) -> None:
-        """Reads a line of just these words."""
+        """Reads a line that consists of exactly these words."""
         self.next_line()
         for word in words:
             self.word(word)

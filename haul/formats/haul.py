@@ -1,4 +1,4 @@
-"""Hauls: how many objects of each code the soups of a census left."""
+"""Hauls: how many objects of each code were left by the soups of a census."""
 
 from __future__ import annotations
 
@@ -7,13 +7,13 @@ from dataclasses import KW_ONLY, dataclass, field
 
 from haul.formats.profile import Profile
 
-# The symmetry of soups that have none, which are the only ones that `census` runs.
+# The symmetry of asymmetric soups. `census` runs no others.
 SYMMETRY = "C1"
-# No soup has this number, or a larger one.
+# Every soup has a number below this.
 NUMBER_LIMIT = 2**40
-# No total is as large.
+# Every total is below this.
 TOTAL_LIMIT = 2**64
-# The most samples of a code.
+# The most samples that a code has.
 MOST_SAMPLES = 3
 
 Range = tuple[int, int]
@@ -21,37 +21,37 @@ Range = tuple[int, int]
 
 @dataclass(frozen=True)
 class Job:
-    """What soups a census runs, and how."""
+    """Which soups a census runs, and how."""
 
     seed: str
     rule: str
     profile: Profile
-    # Only hauls of apgsearch have another one.
+    # Anything but `SYMMETRY` occurs only in hauls of apgsearch.
     symmetry: str = SYMMETRY
 
 
 @dataclass
 class Haul:
-    """What a census says of the soups that it has taken."""
+    """The result of a census of a set of soups."""
 
     job: Job
     _: KW_ONLY
-    # The first number and the count of each range, in ascending order. No range is empty, and none
-    # touches the next.
+    # The first number and the size of each range, in ascending order. No range is empty, and no two
+    # ranges touch.
     ranges: list[Range] = field(default_factory=list)
     soups: int = 0
     unsettled: int = 0
     for_good: int = 0
-    # How many objects there are of each code, in the order of the codes.
+    # The number of objects of each code, in the order of the codes.
     totals: dict[str, int] = field(default_factory=dict)
-    # The lowest numbers of soups that left an object of a code, for the same codes.
+    # The lowest numbers of soups that left an object of the code, for the same codes as `totals`.
     samples: dict[str, list[int]] = field(default_factory=dict)
     # The version of apgsearch, or `None` for a haul of `census`. A haul of apgsearch doesn't say
-    # which soups it has, how many of them are unsettled or settled for good.
+    # which soups it has, how many of them are unsettled, or how many settled for good.
     apgsearch: str | None = None
-    # The number of objects that a haul of apgsearch gives, which may differ from its table.
+    # The number of objects that a haul of apgsearch claims to have. It may differ from its table.
     said_objects: int | None = None
-    # The line of the input in which the text begins.
+    # The line of the input in which the haul begins.
     # mutant: equal because only the line of a haul that was read is printed
     line: int = 1
 
@@ -59,11 +59,11 @@ class Haul:
         return sum(self.totals.values())
 
     def size(self) -> int:
-        """Returns how many numbers the set has."""
+        """Returns how many soup numbers the set has."""
         return count_numbers(self.ranges)
 
     def first_total_line(self) -> int:
-        """Returns the line of the input that has the first total. The others follow."""
+        """Returns the line of the input that has the first total. The other totals follow it."""
         return self.line + 11 + max(1, len(self.ranges))
 
     def first_sample_line(self) -> int:

@@ -1,7 +1,8 @@
-"""Reads haul texts, byte for byte as docs/FORMATS.md describes them.
+"""Reads haul texts, byte for byte as described in docs/FORMATS.md.
 
-A text that is read is one that `census take` or `census gather` can print, so writing it again
-gives the same text. """
+Only texts that `census take` or `census gather` can print are accepted, so writing a haul that has
+been read gives the same text again.
+"""
 
 from __future__ import annotations
 
@@ -25,11 +26,11 @@ from haul.formats.profile import LIMIT, MOST_HORIZON, PERIOD, STRIDE, Profile
 from haul.formats.recognition import recognize
 from haul.formats.syntax import CODE, DECIMAL, RULE, SEED
 
-# The rows of the two tables.
+# The rows of the two tables: totals and samples.
 TOTAL_ROW = re.compile(rb"([a-z0-9_]{1,400}) ([1-9][0-9]{0,19})\n")
 SAMPLE_ROW = re.compile(rb"([a-z0-9_]{1,400})((?: (?:0|[1-9][0-9]{0,12})){1,3})\n")
 
-# What is wrong with a text whose words are well formed.
+# The reasons for which a text is wrong although its words are well formed.
 NOT_THE_SUM = "the objects are not the sum of the table"
 MORE_SAMPLES = "more samples than objects"
 CODES_DESCEND = "the codes are not in ascending order"
@@ -46,7 +47,7 @@ MORE_HAULS = "more than one haul"
 
 
 def read_hauls(stream: IO[bytes]) -> Iterator[Haul]:
-    """Yields the hauls of an input, at least one. Raises `BadHaul` at the first fault."""
+    """Yields the hauls of an input, which has at least one. Raises `BadHaul` at the first fault."""
     lines = FieldReader(stream)
     yield read_first_haul(lines)
     while lines.peek():
@@ -54,8 +55,8 @@ def read_hauls(stream: IO[bytes]) -> Iterator[Haul]:
 
 
 def read_any_haul(stream: IO[bytes]) -> Haul:
-    """Reads the only haul of an input, which may be one of apgsearch. Raises `BadHaul` at the first
-    fault."""
+    """Reads an input that consists of a single haul, which may be a haul of apgsearch. Raises
+    `BadHaul` at the first fault."""
     lines = FieldReader(stream)
     while lines.peek().strip() == b"" != lines.peek():
         lines.skip()
@@ -67,7 +68,7 @@ def read_any_haul(stream: IO[bytes]) -> Haul:
 
 
 def read_one_haul(stream: IO[bytes]) -> Haul:
-    """Reads the only haul of an input. Raises `BadHaul` at the first fault."""
+    """Reads an input that consists of a single haul. Raises `BadHaul` at the first fault."""
     return read_only_haul(FieldReader(stream))
 
 
@@ -79,8 +80,8 @@ def read_only_haul(lines: FieldReader) -> Haul:
 
 
 def read_first_haul(lines: FieldReader) -> Haul:
-    """Reads the first haul of an input. If its first line is wrong, the fault says what the text
-    looks like."""
+    """Reads the first haul of an input. If the first line is wrong, the fault says what the text
+    looks like instead."""
     first = lines.peek()
     try:
         return read_haul(lines)
@@ -141,7 +142,8 @@ def read_job(lines: FieldReader) -> Job:
 
 
 def read_ranges(lines: FieldReader) -> list[Range]:
-    """Reads at least one range. An empty range, which begins at 0, stands for none."""
+    """Reads one or more ranges. A single empty range, which begins at 0, means that there are
+    none."""
     ranges: list[Range] = []
     least = 0
     while not ranges or lines.peek().removesuffix(b"\n").split(b" ")[0] == b"@RANGE":
@@ -153,13 +155,13 @@ def read_ranges(lines: FieldReader) -> list[Range]:
         if count == 0:
             return []
         ranges.append((first, count))
-        # A number is left out before the next one.
+        # At least one number is missing between two ranges.
         least = first + count + 1
     return ranges
 
 
 def read_totals(lines: FieldReader) -> dict[str, int]:
-    """Reads the rows of the census table, and the empty line after them."""
+    """Reads the rows of the census table and the empty line after them."""
     totals: dict[str, int] = {}
     latest = b""
     while lines.peek() != b"\n":
@@ -174,7 +176,7 @@ def read_totals(lines: FieldReader) -> dict[str, int]:
 
 
 def find_fault_of_total(lines: FieldReader, latest: bytes) -> BadHaul:
-    """Returns what is wrong with the next line, which isn't a row after that of the latest code."""
+    """Returns why the next line can't follow the row of the code `latest`."""
     try:
         lines.next_line()
         if lines.matched(CODE).encode("ascii") <= latest:
@@ -189,7 +191,8 @@ def find_fault_of_total(lines: FieldReader, latest: bytes) -> BadHaul:
 def read_samples(
     lines: FieldReader, ranges: list[Range], totals: dict[str, int]
 ) -> dict[str, list[int]]:
-    """Reads a row for each code of the census table. Its samples ascend, and are in the ranges."""
+    """Reads a row of samples for each code of the census table. The samples of a row ascend, and
+    each is in one of the ranges."""
     firsts = [first for first, _ in ranges]
     samples: dict[str, list[int]] = {}
     for code, total in totals.items():
@@ -212,7 +215,7 @@ def read_samples(
 def find_fault_of_samples(
     lines: FieldReader, code: str, total: int, ranges: list[Range], firsts: list[int]
 ) -> BadHaul:
-    """Returns what is wrong with the next line, which isn't a row of samples for this code."""
+    """Returns why the next line isn't a row of samples for this code."""
     try:
         lines.next_line()
         if lines.matched(CODE) != code:
@@ -236,6 +239,7 @@ def find_fault_of_samples(
 
 
 def is_in_ranges(number: int, ranges: list[Range], firsts: list[int]) -> bool:
-    """Checks whether a number is in one of these ranges, which ascend and begin at `firsts`."""
+    """Checks whether a number is in one of the ranges. The ranges ascend, and `firsts` has their
+    first numbers."""
     place = bisect_right(firsts, number) - 1
     return place >= 0 and number < ranges[place][0] + ranges[place][1]

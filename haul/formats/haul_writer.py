@@ -8,7 +8,7 @@ from haul.formats.haul import Haul, Job
 
 
 def format_job(job: Job) -> list[str]:
-    """Returns the lines that say which census it is."""
+    """Returns the lines that identify the census."""
     return [
         f"@ROOT seed={job.seed}",
         f"@RULE {job.rule}",

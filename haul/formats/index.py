@@ -1,4 +1,5 @@
-"""Indexes: the SHA-256 of each haul of a census in parts, so that anybody can check some of them."""
+"""Indexes: the SHA-256 of each haul of a census in parts, with which anyone can check some of
+them."""
 
 from __future__ import annotations
 
@@ -21,14 +22,14 @@ PARTS_DESCEND = "the parts are not in ascending order, or share a soup"
 
 @dataclass
 class Index:
-    """The parts of a census, in ascending order, each with the SHA-256 of its haul text."""
+    """The parts of a census in ascending order, each with the SHA-256 of its haul text."""
 
     job: Job
     parts: dict[Range, str]
 
 
 def is_index(path: str) -> bool:
-    """Checks whether a file begins as an index does."""
+    """Checks whether a file begins like an index."""
     if not os.path.isfile(path):
         return False
     with open(path, "rb") as file:
@@ -67,7 +68,7 @@ def read_index(stream: IO[bytes]) -> Index:
 
 
 def read_parts(lines: FieldReader) -> dict[Range, str]:
-    """Reads at least one part, up to the end of the input."""
+    """Reads one or more parts, up to the end of the input."""
     parts: dict[Range, str] = {}
     least = 0
     while not parts or lines.peek():

@@ -1,16 +1,16 @@
-"""Profiles: the four numbers by which a census decides that a soup has settled."""
+"""Profiles: the four numbers that define when a census considers a soup settled."""
 
 from __future__ import annotations
 
 from typing import NamedTuple
 
-# The least and the most period, stride and limit. A horizon isn't below its period.
+# The smallest and the largest period, stride and limit. A horizon isn't below its period.
 PERIOD, STRIDE, LIMIT = (1, 64), (1, 10000), (0, 100000)
 MOST_HORIZON = 4096
 
 
 class Profile(NamedTuple):
-    """A profile, whose fields have the names of the options of `census`."""
+    """A profile. Its fields are named after the options of `census`."""
 
     period: int
     horizon: int
@@ -18,14 +18,14 @@ class Profile(NamedTuple):
     limit: int
 
     def is_lawful(self) -> bool:
-        """Checks whether each number is one that `census` accepts."""
+        """Checks whether `census` accepts each of the numbers."""
         bounds = (PERIOD, (self.period, MOST_HORIZON), STRIDE, LIMIT)
         return all(
             least <= number <= most for number, (least, most) in zip(self, bounds, strict=True)
         )
 
     def format(self) -> str:
-        """Returns the numbers with commas between them, as report lines have them."""
+        """Returns the numbers with commas between them, as in report lines."""
         return ",".join(map(str, self))
 
     def list_options(self) -> list[tuple[str, int]]:
@@ -33,7 +33,8 @@ class Profile(NamedTuple):
         return [(f"--{name}", number) for name, number in self._asdict().items()]
 
     def list_changed_options(self) -> list[tuple[str, int]]:
-        """Returns the options whose values aren't those of the standard profile."""
+        """Returns the options whose values differ from the standard profile, each with its
+        value."""
         standard = STANDARD.list_options()
         return [option for option in self.list_options() if option not in standard]
 

@@ -1,10 +1,10 @@
-"""What a text looks like that isn't a haul, so that a refusal can say it."""
+"""Recognises texts that aren't hauls, so that an error message can say what they look like."""
 
 from __future__ import annotations
 
 import re
 
-# Each with what it stands for. The first one that fits is said.
+# Beginnings of texts, each with what it stands for. The first match is used.
 FORMS = (
     (re.compile(rb"report "), "report lines, which `census gather` and `haul soups` read"),
     (re.compile(rb"# late "), "the late soups of a search, which `haul soups` and `haul why` read"),
@@ -23,5 +23,5 @@ FORMS = (
 
 
 def recognize(first: bytes) -> str | None:
-    """Returns what a text with this first line looks like, or `None` if that isn't known."""
+    """Returns what a text with this first line looks like, or `None` if it isn't recognised."""
     return next((name for form, name in FORMS if form.match(first)), None)

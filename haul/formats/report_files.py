@@ -1,5 +1,5 @@
-"""Reads the reports in files: those of one job, and the first one of each soup. Whether they are
-right isn't checked."""
+"""Reads the report lines in files: those of one job, and only the first report of each soup.
+Doesn't check whether the reports are right."""
 
 from __future__ import annotations
 
@@ -14,22 +14,22 @@ from haul.terminal import Terminal
 
 # The first line of a haul.
 HAUL = re.compile(rb"@VERSION ")
-# A line that begins with this is skipped, such as the first one of FILE.late.
+# A line that begins with this is skipped. An example is the first line of FILE.late.
 COMMENT = b"#"
-# A line of progress is written after this many lines.
+# The progress line is updated after this many lines.
 LINES_BETWEEN_PROGRESS = 10_000
-# After so many lines that are skipped, the others are only counted.
+# The most skipped lines that are reported one by one. Further ones are only counted.
 MOST_TOLD = 1000
-# An input has at most this number of bytes, as for `census gather`.
+# The most bytes that an input may have, as for `census gather`.
 INPUT_LIMIT = 2**32
 
 
 class BadLines(Exception):
-    """A text has no report lines, but something else."""
+    """Raised if a text has something else instead of report lines."""
 
 
 class Reports:
-    """The reports that have been read so far."""
+    """The reports that have been read so far, from one or more inputs."""
 
     def __init__(self, terminal: Terminal) -> None:
         self.terminal = terminal
@@ -37,13 +37,13 @@ class Reports:
         self.job: Job | None = None
         self.soups: set[int] = set()
         self.lines = 0
-        # How many lines were skipped, of which the first ones are told.
+        # The number of skipped lines, including those that weren't reported one by one.
         self.skipped = 0
 
     def read(self, stream: IO[bytes], place: str) -> Iterator[Report]:
-        """Yields each report that has the job of the first one, unless its soup has been read
-        before. A comment is skipped. A bad line, or a report of another job, is told on standard error, with `place`
-        before the number of the line."""
+        """Yields each report whose job is that of the first report, unless its soup has been read
+        before. Comments are skipped silently. A bad line, or a report of another job, is reported
+        on standard error, with `place` before the line's number."""
         for number, line in enumerate(split_lines(stream), 1):
             if number == 1 and HAUL.match(line):
                 raise BadLines(
@@ -67,19 +67,19 @@ class Reports:
                 yield report
 
     def skip(self, why: str) -> None:
-        """Tells of a line that is skipped, unless too many have been told."""
+        """Reports that a line is skipped, unless too many have been reported."""
         self.skipped += 1
         if self.skipped <= MOST_TOLD:
             self.terminal.complain(why)
 
     def tell_skipped(self) -> None:
-        """Says how many lines were skipped that weren't told."""
+        """Reports how many more lines were skipped."""
         if self.skipped > MOST_TOLD:
             self.terminal.complain(f"{self.skipped - MOST_TOLD} more lines are skipped")
 
 
 def split_lines(stream: IO[bytes]) -> Iterator[bytes]:
-    """Yields the lines of an input without their line feeds. A line that is too long is cut to one
+    """Yields the lines of an input without their line feeds. Cuts a line that is too long to one
     byte more than is allowed. Raises `OSError` if the input is too long."""
     size = 0
     # mutant: equal because what is longer is refused, however much of it is read

@@ -1,5 +1,5 @@
-"""Reads report lines of versions 1 and 2, as docs/FORMATS.md describes them, and finds where a bad
-line is wrong."""
+"""Reads report lines of versions 1 and 2, as described in docs/FORMATS.md, and finds the fault of a
+bad line."""
 
 from __future__ import annotations
 
@@ -10,15 +10,15 @@ from haul.formats.haul import NUMBER_LIMIT, TOTAL_LIMIT, Job
 from haul.formats.profile import LIMIT, Profile
 from haul.formats.syntax import CODE, RULE, SEED
 
-# A longer line is bad, as for `census gather`.
+# A line with more bytes than this is bad, as for `census gather`.
 LINE_LIMIT = 2**24
-# Least and most number of a worker and of a soup.
+# The smallest and the largest number of a worker and of a soup.
 WORKER, SOUP = (1, 16), (0, NUMBER_LIMIT - 1)
 
 NUMBER = rb"(?:0|[1-9][0-9]{0,19})"
 PROFILE_TEXT = rb",".join([NUMBER] * 4)
 COUNT = CODE.pattern + rb"\*[1-9][0-9]{0,19}"
-# A whole line. A line of version 2 says, after the checkpoint, whether the objects stay for good.
+# A whole line. In version 2, the field after the checkpoint says whether the soup settled for good.
 LINE = re.compile(
     rb"report (?:1|(?P<marked>2)) rule=(?P<rule>"
     + RULE.pattern
@@ -52,8 +52,8 @@ VERSION_PLACE, AT_PLACE = 1, 7
 
 
 class BadLine(Exception):
-    """A line is no report line. The place, which counts bytes from 0, is where its first wrong
-    field begins, or its length if it ends too early."""
+    """Raised if a line isn't a report line. The place counts bytes from 0. It is where the first
+    wrong field begins, or the length of the line if a field is missing."""
 
     def __init__(self, place: int) -> None:
         super().__init__(f"bad line at {place}")
@@ -61,15 +61,15 @@ class BadLine(Exception):
 
 @dataclass(frozen=True)
 class Report:
-    """What a line says of a soup."""
+    """The contents of a report line."""
 
     job: Job
     soup: int
-    # The checkpoint at which the soup has settled; none if it is unsettled.
+    # The checkpoint at which the soup has settled, or `None` if it is unsettled.
     settled: int | None
-    # Whether its objects stay for good; none if the line doesn't say so.
+    # Whether the soup settled for good, or `None` if the line doesn't say so.
     for_good: bool | None
-    # How many objects of each code it left.
+    # The number of objects of each code that the soup left.
     counts: dict[str, int]
 
     def objects(self) -> int:
@@ -77,7 +77,7 @@ class Report:
 
 
 def read_report_line(line: bytes) -> Report:
-    """Reads a line without its line feed. Raises `BadLine` if it is no report line."""
+    """Reads a line without its line feed. Raises `BadLine` if it isn't a report line."""
     if len(line) > LINE_LIMIT:
         raise BadLine(find_fault(line[:LINE_LIMIT]))
     found = LINE.fullmatch(line)
@@ -88,8 +88,8 @@ def read_report_line(line: bytes) -> Report:
 
 
 def build_report(found: re.Match[bytes]) -> Report | None:
-    """Returns what a line says; nothing if a number is out of its range, or if its codes don't
-    ascend."""
+    """Returns the report in a line that has been matched, or `None` if a number is out of range or
+    the codes don't ascend."""
     profile, soup, settled = (
         read_profile(found["profile"]),
         int(found["soup"]),
@@ -111,14 +111,14 @@ def build_report(found: re.Match[bytes]) -> Report | None:
 
 
 def read_profile(text: bytes) -> Profile | None:
-    """Reads a profile. Returns `None` if a number is out of its range."""
+    """Reads a profile. Returns `None` if a number is out of range."""
     profile = Profile._make(map(int, text.split(b",")))
     return profile if profile.is_lawful() else None
 
 
 def read_counts(text: bytes) -> dict[str, int] | None:
-    """Returns how many objects of each code there are; nothing if the codes don't ascend, or if a
-    count is too large."""
+    """Returns the number of objects of each code, or `None` if the codes don't ascend or a count is
+    too large."""
     pairs = [field.split("*") for field in text.decode("ascii").split()]
     codes = [code for code, _ in pairs]
     counts = {code: int(count) for code, count in pairs}
@@ -137,8 +137,8 @@ def is_between(number: int, ends: tuple[int, int]) -> bool:
 
 
 def find_fault(line: bytes) -> int:
-    """Returns where the first wrong field of a bad line begins, or its length if a field is
-    missing."""
+    """Returns where the first wrong field of a bad line begins, or the length of the line if a
+    field is missing."""
     fields = line.split(b" ")
     begins = 0
     for place, field in enumerate(fields):
@@ -149,7 +149,7 @@ def find_fault(line: bytes) -> int:
 
 
 def can_follow(fields: list[bytes], place: int) -> bool:
-    """Returns whether a field is right, if all before it are."""
+    """Checks whether the field at `place` is right, if all fields before it are."""
     field = fields[place]
     if place < AT_PLACE:
         return is_leading_field(field, place)
@@ -166,7 +166,7 @@ def can_follow(fields: list[bytes], place: int) -> bool:
 
 
 def is_leading_field(field: bytes, place: int) -> bool:
-    """Returns whether a field is one of the first seven, which each line has."""
+    """Checks whether a field is right as one of the first seven, which every line has."""
     profile = PROFILE_FIELD.fullmatch(field)
     return bool(
         [
@@ -186,8 +186,8 @@ def is_number_between(found: re.Match[bytes] | None, ends: tuple[int, int]) -> b
 
 
 def is_next_count(field: bytes, before: bytes | None) -> bool:
-    """Returns whether a field is a code with a count, and its code comes after that of the count
-    before it, if there is one."""
+    """Checks whether a field is a code with a count. If there is a count before it, its code must
+    come after the code of that count."""
     found = COUNT_FIELD.fullmatch(field)
     return (
         found is not None

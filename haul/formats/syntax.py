@@ -1,4 +1,4 @@
-"""The syntax of the words that several formats share: numbers, rules, seeds and codes."""
+"""The syntax of words that several formats share: numbers, rules, seeds and codes."""
 
 from __future__ import annotations
 

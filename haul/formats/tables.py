@@ -1,4 +1,4 @@
-"""Reads the tables that `haul` has beside its code: lines of fields with tabs between them."""
+"""Reads the tables that are kept beside the code of `haul`: lines of fields separated by tabs."""
 
 from __future__ import annotations
 
@@ -6,15 +6,15 @@ from collections.abc import Iterator
 
 
 class BadTable(Exception):
-    """A table is damaged from a line on."""
+    """Raised if a table is damaged. Gives the first damaged line."""
 
     def __init__(self, name: str, line: int, why: str) -> None:
         super().__init__(f"{name}: bad table at line {line}: {why}")
 
 
 def read_table(name: str, text: bytes, heads: list[str]) -> Iterator[list[str]]:
-    """Yields the fields of each line after the heads. Raises `BadTable` at a line that isn't ASCII,
-    or has another number of fields."""
+    """Yields the fields of each line after the heads. Raises `BadTable` at a line that isn't ASCII
+    or has the wrong number of fields."""
     lines = text.split(b"\n")
     if lines.pop():
         raise BadTable(name, len(lines) + 1, "no line feed at the end")

@@ -1,4 +1,4 @@
-"""Checks a haul of apgsearch: its samples one by one, or its totals by a census of the same
+"""Checks a haul of apgsearch: either its samples, one by one, or its totals, by a census of as many
 soups."""
 
 from __future__ import annotations
@@ -22,7 +22,7 @@ NO_CODE = "census has no such code"
 
 
 class CantCheck(Exception):
-    """Why a haul of apgsearch can't be checked."""
+    """Raised if a haul of apgsearch can't be checked. Gives the reason."""
 
 
 def refuse_unchecked(haul: Haul) -> None:
@@ -34,7 +34,7 @@ def refuse_unchecked(haul: Haul) -> None:
 
 
 class ApgsearchCheck:
-    """A check of one haul."""
+    """A check of one haul of apgsearch."""
 
     def __init__(self, census: Census, haul: Haul) -> None:
         refuse_unchecked(haul)
@@ -43,7 +43,7 @@ class ApgsearchCheck:
         self.rule = read_rule(haul.job.rule)
 
     def find_wrong_samples(self) -> Iterator[str]:
-        """Yields the samples whose soup leaves no part of the code."""
+        """Yields the samples whose soup leaves no part with the code."""
         samples = {
             code: numbers for code, numbers in self.haul.samples.items() if self.is_known(code)
         }
@@ -64,8 +64,8 @@ class ApgsearchCheck:
         return [code for code in self.haul.samples if not self.is_known(code)]
 
     def find_other_totals(self, first: int, workers: int) -> Iterator[str]:
-        """Takes the census of as many soups, from number `first` on, and yields each code whose
-        total by parts is another one, with the reason if it is known."""
+        """Takes the census of as many soups as the haul has, from soup `first` on. Yields each code
+        whose total by parts differs, with the reason if it is known."""
         if first + self.haul.soups > NUMBER_LIMIT:
             raise CantCheck("census can't run so many soups")
         job = self.haul.job
@@ -81,11 +81,12 @@ class ApgsearchCheck:
                 )
 
     def is_known(self, code: str) -> bool:
-        """Checks whether `census` counts objects of a code."""
+        """Checks whether `census` counts objects with this code."""
         return is_counted(self.rule, code)
 
     def find_reason(self, code: str, unsettled: int) -> str:
-        """Returns why a total may be another one here."""
+        """Returns why the two totals of a code may differ, or an empty text if no reason is
+        known."""
         if code.startswith("yl"):
             return LINEAR_GROWTH
         if not is_large(code) and not self.is_known(code):

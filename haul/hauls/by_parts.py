@@ -1,4 +1,5 @@
-"""The separations of a haul's objects, and its totals with each object replaced by its parts."""
+"""The separations of a haul's objects, and the haul's totals with each object replaced by its
+parts."""
 
 from __future__ import annotations
 
@@ -11,12 +12,12 @@ from haul.life.generations import read_rule
 from haul.life.parts import Separation, Separator
 from haul.terminal import Terminal
 
-# After so many objects a line says how far it is.
+# The progress line is updated after this many objects.
 OBJECTS_BETWEEN_PROGRESS = 500
 
 
 class Objects:
-    """The objects of one haul, each of which is separated once, when that is asked for."""
+    """The objects of one haul. Each is separated at most once, when it is first needed."""
 
     def __init__(self, haul: Haul, terminal: Terminal) -> None:
         self.haul = haul
@@ -26,14 +27,14 @@ class Objects:
 
     def separate(self, code: str) -> Separation:
         if code not in self.known:
-            # apgsearch has separated its objects.
+            # apgsearch has already separated its objects.
             self.known[code] = (
                 Separation((code,)) if self.haul.apgsearch else self.separator.separate(code)
             )
         return self.known[code]
 
     def separate_all(self, codes: Iterable[str]) -> dict[str, Separation]:
-        """Returns the separations of these objects, and says on a terminal how far it is."""
+        """Returns the separations of these objects. Shows progress on a terminal."""
         codes = list(codes)
         for done in range(0, len(codes), OBJECTS_BETWEEN_PROGRESS):
             self.terminal.show_progress(f"{done} of {len(codes)} objects separated")
@@ -45,7 +46,8 @@ class Objects:
 
     def by_parts(self) -> Haul:
         """Returns the haul with each object replaced by its parts. The samples of a part are the
-        three lowest of its objects. A haul of apgsearch stays as it is."""
+        three lowest samples of the objects that have it. A haul of apgsearch is returned
+        unchanged."""
         if self.haul.apgsearch:
             return self.haul
         totals: defaultdict[str, int] = defaultdict(int)

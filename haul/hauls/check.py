@@ -1,5 +1,5 @@
-"""Checks a haul: takes its census again and compares, or runs the soups alone that it names as
-samples."""
+"""Checks a haul: either takes its census again and compares the results, or runs only its sample
+soups."""
 
 from __future__ import annotations
 
@@ -15,12 +15,13 @@ from haul.formats.haul_reader import read_one_haul
 from haul.formats.haul_writer import format_header, format_sample_row
 from haul.hauls.join import Joining
 
-# A soup is run by one call with some of its like, so that several calls can run at a time.
+# Soups are run by several calls at a time, each with this many soups.
 SAMPLES_IN_A_CALL = 500
 
 
 def retake(census: Census, haul: Haul, workers: int) -> Haul:
-    """Returns the haul of the same job and the same set, taken by this machine."""
+    """Takes the census of the same job and the same set of soups on this machine, and returns its
+    haul."""
     joining = Joining()
     for ranges in split_ranges(haul.ranges):
         joining.add(take_set(census, haul.job, ranges, workers))
@@ -28,7 +29,7 @@ def retake(census: Census, haul: Haul, workers: int) -> Haul:
 
 
 def take_set(census: Census, job: Job, ranges: list[Range], workers: int) -> Haul:
-    """Returns the haul of a set that one call takes."""
+    """Returns the haul of a set of soups that is small enough for one call."""
     with tempfile.TemporaryFile() as text:
         census.take(job, ranges, workers, text)
         text.seek(0)
@@ -42,7 +43,7 @@ def take_set(census: Census, job: Job, ranges: list[Range], workers: int) -> Hau
 
 
 def list_differences(haul: Haul, right: Haul) -> Iterator[str]:
-    """Yields what is wrong in a haul, in the order of its lines."""
+    """Yields what is wrong in a haul, in the order of its lines. `right` is the correct haul."""
     for line, (is_so, should_be) in enumerate(
         zip(format_header(haul), format_header(right), strict=True), haul.line
     ):
@@ -70,7 +71,7 @@ def describe_difference(line: int, is_so: str, should_be: str) -> str:
 
 
 def find_wrong_samples(census: Census, haul: Haul) -> Iterator[str]:
-    """Yields the samples whose soup leaves no object of the code, in the order of the haul."""
+    """Yields the samples whose soup leaves no object with the code, in the order of the haul."""
     left = find_codes_left(census, haul)
     for line, (code, numbers) in enumerate(haul.samples.items(), haul.first_sample_line()):
         for number in numbers:
@@ -79,12 +80,12 @@ def find_wrong_samples(census: Census, haul: Haul) -> Iterator[str]:
 
 
 def find_codes_left(census: Census, haul: Haul) -> dict[int, set[str]]:
-    """Returns the codes that each sample soup leaves."""
+    """Returns the codes of the objects that each sample soup leaves."""
     numbers = sorted({number for row in haul.samples.values() for number in row})
     reports = census.ask_in_parts(
         lambda part: census.reports(haul.job, part), numbers, SAMPLES_IN_A_CALL, "soups run"
     )
-    # A field with a star is a code and how many there are.
+    # A field with a star is a code and its number of objects.
     return {
         number: {field.partition("*")[0] for field in fields if "*" in field}
         for some in reports

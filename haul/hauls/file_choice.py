@@ -1,4 +1,5 @@
-"""A random choice of files to check, which anybody can repeat, and how much it shows."""
+"""A random choice of files to check, which anyone can repeat, with a measure of how much it
+shows."""
 
 from __future__ import annotations
 
@@ -10,21 +11,21 @@ from math import comb
 from haul.plurals import pluralize, write_count
 
 CHOICE_LENGTH = 12
-# How much is said of a choice is for a census in which one file of so many is wrong.
+# The line about a choice assumes that one file in this number is wrong.
 FILES_FOR_ONE_WRONG = 100
 
 
 class FileChoice:
-    """So many of these files, or parts, by a text that decides which ones: those with the lowest
-    SHA-256 of the text, a space and the name."""
+    """A choice of `number` files or parts. It consists of those with the lowest SHA-256 of the text
+    `choice`, a space and the name."""
 
     def __init__(
         self, files: list[str], number: int, choice: str | None, thing: str = "file"
     ) -> None:
-        """Chooses `number` of the files, which are at least as many. Without a text, one is
-        drawn."""
+        """Chooses `number` of the files, of which there are at least as many. If `choice` is
+        `None`, it is drawn at random."""
         self.files = files
-        # What they are called.
+        # The noun for what is chosen.
         self.thing = thing
         self.number = number
         self.choice = choice or "".join(
@@ -32,7 +33,7 @@ class FileChoice:
         )
 
     def choose(self) -> list[str]:
-        """Returns the chosen files, in the order in which they were given."""
+        """Returns the chosen files in the order in which they were given."""
         places = sorted(
             range(len(self.files)), key=lambda place: (self.digest(self.files[place]), place)
         )
@@ -42,8 +43,8 @@ class FileChoice:
         return sha256(f"{self.choice} {name}".encode("utf-8", "surrogateescape")).digest()
 
     def text(self) -> str:
-        """Returns a line that says what is chosen, and how likely it is that no wrong file is among
-        it."""
+        """Returns a line that says how many files are chosen, and how likely such a choice is to
+        miss all wrong files."""
         files = len(self.files)
         wrong, chance = count_wrong_files(files), compute_chance_to_miss(files, self.number)
         return (
@@ -54,11 +55,10 @@ class FileChoice:
 
 
 def count_wrong_files(files: int) -> int:
-    """Returns how many files are wrong if one in a hundred is, rounded up."""
+    """Returns how many files are wrong if one file in `FILES_FOR_ONE_WRONG` is, rounded up."""
     return -(-files // FILES_FOR_ONE_WRONG)
 
 
 def compute_chance_to_miss(files: int, number: int) -> float:
-    """Returns the probability that no wrong file is among those that are chosen (hypergeometric
-    distribution)."""
+    """Returns the probability that no chosen file is wrong (hypergeometric distribution)."""
     return comb(files - count_wrong_files(files), number) / comb(files, number)

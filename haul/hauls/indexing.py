@@ -1,4 +1,4 @@
-"""Makes an index of the hauls of a census in parts."""
+"""Makes the index of a census in parts from its hauls."""
 
 from __future__ import annotations
 
@@ -7,18 +7,18 @@ from haul.formats.index import Index, compute_digest
 
 
 class CantIndex(Exception):
-    """Why a haul can't be in an index."""
+    """Raised if a haul can't be in the index. Gives the reason."""
 
 
 class Indexing:
-    """The hauls so far."""
+    """An index in the making: the hauls that have been added."""
 
     def __init__(self) -> None:
         self.job: Job | None = None
         self.parts: dict[Range, str] = {}
 
     def add(self, haul: Haul) -> None:
-        """Adds a haul. Raises `CantIndex` if it isn't one of this job's parts."""
+        """Adds a haul. Raises `CantIndex` if it isn't a part of this job."""
         if self.job is not None and haul.job != self.job:
             raise CantIndex("other job")
         if haul.apgsearch:
@@ -36,6 +36,6 @@ class Indexing:
         self.parts[part] = compute_digest(haul)
 
     def result(self) -> Index:
-        """Returns the index of the hauls, of which there is at least one."""
+        """Returns the index of the added hauls. At least one must have been added."""
         assert self.job is not None
         return Index(self.job, dict(sorted(self.parts.items())))

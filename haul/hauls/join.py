@@ -1,8 +1,7 @@
-"""Joins hauls of one job over sets that share no number: what is printed is the haul over all of
-them.
+"""Joins hauls of one job whose sets have no soup in common into the haul of the union of the sets.
 
-If each haul is right, so is the one that is printed: a total over two sets that share no number is
-the sum of the two totals, and the least three samples of both are among the least three of each.
+If each haul is right, so is the joined one. Its totals are the sums of the totals of disjoint sets,
+and the three lowest samples of a code in the union are among the three lowest of each set.
 """
 
 from __future__ import annotations
@@ -13,33 +12,34 @@ from haul.formats.haul import MOST_SAMPLES, TOTAL_LIMIT, Haul, Job, Range
 
 
 class CantJoin(Exception):
-    """Why hauls can't be joined."""
+    """Raised if hauls can't be joined. Gives the reason."""
 
 
 class Joining:
-    """What has been joined so far.
+    """The hauls that have been joined so far.
 
-    A haul that can't be joined is remembered by its line, since a haul after it may be no haul at
-    all, which is said first."""
+    If a haul can't be joined, only its line is noted at first, since a later text may not be a haul
+    at all, and that fault is reported first.
+    """
 
     def __init__(self) -> None:
         self.job: Job | None = None
-        # The set so far: ranges that ascend and don't touch.
+        # The soups so far: ranges in ascending order that don't touch.
         self.ranges: list[Range] = []
         self.soups = 0
         self.unsettled = 0
         self.for_good = 0
         self.totals: dict[str, int] = {}
         self.samples: dict[str, list[int]] = {}
-        # The first haul, by what is said of it, that has another job, lacks soups, or shares a
-        # number with one before it.
+        # Messages about the first haul that has another job, lacks soups, or shares a soup with a
+        # haul before it.
         self.other_job: str | None = None
         self.missing: str | None = None
         self.overlap: str | None = None
 
     def add(self, haul: Haul, place: str = "") -> None:
-        """Joins a haul to those so far. The place is what stands before the line of a haul of a
-        file."""
+        """Joins a haul to those so far. `place` is written before the haul's line in messages if
+        the haul is in a file."""
         if self.job is None:
             self.job = haul.job
         elif haul.job != self.job:
@@ -57,12 +57,12 @@ class Joining:
             self.samples[code] = sorted(self.samples.get(code, []) + numbers)[:MOST_SAMPLES]
 
     def put(self, range_: Range) -> bool:
-        """Puts a range into the set, unless they share a number."""
+        """Adds a range to the set and returns `True`, or returns `False` if they overlap."""
         first, end = range_[0], range_[0] + range_[1]
         # mutant: equal because a range with the same first number overlaps on either side
         place = bisect_right(self.ranges, (first, 0))
-        # The range before begins at most here, and those from `place` on later, or at the same
-        # number.
+        # The range before `place` begins at or before `first`. Those from `place` on begin at
+        # `first` or later.
         if (
             place > 0
             and sum(self.ranges[place - 1]) > first
@@ -79,8 +79,8 @@ class Joining:
         return True
 
     def result(self) -> Haul:
-        """Returns the haul of all sets, of which there is at least one. Raises `CantJoin` if
-        there is a reason."""
+        """Returns the haul of all sets. At least one haul must have been added. Raises `CantJoin`
+        if the hauls can't be joined."""
         assert self.job is not None
         for fault in (self.other_job, self.missing, self.overlap):
             if fault is not None:

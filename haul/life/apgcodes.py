@@ -1,4 +1,4 @@
-"""Apgcodes: the extended Wechsler format of patterns, and the code of an object. docs/FORMATS.md
+"""Apgcodes: the extended Wechsler format of patterns, and the codes of objects. docs/FORMATS.md
 describes both."""
 
 from __future__ import annotations
@@ -10,26 +10,26 @@ from haul.patterns.plaintext import SIDE
 from haul.life.cells import Cell, Cells, fits_in, move_to_corner
 from haul.life.generations import Recurrence
 
-# The most columns and rows of the box of a code's text.
+# The most columns and rows of a pattern that a code draws.
 SIDE_OF_TEXT = 40
 
-# The characters of extended Wechsler format. The first 32 are columns of a strip, which is five
-# rows high; these are their live rows.
+# The characters of the extended Wechsler format. Each of the first 32 is a column of a strip, which
+# is five rows high. The lists are the column's live rows.
 CHARACTERS = "0123456789abcdefghijklmnopqrstuvwxyz"
 STRIP = 5
 ROWS_OF_COLUMN = {
     character: [row for row in range(STRIP) if value >> row & 1]
     for value, character in enumerate(CHARACTERS)
 }
-# Runs of one, two and three dead columns. A longer one is `y` and the character of its length less
-# four.
+# Runs of one, two and three dead columns. A longer run is `y`, followed by the character for its
+# length minus four.
 RUNS = {"0": 1, "w": 2, "x": 3}
 LEAST_LONG_RUN = 4
 
 
 def read_wechsler(text: str) -> Cells | None:
-    """Reads a text in extended Wechsler format; none if it isn't one, has no live cell, or is
-    larger than `SIDE`."""
+    """Reads a text in extended Wechsler format. Returns `None` if it isn't one, has no live cells,
+    or is larger than `SIDE`."""
     cells: list[Cell] = []
     x = top = 0
     characters = iter(text)
@@ -54,8 +54,8 @@ def read_wechsler(text: str) -> Cells | None:
 
 
 def write_wechsler(cells: Cells) -> str | None:
-    """Writes a pattern, moved to the corner, in extended Wechsler format; none if its box is larger
-    than `SIDE_OF_TEXT`."""
+    """Returns a pattern, moved to the corner, in extended Wechsler format, or `None` if its
+    bounding box is larger than `SIDE_OF_TEXT`."""
     if not fits_in(cells, SIDE_OF_TEXT):
         return None
     strips: dict[int, dict[int, int]] = {}
@@ -66,7 +66,7 @@ def write_wechsler(cells: Cells) -> str | None:
 
 
 def write_strip(columns: dict[int, int]) -> str:
-    """Writes a strip, given by the values of its columns that have a live cell."""
+    """Returns the text of a strip. `columns` has the value of each column with a live cell."""
     values = [columns.get(x, 0) for x in range(max(columns) + 1)] if columns else []
     texts: list[str] = []
     for value, run in groupby(values):

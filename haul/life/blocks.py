@@ -1,4 +1,4 @@
-"""Blocks: sets of an object's islands, each of which may be a part of the object."""
+"""Blocks: sets of an object's islands. Each block may be a part of the object."""
 
 from __future__ import annotations
 
@@ -14,12 +14,13 @@ Block = frozenset[int]
 
 
 class Run:
-    """A pattern that is run alone."""
+    """A pattern that is run by itself."""
 
     def __init__(self, rule: Rule, cells: Cells) -> None:
         self.rule = rule
         self.generations = [cells]
-        # Whether it is a cluster in one of its first generations, by how many these are.
+        # Whether the pattern is a cluster in one of its first n generations, for each n that was
+        # asked for.
         self.clusters: dict[int, bool] = {}
 
     def generation(self, number: int) -> Cells:
@@ -36,7 +37,7 @@ class Run:
 
 
 class Blocks:
-    """The blocks of an object's islands, and how each of them runs alone."""
+    """The blocks of an object's islands, and how each block runs by itself."""
 
     def __init__(self, rule: Rule, runs: dict[Cells, Run], recurrence: Recurrence) -> None:
         self.rule = rule
@@ -44,12 +45,12 @@ class Blocks:
         self.islands = find_islands(recurrence.phases)
         self.object = recurrence.phases[0]
         self.shift = recurrence.shift
-        # The object in generations 0 to its period.
+        # The object in each generation from 0 to its period.
         self.generations = [*recurrence.phases, move(self.object, self.shift)]
         self.known: dict[Block, list[Cells] | None] = {}
 
     def single_islands(self) -> list[Cells] | None:
-        """Returns the islands, if each of them is a part."""
+        """Returns the islands if each of them is a part, otherwise `None`."""
         runs: list[list[Cells]] = []
         for place in range(len(self.islands)):
             run = self.run(frozenset([place]))
@@ -59,12 +60,12 @@ class Blocks:
         return self.islands if self.is_separation(runs) else None
 
     def list_separations(self) -> Iterator[list[Cells]]:
-        """Yields the blocks of each separation that has several."""
+        """Yields the blocks of each separation that has several blocks."""
         return self.completed([], frozenset(range(len(self.islands))))
 
     def completed(self, runs: list[list[Cells]], left: Block) -> Iterator[list[Cells]]:
-        """Yields the separations that begin with these blocks, by their runs, and have others of
-        the islands that are left."""
+        """Yields the separations that consist of the blocks with these `runs` and of further blocks
+        of the islands in `left`."""
         if not left:
             if self.is_separation(runs):
                 # mutant: equal because a part has its code in each phase
@@ -80,16 +81,16 @@ class Blocks:
                     yield from self.completed([*runs, run], left - block)
 
     def is_separation(self, runs: list[list[Cells]]) -> bool:
-        """Returns whether these blocks, by their runs, share no cell in any generation and together
-        are the object."""
+        """Checks whether the blocks with these `runs` never have a cell in common, and together
+        make up the object in each generation."""
         return all(
             sum(map(len, live)) == len(together) and frozenset().union(*live) == together
             for together, *live in zip(self.generations, *runs, strict=True)
         )
 
     def run(self, block: Block) -> list[Cells] | None:
-        """Returns a block in generations 0 to the object's period, run alone; none if it can't be
-        one of a separation."""
+        """Returns a block that is run by itself, in each generation from 0 to the object's period,
+        or `None` if it can't be a block of a separation."""
         if block not in self.known:
             islands = [self.islands[place] for place in block]
             self.known[block] = (
@@ -113,8 +114,8 @@ class Blocks:
         )
 
     def checked(self, run: Run, placed: Iterator[Cells]) -> list[Cells] | None:
-        """Returns a run in its true place; none if it makes another cell than the object, doesn't
-        recur with it, or is a cluster in no phase."""
+        """Returns a run in its true place. Returns `None` if the block has a live cell that the
+        object doesn't have, doesn't recur with the object, or is a cluster in no phase."""
         generations: list[Cells] = []
         for together, alone in zip(self.generations, placed, strict=True):
             # mutant: equal because a block that is the whole object leaves no cell to others

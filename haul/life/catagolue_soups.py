@@ -1,8 +1,9 @@
-"""The soups that samples of Catagolue name, such as `C1/k_abcdef12345`.
+"""The soups of Catagolue's samples, such as `C1/k_abcdef12345`.
 
-A sample is the symmetry and the text of which the soup is made: the seed, which apgsearch calls
-root, and the number. It doesn't matter where the seed ends and the number begins. A rule may stand
-behind it, as in the address of the sample's page. """
+A sample is a symmetry and the text from which the soup is made: the seed, which apgsearch calls
+root, followed by the number. It doesn't matter where the seed ends and the number begins. A rule
+may follow the text, as in the address of a sample's page.
+"""
 
 from __future__ import annotations
 
@@ -15,24 +16,24 @@ from haul.patterns.plaintext import Rows, trim_rows
 from haul.patterns.rules import LIFE, parse_rule
 from haul.life.soups import make_soup
 
-# The address of a sample's page, before the sample.
+# The address of a sample's page, up to the sample.
 ADDRESS = re.compile(r"https?://[^/]*catagolue[^/]*/hashsoup/")
 SAMPLE = re.compile(r"(?:([!-.0-~]*)/)?([!-.0-~]*[0-9])")
 
 
 class BadSample(Exception):
-    """A name isn't that of a sample that can be shown."""
+    """Raised if a name isn't the name of a sample that can be shown."""
 
 
 @dataclass(frozen=True)
 class Sample:
     """A sample of Catagolue."""
 
-    # As it was named.
+    # The name as it was given.
     name: str
-    # What the soup is made of.
+    # The text from which the soup is made.
     text: str
-    # As `--rule` has it, or `None` if none was named.
+    # The rule as a value of `--rule`, or `None` if none was given.
     rule: str | None
 
     def rows(self) -> Rows:
@@ -59,7 +60,8 @@ def read_sample(name: str) -> Sample:
 
 
 def split_rule(words: str) -> tuple[str, str | None]:
-    """Returns a sample and the rule behind it, if there is one: the third of three words."""
+    """Returns a sample and the rule that follows it as the third of three words, or `None` if there
+    is no rule."""
     parts = words.split("/")
     rule = parse_rule(parts[2]) if len(parts) == 3 else None
     return ("/".join(parts[:2]), rule) if rule is not None else (words, None)

@@ -1,4 +1,4 @@
-"""Sets of cells: moved, measured and drawn.
+"""Moves, measures and draws sets of cells.
 
 A cell is a pair (x, y), where x grows to the right and y downwards.
 """
@@ -21,7 +21,7 @@ def move(cells: Iterable[Cell], shift: Cell) -> Cells:
 
 
 def find_corner(cells: Cells) -> Cell:
-    """Returns where the bounding box of a pattern begins."""
+    """Returns the top left corner of a pattern's bounding box."""
     columns, lines = zip(*cells, strict=True)
     return min(columns), min(lines)
 
@@ -33,12 +33,12 @@ def move_to_corner(cells: Cells) -> Cells:
 
 
 def fits_in(cells: Cells, side: int) -> bool:
-    """Returns whether the bounding box has at most so many columns and rows."""
+    """Checks whether the bounding box has at most `side` columns and rows."""
     return all(max(line) - min(line) < side for line in zip(*cells, strict=True))
 
 
 def draw_rows(cells: Cells, box: Cells) -> Rows:
-    """Returns the rows of a pattern in the bounding box of another one."""
+    """Returns the rows of the pattern `cells` within the bounding box of the pattern `box`."""
     # mutant: equal because dead cells at the edge say nothing
     columns, lines = (range(min(side), max(side) + 1) for side in zip(*box, strict=True))
     return ["".join(["O" if (x, y) in cells else "." for x in columns]) for y in lines]

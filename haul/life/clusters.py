@@ -1,4 +1,4 @@
-"""Islands and clusters of live cells, as docs/PROFILE.md defines them."""
+"""Islands and clusters of live cells, as defined in docs/PROFILE.md."""
 
 from __future__ import annotations
 
@@ -7,11 +7,12 @@ from haul.life.generations import list_neighbours
 
 
 def find_islands(phases: list[Cells]) -> list[Cells]:
-    """Returns the islands of an object, each as its cells in phase 0, in the order of their first
-    cells.
+    """Returns the islands of an object in the order of their first cells. An island is given by its
+    cells in phase 0.
 
     Two cells that touch (also at corners) in the same phase belong to one island, and a place is
-    one cell in all phases."""
+    one cell in all phases.
+    """
     left = [set(phase) for phase in phases]
     islands: list[Cells] = []
     while left[0]:
@@ -29,8 +30,8 @@ def find_islands(phases: list[Cells]) -> list[Cells]:
 
 
 def is_cluster(cells: Cells) -> bool:
-    """Returns whether steps of at most two cells, in any direction, join all live cells; there has
-    to be one."""
+    """Checks whether steps of at most two cells in any direction connect all live cells. There must
+    be at least one live cell."""
     left, edge = set(cells), list(cells)[:1]
     left.difference_update(edge)
     while edge and left:

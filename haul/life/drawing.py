@@ -1,4 +1,4 @@
-"""Drawings of patterns as paths of SVG: a line for each run of live cells, as wide as a cell is
+"""Draws patterns as SVG paths. Each run of live cells is a line that is as wide as a cell is
 high."""
 
 from __future__ import annotations
@@ -11,16 +11,16 @@ from haul.patterns.plaintext import Rows
 from haul.life.cells import Cells, draw_rows
 from haul.plurals import write_count
 
-# Points a cell, for objects, and for those of few cells.
+# The size of a cell in points, for most objects and for objects with few cells.
 SCALE, LARGER_SCALE = 4, 12
-# Those have less cells than this.
+# Objects with fewer cells than this have few cells.
 FEW_CELLS = 10
 RUNS = re.compile("O+")
 
 
 def draw_path(rows: Rows) -> str:
-    """Writes the runs of live cells, row by row; each move is relative to where the run before has
-    ended."""
+    """Returns the path that draws the runs of live cells, row by row. Each move is relative to the
+    end of the previous run."""
     moves: list[str] = []
     # 2 mutants: equal because the first run is placed, not moved to
     end, before = 0, 0
@@ -37,8 +37,9 @@ def draw_path(rows: Rows) -> str:
 
 @cache
 def draw_runs(row: str) -> tuple[int, str, int] | None:
-    """Returns where the first run of live cells in a row begins, the runs with the moves between
-    them, and where the last one ends; none if there is no run."""
+    """Returns the column of the first live cell in a row, the path of the row's runs and of the
+    moves between them, and the column in which the last run ends, or `None` if there are no live
+    cells."""
     runs = [run.span() for run in RUNS.finditer(row)]
     if not runs:
         return None
@@ -51,7 +52,7 @@ def draw_runs(row: str) -> tuple[int, str, int] | None:
 
 
 def draw_picture(cells: Cells, name: str) -> str:
-    """Draws a pattern with a margin of one cell."""
+    """Returns a picture of a pattern, with a margin of one cell."""
     width, height = measure(cells)
     scale = LARGER_SCALE if len(cells) < FEW_CELLS else SCALE
     title = f"{name}: {width} by {height}, {write_count(len(cells), 'cell')}"
@@ -64,7 +65,6 @@ def draw_picture(cells: Cells, name: str) -> str:
 
 
 def measure(cells: Cells) -> tuple[int, int]:
-    """Returns the width and the height of a pattern whose bounding box begins in column 0 and row
-    0."""
+    """Returns the width and the height of a pattern whose bounding box begins at (0, 0)."""
     width, height = (max(side) + 1 for side in zip(*cells, strict=True))
     return width, height

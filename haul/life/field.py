@@ -1,7 +1,8 @@
-"""A pattern that runs for hundreds of generations. Each generation takes time only for cells near
-those that changed in the one before, since most of what a soup leaves is still.
+"""Runs a pattern for hundreds of generations. The time for a generation depends only on the number
+of cells near the latest changes, since most of what a soup leaves doesn't change.
 
-A cell is one number here: its row times `ROW`, plus its column. """
+Here, a cell is a single number: its row times `ROW`, plus its column.
+"""
 
 from __future__ import annotations
 
@@ -11,25 +12,25 @@ from typing import NamedTuple
 from haul.life.cells import Cell, Cells
 from haul.life.generations import Rule
 
-# Every column is between half of this and its negative, since no pattern runs for as many
+# The numbers of all columns are between -ROW / 2 and ROW / 2, since no pattern runs for that many
 # generations.
 ROW = 2**20
-# From a cell to its eight neighbours, and to all cells that are at most two columns and two rows
-# away.
+# The offsets from a cell to its eight neighbours, and to all cells that are at most two columns and
+# two rows away.
 NEIGHBOURS = tuple(dy * ROW + dx for dy in (-1, 0, 1) for dx in (-1, 0, 1) if (dx, dy) != (0, 0))
 NEAR = tuple(dy * ROW + dx for dy in range(-2, 3) for dx in range(-2, 3) if (dx, dy) != (0, 0))
 
 
-# A pattern with more cells isn't run, since it would take minutes.
+# A pattern with more cells isn't run, since that would take minutes.
 MOST_CELLS = 100_000
 
 
 class TooManyCells(Exception):
-    """A pattern has grown too large to run."""
+    """Raised if a pattern has grown too large to run."""
 
 
 class Change(NamedTuple):
-    """The cells that are born in a generation, and those that die."""
+    """The cells that are born and the cells that die in a generation."""
 
     births: list[int]
     deaths: list[int]
@@ -50,25 +51,26 @@ def unpack_all(numbers: Iterable[int]) -> Cells:
 
 
 def list_around(cell: int) -> tuple[int, ...]:
-    """Returns the neighbours of a cell. This is `NEIGHBOURS` without its loop, which would take half
-    of the time of a run."""
+    """Returns the neighbours of a cell. This is the loop over `NEIGHBOURS` written out, because the
+    loop would take half of the time of a run."""
     above, below = cell - ROW, cell + ROW
     return (above - 1, above, above + 1, cell - 1, cell + 1, below - 1, below, below + 1)
 
 
 class Field:
-    """A pattern under a rule, which goes on from generation to generation."""
+    """A pattern that is advanced under a rule, generation by generation."""
 
     def __init__(self, rule: Rule, cells: Iterable[int]) -> None:
         self.rule = rule
         self.live = set(cells)
-        # How many live neighbours cells have; nothing for most cells that have none.
+        # The number of live neighbours of each cell. Most cells without live neighbours aren't in
+        # it.
         self.counts: dict[int, int] = {}
         self.changed = list(self.live)
         self.count(self.changed, 1)
 
     def count(self, cells: list[int], change: int) -> None:
-        """Changes the counts of the neighbours of these cells."""
+        """Adds `change` to the counts of the neighbours of these cells."""
         counts = self.counts
         known = counts.get
         for cell in cells:
@@ -76,8 +78,8 @@ class Field:
                 counts[other] = known(other, 0) + change
 
     def step(self) -> Change:
-        """Goes on by a generation, and returns what has changed. Raises `TooManyCells` if the pattern
-        is too large for that."""
+        """Advances the pattern by a generation, and returns what has changed. Raises `TooManyCells`
+        if the pattern is too large."""
         live, counts = self.live, self.counts
         if len(live) > MOST_CELLS:
             raise TooManyCells
@@ -97,7 +99,7 @@ class Field:
 
 
 def find_move(one: set[int], other: set[int]) -> int | None:
-    """Returns by how much one pattern has to be moved to be the other; `None` if no move does it."""
+    """Returns the move that takes one pattern to the other, or `None` if there is none."""
     if len(one) != len(other):
         return None
     move = min(other) - min(one)

@@ -1,7 +1,8 @@
 """Life-like rules on sets of cells: generations, and patterns that recur.
 
-These are the definitions of docs/PROFILE.md, written plainly. They aren't proved; the tests compare
-each function with `census`. """
+These are the definitions of docs/PROFILE.md in plain code. They aren't proved. The tests compare
+each function with `census`.
+"""
 
 from __future__ import annotations
 
@@ -12,13 +13,13 @@ from itertools import chain
 from haul.patterns.plaintext import SIDE
 from haul.life.cells import Cell, Cells, fits_in, move
 
-# No census has objects of a longer period.
+# The longest period of an object in any census.
 MOST_PERIOD = 64
 
 
 @dataclass(frozen=True)
 class Rule:
-    """The numbers of live neighbours with which a cell is born, and with which it lives on."""
+    """The numbers of live neighbours with which a cell is born, and with which it survives."""
 
     births: frozenset[int]
     survivals: frozenset[int]
@@ -26,15 +27,15 @@ class Rule:
 
 @dataclass(frozen=True)
 class Recurrence:
-    """How a pattern recurs: after `period` generations it is itself, moved by `shift`."""
+    """How a pattern recurs: after `period` generations it is the same, moved by `shift`."""
 
     period: int
     shift: Cell
-    # Generations 0 to the period less one, each in its true place.
+    # The pattern in generations 0 to `period - 1`, each in its true place.
     phases: list[Cells]
 
     def kind(self) -> str:
-        """Returns `s` for a still life, `p` for an oscillator, and `q` for a spaceship."""
+        """Returns `s` for a still life, `p` for an oscillator, or `q` for a spaceship."""
         return "q" if self.shift != (0, 0) else "s" if self.period == 1 else "p"
 
 
@@ -71,8 +72,8 @@ def advance(rule: Rule, cells: Cells) -> Cells:
 
 
 def find_recurrence(rule: Rule, cells: Cells, most: int = MOST_PERIOD) -> Recurrence | None:
-    """Returns how a pattern recurs within so many generations; none if it doesn't, or if it
-    outgrows `SIDE` on the way."""
+    """Returns how a pattern recurs within `most` generations. Returns `None` if it doesn't, or if
+    it outgrows `SIDE` on the way."""
     phases = [cells]
     while len(phases) <= most and phases[-1] and fits_in(phases[-1], SIDE):
         later = advance(rule, phases[-1])
@@ -84,7 +85,7 @@ def find_recurrence(rule: Rule, cells: Cells, most: int = MOST_PERIOD) -> Recurr
 
 
 def find_shift(one: Cells, other: Cells) -> Cell | None:
-    """Returns by how much one pattern has to be moved to be the other; none if no move does it."""
+    """Returns the shift that takes one pattern to the other, or `None` if there is none."""
     if one == other:
         return 0, 0
     if len(one) != len(other):

@@ -1,8 +1,10 @@
-"""Groups: what belongs together in a pattern over many generations, as docs/HAUL.md defines it.
+"""Groups: cells of a pattern that belong together over many generations, as defined in
+docs/HAUL.md.
 
-Cells form a group if they are near one another in the same or in successive generations, or linked
-by such cells. While a pattern runs, each stretch of generations in which a cell is alive is kept as
-one stay, since all of it belongs to one group. """
+Two cells are in the same group if they are near one another in the same generation or in successive
+generations, or if a chain of such cells links them. A stay is an unbroken range of generations in
+which a cell is alive. All of it belongs to the same group.
+"""
 
 from __future__ import annotations
 
@@ -15,7 +17,7 @@ from haul.life.generations import Rule
 
 # The first and the last generation of a stay.
 Stay = tuple[int, int]
-# Half of the steps to cells that are near, since each pair is looked at once.
+# Half of the offsets to cells nearby, since each pair of cells is looked at only once.
 HALF_OF_NEAR = tuple(step for step in NEAR if step > 0)
 
 
@@ -26,14 +28,15 @@ class Group:
     stays: list[tuple[int, Stay]] = field(default_factory=list)
 
     def is_still(self, first: int, last: int) -> bool:
-        """Checks whether no cell of the group changes from one generation to another."""
+        """Checks whether no cell of the group changes from generation `first` to generation
+        `last`."""
         return all(
             begin <= first and last <= end or last < begin or end < first
             for _, (begin, end) in self.stays
         )
 
     def phases(self, first: int, last: int) -> list[set[int]]:
-        """Returns the cells of the group in these generations."""
+        """Returns the cells of the group in each generation from `first` to `last`."""
         found: list[set[int]] = [set() for _ in range(first, last + 1)]
         for cell, (begin, end) in self.stays:
             for phase in range(max(begin, first), min(end, last) + 1):
@@ -42,7 +45,7 @@ class Group:
 
 
 class Watched:
-    """A pattern that runs for some generations, and the stays of its cells."""
+    """A pattern that is run for some generations, and the stays of its cells."""
 
     def __init__(self, field: Field, generations: int) -> None:
         self.last = generations
@@ -77,8 +80,8 @@ class Watched:
 
 
 def list_meetings(ones: list[Stay], others: list[Stay]) -> Iterator[tuple[int, int]]:
-    """Yields the places of stays of two cells that are in the same or in successive generations.
-    Both lists ascend."""
+    """Yields the places of each pair of stays that overlap, or that follow one another in
+    successive generations. Both lists are in ascending order."""
     one = other = 0
     while one < len(ones) and other < len(others):
         (begin, end), (other_begin, other_end) = ones[one], others[other]
@@ -91,13 +94,13 @@ def list_meetings(ones: list[Stay], others: list[Stay]) -> Iterator[tuple[int, i
 
 
 class Links:
-    """Numbers that are joined to sets."""
+    """Numbers that are joined into sets (union-find)."""
 
     def __init__(self, count: int) -> None:
         self.parents = list(range(count))
 
     def find(self, number: int) -> int:
-        """Returns the number that stands for a set."""
+        """Returns the representative of the set that contains a number."""
         parents = self.parents
         while parents[number] != number:
             parents[number] = number = parents[parents[number]]
@@ -110,8 +113,8 @@ class Links:
 
 
 def find_period(phases: list[set[int]]) -> tuple[int, int] | None:
-    """Returns after how many generations the first phase recurs, and by how much it is moved then;
-    `None` if it doesn't."""
+    """Returns the number of generations after which the first phase recurs, and its move until
+    then, or `None` if it doesn't recur."""
     for period, later in enumerate(phases[1:], 1):
         move = find_move(phases[0], later)
         if move is not None:
@@ -120,7 +123,7 @@ def find_period(phases: list[set[int]]) -> tuple[int, int] | None:
 
 
 def run_alone(rule: Rule, cells: set[int], generations: int) -> Iterator[set[int]]:
-    """Yields a pattern in generation 0 and in those after it."""
+    """Yields a pattern in generation 0 and in the following `generations` generations."""
     pattern = Field(rule, cells)
     yield set(pattern.live)
     for _ in range(generations):
@@ -129,7 +132,7 @@ def run_alone(rule: Rule, cells: set[int], generations: int) -> Iterator[set[int
 
 
 def split_clusters(cells: set[int]) -> list[set[int]]:
-    """Returns the clusters of a pattern, as docs/PROFILE.md defines them."""
+    """Returns the clusters of a pattern, as defined in docs/PROFILE.md."""
     left, found = set(cells), []
     while left:
         reached = [left.pop()]

@@ -1,9 +1,9 @@
-"""Takes objects apart: which independent objects a pseudo-object is made of.
+"""Separates pseudo-objects into the independent objects that they are made of.
 
 docs/PROFILE.md has the definition. A bi-block, for example, is two blocks:
 
-    OO.OO       OO.OO       the census takes it as one object, since its cells are two steps apart;
-    OO.OO       OO.OO       each half, run alone, does in each generation what it does beside the other
+    OO.OO       OO.OO       the census counts it as one object, since the cells are two steps apart;
+    OO.OO       OO.OO       run by itself, each half does the same as it does beside the other
 """
 
 from __future__ import annotations
@@ -17,18 +17,18 @@ from haul.life.cells import Cells, move_to_corner
 from haul.life.clusters import is_cluster
 from haul.life.generations import MOST_PERIOD, Recurrence, Rule, find_recurrence
 
-# Of an object with more islands only the separation into single islands is tried: there are too
-# many others.
+# For an object with more islands than this, only the separation into single islands is tried, since
+# there are too many others.
 MOST_ISLANDS = 10
 
 
 @dataclass(frozen=True)
 class Separation:
-    """What an object is made of."""
+    """The parts of an object."""
 
-    # The codes of its parts, in ASCII order.
+    # The codes of the parts, in ASCII order.
     parts: tuple[str, ...]
-    # An object that isn't separated counts as itself, though it may have parts.
+    # An object that isn't separated counts as its only part, though it may have several.
     is_separated: bool = True
 
     def is_strict(self) -> bool:
@@ -57,8 +57,8 @@ class Separator:
         return Separation(self.codes(parts))
 
     def most_parts(self, blocks: Blocks) -> list[Cells] | None:
-        """Returns the parts by the separation with the most blocks; none if there are too many
-        islands to look for it."""
+        """Returns the parts of the separation with the most blocks, or `None` if there are too many
+        islands to search for it."""
         if len(blocks.islands) > MOST_ISLANDS:
             return None
         found = [*blocks.list_separations(), [blocks.object]]
@@ -78,16 +78,16 @@ class Separator:
 
 
 def is_counted(rule: Rule, code: str) -> bool:
-    """Checks whether `census` counts objects of a code that is drawn: in some phase, the cells of
-    the object are one cluster."""
+    """Checks whether `census` counts objects of a code. It does if the code draws an object whose
+    cells are one cluster in some phase."""
     recurrence = read_object(rule, code)
     return recurrence is not None and any(map(is_cluster, recurrence.phases))
 
 
 def read_object(rule: Rule, code: str) -> Recurrence | None:
-    """Returns the phases of the object that a code names, in which the drawing of the code is phase
-    0; none if the code can't be drawn, or if what is drawn doesn't recur with the kind and the
-    number of the prefix."""
+    """Returns the phases of the object that a code draws. The drawing is phase 0. Returns `None` if
+    the code draws nothing, or if the pattern doesn't recur with the kind and the number of the
+    prefix."""
     text, known = read_drawing(code), read_kind(code)
     cells = read_wechsler(text) if text is not None else None
     if known is None or cells is None or known.period() > MOST_PERIOD:

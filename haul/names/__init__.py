@@ -1,1 +1,1 @@
-"""Names of objects and the labels that are made from them."""
+"""Names of objects, and the labels that are made from them."""

@@ -1,4 +1,4 @@
-"""What objects are called: by their names, and otherwise by their parts."""
+"""Labels of objects: their names, or otherwise their parts in words."""
 
 from __future__ import annotations
 
@@ -13,7 +13,8 @@ NOT_SEPARATED = "not separated"
 
 
 def find_label(code: str, separation: Separation) -> str:
-    """Returns the name of an object, or its parts in words if it has several; otherwise nothing."""
+    """Returns the name of an object, or its parts in words if it has several, or otherwise an empty
+    text."""
     name = find_name(code)
     if name is not None:
         return name
@@ -21,7 +22,7 @@ def find_label(code: str, separation: Separation) -> str:
 
 
 def mark_label(label: str, separation: Separation) -> str:
-    """Returns a label for a reader, which says so if the object isn't separated."""
+    """Returns a label for a reader, with a note if the object isn't separated."""
     return (
         label
         if separation.is_separated
@@ -32,8 +33,8 @@ def mark_label(label: str, separation: Separation) -> str:
 
 
 def describe_parts(parts: tuple[str, ...]) -> str:
-    """Writes parts as `2 blocks`, or `block and beehive`: oscillators first and still lifes last,
-    small ones before large ones."""
+    """Returns the parts in words, such as `2 blocks` or `block and beehive`. Oscillators come first
+    and still lifes last, and small parts come before large ones."""
     counts = Counter(sorted(parts, key=lambda code: (read_kind(code), code)))
     *before, last = (name_several(code, count) for code, count in counts.items())
     return f"{', '.join(before)} and {last}" if before else last
@@ -47,8 +48,8 @@ def name_several(code: str, count: int) -> str:
 
 
 def make_plural(name: str) -> str:
-    """Returns `half-bakeries`, `loaves`, `blocks on table`. Names that end in an `s`, an `x` or a
-    digit stay as they are."""
+    """Returns the plural of a name, such as `half-bakeries`, `loaves` or `blocks on table`. Names
+    that end in an `s`, an `x` or a digit don't change."""
     thing, rest = re.fullmatch("(.*?)((?: on | with ).*)?", name).groups(default="")  # type: ignore[union-attr]
     if thing[-1] not in "sx0123456789":
         thing = re.sub("y$", "ie", re.sub("f$", "ve", thing)) + "s"

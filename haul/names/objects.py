@@ -1,7 +1,8 @@
-"""Names of objects: those of LifeWiki (conwaylife.com/wiki), from the file names.tsv.
+"""Names of objects on LifeWiki (conwaylife.com/wiki), from the file names.tsv.
 
-Only names that are certain are in the file. haul/tests/pictures.txt has a picture for each of them,
-and a test has `census` name it."""
+The file has only names that are certain. haul/tests/pictures.txt has a picture for each of them,
+and a test has `census` name the picture.
+"""
 
 from __future__ import annotations
 
@@ -14,25 +15,25 @@ from haul.formats.tables import BadTable, read_table
 
 FILE = "names.tsv"
 HEADS = ["code", "name", "also"]
-# What stands between several other names.
+# The separator between several other names.
 BETWEEN = "; "
 
 
 @dataclass(frozen=True)
 class Names:
-    """The names, by codes."""
+    """All names, indexed by code."""
 
-    # The name that is shown for a code.
+    # The name that is shown for each code.
     shown: dict[str, str]
-    # The other names and abbreviations of a code.
+    # The other names and abbreviations of each code.
     others: dict[str, tuple[str, ...]]
-    # The codes, by all names in the form in which they are compared.
+    # The code of each name. The names are in the form in which they are compared.
     codes: dict[str, str]
 
 
 @cache
 def load_names() -> Names:
-    """Returns the names of the file. Raises `BadTable` if the file is damaged."""
+    """Reads the names from the file. Raises `BadTable` if the file is damaged."""
     return parse_names(files("haul.names").joinpath(FILE).read_bytes())
 
 
@@ -53,7 +54,7 @@ def parse_names(text: bytes) -> Names:
 
 
 def find_name(code: str) -> str | None:
-    """Returns the name of an object; `None` if it has none."""
+    """Returns the name of an object, or `None` if it has no name."""
     return load_names().shown.get(code)
 
 
@@ -62,7 +63,7 @@ def find_other_names(code: str) -> tuple[str, ...]:
 
 
 def find_code_of_name(name: str) -> str | None:
-    """Returns the code of the object with this name, abbreviation or other name; `None` if there
+    """Returns the code of the object with this name, other name or abbreviation, or `None` if there
     is none. Case, blanks and hyphens don't matter."""
     return load_names().codes.get(simplify(name))
 

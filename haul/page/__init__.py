@@ -1,1 +1,1 @@
-"""The page of `haul page`: one file of HTML 5 that loads nothing."""
+"""The page of `haul page`: a single HTML 5 file that loads nothing."""

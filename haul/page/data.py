@@ -1,5 +1,5 @@
-"""What the script of a page shows, as JSON: the hauls, the objects with their parts, and the sample
-soups."""
+"""The data for the script of a page, as JSON: the hauls, the objects with their parts, and the
+sample soups."""
 
 from __future__ import annotations
 
@@ -22,14 +22,13 @@ from haul.views.intervals import find_interval
 from haul.views.layout import make_exact
 from haul.views.rarity import describe_part
 
-# What stands in place of the parts of an object that has no others.
+# Takes the place of the parts of an object that has no parts but itself.
 STRICT, NOT_SEPARATED = "strict", "not separated"
 BITS = str.maketrans(".O", "01")
 
 
 def write_data(sides: Sides, lives: Lives | None) -> Iterator[str]:
-    """Yields the JSON, piece by piece. No text in it ends the element of HTML in which it
-    stands."""
+    """Yields the JSON, piece by piece. No text in it can end the HTML element that contains it."""
     yield f'{{"least": {sides.least}, "play": {sides.play}, "kinds": {len(sides.kinds())}, '
     yield f'"kindsOfParts": {len(sides.kinds_of_parts())}, "hauls": '
     yield dump([describe_haul(side) for side in sides.all])
@@ -44,7 +43,7 @@ def write_data(sides: Sides, lives: Lives | None) -> Iterator[str]:
 
 
 def list_lives(lives: Lives | None) -> list[dict[str, object]]:
-    """Returns the soups of the long lives, each with its 256 cells."""
+    """Returns the soups of the section *Long lives*, each with its 256 cells."""
     if lives is None:
         return []
     return [
@@ -72,7 +71,7 @@ def describe_haul(side: Side) -> dict[str, object]:
 
 
 def describe_object(sides: Sides, code: str) -> dict[str, object]:
-    """Returns what is known of an object. Each list has a value for each haul."""
+    """Returns the data about an object. Each list has a value for each haul."""
     separation = sides.first_with(code).separate(code)
     of_objects = [list_counts(side.haul, code) for side in sides.all]
     of_parts = [list_counts(side.by_parts, code) for side in sides.all]
@@ -95,8 +94,8 @@ def describe_object(sides: Sides, code: str) -> dict[str, object]:
 
 
 def describe_rates(sides: Sides, code: str) -> dict[str, object]:
-    """Returns what is known of the rates of a part: how often the reference has it, and if hauls are
-    compared, the intervals and which rates differ from the first haul's."""
+    """Returns the data about the rates of a part: its rarity in the reference and, if hauls are
+    compared, the intervals and which rates differ from the rate in the first haul."""
     comparison = sides.compare_parts()
     rates: dict[str, object] = {}
     if comparison.has_rarity():
@@ -109,18 +108,19 @@ def describe_rates(sides: Sides, code: str) -> dict[str, object]:
 
 
 def shorten(number: float) -> float:
-    """Returns a number with six digits, which is more than a page shows."""
+    """Returns a number with six digits, which are more than a page shows."""
     return float(f"{number:.6g}")
 
 
 def list_counts(haul: Haul, code: str) -> list[object] | int:
-    """Returns the total of a code and then its samples; 0 if the haul doesn't have it."""
+    """Returns the total of a code followed by its samples, or 0 if the haul doesn't have the
+    code."""
     return [make_exact(haul.totals[code]), *haul.samples[code]] if code in haul.totals else 0
 
 
 def describe_parts(side: Side, code: str) -> object:
-    """Returns what an object is made of in a haul that has it: its parts, or a word if it is
-    whole."""
+    """Returns the parts of an object in a haul that has it, a word if the object is strict or isn't
+    separated, or `None` if the haul doesn't have it."""
     if not side.has(code):
         return None
     separation = side.separate(code)
@@ -131,7 +131,8 @@ def describe_parts(side: Side, code: str) -> object:
 
 @cache
 def count_cells(code: str) -> int | None:
-    """Returns how many live cells an object has in phase 0; nothing if its code doesn't say so."""
+    """Returns the number of live cells of an object in phase 0, or `None` if its code doesn't
+    tell."""
     text, known = read_drawing(code), read_kind(code)
     cells = read_wechsler(text) if text is not None else None
     if cells is not None:
@@ -140,9 +141,9 @@ def count_cells(code: str) -> int | None:
 
 
 def list_soups(side: Side, codes: list[str]) -> dict[int, list[object]]:
-    """Returns the sample soups of a haul by their numbers. Each has its 256 cells, and if `census`
-    was asked about it, the checkpoint at which it has settled with the least and the most live
-    cells there, or a zero if that isn't known."""
+    """Returns the sample soups of a haul, by number. Each has its 256 cells. If `census` was asked
+    about the soup, it also has the checkpoint at which it settled, and the fewest and the most live
+    cells there, or a single zero if these aren't known."""
     return {
         number: [encode_soup(f"{side.haul.job.seed}{number}"), *describe_end(side, number)]
         for number in side.soups(codes)
@@ -157,15 +158,14 @@ def describe_end(side: Side, number: int) -> list[object]:
 
 
 def encode_soup(text: str) -> str:
-    """Returns the 256 cells of the soup of a seed and a number, row by row, as bits in base64. The
-    sign at the end is left out."""
+    """Returns the 256 cells of the soup of a seed and a number, row by row, as bits in base64,
+    without the padding."""
     bits = "".join(make_soup(text)).translate(BITS)
     return b64encode(int(bits, 2).to_bytes(len(bits) // 8, "big")).decode("ascii").rstrip("=")
 
 
 def list_intervals(sides: Sides) -> dict[int, tuple[float, float]]:
-    """Returns the intervals of the totals of objects on a page that compares hauls, by the
-    totals."""
+    """Returns the intervals of the totals on a page that compares hauls, by total."""
     if len(sides.all) == 1:
         return {}
     totals = {side.haul.totals.get(code, 0) for side in sides.all for code in sides.known}

@@ -1,7 +1,8 @@
-"""A page of one haul or of several: one file of HTML 5 that loads nothing.
+"""A page about one or several hauls: a single HTML 5 file that loads nothing.
 
-Its script makes the page from data that stand in it. For readers without JavaScript, a `noscript`
-element has a table. """
+Its script makes the page from the data in the file. For readers without JavaScript, there is a
+table in a `noscript` element.
+"""
 
 from __future__ import annotations
 
@@ -19,7 +20,7 @@ from haul.page.object_table import write_table
 from haul.page.sides import make_sides
 from haul.page.summary import write_foot, write_title, write_top
 
-# In this order, since a file uses what those before it define.
+# In this order, since a file uses definitions of the files before it.
 SCRIPTS = (
     "cells",
     "objects",
@@ -34,18 +35,19 @@ SCRIPTS = (
     "lives",
     "page",
 )
-# Places of page.html that are filled piece by piece.
+# The places of page.html that are filled piece by piece.
 PIECES = re.compile(r"\$(?:table|lives|data)_pieces")
 
 
 def make_page(
     census: Census, hauls: list[Haul], least: int, play: int, lives: Lives | None = None
 ) -> Iterator[str]:
-    """Yields the page, piece by piece. Codes with fewer than `least` objects in each haul aren't on
-    it. `census` is asked when the sample soups of the first `play` objects have settled. The page of
-    one haul may show long lives."""
+    """Yields the page, piece by piece. Codes with fewer than `least` objects in each haul are left
+    out. `census` is asked when the sample soups of the first `play` objects settle. The page of a
+    single haul may have long lives."""
     sides = make_sides(hauls, least, play, census.terminal)
-    # All is known before the first byte is written, so a page is whole or not there.
+    # All data is computed before the first byte is written, so a page is either complete or
+    # missing.
     sides.ask(census)
     before, between, middle, after = map(Template, PIECES.split(read_file("page.html")))
     yield before.substitute(
@@ -60,5 +62,5 @@ def make_page(
 
 
 def read_file(name: str) -> str:
-    """Returns a file in the folder of this one."""
+    """Returns the text of a file in this file's folder."""
     return files("haul.page").joinpath(name).read_text("utf-8")

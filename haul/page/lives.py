@@ -18,9 +18,9 @@ from haul.life.drawing import draw_path
 from haul.life.soups import SOUP_SIDE, make_soup
 from haul.plurals import write_count
 
-# So many of the longest-lived soups, and of the unsettled ones, are shown.
+# The most soups in each list: the longest-lived soups, and the unsettled soups.
 MOST_SHOWN = 20
-# The chart of lifespans: how many bars it has about, and its size.
+# The chart of lifespans: its approximate number of bars, and its size.
 BARS, WIDTH, HEIGHT = 24, 640, 100
 TIDY_STEPS = (100, 200, 500, 1000, 2000, 5000, 10_000)
 KINDS = {
@@ -41,15 +41,15 @@ class LongLife:
     soup: int
     checkpoint: int
     objects: int
-    # The generation in which it settled exactly, and the number of cells there; none if its line is
-    # wrong, since it doesn't settle.
+    # The exact generation in which the soup settled, and the number of live cells then, or `None`
+    # if its line is wrong because it doesn't settle.
     generation: int | None = None
     cells: int = 0
 
 
 @dataclass
 class Lives:
-    """What the section shows."""
+    """The contents of the section."""
 
     job: Job
     late: Late
@@ -57,12 +57,12 @@ class Lives:
     unsettled: list[tuple[int, Fate]] = field(default_factory=list)
 
     def soups(self) -> list[int]:
-        """Returns the soups that play, in the order in which they are listed."""
+        """Returns the soups that can be played, in the order in which they are listed."""
         ordered = [soup for _, soups in self.by_kind() for soup, _ in soups]
         return [*(life.soup for life in self.longest), *ordered]
 
     def by_kind(self) -> list[tuple[Kind, list[tuple[int, Fate]]]]:
-        """Returns the unsettled soups by the kinds of their fates."""
+        """Returns the unsettled soups, grouped by the kinds of their fates."""
         groups = [
             (kind, [(soup, fate) for soup, fate in self.unsettled if fate.kind is kind])
             for kind in KINDS
@@ -77,7 +77,7 @@ class Lives:
 
 
 def find_lives(census: Census, haul: Haul, late: Late) -> tuple[Lives, list[str]]:
-    """Returns what the section shows of the late soups of a haul, and what is wrong with their
+    """Returns the contents of the section for the late soups of a haul, and messages about wrong
     lines."""
     lives = Lives(haul.job, late)
     settled = sorted(
@@ -104,7 +104,8 @@ def read_life(line: LateLine) -> LongLife:
 
 
 def find_exact_ends(fates: Fates, lives: list[LongLife]) -> Iterator[str]:
-    """Finds the exact generations in which soups settled, and yields which lines are wrong."""
+    """Finds the exact generations in which the soups settled, and yields messages about wrong
+    lines."""
     census, job = fates.census, fates.job
 
     def find_end(soups: list[int]) -> tuple[int, int] | None:
@@ -126,7 +127,7 @@ def find_exact_ends(fates: Fates, lives: list[LongLife]) -> Iterator[str]:
 
 
 def describe_lives(lives: Lives) -> list[dict[str, object]]:
-    """Returns what the script has to know of each soup that plays."""
+    """Returns the data about each soup that can be played."""
     known: dict[int, dict[str, object]] = {}
     for life in lives.longest:
         known[life.soup] = {"words": describe_life(life), "end": list_end(life)}
@@ -136,8 +137,8 @@ def describe_lives(lives: Lives) -> list[dict[str, object]]:
 
 
 def list_end(life: LongLife) -> list[int]:
-    """Returns the generation up to which a soup plays, and the least and the most live cells there;
-    a zero if it doesn't settle."""
+    """Returns the generation up to which a soup plays, and the fewest and the most live cells
+    there, or a zero if the soup doesn't settle."""
     return [0] if life.generation is None else [life.generation, life.cells, life.cells]
 
 
@@ -171,7 +172,7 @@ def write_lives(lives: Lives) -> Iterator[str]:
 
 
 def write_summary(lives: Lives) -> str:
-    """Writes which soups are late, and how many there are."""
+    """Returns a sentence that says which soups are late, and how many there are."""
     late, limit = lives.late, lives.job.profile.limit
     from_then = (
         f"{write_count(len(lives.checkpoints()), 'soup')} from number {late.since:,} on settled in "
@@ -193,7 +194,7 @@ def caption(life: LongLife) -> str:
 
 
 def write_list(title: str, job: Job, soups: list[tuple[int, str]]) -> Iterator[str]:
-    """Yields a list of soups, each of which plays when its link is followed."""
+    """Yields a list of soups. The link of each soup plays it."""
     yield f'<details open><summary>{title}</summary><ul class="soups">'
     for soup, words in soups:
         address = f"#life={soup}"
@@ -251,12 +252,12 @@ def describe_bar(start: int, step: int, count: int) -> str:
 
 
 def choose_step(checkpoints: list[int]) -> int:
-    """Returns how many generations a bar has."""
+    """Returns the number of generations that a bar covers."""
     extent = max(checkpoints) - min(checkpoints) + 1
     return next((step for step in TIDY_STEPS if step * BARS >= extent), TIDY_STEPS[-1])
 
 
 def count_bars(checkpoints: list[int], step: int) -> list[tuple[int, int]]:
-    """Returns the first generation of each bar, and its number of soups."""
+    """Returns the first generation and the number of soups of each bar."""
     counts = Counter(checkpoint // step for checkpoint in checkpoints)
     return [(bar * step, counts[bar]) for bar in range(min(counts), max(counts) + 1)]

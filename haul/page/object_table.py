@@ -1,4 +1,4 @@
-"""The table that a page has for readers without JavaScript."""
+"""The table of a page for readers without JavaScript."""
 
 from __future__ import annotations
 
@@ -17,12 +17,12 @@ from haul.views.rates import bound_rarity
 
 KINDS = {"s": "still life", "p": "oscillator of period", "q": "spaceship of period"}
 CATAGOLUE = "https://catagolue.hatsya.com"
-# The rows of the table. A browser takes long for more of them.
+# The most rows of the table. Browsers are slow with more.
 MOST_ROWS = 1000
 
 
 def write_table(sides: Sides) -> Iterator[str]:
-    """Yields the table, row by row, with each object that has a place on the page."""
+    """Yields the table, row by row. It has the objects that are on the page."""
     letters = [f" in {side.letter}" if len(sides.all) > 1 else "" for side in sides.all]
     style = "all compared" if len(sides.all) > 1 else "all"
     heads = ["Picture", "Name and code", "What it is", "Cells"]
@@ -36,7 +36,7 @@ def write_table(sides: Sides) -> Iterator[str]:
 
 
 def describe_omissions(sides: Sides) -> str:
-    """Writes how many objects have a row, and how many don't."""
+    """Returns a sentence that says how many objects have a row, and how many don't."""
     kinds = len(sides.kinds())
     text = f"{len(sides.codes):,} of {kinds:,} distinct objects, the most frequent first."
     if kinds > len(sides.codes):
@@ -62,7 +62,7 @@ def write_row(sides: Sides, code: str) -> str:
 
 
 def write_counts(side: Side, code: str) -> str:
-    """Writes what a haul says of an object."""
+    """Returns the cell with a haul's counts of an object."""
     haul = side.haul
     if code not in haul.totals:
         return "<td>0</td><td></td><td></td>"
@@ -74,7 +74,7 @@ def write_counts(side: Side, code: str) -> str:
 
 
 def describe_frequency(soups: int, total: int) -> str:
-    """Writes how often an object comes, as the script does."""
+    """Returns how often an object occurs, in the same words as the script."""
     if not soups:
         return "none"
     if total * 2 <= soups:
@@ -85,7 +85,7 @@ def describe_frequency(soups: int, total: int) -> str:
 
 
 def link_soup(side: Side, number: int) -> str:
-    """Returns the address of Catagolue's page of a soup."""
+    """Returns the address of the page of a soup on Catagolue."""
     job = side.haul.job
     return f"{CATAGOLUE}/hashsoup/{quote(job.symmetry, safe='')}/{quote(job.seed, safe='')}{number}/{job.rule}"
 
@@ -97,17 +97,17 @@ def link_code(code: str, rule: str) -> str:
 
 
 def draw_object(code: str) -> str:
-    """Writes the picture of an object, or why there is none."""
+    """Returns the picture of an object, or why there is none."""
     text = read_drawing(code)
     cells = read_wechsler(text) if text is not None else None
     if cells is not None:
         return draw_picture(cells, find_name(code) or code)
-    # A haul can have a code that names nothing.
+    # A haul may have a code that doesn't name an object.
     return "too large to draw" if is_large(code) else "can't be drawn"
 
 
 def describe_kind(code: str) -> str:
-    """Writes what the prefix of a code says."""
+    """Returns in words what the prefix of a code says."""
     known = read_kind(code)
     if known is None:
         return "an object"

@@ -1,4 +1,4 @@
-"""The hauls of a page, side by side, each counted by its objects and by their parts."""
+"""The hauls of a page side by side, each counted both by objects and by parts."""
 
 from __future__ import annotations
 
@@ -12,7 +12,7 @@ from haul.life.parts import Separation
 from haul.terminal import Terminal
 from haul.views.compare import Comparison, letter_hauls, rank_codes
 
-# A page has room for so many hauls.
+# The most hauls on a page.
 MOST_SIDES = 8
 
 
@@ -22,10 +22,9 @@ class Side:
 
     letter: str
     objects: Objects
-    # The same haul, with each object replaced by its parts.
+    # The same haul with each object replaced by its parts.
     by_parts: Haul
-    # The sample soups about which `census` was asked; none for a soup that has no end that is
-    # known.
+    # The sample soups about which `census` was asked, with `None` for a soup whose end isn't known.
     ends: dict[int, End | None] = field(default_factory=dict)
 
     @property
@@ -33,23 +32,24 @@ class Side:
         return self.objects.haul
 
     def has(self, code: str) -> bool:
-        """Checks whether the haul has a code, as an object or as a part of one."""
+        """Checks whether the haul has a code, either as an object or as a part of an object."""
         return code in self.haul.totals or code in self.by_parts.totals
 
     def separate(self, code: str) -> Separation:
         return self.objects.separate(code)
 
     def may_be_strict(self, code: str) -> bool:
-        """Checks whether the haul has an object that is strict, or that could not be separated."""
+        """Checks whether the haul has an object that is strict, or that couldn't be separated."""
         separation = self.separate(code) if self.has(code) else None
         return separation is not None and (separation.is_strict() or not separation.is_separated)
 
     def samples(self, code: str) -> list[int]:
-        """Returns the samples of a code, as an object and as a part."""
+        """Returns the samples of a code, both as an object and as a part."""
         return sorted({*self.haul.samples.get(code, []), *self.by_parts.samples.get(code, [])})
 
     def soups(self, codes: list[str]) -> list[int]:
-        """Returns the samples of several codes. Soups of another symmetry than C1 can't be made."""
+        """Returns the samples of several codes. There are none if the symmetry isn't C1, since such
+        soups can't be made."""
         if self.haul.job.symmetry != SYMMETRY:
             return []
         return sorted({number for code in codes for number in self.samples(code)})
@@ -60,18 +60,18 @@ class Sides:
     """All hauls of a page, and the codes on it."""
 
     all: list[Side]
-    # An object is on the page if a haul has at least this number of it.
+    # An object is on the page if at least one haul has this number of it.
     least: int
-    # How many objects have sample soups about which `census` is asked.
+    # The number of objects with sample soups about which `census` is asked.
     play: int
-    # The objects with a place, the most frequent first.
+    # The objects on the page, the most frequent first.
     codes: list[str]
-    # These and the parts with a place.
+    # These objects, and the parts on the page.
     known: list[str]
 
     def ask(self, census: Census) -> None:
-        """Asks when the soups of the first objects have settled. The page begins with strict
-        objects, so these are asked about first."""
+        """Asks `census` when the soups of the first objects settle. Strict objects come first,
+        since the page begins with them."""
         asked = sorted(self.codes, key=lambda code: not self.may_be_strict(code))[: self.play]
         for side in self.all:
             numbers = side.soups(asked)
@@ -84,7 +84,7 @@ class Sides:
         return any(side.may_be_strict(code) for side in self.all)
 
     def compare_parts(self) -> Comparison:
-        """Returns the parts of all hauls side by side."""
+        """Returns a comparison of the parts of all hauls."""
         return Comparison(
             [side.by_parts for side in self.all],
             [side.objects for side in self.all],
@@ -93,7 +93,7 @@ class Sides:
         )
 
     def kinds(self) -> set[str]:
-        """Returns the codes of all objects, with or without a place on the page."""
+        """Returns the codes of all objects, on the page or not."""
         return set().union(*(side.haul.totals for side in self.all))
 
     def kinds_of_parts(self) -> set[str]:
@@ -115,7 +115,7 @@ def make_sides(hauls: list[Haul], least: int, play: int, terminal: Terminal) -> 
 
 
 def rank_for_page(hauls: list[Haul], least: int) -> list[str]:
-    """Returns the codes with a place on the page, by descending rate. One haul has an order even if
-    it has objects and no soup."""
+    """Returns the codes on the page, by descending rate. A single haul is ordered by totals, so
+    that it has an order even if it has objects but no soups."""
     codes = rank_codes(hauls, least)
     return sorted(codes, key=lambda code: -hauls[0].totals[code]) if len(hauls) == 1 else codes

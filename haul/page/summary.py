@@ -1,5 +1,5 @@
-"""What stands at the top of a page: what it shows, in a sentence and in tiles for each haul, and
-how to verify it. At the foot: what made it."""
+"""The top of a page: what the page shows, as a sentence and as tiles for each haul, and how to
+verify it. Also the foot: what made the page."""
 
 from __future__ import annotations
 
@@ -14,12 +14,12 @@ from haul.patterns.rules import LIFE, format_rule
 from haul.page.sides import Side, Sides
 from haul.plurals import pluralize, write_count
 
-# More ranges than these are only counted.
+# If there are more ranges than this, only their number is shown.
 MOST_RANGES = 12
 NO_NUMBER = "–"
 COUNTED = "the formally verified program <code>census</code> counted the objects that they left"
 
-# What facts on hauls that are compared mean, whatever their profiles.
+# Explanations of facts about hauls that are compared, which don't depend on their profiles.
 MEANINGS = {
     "of these strict": "not made of smaller objects",
     "settled for good": "proved to be at rest forever",
@@ -56,7 +56,7 @@ def write_title(sides: Sides) -> str:
 
 
 def write_top(sides: Sides) -> str:
-    """Writes the top, from the line below the title on."""
+    """Returns the top, from the line below the title on."""
     is_compared = len(sides.all) > 1
     about = (
         write_comparison(sides)
@@ -72,7 +72,7 @@ def write_top(sides: Sides) -> str:
 
 
 def write_foot(sides: Sides) -> str:
-    """Writes the foot: what made the page, what a haul is, and what the commands need."""
+    """Returns the foot: what made the page, what a haul is, and what the commands need."""
     count = len(sides.all)
     return Template(ABOUT).substitute(
         version=VERSION, hauls="a haul" if count == 1 else write_count(count, "haul")
@@ -84,7 +84,7 @@ def fold(summary: str, words: str) -> str:
 
 
 def write_comparison(sides: Sides) -> str:
-    """Writes the facts on hauls that are compared, in a table with a row for each."""
+    """Returns the facts about hauls that are compared, as a table with a row for each haul."""
     # mutant: equal because all have facts of the same names
     first = sides.all[0]
     heads = [
@@ -115,7 +115,7 @@ def write_comparison(sides: Sides) -> str:
 
 
 def describe_counting(sides: Sides) -> str:
-    """Writes what counted the objects of all hauls."""
+    """Returns a sentence that says what counted the objects of all hauls."""
     others = [side for side in sides.all if side.haul.apgsearch]
     words = [] if len(others) == len(sides.all) else [COUNTED]
     words += [f"{describe_apgsearch(side.haul)} ({side.letter})" for side in others]
@@ -123,7 +123,7 @@ def describe_counting(sides: Sides) -> str:
 
 
 def explain(name: str) -> str:
-    """Writes what a fact means, if that isn't plain."""
+    """Returns an explanation of a fact, or nothing if the fact needs none."""
     return f"<small>{MEANINGS[name]}</small>" if name in MEANINGS else ""
 
 
@@ -147,7 +147,7 @@ def write_sentence(haul: Haul) -> str:
 
 
 def describe_apgsearch(haul: Haul) -> str:
-    """Writes what counted the objects of a haul of apgsearch."""
+    """Returns a sentence that says what counted the objects of a haul of apgsearch."""
     symmetry = (
         "" if haul.job.symmetry == SYMMETRY else f" with the symmetry {escape(haul.job.symmetry)}"
     )
@@ -165,7 +165,7 @@ def describe_ranges(haul: Haul) -> str:
 
 
 def write_tiles(side: Side) -> str:
-    """Writes the facts on a haul as tiles."""
+    """Returns the facts about a haul as tiles."""
     words = [
         (f"{name}<small>{meaning}</small>" if meaning else name, value)
         for name, value, meaning in list_tiles(side)
@@ -178,8 +178,8 @@ def write_tiles(side: Side) -> str:
 
 
 def list_tiles(side: Side) -> list[tuple[str, str, str]]:
-    """Returns the facts on all objects of a haul, with or without a place on the page: their names,
-    their values, and what they mean if that isn't plain."""
+    """Returns the facts about all objects of a haul, on the page or not: their names, their values,
+    and explanations where needed."""
     haul = side.haul
     strict = sum(side.separate(code).is_strict() for code in haul.totals)
     return [
@@ -199,7 +199,7 @@ def list_tiles(side: Side) -> list[tuple[str, str, str]]:
 
 
 def list_end_tiles(haul: Haul) -> list[tuple[str, str, str]]:
-    """Returns the facts on how the soups ended, which a haul of apgsearch doesn't have."""
+    """Returns the facts about how the soups ended. A haul of apgsearch doesn't have these facts."""
     profile, others = haul.job.profile, haul.soups - haul.unsettled - haul.for_good
     if haul.apgsearch:
         return [
@@ -218,12 +218,12 @@ def list_end_tiles(haul: Haul) -> list[tuple[str, str, str]]:
 
 
 def has_missing_soups(haul: Haul) -> bool:
-    """Checks whether a haul lacks soups of its set, which a haul of apgsearch doesn't name."""
+    """Checks whether a haul lacks soups of its set. A haul of apgsearch doesn't name its set."""
     return not haul.apgsearch and haul.soups < haul.size()
 
 
 def write_unsettled(side: Side, is_compared: bool) -> str:
-    """Writes by which command the unsettled soups of a haul are listed."""
+    """Returns a sentence with the command that lists the unsettled soups of a haul."""
     haul = side.haul
     if not haul.unsettled:
         return ""
@@ -238,8 +238,8 @@ def write_unsettled(side: Side, is_compared: bool) -> str:
 
 
 def write_verification(sides: Sides) -> str:
-    """Writes how the hauls can be verified. One with missing soups doesn't say which ones, so it
-    can't be run again."""
+    """Returns the instructions for verifying the hauls. A haul with missing soups doesn't say which
+    ones are missing, so it can't be run again."""
     hauls = [side.haul for side in sides.all]
     name, these = (
         ("all.haul", "the haul of this page")
@@ -270,7 +270,7 @@ def write_verification(sides: Sides) -> str:
 
 
 def write_definitions(sides: Sides) -> str:
-    """Writes the definitions by which objects were counted."""
+    """Returns the definitions by which objects were counted."""
     profiles: dict[Profile, list[str]] = {}
     for side in sides.all:
         if not side.haul.apgsearch:

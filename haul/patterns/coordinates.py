@@ -1,4 +1,4 @@
-"""Coordinates: a line `X Y` for each live cell, as `census run --coordinates` prints them."""
+"""Coordinates: a line `X Y` for each live cell, in the format of `census run --coordinates`."""
 
 from __future__ import annotations
 
@@ -8,29 +8,29 @@ from collections.abc import Iterable, Iterator
 from haul.patterns.rle import LINE_LENGTH, format_run
 from haul.patterns.rules import format_rule
 
-# The columns of a row that are alive, by the row.
+# The columns of the live cells in each row, by row.
 Columns = dict[int, set[int]]
 # A number has at most 15 digits.
 NUMBER = rb"(0|-?[1-9][0-9]{0,14})"
 LINE = re.compile(NUMBER + rb" " + NUMBER + rb"\r?\n?")
-# What the first line of coordinates consists of. RLE without a header may begin with a digit, too.
+# The form of the first line. RLE without a header may begin with a digit, too.
 FIRST_LINE = re.compile(rb"[\r\n]*[-0-9][-0-9 ]*(?:\r?\n|$)")
 
 
 class BadCoordinates(Exception):
-    """A text isn't coordinates. Lines and columns count from 1."""
+    """Raised if a text isn't coordinates. Lines and columns count from 1."""
 
     def __init__(self, line: int, column: int) -> None:
         super().__init__(f"bad coordinates at line {line} column {column}")
 
 
 def is_coordinates(text: bytes) -> bool:
-    """Checks whether the first line that isn't empty is one of coordinates."""
+    """Checks whether the first line that isn't empty is a line of coordinates."""
     return FIRST_LINE.match(text) is not None
 
 
 def read_coordinates(lines: Iterable[bytes]) -> Columns:
-    """Returns the live cells, which may be in any order. Empty lines are skipped. Raises
+    """Returns the live cells. They may be given in any order, and empty lines are skipped. Raises
     `BadCoordinates` at the first fault."""
     rows: Columns = {}
     for number, line in enumerate(lines, 1):
@@ -43,8 +43,8 @@ def read_coordinates(lines: Iterable[bytes]) -> Columns:
 
 
 def find_column(line: bytes) -> int:
-    """Returns where the first wrong field of a line begins, or the end of the line if a field is
-    missing."""
+    """Returns the column in which the first wrong field of a line begins, or the end of the line if
+    a field is missing."""
     first, space, second = line.rstrip(b"\r\n").partition(b" ")
     if not re.fullmatch(NUMBER, first):
         return 1
@@ -52,8 +52,8 @@ def find_column(line: bytes) -> int:
 
 
 def format_rle_of_cells(rows: Columns, option: str) -> Iterator[str]:
-    """Yields the lines of a pattern's RLE, of which the first says where the pattern is. A count and
-    what it counts are on one line."""
+    """Yields the lines of a pattern's RLE. The first line says where the pattern is. A line never
+    ends between a count and its tag."""
     left, right = min(min(row) for row in rows.values()), max(max(row) for row in rows.values())
     top, bottom = min(rows), max(rows)
     yield f"#CXRLE Pos={left},{top}"
@@ -68,8 +68,8 @@ def format_rle_of_cells(rows: Columns, option: str) -> Iterator[str]:
 
 
 def list_cell_tokens(rows: Columns, left: int, top: int) -> Iterator[str]:
-    """Yields runs of cells, without the dead ones at the end of a row, runs of ends of rows, and the
-    sign at the end."""
+    """Yields the runs of cells (without the dead cells at the end of a row), the runs of row ends,
+    and the final `!`."""
     latest = top
     for y in sorted(rows):
         if y > latest:
@@ -85,7 +85,7 @@ def list_cell_tokens(rows: Columns, left: int, top: int) -> Iterator[str]:
 
 
 def list_runs(columns: list[int]) -> Iterator[tuple[int, int]]:
-    """Yields the first column and the length of each run in ascending columns."""
+    """Yields the first column and the length of each run of adjacent columns. `columns` ascends."""
     first = columns[0]
     for before, x in zip(columns, columns[1:]):
         if x > before + 1:

@@ -1,25 +1,24 @@
-"""Plaintext patterns, as `census` reads them: what is wrong with one is said as `census` says
-it."""
+"""Plaintext patterns, read as `census` reads them, with the same error messages."""
 
 from __future__ import annotations
 
 # Rows of `.` and `O`.
 Rows = list[str]
-# `census` reads no pattern with more columns or rows.
+# The most columns and rows of a pattern that `census` reads.
 SIDE = 1000
 
 
 class BadPlaintext(Exception):
-    """A text is no plaintext pattern that `census` reads."""
+    """Raised if a text isn't a plaintext pattern that `census` reads."""
 
 
 def is_plaintext(text: bytes) -> bool:
-    """Checks whether the first line that isn't empty is plaintext and not RLE."""
+    """Checks whether the first line that isn't empty is plaintext rather than RLE."""
     return text.lstrip(b"\r\n")[:1] in (b"", b"!", b".", b"O", b"*")
 
 
 def read_plaintext(text: bytes) -> Rows:
-    """Returns the rows without comments. Raises `BadPlaintext` at the first fault."""
+    """Returns the rows, without comments. Raises `BadPlaintext` at the first fault."""
     rows: Rows = []
     *lines, last = text.split(b"\n")
     for number, line in enumerate([*lines, last] if last else lines, 1):
@@ -36,7 +35,7 @@ def read_plaintext(text: bytes) -> Rows:
 
 
 def trim_rows(rows: Rows) -> Rows:
-    """Returns the rows of a pattern's bounding box, as `census` prints them."""
+    """Returns the rows of a pattern within its bounding box, as `census` prints them."""
     live = [row for row in rows if "O" in row]
     if not live:
         return []

@@ -1,7 +1,8 @@
-"""RLE, in which LifeWiki, Catagolue and Golly write patterns: read, and written.
+"""Reads and writes RLE, the format of patterns on LifeWiki and Catagolue and in Golly.
 
-A pattern is the rows of its plaintext, of `.` and `O`, from the corner (0, 0) to its last live
-column and row. """
+A pattern is given by its plaintext rows of `.` and `O`, from the corner (0, 0) to its last live
+column and row.
+"""
 
 from __future__ import annotations
 
@@ -10,10 +11,10 @@ import re
 from haul.patterns.plaintext import SIDE, Rows
 from haul.patterns.rules import format_rule, parse_rule
 
-# The longest line that is written.
+# The longest line to write.
 LINE_LENGTH = 70
-# A longer count is cut to this many digits. It is still too large for live cells, and dead ones are
-# only passed over.
+# A longer count is cut to this many digits. It is still too large for live cells, and dead cells
+# are only skipped.
 # mutant: equal because what is longer is refused, however much of it is read
 COUNT_DIGITS = 20
 
@@ -23,13 +24,13 @@ HEADER = re.compile(
 )
 BLANKS = re.compile(rb"[ \t\r\n]*")
 COUNT = re.compile(rb"[0-9]*")
-# What stands for the cells of a pattern with more than two states.
+# The tags of cells in a pattern with more than two states.
 STATE = re.compile(rb"[.A-X]|[p-y][A-X]")
 
 
 class BadRle(Exception):
-    """A text is not RLE from a place on, or it is that of a pattern that can't be written as
-    plaintext."""
+    """Raised if a text isn't RLE, or if its pattern can't be written as plaintext. Gives the place
+    of the fault."""
 
     def __init__(self, text: bytes, place: int, why: str) -> None:
         line, begins = text.count(b"\n", 0, place) + 1, text.rfind(b"\n", 0, place) + 1
@@ -37,12 +38,12 @@ class BadRle(Exception):
 
 
 class RleReader:
-    """A text of RLE, and where reading is."""
+    """Reads a text of RLE, and keeps the place up to which it has been read."""
 
     def __init__(self, text: bytes) -> None:
         self.text = text
         self.place = 0
-        # Where the next cell goes.
+        # The position of the next cell.
         self.column = 0
         self.row = 0
         self.rows: list[bytearray] = []
@@ -51,7 +52,7 @@ class RleReader:
         return BadRle(self.text, place, why)
 
     def skip(self) -> None:
-        """Passes over blanks, and over each line that begins with `#`."""
+        """Skips blanks, and lines that begin with `#`."""
         while True:
             found = BLANKS.match(self.text, self.place)
             assert found is not None
@@ -67,7 +68,8 @@ class RleReader:
         return end if end >= 0 else len(self.text)
 
     def header(self) -> str | None:
-        """Reads the header, if there is one, and returns its rule as it is written there."""
+        """Reads the header if there is one. Returns its rule as written, or `None` if there is
+        none."""
         self.skip()
         if self.text[self.place : self.place + 1] != b"x":
             return None
@@ -91,7 +93,7 @@ class RleReader:
             raise self.bad(place, "birth on zero neighbours")
 
     def run(self) -> bool:
-        """Reads a count with what it counts. Returns whether more follows."""
+        """Reads a tag with its count. Returns `False` if it is the final `!`."""
         self.skip()
         place = self.place
         found = COUNT.match(self.text, place)
@@ -133,7 +135,8 @@ class RleReader:
 
 
 def read_rle(text: bytes) -> tuple[Rows, str | None]:
-    """Returns the pattern, and the rule in the header. Raises `BadRle` at the first fault."""
+    """Returns the rows of the pattern, and the rule in the header or `None`. Raises `BadRle` at the
+    first fault."""
     reading = RleReader(text)
     rule = reading.header()
     while reading.run():
@@ -144,7 +147,7 @@ def read_rle(text: bytes) -> tuple[Rows, str | None]:
 
 
 def format_rle(rows: Rows, option: str) -> list[str]:
-    """Returns the lines of a pattern's RLE. A count and what it counts are on one line."""
+    """Returns the lines of a pattern's RLE. A line never ends between a count and its tag."""
     width = max((len(row.rstrip(".")) for row in rows), default=0)
     height = max((y for y, row in enumerate(rows, 1) if "O" in row), default=0)
     lines = [f"x = {width}, y = {height}, rule = {format_rule(option)}", ""]
@@ -156,7 +159,8 @@ def format_rle(rows: Rows, option: str) -> list[str]:
 
 
 def list_tokens(rows: Rows) -> list[str]:
-    """Runs of cells, without the dead ones at the end of a row, and of ends of rows."""
+    """Returns the runs of cells (without the dead cells at the end of a row) and the runs of row
+    ends."""
     tokens: list[str] = []
     ends = 0
     for row in rows:

@@ -1,17 +1,18 @@
-"""Rules as texts: `b3s23` as `--rule` has it, B3/S23 as RLE has it, and names such as HighLife."""
+"""Notations of rules: `b3s23` as in `--rule`, B3/S23 as in RLE, and names such as HighLife."""
 
 from __future__ import annotations
 
 import re
 
 LIFE = "b3s23"
-# `B36/S23`, `b36s23`, and survival first as in `23/36`.
+# `B36/S23`, `b36s23`, and the older form `23/36`, in which survival comes first.
 BIRTHS_FIRST = re.compile(r"[bB](?P<births>[0-8]*)/?[sS](?P<survivals>[0-8]*)")
 SURVIVALS_FIRST = re.compile(r"(?P<survivals>[0-8]*)/(?P<births>[0-8]*)")
 
 
 def parse_rule(rule: str) -> str | None:
-    """Returns a rule or its name in a header as the value of `--rule`; `None` if it is neither."""
+    """Returns a rule, given by its notation or its name in a header, as a value of `--rule`, or
+    `None` if it isn't a known rule."""
     found = BIRTHS_FIRST.fullmatch(rule) or SURVIVALS_FIRST.fullmatch(rule)
     if found is None:
         return find_named_rule(rule)
@@ -20,12 +21,12 @@ def parse_rule(rule: str) -> str | None:
 
 
 def format_rule(option: str) -> str:
-    """Returns the value of `--rule` as it is usually written: B3/S23."""
+    """Returns a value of `--rule` in the usual notation: B3/S23."""
     births, survivals = option[1:].split("s")
     return f"B{births}/S{survivals}"
 
 
-# By the letters and digits of a name, in lower case.
+# The rules, by the letters and digits of their names, in lower case.
 RULES = {
     "2x2": "b36s125",
     "34life": "b34s34",
@@ -66,5 +67,6 @@ OTHER = re.compile("[^a-z0-9]")
 
 
 def find_named_rule(name: str) -> str | None:
-    """Returns the rule of a name such as `Day & Night`, as the value of `--rule`."""
+    """Returns the rule with a name such as `Day & Night`, as a value of `--rule`, or `None` if the
+    name isn't known."""
     return RULES.get(OTHER.sub("", name.lower()))

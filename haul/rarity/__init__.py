@@ -1,1 +1,1 @@
-"""How rare an object is: the reference census, and the statistics of rates."""
+"""The rarity of objects: the reference census, and the statistics of rates."""

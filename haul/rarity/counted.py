@@ -1,4 +1,4 @@
-"""Which objects `census` counts, so that the reference can have them."""
+"""Finds out whether `census` counts objects of a code, so that the reference can have them."""
 
 from __future__ import annotations
 
@@ -14,9 +14,9 @@ from haul.rarity.reference import find_occurrence, load_reference
 
 @cache
 def find_occurrence_of_counted(code: str) -> Occurrence | None:
-    """Returns in how many soups of the reference a code occurs, or `None` if `census` can't count
-    its objects: the code isn't one of its own, or the object is several clusters in every phase, as
-    a queen bee shuttle is."""
+    """Returns how often a code occurs in the reference, or `None` if `census` can't count its
+    objects. It can't if the code isn't one of its own, or if the object is several clusters in
+    every phase, such as a queen bee shuttle."""
     if code in load_reference() or is_counted_under_life(code):
         return find_occurrence(code)
     return None

@@ -1,30 +1,32 @@
-"""A two-sided test of whether two counts come at the same rate."""
+"""A two-sided test of whether two counts have the same rate."""
 
 from __future__ import annotations
 
 from haul.rarity.incomplete import compute_beta
 
-# Below this probability a difference has a star. A comparison has hundreds of rows, so 0.05 would
-# star many of them by chance.
+# A difference with a smaller p-value gets a star. A comparison has hundreds of rows, so a limit of
+# 0.05 would star many of them by chance.
 STARRED_BELOW = 0.001
 
 
 def compute_p_value(one: float, soups: int, other: float, other_soups: int) -> float | None:
-    """Returns the p-value of two counts, which needn't be whole, in so many soups; `None` without a
-    soup. Given their sum, the first count is binomial if the rates are equal. Its own probability
-    counts by half (mid-P)."""
+    """Returns the p-value of the counts `one` in `soups` soups and `other` in `other_soups` soups,
+    or `None` if either number of soups is 0. The counts needn't be whole numbers. If the rates are
+    equal, the first count has a binomial distribution, given the sum of both. The probability of
+    the count itself is halved (mid-P)."""
     if not soups or not other_soups:
         return None
     if not one + other:
         return 1.0
     share = other_soups / (soups + other_soups)
-    # The probability of fewer than `other`, and of more, each with half of that of `other`.
+    # The probability of fewer than `other` and the probability of more, each plus half of the
+    # probability of `other`.
     return min(1.0, 2 * min(compute_tail(one, other, 1 - share), compute_tail(other, one, share)))
 
 
 def compute_tail(more: float, fewer: float, share: float) -> float:
-    """Returns the probability that at least `more` of `more + fewer` fall to a share, with half of
-    the probability of just `more`."""
+    """Returns the probability that more than `more` of `more + fewer` events fall into a share,
+    plus half of the probability of exactly `more`."""
     at_least = compute_beta(more, fewer + 1, share) if more else 1.0
     above = compute_beta(more + 1, fewer, share) if fewer else 0.0
     return (at_least + above) / 2

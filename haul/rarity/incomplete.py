@@ -1,9 +1,10 @@
-"""The incomplete beta and gamma functions, by which binomial and Poisson probabilities are computed
-also for counts that aren't whole.
+"""The incomplete beta and gamma functions. They give binomial and Poisson probabilities, also for
+counts that aren't whole numbers.
 
 Both use continued fractions: the NIST Digital Library of Mathematical Functions, 8.17.22 and 8.9.2.
-The relative error is below 1e-9 for parameters up to 100, and below 1e-5 up to 100 million, where the
-logarithms of factorials lose digits."""
+The relative error is below 1e-9 for parameters up to 100, and below 1e-5 up to 100 million, where
+the logarithms of factorials lose digits.
+"""
 
 from __future__ import annotations
 
@@ -11,18 +12,19 @@ from collections.abc import Iterator
 from itertools import count
 from math import exp, lgamma, log, log1p
 
-# A fraction has converged if its last factor is as near to 1.
+# A fraction has converged if its last factor differs from 1 by less than this.
 NEAR = 1e-13
-# What a denominator of 0 is replaced by.
+# The replacement for a denominator of 0.
 TINY = 1e-300
 
 
 def compute_beta(a: float, b: float, x: float) -> float:
-    """Returns the regularized incomplete beta function of parameters above 0: for whole ones the
-    probability that of `a + b - 1` trials with probability `x` at least `a` succeed."""
+    """Returns the regularized incomplete beta function. The parameters are above 0. If they are
+    whole numbers, it is the probability of at least `a` successes in `a + b - 1` trials that
+    succeed with probability `x`."""
     if x <= 0 or x >= 1:
         return 0.0 if x <= 0 else 1.0
-    # The fraction converges on this side of the mean.
+    # The fraction converges quickly only on this side of the mean.
     if x > (a + 1) / (a + b + 2):
         return 1 - compute_beta_below(b, a, 1 - x)
     return compute_beta_below(a, b, x)
@@ -33,13 +35,13 @@ def compute_beta_below(a: float, b: float, x: float) -> float:
 
 
 def compute_beta_density(a: float, b: float, x: float) -> float:
-    """Returns the derivative of the function, the density of the beta distribution."""
+    """Returns the derivative of the function: the density of the beta distribution."""
     factor = lgamma(a + b) - lgamma(a) - lgamma(b)
     return exp(factor + (a - 1) * log(x) + (b - 1) * log1p(-x))
 
 
 def list_beta_terms(a: float, b: float, x: float) -> Iterator[tuple[float, float]]:
-    """Yields the numerators and denominators of the continued fraction after its first 1."""
+    """Yields the numerators and denominators of the continued fraction, after its first 1."""
     for m in count():
         yield -(a + m) * (a + b + m) * x / ((a + 2 * m) * (a + 2 * m + 1)), 1.0
         n = m + 1
@@ -47,8 +49,9 @@ def list_beta_terms(a: float, b: float, x: float) -> Iterator[tuple[float, float
 
 
 def compute_gamma_tail(a: float, x: float) -> float:
-    """Returns the regularized upper incomplete gamma function of a parameter above 0: for a whole
-    one the probability that fewer than `a` come if `x` are expected."""
+    """Returns the regularized upper incomplete gamma function. The parameter `a` is above 0. If it
+    is a whole number, the result is the probability of fewer than `a` events if `x` are
+    expected."""
     if x <= 0:
         return 1.0
     factor = exp(a * log(x) - x - lgamma(a))
@@ -58,7 +61,7 @@ def compute_gamma_tail(a: float, x: float) -> float:
 
 
 def sum_gamma_series(a: float, x: float) -> float:
-    """Returns the lower function divided by its factor (8.7.1)."""
+    """Returns the lower incomplete gamma function divided by its factor (8.7.1)."""
     term = total = 1 / a
     for n in count(1):
         term *= x / (a + n)
@@ -74,7 +77,7 @@ def list_gamma_terms(a: float, x: float) -> Iterator[tuple[float, float]]:
 
 
 def evaluate(terms: Iterator[tuple[float, float]], first: float = 1.0) -> float:
-    """Returns the value of a continued fraction, by Lentz's algorithm."""
+    """Returns the value of a continued fraction, with Lentz's algorithm."""
     value = above = first or TINY
     below = 0.0
     for numerator, denominator in terms:

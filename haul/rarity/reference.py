@@ -1,6 +1,7 @@
 """The reference: a census of soups of Life with the standard profile, in the folder reference/.
 
-reference/README.md says how it was made and how to check it."""
+reference/README.md says how it was made and how to check it.
+"""
 
 from __future__ import annotations
 
@@ -18,24 +19,24 @@ from haul.rarity.occurrence import Occurrence
 
 FILE = "parts.tsv"
 HEADS = ["code", "total", "soups", "sum_of_squares", "samples"]
-# The soups of the reference.
+# The number of soups of the reference.
 SOUPS = 100_000_000
-# The SHA-256 of the table, so that no changed digit goes unnoticed.
+# The SHA-256 of the table, so that a changed digit doesn't go unnoticed.
 DIGEST = "ec1175e92f017a496bd5884bd95b6e0bb70dcfe76f5d134a51f04095f6542149"
 
 
 @dataclass(frozen=True)
 class Entry:
-    """What the reference says of a part."""
+    """The row of a part in the reference."""
 
-    # How many there are in all soups, and the sum over soups of the square of their number.
+    # The number of objects in all soups, and the sum of the squares of the numbers in each soup.
     total: int
     squares: int
-    # How many soups have at least one.
+    # The number of soups that have at least one.
     soups: int
 
     def dispersion(self) -> float:
-        """Returns the variance over the mean of the number in a soup, at least 1."""
+        """Returns the variance of the number in a soup divided by its mean, but at least 1."""
         return max(1.0, self.squares / self.total - self.total / SOUPS)
 
 
@@ -44,7 +45,7 @@ NONE = Entry(0, 0, 0)
 
 
 def is_covered(job: Job) -> bool:
-    """Checks whether the reference says how rare the objects of a job are."""
+    """Checks whether the reference has the rarity of the objects of a job."""
     return job == Job(job.seed, LIFE, STANDARD)
 
 
@@ -55,7 +56,7 @@ def load_reference() -> Reference:
 
 
 def read_reference() -> bytes:
-    """Reads the table: that in the package if `haul` is packed, or that of the checkout."""
+    """Reads the table from the package if `haul` is packed, otherwise from the checkout."""
     packed = files("haul").joinpath("reference").joinpath(FILE)
     if packed.is_file():
         return packed.read_bytes()
@@ -72,11 +73,11 @@ def parse_reference(text: bytes) -> Reference:
 
 
 def find_occurrence(code: str) -> Occurrence:
-    """Returns in how many soups of the reference a part occurs."""
+    """Returns how often a part occurs in the soups of the reference."""
     return Occurrence(load_reference().get(code, NONE).soups, SOUPS)
 
 
 def find_dispersion(code: str) -> float:
-    """Returns the dispersion of a part; 1 if the reference doesn't have it."""
+    """Returns the dispersion of a part, or 1 if the reference doesn't have the part."""
     entry = load_reference().get(code)
     return 1.0 if entry is None else entry.dispersion()

@@ -1,4 +1,4 @@
-"""The batches of a search that run. With more than sixteen workers, several run at once."""
+"""The running batches of a search. With more than sixteen workers, several batches run at once."""
 
 from __future__ import annotations
 
@@ -15,61 +15,62 @@ from haul.formats.haul import NUMBER_LIMIT, Haul, Job
 from haul.formats.haul_reader import read_one_haul
 from haul.search.late_soups import BatchLines
 
-# A call of `census take` has at most this number of workers, and a search this number.
+# The most workers of one call of `census take`, and of a search.
 WORKERS_OF_A_CALL, MOST_WORKERS = 16, 1024
-# So many batches for each that runs may have been begun, if several run: batches that have ended
-# wait for those before them.
+# If several batches run at once, up to this number of batches per running batch may have been
+# started. Finished batches wait for the batches before them.
 BATCHES_FOR_EACH = 4
 
 
 @dataclass(frozen=True)
 class Plan:
-    """What a search is asked to do."""
+    """The settings of a search."""
 
     # The number of the next soup.
     next: int
-    # How many soups the haul has at the end; none if there is no end.
+    # The number of soups at which the search ends, or `None` if it has no end.
     until: int | None
-    # How many soups a batch has.
+    # The number of soups in a batch.
     batch_size: int
     workers: int
-    # The program that is called for each find.
+    # The program to call for each find.
     finds: str | None
-    # A find is a part that fewer than one soup of the reference in this number has.
+    # A part is a find if fewer than one soup of the reference in this number has it.
     rarer: int
-    # From which generation on a soup is late; none if late soups aren't kept.
+    # The first generation at which a soup is late, or `None` if late soups aren't kept.
     late: int | None = None
-    # Whether late and unsettled soups are told.
+    # Whether late and unsettled soups are reported.
     tells_late: bool = False
 
 
 @dataclass
 class Batch:
-    """A batch that runs: the numbers of its soups, and the call that takes them."""
+    """A running batch: the numbers of its soups, and the call that takes them."""
 
     first: int
     count: int
     call: BackgroundTake
-    # How many workers it has; none once they are free again.
+    # The number of its workers, or 0 once they are free again.
     workers: int
 
 
 @dataclass
 class Taken:
-    """What a batch has brought."""
+    """The result of a batch."""
 
     haul: Haul
-    # Its late and unsettled soups; none if they aren't kept.
+    # The late and unsettled soups of the batch, or `None` if they aren't kept.
     lines: BatchLines | None
 
 
 class Batches:
-    """The batches that were begun and aren't added to the haul, in the order of their soups."""
+    """The batches that have been started but not added to the haul, in the order of their soups."""
 
     def __init__(self, plan: Plan, job: Job, soups: int, census: Census, waiter: StreamWaiter):
-        """Begins nothing yet. The haul has this number of soups."""
+        """Creates an empty queue. `soups` is the number of soups in the haul."""
         self.plan, self.job, self.census, self.waiter = plan, job, census, waiter
-        # The soups of the haul with those of batches that were begun, and the next number.
+        # The number of soups in the haul and in all started batches, and the number of the next
+        # soup.
         self.begun, self.next = soups, plan.next
         self.queue: deque[Batch] = deque()
         self.free = share_workers(plan.workers)
@@ -77,7 +78,7 @@ class Batches:
         self.most = calls * BATCHES_FOR_EACH if calls > 1 else calls
 
     def fill(self) -> None:
-        """Begins batches until all workers have one, or the search is at its end."""
+        """Starts batches until all workers are busy or the search is at its end."""
         for batch in self.queue:
             if batch.workers and batch.call.is_ended():
                 self.free.append(batch.workers)
@@ -91,7 +92,7 @@ class Batches:
         return any(not batch.workers and batch.call.process.returncode for batch in self.queue)
 
     def begin(self, workers: int) -> bool:
-        """Starts the next batch, and returns whether there is one."""
+        """Starts the next batch. Returns `False` if there is none."""
         plan = self.plan
         most = plan.until - self.begun if plan.until is not None else plan.batch_size
         count = min(plan.batch_size, most, NUMBER_LIMIT - self.next)
@@ -108,8 +109,8 @@ class Batches:
         return self.queue[0].call.is_ended()
 
     def take_first(self) -> Taken:
-        """Removes the first batch, which has ended, and returns what it has brought. Raises `Ended`
-        if its call failed."""
+        """Removes the first batch, which must have ended, and returns its result. Raises `Ended` if
+        its call failed."""
         batch = self.queue.popleft()
         if batch.workers:
             self.free.append(batch.workers)
@@ -126,12 +127,12 @@ class Batches:
         return Taken(haul, BatchLines(batch.call, haul, self.plan.late, self.census.path))
 
     def drop(self) -> None:
-        """Ends all calls. What they have brought is given up."""
+        """Ends all calls and discards their results."""
         while self.queue:
             self.queue.popleft().call.end()
 
     def soups(self) -> int:
-        """Returns how many soups the batches have run."""
+        """Returns the number of soups that the batches have run so far."""
         return sum(batch.call.soups() if batch.workers else batch.count for batch in self.queue)
 
     def soups_left(self) -> int:
@@ -139,6 +140,6 @@ class Batches:
 
 
 def share_workers(workers: int) -> list[int]:
-    """Returns how many workers each of the batches has that run at once."""
+    """Returns the number of workers for each of the batches that run at once."""
     calls = -(-workers // WORKERS_OF_A_CALL)
     return [workers // calls + (call < workers % calls) for call in range(calls)]

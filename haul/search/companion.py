@@ -1,5 +1,5 @@
-"""FILE.late and FILE.finds: files that a search keeps beside FILE. One that can't be used is renamed,
-so that nothing in it is lost."""
+"""FILE.late and FILE.finds: files that a search keeps beside FILE. A file that can't be used is
+renamed, so that nothing in it is lost."""
 
 from __future__ import annotations
 
@@ -22,7 +22,7 @@ Read = TypeVar("Read")
 
 
 class Companion:
-    """A file beside FILE, whose name is that of FILE and a suffix."""
+    """A file beside FILE. Its name is the name of FILE followed by a suffix."""
 
     def __init__(
         self,
@@ -32,8 +32,9 @@ class Companion:
         complain: Callable[[str], None],
         is_always_there: bool = False,
     ) -> None:
-        """`path` is where FILE is, and `name` what it is called. What is wrong with this file is
-        passed to `complain` as a line. It may always be there, whatever is in it."""
+        """`path` is the path of FILE, and `name` its name in messages. Problems with this file are
+        passed to `complain` as lines. `is_always_there` means that a search always has this file,
+        whatever is in it."""
         self.suffix = suffix
         self.complain = complain
         self.is_always_there = is_always_there
@@ -42,12 +43,12 @@ class Companion:
     def move_to(self, path: str, name: str) -> None:
         """Makes this the companion of another FILE from now on."""
         self.file, self.path, self.name = path, f"{path}.{self.suffix}", f"{name}.{self.suffix}"
-        # The file as it was last read or written here; none if there was no file.
+        # Identifies the file as it was last read or written here. `None` if there was no file.
         self.known: Stamp | None = None
 
     def read(self, parse: Callable[[Iterable[bytes]], Read], bad: type[Exception]) -> Read | None:
-        """Returns what `parse` makes of the lines; `None` if there is no file, or if `parse` raises
-        `bad`. Then the file is renamed."""
+        """Returns the result of `parse` for the lines of the file, or `None` if there is no file or
+        if `parse` raises `bad`. In the latter case, the file is renamed."""
         with suppress(FileNotFoundError):
             if not stat.S_ISREG(os.lstat(self.path).st_mode):
                 self.reject("not a regular file")
@@ -63,13 +64,14 @@ class Companion:
             return None
 
     def reject(self, why: str) -> None:
-        """Renames the file, and says why."""
+        """Renames the file, and reports why."""
         new = os.path.basename(move_aside(self.path))
         self.known = None
         self.complain(f"{self.name}: {why}, so it is now {new}, and the search begins a new one")
 
     def write(self, lines: Iterable[bytes]) -> None:
-        """Replaces the file. If another program has changed it, that one is renamed first."""
+        """Replaces the file. If another program has changed it, the changed file is renamed
+        first."""
         found = find_stamp(self.path)
         if found not in (None, self.known):
             self.reject("changed by another program")

@@ -1,4 +1,4 @@
-"""Calls the program of `haul search --finds`, once for each find, one call after another."""
+"""Calls the program of `haul search --finds` once for each find, one call at a time."""
 
 from __future__ import annotations
 
@@ -9,23 +9,24 @@ from collections.abc import Callable
 from haul.census.background import FIND, BackgroundProgram, StreamWaiter
 from haul.census.launcher import DONE
 
-# A call that takes longer is ended.
+# A call is ended after this time.
 MOST_SECONDS = 60.0
 
 
 class FindCalls:
-    """The calls that are still to be made, and the one that runs."""
+    """The pending calls, and the running one."""
 
     def __init__(
         self, waiter: StreamWaiter, program: str | None, complain: Callable[[str], None]
     ) -> None:
-        """Calls nothing without a program. Failures are passed to `complain` as lines."""
+        """If there is no `program`, nothing is called. Failures are passed to `complain` as
+        lines."""
         self.waiter = waiter
         self.program = program
         self.complain = complain
         self.waiting: deque[list[str]] = deque()
         self.running: BackgroundProgram | None = None
-        # The arguments of the one that runs, and when it began, in seconds.
+        # The arguments of the running call, and when it began, in seconds.
         self.arguments: list[str] = []
         self.began: float
 
@@ -37,7 +38,7 @@ class FindCalls:
         return self.left() == 0
 
     def left(self) -> int:
-        """Returns how many calls haven't ended."""
+        """Returns the number of calls that haven't ended."""
         return len(self.waiting) + (self.running is not None)
 
     def list_open(self) -> list[list[str]]:
@@ -45,7 +46,7 @@ class FindCalls:
         return [*([self.arguments] if self.running is not None else []), *self.waiting]
 
     def step(self) -> None:
-        """Begins the next call, or looks at the one that runs."""
+        """Starts the next call, or checks whether the running one has ended."""
         if self.running is None and self.waiting:
             self.begin(self.waiting.popleft())
         elif self.running is not None and self.running.is_ended():
@@ -69,7 +70,7 @@ class FindCalls:
             self.complain(f"{self.program}: {how}")
 
     def end(self) -> None:
-        """Ends the call that runs, with all that it has started."""
+        """Ends the running call, and everything that it has started."""
         if self.running is not None:
             self.running.end()
             self.running = None

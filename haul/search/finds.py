@@ -1,9 +1,10 @@
-"""Finds: the parts of objects that a search comes upon for the first time.
+"""Finds: parts of objects that a search encounters for the first time.
 
-A find is a part whose code no object of the haul had as a part before, and that isn't common: under
-Life, the reference census has it in fewer soups than a limit.
-docs/PROFILE.md says what the parts of an object are. The soups that one call of `census take` runs are
-a batch, as in search.py. """
+A part is a find if no earlier object of the haul has a part with its code, and if it isn't common.
+Under Life, a part is common if the reference census has it in at least one soup in a given number.
+docs/PROFILE.md defines the parts of an object. A batch consists of the soups that one call of
+`census take` runs, as in search.py.
+"""
 
 from __future__ import annotations
 
@@ -22,27 +23,27 @@ from haul.life.parts import Separator
 from haul.names.objects import find_name
 from haul.rarity.reference import SOUPS, find_occurrence, is_covered, load_reference
 
-# The separator remembers what it has run. After this many runs it forgets them, since a search goes
-# on for weeks.
+# The separator remembers what it has run. After this many runs it forgets everything, since a
+# search may go on for weeks.
 # mutant: equal because one more remembered run doesn't change what is printed
 MOST_RUNS = 20_000
 
 
 def format_time() -> str:
-    """Writes the time in UTC."""
+    """Returns the current time in UTC."""
     return datetime.now(timezone.utc).strftime("%Y-%m-%dT%H:%M:%SZ")
 
 
 @dataclass(frozen=True)
 class Find:
-    """The code of a part that was found, and the lowest of the soups just taken that left it."""
+    """A find: the code of a part, and the lowest soup of its batch that left it."""
 
     code: str
     soup: int
 
     def fields(self, job: Job) -> list[str]:
-        """Returns what is told of the find: when that is, the code, the name or `-`, the soup, a
-        command that shows it, and how rare it is by the reference or `-`."""
+        """Returns the fields of the line about a find: the time, the code, the name or `-`, the
+        soup, a command that shows it, and its rarity in the reference or `-`."""
         return [
             format_time(),
             self.code,
@@ -55,13 +56,13 @@ class Find:
 
 @dataclass
 class NewCodes:
-    """The codes that a batch of soups brought for the first time, until their finds are known."""
+    """The codes that a batch brought for the first time, until their finds are known."""
 
     # The first soup of the batch.
     first: int
-    # Those that aren't separated yet, each with the lowest soup that left it.
+    # The codes that haven't been separated yet, each with the lowest soup that left it.
     codes: deque[tuple[str, int]]
-    # The parts of those that have been separated, each with its lowest soup.
+    # The parts of the separated codes, each with its lowest soup.
     parts: dict[str, int] = field(default_factory=dict)
 
     def add(self, part: str, soup: int) -> None:
@@ -69,7 +70,7 @@ class NewCodes:
 
 
 class Unread:
-    """The objects of the file whose parts aren't known yet, by their kinds."""
+    """Objects of the file whose parts aren't known yet, by kind."""
 
     def __init__(self, codes: Iterable[str]) -> None:
         self.codes: defaultdict[Kind | None, set[str]] = defaultdict(set)
@@ -84,8 +85,8 @@ class Unread:
         return kind in self.codes and code in self.codes[kind]
 
     def holders(self, parts: Iterable[str]) -> list[set[str]]:
-        """Returns sets of codes, which aren't empty, of all objects that can have one of these
-        parts beside others."""
+        """Returns the nonempty sets of all objects that can have one of these parts beside other
+        parts."""
         kinds = {kind for part in parts if (kind := read_kind(part)) is not None}
         return [
             codes
@@ -94,52 +95,54 @@ class Unread:
         ]
 
     def holding(self, parts: Iterable[str]) -> int:
-        """Returns how many objects can have one of these parts beside others."""
+        """Returns the number of objects that can have one of these parts beside other parts."""
         return sum(map(len, self.holders(parts)))
 
 
 def can_hold(whole: Kind, part: Kind) -> bool:
-    """Checks whether an object of a kind can have a part of another kind beside others. The period
-    of a part divides that of the whole, a part moves exactly if the whole does, and a part of a
-    still life has fewer cells than the whole."""
+    """Checks whether an object of the kind `whole` can have a part of the kind `part` beside other
+    parts. The period of a part divides the period of the object, a part moves if and only if the
+    object does, and a part of a still life has fewer cells than the still life."""
     if whole.letter == "s":
         return part.letter == "s" and part.number < whole.number
     return (part.letter == "q") == (whole.letter == "q") and whole.number % part.period() == 0
 
 
 def list_common_parts(rarer: int) -> frozenset[str]:
-    """Returns the parts that at least one soup of the reference in `rarer` has."""
+    """Returns the parts that occur in at least one soup of the reference in `rarer`."""
     return frozenset(
         code for code, entry in load_reference().items() if entry.soups * rarer >= SOUPS
     )
 
 
 class Finder:
-    """Looks for finds, an object at a time, so that the search can do other things in between.
+    """Looks for finds, one object at a time, so that the search can do other things in between.
 
-    The objects that the file had at first are separated only when there is a part that may be in
-    one of them. A part that is also an object of its own in the file is known without that, and for
-    most parts that is enough."""
+    Objects that were in the file at first are separated only when one of them might have a part
+    that looks new. If the part is itself an object of the file, it is known without that. For most
+    parts that is enough.
+    """
 
     def __init__(self, job: Job, haul: Haul, rarer: int, first: int = NUMBER_LIMIT) -> None:
-        """Looks for parts that, under Life, fewer than one soup of the reference in `rarer` has.
-        The objects of the haul that no soup before `first` left are still to be looked at."""
+        """Looks for parts that occur, under Life, in fewer than one soup of the reference in
+        `rarer`. The objects of the haul that no soup before `first` left haven't been examined
+        yet."""
         new = [(code, soups[0]) for code, soups in haul.samples.items() if soups[0] >= first]
         self.separator = Separator(read_rule(job.rule))
         self.common = list_common_parts(rarer) if job.rule == LIFE else frozenset()
-        # Under another rule or profile the first batch tells no finds: almost every part in it
-        # would be one.
+        # Under another rule or profile, the finds of the first batch aren't reported, since almost
+        # every part in it would be one.
         self.is_silent = (job.rule != LIFE or job.profile != STANDARD) and haul.soups == 0
-        # The objects whose parts aren't known yet, although they were there before.
+        # Objects that aren't new, and whose parts aren't known yet.
         self.unread = Unread(haul.totals.keys() - {code for code, _ in new})
         self.known: set[str] = set()
-        # One item for each batch with new codes; the oldest is first.
+        # One item for each batch with new codes, the oldest first.
         self.queue: deque[NewCodes] = deque()
         self.add_new(new, first)
 
     def add(self, codes: Iterable[tuple[str, int]], first: int = 0) -> None:
-        """Takes the new codes of the next batch, each with its lowest soup, once they are in the
-        file. `first` is the first soup of the batch."""
+        """Adds the new codes of the next batch, each with its lowest soup. The codes must be in the
+        file already. `first` is the first soup of the batch."""
         if self.is_silent:
             self.unread.add(code for code, _ in codes)
             self.is_silent = False
@@ -151,7 +154,7 @@ class Finder:
             self.queue.append(NewCodes(first, deque(codes)))
 
     def left(self) -> int:
-        """Returns how many objects have to be separated still, as far as is known."""
+        """Returns the number of objects that remain to be separated, as far as is known."""
         codes = sum(len(new.codes) for new in self.queue)
         first = self.queue[0].parts if self.queue and not self.queue[0].codes else {}
         return codes + self.unread.holding(filter(self.is_new, first))
@@ -160,8 +163,8 @@ class Finder:
         return not self.queue
 
     def step(self) -> list[Find]:
-        """Separates an object, and returns the finds of a batch if that was its last one. The queue
-        isn't empty."""
+        """Separates one object. Returns the finds of a batch if this was its last object, otherwise
+        an empty list. The queue mustn't be empty."""
         first = self.queue[0]
         if first.codes:
             code, soup = first.codes.popleft()
@@ -171,7 +174,7 @@ class Finder:
             return []
         new = {part: soup for part, soup in first.parts.items() if self.is_new(part)}
         for codes in self.unread.holders(new):
-            # They may be in one of these objects.
+            # The parts that look new may be in one of these objects.
             self.known.update(self.parts_of(codes.pop()))
             return []
         self.known.update(first.parts)
@@ -183,7 +186,7 @@ class Finder:
 
     def is_new(self, part: str) -> bool:
         """Checks whether a part is neither common nor known, and isn't an object that was there
-        before. Such an object has no other parts than itself, since a part has none."""
+        before. Such an object has no parts but itself, since a part has no further parts."""
         return part not in self.common and part not in self.known and part not in self.unread
 
     def parts_of(self, code: str) -> tuple[str, ...]:

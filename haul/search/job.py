@@ -1,4 +1,4 @@
-"""Which haul a search goes on with, or which one it begins."""
+"""Chooses the haul that a search continues or begins."""
 
 from __future__ import annotations
 
@@ -10,18 +10,19 @@ from haul.formats.haul import Haul, Job
 from haul.formats.profile import STANDARD, Profile
 from haul.patterns.rules import LIFE
 
-# Two people who draw their seeds don't take the same soups: there are 62^12 of these.
+# Seeds are drawn from 62^12 texts, so two people won't draw the same one and take the same soups.
 SEED_BEGINS, SEED_LENGTH = "h_", 12
-# A find is usually a part that fewer than one soup in so many has.
+# The default for how rare a find has to be: fewer than one soup of the reference in this number.
 USUAL_RARER = 1_000_000
 
 
 class Disagrees(Exception):
-    """An argument isn't what the haul in the file says."""
+    """Raised if an argument contradicts the haul in the file."""
 
 
 def begin_haul(asked: argparse.Namespace) -> Haul:
-    """Returns a haul without soups, of the job that is asked for. Without a seed, one is drawn."""
+    """Returns a haul without soups for the job in the arguments. If there is no seed, one is
+    drawn."""
     seed = asked.seed
     if seed is None:
         seed = SEED_BEGINS + "".join(
@@ -33,7 +34,7 @@ def begin_haul(asked: argparse.Namespace) -> Haul:
 
 
 def refuse_other_jobs(asked: argparse.Namespace, haul: Haul) -> None:
-    """Raises `Disagrees` if an argument is about another census than that of the haul."""
+    """Raises `Disagrees` if an argument is for another census than the haul's."""
     said = (asked.seed, asked.rule, *list_profile_numbers(asked), asked.first)
     first = haul.ranges[0][0] if haul.ranges else asked.first
     there = (haul.job.seed, haul.job.rule, *haul.job.profile, first)
@@ -49,11 +50,11 @@ def refuse_other_jobs(asked: argparse.Namespace, haul: Haul) -> None:
 
 
 def list_profile_numbers(asked: argparse.Namespace) -> list[int | None]:
-    """Returns the four numbers of the profile, with none for each that isn't given."""
+    """Returns the four numbers of the profile, with `None` for each number that isn't given."""
     return [getattr(asked, name) for name in Profile._fields]
 
 
 def find_next_soup(asked: argparse.Namespace, haul: Haul) -> int:
-    """Returns the number of the next soup: the end of the last range, or else the first one that is
-    asked for."""
+    """Returns the number of the next soup: the end of the last range, or if there are no ranges,
+    the first soup in the arguments."""
     return sum(haul.ranges[-1]) if haul.ranges else asked.first or 0

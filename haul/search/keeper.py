@@ -1,5 +1,5 @@
-"""Keeps a haul in a file: the file always has a whole haul, whenever this program or the machine
-stops."""
+"""Keeps a haul in a file. The file has a complete haul at any time, even if this program or the
+machine stops."""
 
 from __future__ import annotations
 
@@ -27,20 +27,21 @@ from haul.search.whole_files import (
     write_new_text,
 )
 
-# How long a lock is tried, and how often.
+# How long to try to lock a file, and the pause between two tries, in seconds.
 SECONDS_FOR_LOCK, SECONDS_BETWEEN_TRIES = 2.0, 0.02
 
 
 class CantKeep(Exception):
-    """Why a file can't be kept."""
+    """Raised if a file can't be kept. Gives the reason."""
 
 
 class Displaced(OSError):
-    """The file was changed by another program, so the haul was written beside it."""
+    """Raised if another program has changed the file. The haul has been written beside it."""
 
 
 class Beside(NamedTuple):
-    """A file beside FILE, what writes its lines, and whether they have changed."""
+    """A file beside FILE, the function that writes its lines, and whether the lines have
+    changed."""
 
     file: Companion
     write: Callable[[], Iterable[bytes]]
@@ -48,18 +49,19 @@ class Beside(NamedTuple):
 
 
 class Keeper:
-    """A file with a haul, and the lock by which no second search keeps the same file.
+    """A file with a haul, and a lock that prevents a second search from keeping the same file.
 
-    The lock is FILE.lock, which stays when the search ends. A new text is written to FILE.new,
-    which then takes the place of FILE."""
+    The lock is FILE.lock, which remains when the search ends. A new text is written to FILE.new,
+    which then replaces FILE.
+    """
 
     def __init__(self, name: str) -> None:
         """Locks the file. Raises `CantKeep` if it is locked or isn't a regular file."""
         self.name = name
-        # Links are resolved, so that a file with two names is locked once.
+        # Links are resolved, so that a file with two names is locked only once.
         self.path = os.path.realpath(name) if os.path.islink(name) else name
         self.refuse_other_files()
-        # The file as it was last read or written here; none if there was no file.
+        # Identifies the file as it was last read or written here. `None` if there was no file.
         self.known = find_stamp(self.path)
         self.lock = os.open(
             f"{self.path}.lock", os.O_RDWR | os.O_CREAT | os.O_CLOEXEC | os.O_NOFOLLOW, ANY_RIGHTS
@@ -80,8 +82,8 @@ class Keeper:
         return os.path.exists(self.path)
 
     def read(self) -> Haul | None:
-        """Returns the haul in the file; none if there is no file. Raises `CantKeep` if it isn't one
-        haul without missing soups."""
+        """Returns the haul in the file, or `None` if there is no file. Raises `CantKeep` if the
+        file isn't a single haul without missing soups."""
         try:
             with open(self.path, "rb") as file:
                 self.known = make_stamp(os.fstat(file.fileno()))
@@ -96,29 +98,30 @@ class Keeper:
         return haul
 
     def write(self, haul: Haul, beside: Sequence[Beside] = ()) -> None:
-        """Replaces the file, and before that the files beside it that have changed. The file has
-        its old text until the new one is safe on the disk, also if this fails with `OSError`.
-        Raises `Displaced` if the file isn't as it was left here."""
+        """Replaces the file, after the files beside it that have changed. The file keeps its old
+        text until the new text is safely on disk, even if this fails with `OSError`. Raises
+        `Displaced` if another program has changed the file since it was last read or written
+        here."""
         self.refuse_changes(haul, beside)
         with write_new_text(self.path, write_lines(haul), self.path) as stamp:
             for one in beside:
                 if one.is_changed:
                     one.file.write(one.write())
-            # That has taken time.
+            # Writing has taken time, so the file may have changed meanwhile.
             self.refuse_changes(haul, beside)
         self.known = stamp
 
     def refuse_changes(self, haul: Haul, beside: Sequence[Beside]) -> None:
-        """Writes the haul beside the file and raises `Displaced` if the file isn't as it was left
-        here."""
+        """If another program has changed the file, writes the haul beside it and raises
+        `Displaced`."""
         if find_stamp(self.path) != self.known:
             name = self.write_mine(haul, beside)
             reason = f"changed by another program, so the haul of this search is in {name}"
             raise Displaced(errno.ESTALE, reason, self.name)
 
     def write_mine(self, haul: Haul, beside: Sequence[Beside]) -> str:
-        """Writes a haul to FILE.mine, or to FILE.mine.2 and so on if that exists, and the files
-        beside it, which are kept there from now on. Returns the name."""
+        """Writes a haul to FILE.mine (or if that exists, to FILE.mine.2 and so on), and also the
+        files beside it, which are kept there from now on. Returns the name of the file."""
         for number in itertools.count(1):
             end = ".mine" + (f".{number}" if number > 1 else "")
             name = self.path + end
@@ -140,8 +143,8 @@ def write_lines(haul: Haul) -> Iterator[bytes]:
 
 
 def lock_within(number: int, seconds: float) -> None:
-    """Locks a file, for which it tries for some seconds: a search that was killed may hold the lock
-    for a moment. Raises `BlockingIOError` if another one still holds it."""
+    """Locks a file. Tries again for some seconds, since a search that was killed may hold the lock
+    for a moment. Raises `BlockingIOError` if another process still holds the lock."""
     end = time.monotonic() + seconds
     while True:
         try:

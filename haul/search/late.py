@@ -1,5 +1,5 @@
-"""FILE.late of a search: a header, and the report lines of late and unsettled soups by ascending
-numbers. docs/FORMATS.md describes it."""
+"""FILE.late of a search: a header, and the report lines of late and unsettled soups in ascending
+order. docs/FORMATS.md describes the file."""
 
 from __future__ import annotations
 
@@ -11,24 +11,24 @@ from haul.formats.haul import NUMBER_LIMIT, Job
 from haul.formats.profile import LIMIT
 from haul.formats.report_lines import BadLine, read_report_line
 
-# From this generation on, no checkpoint is late, so only unsettled soups are kept.
+# If late soups start at this generation, no checkpoint is late, so only unsettled soups are kept.
 ONLY_UNSETTLED = LIMIT[1] + 1
-# Only the lines of so many soups are kept, those with the lowest numbers.
+# The most lines that are kept. The soups with the lowest numbers are kept.
 MOST_LINES = 100_000
 NUMBER = rb"(0|[1-9][0-9]{0,15})"
 HEADER = re.compile(rb"# late " + NUMBER + rb" since " + NUMBER + rb" left-out " + NUMBER + rb"\n")
 
 
 class BadLate(Exception):
-    """Why a text isn't that of a FILE.late."""
+    """Raised if a text isn't a FILE.late. Gives the reason."""
 
 
 @dataclass(frozen=True)
 class LateLine:
-    """The line of a late or unsettled soup, without its line feed."""
+    """The report line of a late or unsettled soup, without its line feed."""
 
     soup: int
-    # The checkpoint at which the soup has settled; none if it is unsettled.
+    # The checkpoint at which the soup has settled, or `None` if it is unsettled.
     settled: int | None
     text: bytes
 
@@ -41,7 +41,7 @@ class Late:
     generation: int
     # The first soup that is covered.
     since: int
-    # How many lines were left out.
+    # The number of lines that were left out.
     left_out: int = 0
     lines: list[LateLine] = field(default_factory=list)
     # The latest checkpoint of a settled soup, or -1 if there is none.
@@ -51,8 +51,8 @@ class Late:
         return line.settled is None or line.settled >= self.generation
 
     def add(self, lines: Iterable[LateLine], left_out: int = 0) -> bool:
-        """Adds lines of later soups, in ascending order, and the number of those that their batch
-        has left out. Returns whether there were any."""
+        """Adds lines of later soups in ascending order. `left_out` is the number of lines that
+        their batch has left out. Returns whether there were any."""
         before = len(self.lines) + self.left_out
         self.left_out += left_out
         for line in lines:
@@ -74,8 +74,8 @@ class Late:
 
 
 def read_late(text: Iterable[bytes]) -> tuple[Late, Job | None]:
-    """Reads a text, given by its lines with their line feeds. Returns also the job of the lines,
-    which is none without a line. Raises `BadLate`."""
+    """Reads a text, given by its lines with their line feeds. Also returns the job of the lines, or
+    `None` if there are no lines. Raises `BadLate` if the text isn't a FILE.late."""
     lines = iter(text)
     header = HEADER.fullmatch(next(lines, b""))
     if header is None:

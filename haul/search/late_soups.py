@@ -1,4 +1,4 @@
-"""The late and unsettled soups of a search, which FILE.late keeps."""
+"""Finds the late and unsettled soups of a search, which FILE.late keeps."""
 
 from __future__ import annotations
 
@@ -16,9 +16,9 @@ from haul.search.finds import format_time
 from haul.search.keeper import CantKeep
 from haul.search.untold import is_in
 
-# The value of `--late` with which no soup is kept.
+# The value of `--late` that means that no late soups are kept.
 NEVER = -1
-# From this generation on, a checkpoint is usually late under Life.
+# The default first generation that is late, under Life.
 USUAL_LATE = 12_000
 UNSETTLED, SETTLED = "unsettled", "settled"
 
@@ -26,8 +26,8 @@ UNSETTLED, SETTLED = "unsettled", "settled"
 def open_late(
     asked: argparse.Namespace, haul: Haul, next_soup: int, kept: Companion
 ) -> Late | None:
-    """Returns the late soups that a search goes on with; `None` if it keeps none. Raises `CantKeep`
-    if the file has fewer of them than are asked for."""
+    """Returns the late soups with which a search continues, or `None` if it keeps none. Raises
+    `CantKeep` if the file has fewer late soups than the arguments ask for."""
     if asked.late == NEVER:
         kept.remove()
         return None
@@ -41,7 +41,7 @@ def open_late(
     if why is not None:
         kept.reject(why)
         return Late(generation, next_soup)
-    # It may cover no soup of the haul, and then it is begun anew.
+    # If the file covers no soup of the haul, it is begun anew.
     if generation < late.generation and late.since < next_soup:
         raise CantKeep(
             f"{kept.name}: has soups from generation {late.generation} on, and not from {generation}"
@@ -54,8 +54,8 @@ def open_late(
 
 
 def find_other_file(late: Late, job: Job | None, haul: Haul, next_soup: int) -> str | None:
-    """Returns why lines aren't about soups of a haul; `None` if they may be. A search that was
-    killed may have written lines of the soups after those of the haul."""
+    """Returns why the lines can't be about soups of a haul, or `None` if they can be. A search that
+    was killed may have written lines of soups that follow the haul's."""
     if job not in (None, haul.job):
         return "other job"
     for line in late.lines:
@@ -65,8 +65,8 @@ def find_other_file(late: Late, job: Job | None, haul: Haul, next_soup: int) -> 
 
 
 def list_late_finds(job: Job, lines: BatchLines, latest: int) -> list[list[str]]:
-    """Returns what is told of each late or unsettled soup of a batch. `latest` is the latest
-    checkpoint of the soups before the batch."""
+    """Returns the fields of the line about each late or unsettled soup of a batch. `latest` is the
+    latest checkpoint of the soups before the batch."""
     now = format_time()
     finds: list[list[str]] = []
     for line in lines.lines:
@@ -83,12 +83,12 @@ class BatchLines:
     """The report lines of a batch that has ended."""
 
     def __init__(self, call: BackgroundTake, haul: Haul, generation: int, path: str) -> None:
-        """Reads the lines. Raises `NoCensus` for the program at this path if they aren't those of
-        the late and the unsettled soups of the haul."""
+        """Reads the lines. Raises `NoCensus`, with the path of the program, if they aren't the
+        lines of the late and the unsettled soups of the haul."""
         lines = sorted(call.reports)[:MOST_LINES]
         read = [read_line(text, haul.job, generation) for _, text in lines]
         self.lines = [line for line in read if line is not None]
-        # How many lines were left out.
+        # The number of lines that were left out.
         self.left_out = call.reported - len(lines)
         soups = {line.soup for line in self.lines}
         unsettled = sum(line.settled is None for line in self.lines)
@@ -102,7 +102,8 @@ class BatchLines:
 
 
 def read_line(text: bytes, job: Job, generation: int) -> LateLine | None:
-    """Reads a report line of a batch; none if it isn't that of a late soup of the job."""
+    """Reads a report line of a batch. Returns `None` if it isn't the line of a late or unsettled
+    soup of the job."""
     try:
         report = read_report_line(text)
     except BadLine:

@@ -2,13 +2,14 @@
 
 The census program takes one batch of soups after another, each in one call of `census take`:
 
-    batch 1  ->  added to the haul in memory  ->  written to the file  ->  its finds are told
-    batch 2           while this batch runs, all that is done for batch 1
+    batch 1  ->  added to the haul in memory  ->  written to the file  ->  its finds are reported
+    batch 2           while this batch runs, all of the above is done for batch 1
     ..
 
-With more than sixteen workers, several batches run at once; they are added in the order of their
-soups. One thread does everything except running soups. While batches run, it looks for finds, one
-object at a time, and waits for streams. """
+With more than sixteen workers, several batches run at once. They are added in the order of their
+soups. One thread does everything except for running soups. While batches run, it looks for finds,
+one object at a time, and waits for streams.
+"""
 
 from __future__ import annotations
 
@@ -36,47 +37,48 @@ from haul.search.stopping import Stopping
 from haul.search.telling import Telling
 from haul.search.untold import Untold
 
-# No more than a fiftieth of the running time goes to writing the file, unless batches have waited
+# At most a fiftieth of the running time is spent on writing the file, unless batches have waited
 # for ten minutes.
 SHARE_OF_WRITING, MOST_SECONDS_UNKEPT = 50, 600.0
-# The longest time for which it waits for streams, and for which it looks for finds before it looks
-# at streams again.
+# The longest time to wait for streams, and the longest time to look for finds before checking the
+# streams again.
 SECONDS_AT_A_TIME, SECONDS_OF_FINDING = 0.5, 0.02
-# The time for which finds are still told after a signal that ends the search at once.
+# How long finds are still reported after a signal that ends the search at once.
 LAST_SECONDS = 1.0
-# If finds are still told this long after the last batch, a line says so.
+# If finds are still being reported this long after the last batch, a line says so.
 SECONDS_WITHOUT_A_WORD = 5.0
 
 
-# The first soup of a batch, and its new codes, each with its lowest soup.
+# The first soup of a batch, and the batch's new codes, each with its lowest soup.
 NewOfBatch = tuple[int, list[tuple[str, int]]]
 
 
 class Dropped(Exception):
-    """A signal ends the search without the batches that run."""
+    """Raised if a signal ends the search without the running batches."""
 
 
 @dataclass
 class Kept:
-    """The files of a search, and what they had when it began."""
+    """The files of a search, and their contents when it began."""
 
     keeper: Keeper
     haul: Haul
-    # FILE.late and its soups, which are none if they aren't kept.
+    # FILE.late and its soups, which are `None` if they aren't kept.
     late_file: Companion
     late: Late | None
-    # FILE.finds, and what the search before didn't tell.
+    # FILE.finds, and what the previous search hadn't reported.
     finds_file: Companion
     untold: Untold
 
 
 class Search:
-    """A search that runs."""
+    """A search in progress."""
 
     def __init__(
         self, plan: Plan, kept: Kept, census: Census, stopping: Stopping, output: TextIO
     ) -> None:
-        """Makes a search that goes on with the haul in a file, and writes its finds to `output`."""
+        """Prepares a search that continues with the haul in a file and writes its finds to
+        `output`."""
         self.plan = plan
         self.kept, self.keeper, self.late = kept, kept.keeper, kept.late
         self.stopping = stopping
@@ -86,9 +88,9 @@ class Search:
         self.joining = Joining()
         self.joining.add(haul)
         self.objects = haul.objects()
-        # The soups of finished batches.
+        # The number of soups in finished batches.
         self.run_soups = 0
-        # What batches brought that aren't in the file yet, and the finds of their late soups.
+        # The results of batches that aren't in the file yet, and the finds among their late soups.
         self.unkept: list[NewOfBatch] = []
         self.unkept_late: list[list[str]] = []
         self.waiter = StreamWaiter()
@@ -101,12 +103,12 @@ class Search:
         self.line = StatusLine(self.terminal)
         self.said_that_it_finishes = self.said_what_is_left = False
         self.began = self.kept_at = time.monotonic()
-        # How long all writing took, and the latest.
+        # How long all writing took, and the latest writing, in seconds.
         self.writing = self.latest_writing = 0.0
 
     def run(self) -> None:
-        """Takes soups until the haul has as many as it should, or until it is stopped. Raises
-        `Dropped` if a signal ends it."""
+        """Takes soups until the haul has as many as it should, or until the search is stopped.
+        Raises `Dropped` if a signal ends the search."""
         try:
             try:
                 self.take_batches()
@@ -130,7 +132,7 @@ class Search:
             self.wait_until(self.is_first_ended)
             taken = self.batches.take_first()
             try:
-                # The next batch runs while this one is added, written and looked at.
+                # The next batch runs while this one is added, written and examined.
                 self.fill()
             finally:
                 self.add(taken)
@@ -168,7 +170,7 @@ class Search:
     # ---- The files
 
     def may_keep(self) -> bool:
-        """Checks whether there is time for writing."""
+        """Checks whether there is time to write the file."""
         running = time.monotonic() - self.began
         return (
             self.writing + self.latest_writing
@@ -181,8 +183,8 @@ class Search:
         )
 
     def keep(self) -> None:
-        """Writes the finished batches that aren't in the file. Their objects are looked at for
-        finds after that."""
+        """Writes the finished batches that aren't in the file yet. Then has their objects examined
+        for finds."""
         if not self.unkept:
             return
         began = time.monotonic()
@@ -210,15 +212,15 @@ class Search:
         self.late_is_changed = False
 
     def list_untold(self, batches: list[NewOfBatch], late: list[list[str]]) -> Untold:
-        """Returns what would be lost if the search ended when these batches and these late soups are
-        in the files."""
+        """Returns what would be lost if the search ended after these batches and these late soups
+        have been written to the files."""
         since = [new.first for new in self.finder.queue]
         told = batches[1:] if self.finder.is_silent else batches
         since += [first for first, codes in told if codes]
         return Untold(self.job, min(since, default=NUMBER_LIMIT), self.telling.list_untold() + late)
 
     def keep_untold(self) -> None:
-        """Writes what hasn't been told, for the next search."""
+        """Writes down what hasn't been reported, for the next search."""
         untold = self.list_untold([], [])
         if untold.is_empty():
             if self.kept.finds_file.known is not None:
@@ -227,7 +229,8 @@ class Search:
             self.kept.finds_file.write(untold.write())
 
     def look_at_kept(self) -> None:
-        """Has late soups told, and the objects of batches that were written looked at for finds."""
+        """Queues the late soups of the written batches to be reported, and their objects to be
+        examined for finds."""
         for fields in self.unkept_late:
             self.telling.add(fields)
         for first, codes in self.unkept:
@@ -255,11 +258,12 @@ class Search:
                 self.waiter.wait(0)
 
     def has_told(self) -> bool:
-        """Checks whether all finds are told, besides those for which a call is to be made."""
+        """Checks whether all finds have been reported, apart from calls of the program for
+        finds."""
         return self.telling.is_done() and (self.finder.is_done() or self.telling.has_failed)
 
     def find_for(self, seconds: float) -> None:
-        """Looks for finds for so long at most, and tells them."""
+        """Looks for finds and reports them, for at most `seconds` seconds."""
         end = time.monotonic() + seconds
         while not self.has_told() and time.monotonic() < end:
             if not self.telling.is_done():
@@ -269,8 +273,8 @@ class Search:
                     self.telling.add(find.fields(self.job))
 
     def report_rest(self) -> None:
-        """Tells the finds that are left, and waits for the calls of the program for finds. After a
-        signal that ends the search at once, it tells what it can in a second, and calls nothing."""
+        """Reports the remaining finds and waits for the calls of the program for finds. After a
+        signal that ends the search at once, reports what it can in a second and calls nothing."""
         began = time.monotonic()
 
         def is_reported() -> bool:
@@ -301,7 +305,7 @@ class Search:
         self.terminal.complain(f"stops after {these}{when}; Ctrl-C again drops {them}")
 
     def say_what_is_left(self) -> None:
-        """Says once what is still to be done after the last batch."""
+        """Says once what remains to be done after the last batch."""
         if not self.said_what_is_left:
             self.said_what_is_left = True
             again = "again" if self.stopping.finishes else "twice"
@@ -332,6 +336,5 @@ class Search:
 
 
 def count_processors() -> int:
-    """Returns how many workers run if nobody says how many: one for each processor that this
-    process may use."""
+    """Returns the default number of workers: the number of processors that this process may use."""
     return min(MOST_WORKERS, len(os.sched_getaffinity(0)))

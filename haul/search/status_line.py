@@ -1,5 +1,5 @@
-"""The status line of a search: on a terminal one line that is written again and again, and
-otherwise a line per minute."""
+"""The status line of a search: on a terminal, a line that is updated in place; otherwise one line
+per minute."""
 
 from __future__ import annotations
 
@@ -9,28 +9,28 @@ from dataclasses import dataclass
 from haul.plurals import pluralize, write_count
 from haul.terminal import Terminal
 
-# How often the status is told.
+# How often the status is shown.
 SECONDS_ON_A_TERMINAL, SECONDS_ELSEWHERE = 1.0, 60.0
 
 
 @dataclass(frozen=True)
 class Status:
-    """How far a search is."""
+    """The progress of a search."""
 
-    # The soups of the haul, with those of the batch that runs.
+    # The number of soups in the haul and in the running batches.
     soups: int
-    # The soups that this call has run.
+    # The number of soups that this call has run.
     run: int
     objects: int
     codes: int
     finds: int
     # The running time of this call, in seconds.
     seconds: float
-    # How many soups are to be run still; none if there is no end.
+    # The number of soups that remain to be run, or `None` if the search has no end.
     left: int | None
 
     def rate(self) -> float:
-        """Returns how many soups a second this call has run."""
+        """Returns the number of soups per second that this call has run."""
         return self.run / self.seconds if self.seconds > 0 else 0.0
 
     def text(self) -> str:
@@ -72,22 +72,23 @@ class Status:
 
 
 def format_duration(seconds: float) -> str:
-    """Writes a time in hours, minutes and seconds, such as `121:02:03`."""
+    """Returns a duration as hours, minutes and seconds, such as `121:02:03`."""
     whole = int(seconds)
     return f"{whole // 3600}:{whole // 60 % 60:02}:{whole % 60:02}"
 
 
 def format_short(number: int) -> str:
-    """Writes a number with three digits, such as `12.3M`; one below a thousand as it is."""
+    """Returns a number with three digits, such as `12.3M`, or unchanged if it is below a
+    thousand."""
     if number < 1000:
         return str(number)
-    # With three digits, 999,500 is a million.
+    # Rounded to three digits, 999,500 is a million.
     size = (len(str(int(float(f"{number:.3g}")))) - 1) // 3
     return f"{number / 1000**size:.3g}{' kMGTPE'[size]}"
 
 
 class StatusLine:
-    """Tells a status when it is time for that."""
+    """Shows the status from time to time."""
 
     def __init__(self, terminal: Terminal) -> None:
         self.terminal = terminal
@@ -99,10 +100,10 @@ class StatusLine:
         return time.monotonic() >= self.next
 
     def show(self, status: Status) -> None:
-        """Writes the status to standard error. If that fails, nothing is said."""
+        """Writes the status to standard error. Failures are ignored."""
         self.next = time.monotonic() + self.every
         if self.is_on_a_terminal:
-            # A line that is wider than the terminal couldn't be wiped.
+            # A line that is wider than the terminal couldn't be erased.
             text = (
                 status.text() if len(status.text()) < self.terminal.width() else status.short_text()
             )

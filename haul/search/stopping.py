@@ -1,4 +1,4 @@
-"""What signals ask of work that ends by itself: to finish what runs, or to end at once."""
+"""Signals to work that can end by itself: either finish the running part, or end at once."""
 
 from __future__ import annotations
 
@@ -7,43 +7,43 @@ import signal
 import time
 from contextlib import suppress
 
-# Work that was asked to end at once has so many seconds for it. After that a further signal ends
+# After a signal to end at once, the work has this many seconds. A further signal after that ends
 # the program.
 SECONDS_TO_END = 10.0
 
 
 class Stopping:
-    """The signals that have come so far. The first Ctrl-C asks the work to finish what runs. Any
-    other signal asks it to drop that and to end; the program is then ended by the signal."""
+    """The signals so far. The first Ctrl-C asks the work to finish what is running. Any other
+    signal asks it to drop that and end, and then ends the program."""
 
     def __init__(self) -> None:
         self.finishes = False
-        # The signal that ends the program, and when it came; none if there isn't one.
+        # The signal that ends the program, or `None`, and when the signal came.
         self.number: int | None = None
         self.since: float
-        # Whether the work is at something that has to be done before the program ends.
+        # Whether the work is doing something that must be completed before the program ends.
         self.is_writing = False
-        # A byte comes out of this pipe for each signal, so that work that waits hears of it.
+        # Each signal writes a byte to this pipe, which wakes work that is waiting.
         self.reading, self.writing = os.pipe()
         os.set_blocking(self.reading, False)
         os.set_blocking(self.writing, False)
 
     def came(self, number: int) -> bool:
-        """Notes a signal, and returns whether the work may go on until it ends by itself. The main
-        thread calls this."""
+        """Notes a signal. Returns whether the work may go on until it ends by itself. Called by the
+        main thread."""
         if number == signal.SIGINT and not self.finishes and self.number is None:
             self.finishes = True
         elif self.number is None:
             self.number, self.since = number, time.monotonic()
         elif time.monotonic() - self.since >= SECONDS_TO_END and not self.is_writing:
             return False
-        # If the pipe is full, its bytes say the same.
+        # If the pipe is full, it wakes the work anyway.
         with suppress(BlockingIOError):
             os.write(self.writing, b"\0")
         return True
 
     def hear(self) -> None:
-        """Takes the bytes that have been written."""
+        """Reads the bytes that have been written to the pipe."""
         with suppress(BlockingIOError):
             # mutant: equal because the size of a read doesn't change what is printed
             os.read(self.reading, 4096)

@@ -1,4 +1,4 @@
-"""Tells finds: prints each, and has the program for finds called."""
+"""Reports finds: prints each one, and has the program for finds called."""
 
 from __future__ import annotations
 
@@ -9,17 +9,18 @@ from haul.plurals import write_count
 from haul.search.find_calls import FindCalls
 from haul.terminal import Terminal
 
-# On a terminal, what the reference doesn't have begins with this. Its last field says so.
+# On a terminal, the line of a find that the reference doesn't have begins with this. The last field
+# of such a line says so.
 UNKNOWN_MARK, UNKNOWN = "!", "none"
 
 
 class Telling:
-    """The finds that are still to be told."""
+    """The finds that remain to be reported."""
 
     def __init__(
         self, output: TextIO, terminal: Terminal, calls: FindCalls, finds: list[list[str]]
     ) -> None:
-        """Begins with finds that the search before didn't tell."""
+        """Begins with the finds that the previous search hadn't reported."""
         self.output = output
         self.terminal = terminal
         self.calls = calls
@@ -28,14 +29,14 @@ class Telling:
         self.count = 0
         # Whether a find couldn't be printed. Nothing is printed after that.
         self.has_failed = False
-        # Whether that was because the program that reads the finds has ended.
+        # Whether printing failed because the program that reads the finds has ended.
         self.has_no_reader = False
 
     def add(self, fields: list[str]) -> None:
         self.waiting.append(fields)
 
     def tell_next(self) -> None:
-        """Tells a find, which there is. Raises `OSError` if it can't be printed."""
+        """Reports the next find. There must be one. Raises `OSError` if it can't be printed."""
         fields = self.waiting[0]
         self.terminal.show_progress("")
         is_unknown = self.marks_finds and fields[-1].startswith(UNKNOWN)
@@ -57,8 +58,8 @@ class Telling:
         return not self.waiting or self.has_failed
 
     def list_untold(self) -> list[list[str]]:
-        """Returns the finds that weren't printed, and before them those whose calls haven't
-        ended."""
+        """Returns the finds whose calls haven't ended, followed by the finds that weren't
+        printed."""
         return [*self.calls.list_open(), *self.waiting]
 
     def what_is_left(self) -> list[str]:

@@ -1,5 +1,5 @@
-"""FILE.finds: what a search hasn't told yet, so that the next search tells it. docs/FORMATS.md
-describes the file."""
+"""FILE.finds: what a search hasn't reported yet, so that the next search reports it.
+docs/FORMATS.md describes the file."""
 
 from __future__ import annotations
 
@@ -12,7 +12,7 @@ from haul.formats.report_lines import PROFILE_TEXT, read_profile
 from haul.formats.syntax import RULE, SEED
 from haul.search.companion import Companion
 
-# No more lines are kept.
+# The most lines that are kept.
 MOST_LINES = 100_000
 SOUP = rb"(0|[1-9][0-9]{0,12})"
 HEADER = re.compile(
@@ -27,23 +27,23 @@ HEADER = re.compile(
     + rb")\n"
 )
 FIND = re.compile(rb"(?:[ -~]+\t){3}" + SOUP + rb"(?:\t[ -~]+){2}\n")
-# Where the soup stands in the fields of a find.
+# The place of the soup in the fields of a find.
 SOUP_FIELD = 3
 
 
 class BadFinds(Exception):
-    """Why a text isn't that of a FILE.finds."""
+    """Raised if a text isn't a FILE.finds. Gives the reason."""
 
 
 @dataclass
 class Untold:
-    """The finds that weren't told, by their fields, and which objects weren't looked at."""
+    """The fields of the finds that weren't reported, and which objects weren't examined."""
 
     job: Job
-    # The objects that no soup before this one left weren't looked at.
+    # Objects that no soup before this one left haven't been examined.
     since: int = NUMBER_LIMIT
     finds: list[list[str]] = field(default_factory=list)
-    # How many finds were left out.
+    # The number of finds that were left out.
     left_out: int = 0
 
     def is_empty(self) -> bool:
@@ -59,7 +59,8 @@ class Untold:
 
 
 def read_untold(text: Iterable[bytes]) -> Untold:
-    """Reads a text, given by its lines with their line feeds. Raises `BadFinds`."""
+    """Reads a text, given by its lines with their line feeds. Raises `BadFinds` if it isn't a
+    FILE.finds."""
     lines = iter(text)
     header = HEADER.fullmatch(next(lines, b""))
     profile = read_profile(header[4]) if header else None
@@ -76,7 +77,7 @@ def read_untold(text: Iterable[bytes]) -> Untold:
 
 
 def open_untold(haul: Haul, kept: Companion) -> Untold:
-    """Returns what the searches before haven't told of the soups of a haul."""
+    """Returns what the previous searches haven't reported about the soups of a haul."""
     untold = kept.read(read_untold, BadFinds)
     if untold is not None and untold.job != haul.job:
         kept.reject("other job")

@@ -1,5 +1,5 @@
-"""Files that are whole at any time: a new text is written beside a file, and then takes its
-place."""
+"""Files that are complete at any time: a new text is written beside the file, and then replaces
+it."""
 
 from __future__ import annotations
 
@@ -9,15 +9,15 @@ import stat
 from collections.abc import Iterable, Iterator
 from contextlib import contextmanager, suppress
 
-# A file is made with these rights, less those that the user's mask takes away.
+# The permissions of a new file, before the user's mask is applied.
 ANY_RIGHTS = 0o666
-# What files have in common that are written at the same time.
+# Identifies a version of a file.
 Stamp = tuple[int, int, int]
 
 
 def find_stamp(path: str) -> Stamp | None:
-    """Returns what a file is known by: its inode, its size and when it was written. `None` if it
-    isn't there."""
+    """Returns what identifies a version of a file: its inode, its size and its modification time.
+    Returns `None` if there is no such file."""
     try:
         return make_stamp(os.stat(path))
     except FileNotFoundError:
@@ -30,11 +30,11 @@ def make_stamp(found: os.stat_result) -> Stamp:
 
 @contextmanager
 def write_new_text(path: str, lines: Iterable[bytes], rights_of: str) -> Iterator[Stamp | None]:
-    """Writes a new text for a file, with the rights of another one, and yields what the file will be
-    known by. The text takes the place of the file afterwards. The file has its old text until the
-    new one is safe on the disk, also if something fails with an exception."""
+    """Writes a new text for a file, with the permissions of the file `rights_of`, and yields what
+    will identify the new version. Afterwards the text replaces the file. The file keeps its old
+    text until the new text is safely on disk, even if an exception is raised."""
     new = f"{path}.new"
-    # A search that was killed may have left one.
+    # A search that was killed may have left a new text behind.
     with suppress(FileNotFoundError):
         os.unlink(new)
     with removed_on_failure(new):
@@ -58,7 +58,7 @@ def removed_on_failure(path: str) -> Iterator[None]:
 
 @contextmanager
 def named_in_faults(path: str) -> Iterator[None]:
-    """Names this file in each `OSError`."""
+    """Adds the name of this file to each `OSError`."""
     try:
         yield
     except OSError as error:
@@ -66,14 +66,14 @@ def named_in_faults(path: str) -> Iterator[None]:
 
 
 def replace_file(path: str, lines: Iterable[bytes], rights_of: str) -> Stamp | None:
-    """Replaces a file by a new text, with the rights of another file. Returns what the file is known
-    by now."""
+    """Replaces the text of a file, with the permissions of the file `rights_of`. Returns what
+    identifies the new version."""
     with write_new_text(path, lines, rights_of) as stamp:
         return stamp
 
 
 def write_file(new: str, lines: Iterable[bytes], rights_of: str) -> None:
-    """Writes a file that isn't there yet, with the rights of another one."""
+    """Writes a file that doesn't exist yet, with the permissions of the file `rights_of`."""
     number = os.open(new, os.O_WRONLY | os.O_CREAT | os.O_EXCL | os.O_CLOEXEC, ANY_RIGHTS)
     with open(number, "wb") as file:
         with suppress(FileNotFoundError):
@@ -84,14 +84,14 @@ def write_file(new: str, lines: Iterable[bytes], rights_of: str) -> None:
 
 
 def remove_file(path: str) -> None:
-    """Removes a file if it is there."""
+    """Removes a file if it exists."""
     with suppress(FileNotFoundError):
         os.unlink(path)
         sync_folder(os.path.dirname(path) or os.curdir)
 
 
 def move_aside(path: str) -> str:
-    """Renames a file that can't be used, and returns its new name, which no other file has."""
+    """Renames a file that can't be used. Returns its new name, which no other file has."""
     name, number = f"{path}.bad", 1
     while os.path.lexists(name):
         number += 1
@@ -102,7 +102,7 @@ def move_aside(path: str) -> str:
 
 
 def sync_folder(path: str) -> None:
-    """Makes sure that a new name in a folder is on the disk. Some file systems can't do that for a
+    """Makes sure that a new name in a folder is on disk. Some file systems can't do that for a
     folder."""
     folder = os.open(path, os.O_RDONLY | os.O_DIRECTORY | os.O_CLOEXEC)
     try:

@@ -1,2 +1,2 @@
-"""The tests of `haul`, which `python3 -m unittest discover` finds, too. Most need the built
+"""The tests of `haul`, which `python3 -m unittest discover` also finds. Most tests need the built
 program."""

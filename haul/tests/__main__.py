@@ -1,4 +1,5 @@
-"""Runs all tests. The last line is `N passed, M failed`, with `, K skipped` if some were."""
+"""Runs all tests. The last line is `N passed, M failed`, followed by `, K skipped` if tests were
+skipped."""
 
 import os
 import sys
@@ -10,7 +11,7 @@ FOLDER = Path(__file__).resolve().parent
 
 with tempfile.TemporaryDirectory(ignore_cleanup_errors=True) as compiled:
     # If Python mustn't write compiled modules beside the sources, each start of `haul` would
-    # compile all of them again.
+    # compile all modules again.
     if os.environ.pop("PYTHONDONTWRITEBYTECODE", ""):
         os.environ["PYTHONPYCACHEPREFIX"] = compiled
     suite = unittest.defaultTestLoader.discover(str(FOLDER), top_level_dir=str(FOLDER.parents[1]))

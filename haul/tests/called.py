@@ -1,4 +1,4 @@
-"""The built program and the companion, called as a user calls them."""
+"""Calls the built program and the companion as a user would."""
 
 from __future__ import annotations
 
@@ -27,9 +27,9 @@ TOP = Path(__file__).resolve().parents[2]
 CENSUS = str(TOP / "crates" / "census" / "out" / "census")
 HAUL = str(TOP / "bin" / "haul")
 # The companion as if it were installed beside the built program, so that no launcher checks at each
-# call whether the program has to be built.
+# call whether the program must be built.
 INSTALLED_HAUL = str(Path(CENSUS).with_name("haul"))
-# Where nobody reads what is written.
+# Where output is discarded.
 QUIET = Terminal(io.StringIO())
 
 
@@ -41,19 +41,19 @@ def census(*words: str) -> bytes:
 
 
 def make_client(path: str = CENSUS) -> Census:
-    """Returns a client of the built program, or of another one."""
+    """Returns a client of the built program, or of the program at `path`."""
     return Census(path, Terminal(sys.stderr))
 
 
 @lru_cache
 def taken(count: int) -> bytes:
-    """Returns the haul of the first soups of the empty seed."""
+    """Returns the haul of the first `count` soups of the empty seed."""
     return census("take", "--count", str(count))
 
 
 def run(*words: str, text: bytes = b"", cwd: str | None = None) -> tuple[int, str, str]:
-    """Calls `haul` in this process, and returns its status and what it prints on both streams.
-    test_ends.py and test_packed.py start it as a user does."""
+    """Calls `haul` in this process. Returns its status and what it prints on both streams.
+    test_ends.py and test_packed.py start it in its own process instead."""
     output, errors = (
         io.TextIOWrapper(io.BytesIO(), "utf-8", "surrogateescape", "\n") for _ in range(2)
     )
@@ -63,7 +63,7 @@ def run(*words: str, text: bytes = b"", cwd: str | None = None) -> tuple[int, st
 
 
 def read_back(stream: io.TextIOWrapper) -> str:
-    """Returns what was written to a stream over bytes."""
+    """Returns what was written to a text stream over bytes."""
     stream.seek(0)
     return stream.read()
 
@@ -75,7 +75,7 @@ def call(
     stderr: TextIO,
     cwd: str | None = None,
 ) -> int:
-    """Calls `haul` in this process, in a folder, and returns its status."""
+    """Calls `haul` in this process, in the folder `cwd`, and returns its status."""
     with patch.object(sys, "argv", [INSTALLED_HAUL, *words]), in_folder(cwd):
         return main(list(words), stdin, stdout, stderr)
 
@@ -91,7 +91,7 @@ def in_folder(folder: str | None) -> Iterator[None]:
 
 
 def read_terminal(write: Callable[[TextIO], object]) -> bytes:
-    """Returns what is written to a terminal by a function that is called with it."""
+    """Calls a function with a terminal, and returns what it writes to the terminal."""
     ours, its = pty.openpty()
     pieces: list[bytes] = []
 
@@ -112,14 +112,14 @@ def read_terminal(write: Callable[[TextIO], object]) -> bytes:
 
 
 def as_haul(*words: str) -> Callable[[], None]:
-    """Returns a `preexec_fn` with which a process that `subprocess` forks becomes `haul` with these
-    arguments. Tests of signals and of open files use this: a start of Python would take longer than
-    most of them."""
+    """Returns a `preexec_fn` that turns a process forked by `subprocess` into `haul` with these
+    arguments. Tests of signals and of open files use this, because a start of Python would take
+    longer than most of them."""
     # Another thread could hold a lock, which nobody would release in the new process.
     assert threading.active_count() == 1 and not children.running and children.stopping is None
 
     def work() -> int:
-        # As bin/haul has it.
+        # The same as in bin/haul.
         if signal.getsignal(signal.SIGINT) is not signal.SIG_IGN:
             signal.signal(signal.SIGINT, signal.SIG_DFL)
         sys.argv = [INSTALLED_HAUL, *words]

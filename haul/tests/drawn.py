@@ -1,5 +1,5 @@
-"""Hauls that are drawn at random, the same ones in each call. What they say of soups isn't right;
-it only is lawful."""
+"""Random hauls, which are the same in each call. What they say about soups isn't right, but their
+form is valid."""
 
 from __future__ import annotations
 

@@ -1,5 +1,5 @@
-"""A process that `subprocess` forks, and that goes on with code of this one in place of another
-program."""
+"""A process that is forked by `subprocess` and continues with code of this process instead of
+another program."""
 
 from __future__ import annotations
 
@@ -16,17 +16,17 @@ FILES = 100
 
 
 def go_on(work: Callable[[], int]) -> NoReturn:
-    """Does the work as if Python had just been started for it, and ends with the status that it
-    returns. It is called by the `preexec_fn` of a call of `subprocess`, which then takes this
-    process for the program that it has started: its streams, its folder and its session are as the
-    call asks, and what it prints, and how it ends, is seen as that of any program."""
+    """Does the work as if Python had just been started for it, and ends with the returned status.
+    Call this from the `preexec_fn` of a call of `subprocess`. `subprocess` then takes this process
+    for the program that it has started. Its streams, folder and session are those of the call, and
+    its output and its end are treated like those of any program."""
     status = 1
     try:
-        # What is garbage now would close its files later, and their numbers would be those of
-        # others then.
+        # Objects that are garbage now would close their files later, when the numbers belong to
+        # other files.
         gc.freeze()
         gc.enable()
-        # One of these is that by which `subprocess` waits for the start of the program.
+        # `subprocess` waits for the start of the program with one of these files.
         os.closerange(3, FILES)
         for number in (signal.SIGPIPE, signal.SIGXFSZ):
             signal.signal(number, signal.SIG_IGN)

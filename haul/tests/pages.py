@@ -1,4 +1,4 @@
-"""Pages, and what is read from them: the table for readers without scripts, and the data of the
+"""Pages, and functions that read them: the table for readers without scripts, and the data of the
 script."""
 
 from __future__ import annotations
@@ -15,7 +15,7 @@ from haul.tests.called import make_client
 
 
 def page(haul: Haul, play: int = 500) -> str:
-    """Returns the page of a haul. `play` is `--play`."""
+    """Returns the page of a haul. `play` is the value of `--play`."""
     return "".join(make_page(make_client(), [haul], 1, play))
 
 
@@ -24,7 +24,7 @@ def compared(*hauls: Haul, least: int = 1, play: int = 0) -> str:
 
 
 def data_of(text: str) -> dict[str, Any]:
-    """Reads the data of a page."""
+    """Returns the data of a page."""
     found: dict[str, Any] = json.loads(
         re.findall('<script type="application/json" id="data">(.*?)</script>', text, re.DOTALL)[0]
     )
@@ -32,7 +32,7 @@ def data_of(text: str) -> dict[str, Any]:
 
 
 def objects_of(text: str) -> dict[str, Any]:
-    """Returns the objects in the data of a page by their codes."""
+    """Returns the objects in the data of a page, by code."""
     return {one["code"]: one for one in data_of(text)["objects"]}
 
 
@@ -40,12 +40,12 @@ RATES = ("rarity", "ends", "stars")
 
 
 def without_rates(one: dict[str, Any]) -> dict[str, Any]:
-    """Returns an object of a page without what is said of the rates of parts."""
+    """Returns an object of a page without the data about the rates of parts."""
     return {name: value for name, value in one.items() if name not in RATES}
 
 
 def before_table(text: str) -> str:
-    """Returns what a page has before its table."""
+    """Returns the text of a page before its table."""
     return text.partition("<noscript>")[0].partition("<body>")[2]
 
 
@@ -59,8 +59,8 @@ class Row:
 
 
 class Table(HTMLParser):
-    """The table of a page. What stands in a `noscript` element is for this reader as for a browser
-    without scripts."""
+    """The table of a page. This reader handles a `noscript` element like a browser without
+    scripts."""
 
     def __init__(self, text: str) -> None:
         super().__init__()
@@ -86,7 +86,7 @@ class Table(HTMLParser):
                 self.rows[-1].paths.append(known["d"] or "")
 
     def handle_data(self, data: str) -> None:
-        # A line feed stands only between rows.
+        # Line feeds occur only between rows.
         if self.place == "thead" and self.heads:
             self.heads[-1] += data
         elif self.place == "tbody" and self.rows and self.rows[-1].cells:

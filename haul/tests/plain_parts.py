@@ -1,4 +1,4 @@
-"""Separation by brute force, written from the definition in docs/PROFILE.md alone. It shares no code
+"""Separation by brute force, written only from the definition in docs/PROFILE.md. It shares no code
 with the program."""
 
 from __future__ import annotations
@@ -90,7 +90,8 @@ def text_of(cells: Cells) -> str | None:
 
 
 def recurring(rule: Rule, cells: Cells) -> tuple[int, Cell, list[Cells]] | None:
-    """The period, the displacement and the phases."""
+    """Returns the period, the displacement and the phases of a pattern, or `None` if it doesn't
+    recur."""
     phases = [cells]
     for period in range(1, 65):
         later = next_of(rule, phases[-1])
@@ -159,7 +160,7 @@ def partitions(things: list[int]) -> Iterator[list[list[int]]]:
 
 
 def parts_of(rule: Rule, code: str) -> tuple[list[str], bool, bool]:
-    """The parts of an object, whether it is strict, and whether it is separated."""
+    """Returns the parts of an object, whether it is strict, and whether it is separated."""
     itself = [code], False, False
     match = re.fullmatch("x([spq])([0-9]+)_([0-9a-z]+)", code)
     found = recurring(rule, drawing_of(match[3])) if match else None

@@ -27,21 +27,22 @@ from haul.search.stopping import Stopping
 from haul.search.untold import Untold
 from haul.tests.called import CENSUS, HAUL, as_haul, census
 
-# A soup of the empty seed that leaves a clock, and the code of that. 100,000 soups leave two.
+# A soup of the empty seed that leaves a clock, and the code of the clock. 100,000 soups leave two
+# clocks.
 CLOCK_SOUP, CLOCK = 23473, "xp2_2a54"
 # A profile under which a soup takes no time.
 QUICK = ["--period=1", "--horizon=1", "--stride=1", "--limit=0"]
 
 
 def of_take(haul: Haul) -> bytes:
-    """What `census take` prints over the soups of a haul."""
+    """Returns what `census take` prints for the soups of a haul."""
     return census(*list_take_arguments(haul.job, haul.ranges, 4, False))
 
 
 def make_search(
     plan: Plan, haul: Haul, keeper: Keeper, client: Census, stopping: Stopping, output: TextIO
 ) -> Search:
-    """A search that goes on with a haul, and knows of no late soups and no finds."""
+    """Returns a search that continues with a haul, and that has no late soups and no finds."""
     late_file, finds_file = (
         Companion(keeper.path, keeper.name, suffix, client.terminal.complain)
         for suffix in ("late", "finds")
@@ -51,7 +52,7 @@ def make_search(
 
 
 class Searches(unittest.TestCase):
-    """Runs searches in a folder of its own, each of which must leave nothing running."""
+    """Runs searches in a folder of its own. Each search must leave nothing running."""
 
     def setUp(self) -> None:
         folder = tempfile.TemporaryDirectory(ignore_cleanup_errors=True)
@@ -70,14 +71,14 @@ class Searches(unittest.TestCase):
         most_bytes: int | None = None,
         is_forked: bool = False,
     ) -> subprocess.Popen[bytes]:
-        """Starts a search in a process group of its own, in which no file may be longer than
-        `most_bytes`. It may be forked."""
+        """Starts a search in its own process group, in which no file may be longer than
+        `most_bytes`. If `is_forked` is set, it is forked from this process."""
         words = ("search", *words, "--census", program, file)
         become = as_haul(*words)
 
         def prepare() -> None:
-            # Tests that run in the background, or under `nohup`, ignore signals, and so would the
-            # program.
+            # Tests that run in the background, or under `nohup`, ignore signals, and the program
+            # would inherit that.
             signal.signal(signal.SIGINT, signal.SIG_DFL)
             signal.signal(signal.SIGHUP, signal.SIG_IGN if self.has_nohup else signal.SIG_DFL)
             if most_bytes is not None:
@@ -102,7 +103,7 @@ class Searches(unittest.TestCase):
         file: str = "mine.haul",
         most_bytes: int | None = None,
     ) -> tuple[int, str, str]:
-        """The status of a search, and what it prints on both streams."""
+        """Runs a search. Returns its status and what it prints on both streams."""
         with self.start(
             *words, program=program, file=file, most_bytes=most_bytes, is_forked=most_bytes is None
         ) as running:
@@ -110,7 +111,7 @@ class Searches(unittest.TestCase):
         return running.returncode, output.decode(), errors.decode()
 
     def stub(self, script: str, name: str = "stub") -> str:
-        """A program for a shell script, in which `real` is the census program."""
+        """Writes a shell script, in which `real` is the census program, and returns its path."""
         path = self.folder / name
         path.write_text(f'#!/bin/bash\nreal() {{ exec "{CENSUS}" "$@"; }}\n{script}\n')
         path.chmod(0o755)
@@ -121,11 +122,11 @@ class Searches(unittest.TestCase):
             return read_one_haul(file)
 
     def soups(self) -> int:
-        """How many soups the file has."""
+        """Returns the number of soups in the file."""
         return self.haul().soups if self.file.exists() else 0
 
     def wait_for(self, soups: int) -> None:
-        """Waits until the file has so many soups."""
+        """Waits until the file has `soups` soups."""
         for _ in range(3000):
             if self.soups() >= soups:
                 return
@@ -133,15 +134,15 @@ class Searches(unittest.TestCase):
         self.fail(f"the file has {self.soups()} soups")
 
     def assert_right(self) -> None:
-        """The file is what `census take` prints over its soups."""
+        """Checks that the file is what `census take` prints for its soups."""
         self.assertEqual(self.file.read_bytes(), of_take(self.haul()))
 
     def assert_left(self, *names: str) -> None:
-        """Nothing else is in the folder."""
+        """Checks that nothing else is in the folder."""
         self.assertEqual(sorted(os.listdir(self.folder)), sorted(names))
 
     def running_here(self) -> list[int]:
-        """The processes whose folder is that of the test."""
+        """Returns the processes whose folder is that of the test."""
         found = []
         for process in Path("/proc").glob("[0-9]*"):
             with suppress(OSError):

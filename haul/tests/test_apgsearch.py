@@ -1,4 +1,5 @@
-"""Hauls of apgsearch: read, counted, compared, shown and checked. And texts that are no hauls."""
+"""Hauls of apgsearch: how they are read, counted, compared, shown and checked. Also texts that
+aren't hauls."""
 
 from __future__ import annotations
 
@@ -55,7 +56,7 @@ class Apgsearch(unittest.TestCase):
         return told.removeprefix(f"haul: {words[-1]}: ").removesuffix("\n")
 
     def test_table(self) -> None:
-        """Totals are by parts already. What `census` doesn't count has no rarity."""
+        """The totals are already by parts. Objects that `census` doesn't count have no rarity."""
         status, printed, told = run("table", "--csv", self.file)
         self.assertEqual((status, told), (0, ""))
         rows = {row["code"]: row for row in csv.DictReader(printed.splitlines())}
@@ -87,7 +88,8 @@ class Apgsearch(unittest.TestCase):
                 self.assertEqual(run("table", self.write(name, text)), printed)
 
     def test_compare(self) -> None:
-        """Such a haul stands beside one of `census`, and stars are a test by the reference."""
+        """A haul of apgsearch can be compared with a haul of `census`, and stars are a test with
+        the reference."""
         own = self.folder / "own"
         own.write_bytes(census("take", "--count", "100"))
         status, printed, told = run("compare", str(own), self.file)
@@ -98,7 +100,7 @@ class Apgsearch(unittest.TestCase):
         rows = csv.DictReader(run("compare", "--csv", str(own), self.file)[1].splitlines())
         glider = next(row for row in rows if row["code"] == "xq4_153")
         self.assertEqual((glider["differs_b"], glider["unsettled_b"]), ("*", ""))
-        # Soups with a symmetry aren't those of the reference.
+        # Soups with a symmetry aren't covered by the reference.
         other = self.write("other", TEXT.replace("C1", "D2_+1"))
         self.assertNotIn("one_in", run("compare", self.file, other)[1])
         self.assertIn("symmetry=D2_+1", run("compare", self.file, other)[1])
@@ -152,7 +154,7 @@ class Apgsearch(unittest.TestCase):
         self.assertEqual((status, printed), (7, "xs4_33: soup 0 leaves no such part\n"))
 
     def test_totals(self) -> None:
-        """The census of as many soups says which totals differ."""
+        """The census of as many soups shows which totals differ."""
         haul = census("take", "--seed=k_abc", "--count", "100")
         (self.folder / "own").write_bytes(haul)
         rows = csv.DictReader(run("table", "--csv", str(self.folder / "own"))[1].splitlines())
@@ -180,7 +182,7 @@ class Apgsearch(unittest.TestCase):
         )
 
     def test_the_sum(self) -> None:
-        """A total that doesn't fit the number of objects is told."""
+        """A total that doesn't fit the number of objects is reported."""
         text = TEXT.replace("xp2_7 716", "xp2_7 717")
         path = self.write("sum", text)
         status, _, told = run("table", path)
@@ -191,7 +193,7 @@ class Apgsearch(unittest.TestCase):
         )
 
     def test_damage(self) -> None:
-        """Each is one line, and nothing is printed."""
+        """Each kind of damage gives a single line, and no output."""
         for name, old, new, why in (
             ("twice", "xs4_33 665", "xp2_7 665", "line 11 column 1: this was said before"),
             ("negative", "xs4_33 665", "xs4_33 -5", "line 11 column 8: no number"),
@@ -218,7 +220,7 @@ class Apgsearch(unittest.TestCase):
         self.assertIn("the line is too long", self.refused("table", long))
 
     def test_what_texts_look_like(self) -> None:
-        """A text that is no haul is refused with what it looks like."""
+        """A text that isn't a haul is refused with a message about what it looks like."""
         own = census("take", "--count", "1").decode()
         for name, text, form in (
             ("lines", census("work", "--worker=1", "--count=1").decode(), "report lines"),
@@ -243,8 +245,8 @@ class Apgsearch(unittest.TestCase):
         )
 
     def test_rules(self) -> None:
-        """A rule may be given by its name or as Golly writes it, and is told as `census` takes
-        it."""
+        """A rule may be given by its name or in Golly's notation, and is printed in the form that
+        `census` accepts."""
         glider = self.write("glider", ".O\n..O\nOOO\n")
         for given, rule, shown in (
             ("HighLife", "b36s23", "B36/S23"),

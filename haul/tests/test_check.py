@@ -1,4 +1,4 @@
-"""`haul check` of several files, and of some that are drawn."""
+"""`haul check` of several files, and of randomly chosen ones."""
 
 from __future__ import annotations
 
@@ -23,7 +23,7 @@ MISSING = "haul with missing soups, which can't be taken again; --samples runs i
 
 
 class Several(unittest.TestCase):
-    """Three right hauls, a wrong one, a text that is no haul, and one with missing soups."""
+    """Three right hauls, a wrong one, a text that isn't a haul, and a haul with missing soups."""
 
     def setUp(self) -> None:
         folder = tempfile.TemporaryDirectory()
@@ -128,13 +128,13 @@ class Choices(unittest.TestCase):
     NAMES = [f"parts/{number}.haul" for number in range(250)]
 
     def test_it_can_be_repeated(self) -> None:
-        """In the order of the files that are given, and whatever this order is."""
+        """The chosen files are in the given order, and don't depend on the order."""
         chosen = FileChoice(self.NAMES, 20, "x").choose()
         self.assertEqual(len(set(chosen)), 20)
         self.assertEqual(chosen, sorted(chosen, key=self.NAMES.index))
         self.assertEqual(set(FileChoice(self.NAMES[::-1], 20, "x").choose()), set(chosen))
         self.assertNotEqual(FileChoice(self.NAMES, 20, "y").choose(), chosen)
-        # As sha256sum has it: for n in a b c; do printf 'x %s' $n | sha256sum; done
+        # The digests are those of sha256sum: for n in a b c; do printf 'x %s' $n | sha256sum; done
         self.assertEqual(FileChoice(["a", "b", "c"], 1, "x").choose(), ["b"])
 
     def test_each_file_is_as_likely(self) -> None:
@@ -152,7 +152,8 @@ class Choices(unittest.TestCase):
         self.assertEqual(FileChoice(["a", "a"], 2, "x").choose(), ["a", "a"])
 
     def test_the_chance_to_miss(self) -> None:
-        """Counted over all choices, of which one in `comb` is as likely as any other."""
+        """The chance is counted over all choices, which are equally likely and whose number is
+        `comb`."""
         self.assertEqual(
             [count_wrong_files(files) for files in (1, 99, 100, 101, 1000)], [1, 1, 1, 2, 10]
         )

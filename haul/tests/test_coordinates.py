@@ -33,7 +33,7 @@ class Written(unittest.TestCase):
         )
 
     def test_as_plaintext(self) -> None:
-        """The lines after the first are those of the same pattern in plaintext."""
+        """The lines after the first are the lines for the same pattern in plaintext."""
         draw = random.Random("coordinates")
         for _ in range(50):
             width, height = draw.randint(1, 90), draw.randint(1, 40)
@@ -54,7 +54,7 @@ class Written(unittest.TestCase):
             self.assertEqual(lines, format_rle(rows, "b3s23"))
 
     def test_without_a_limit(self) -> None:
-        """Neither of the pattern's size nor of the text's."""
+        """There is no limit to the size of the pattern, or to the length of the text."""
         status, output, _ = rle("0 0\n999999999999999 -999999999999999\n")
         self.assertEqual(
             (status, output.splitlines()[1]),
@@ -68,11 +68,11 @@ class Written(unittest.TestCase):
             self.assertEqual(rle(many), (5, "", "haul: input longer than 1000 bytes\n"))
 
     def test_what_is_passed_over(self) -> None:
-        """Empty lines, carriage returns, and a cell that comes twice."""
+        """Empty lines and carriage returns are skipped, and a cell may occur twice."""
         self.assertEqual(rle("\n1 2\r\n\r\n1 2\n0 2"), rle("0 2\n1 2\n"))
 
     def test_no_cell(self) -> None:
-        """It has no place, so it is the empty plaintext."""
+        """Such a text has no place, so it is the empty plaintext."""
         self.assertEqual(rle(""), (0, "x = 0, y = 0, rule = B3/S23\n!\n", ""))
 
 
@@ -105,7 +105,7 @@ class Refused(unittest.TestCase):
 
 class Lines(unittest.TestCase):
     def test_a_line_that_is_cut(self) -> None:
-        """The text is read in pieces, of which one ends within a line."""
+        """The text is read in pieces, and one piece ends within a line."""
         text = b"10 20\n11 20\n12 20\n"
         for limit in range(1, len(text)):
             with patch.object(streams, "PATTERN_LIMIT", limit):

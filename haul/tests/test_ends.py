@@ -1,5 +1,5 @@
-"""How `haul` ends: its statuses and lines where a stream, the census program or the user lets it
-down, and what it leaves running."""
+"""How `haul` ends: its statuses and messages if a stream, the census program or the user fails it,
+and what it leaves running."""
 
 from __future__ import annotations
 
@@ -25,14 +25,14 @@ from haul.tests.called import CENSUS, HAUL, TOP, call, census, read_terminal, ru
 from haul.tests.drawn import text_of
 from haul.tests.test_text import SMALL
 
-# A wrong haul with enough soups that its census takes hours.
+# A wrong haul with so many soups that its census takes hours.
 LONG = (
     SMALL.replace("@RANGE 0 4", f"@RANGE 0 {2**24}")
     .replace("SOUPS 2", f"SOUPS {2**24}")
     .replace("@PROFILE 1 1 1 0", "@PROFILE 64 512 101 30300")
 )
 
-# A haul of so many sample soups that several calls run them. It isn't right.
+# A haul with so many sample soups that several calls run them. It isn't right.
 CODES = [f"xs4_{number}" for number in range(1000, 1600)]
 MANY = text_of(
     Haul(
@@ -48,8 +48,8 @@ MANY = text_of(
 
 
 def fill(folder: str, script: str) -> None:
-    """Writes `small`, a haul of two soups, `three`, one of three, and `other`, a program with this
-    script."""
+    """Writes three files: `small`, a haul of two soups; `three`, a haul of three soups; and
+    `other`, a program with this script."""
     Path(folder, "small").write_bytes(taken(2))
     Path(folder, "three").write_bytes(taken(3))
     Path(folder, "other").write_text(f"#!/bin/sh\n{script}\n")
@@ -57,8 +57,8 @@ def fill(folder: str, script: str) -> None:
 
 
 def in_shell(command: str, script: str = "", few: str = "") -> tuple[int, str, str]:
-    """The status and both outputs of a shell's command in a folder that `fill` has filled, in which
-    `haul` is the companion, and `$few` a text of Python."""
+    """Runs a shell command in a folder that `fill` has filled. `haul` is the companion, and `$few`
+    is a text in Python. Returns the status and both outputs."""
     with tempfile.TemporaryDirectory() as folder:
         fill(folder, script)
         shell = f'haul() {{ "{sys.executable}" "{HAUL}" "$@"; }}; {command}'
@@ -110,7 +110,7 @@ class Streams(unittest.TestCase):
             with self.subTest(words=words):
                 self.assertEqual(in_shell(f"haul {words} <&-"), (5, "", bad))
         self.assertEqual(in_shell("haul check small <&-"), (0, "right\n", ""))
-        # No other stream is read in its place, though it may be.
+        # No other stream is read in its place, even if it can be.
         self.assertEqual(in_shell("haul join <&- 1<> other"), (5, "", bad))
 
     def test_closed_output(self) -> None:
@@ -124,7 +124,7 @@ class Streams(unittest.TestCase):
         ):
             with self.subTest(words=words):
                 self.assertEqual(in_shell(f"haul {words} >&-"), (5, "", bad))
-        # The files that are read don't get the number of the output.
+        # The files that are read don't get the output's number.
         self.assertEqual(
             in_shell("haul join small nowhere >&-"),
             (5, "", "haul: nowhere: No such file or directory\n"),
@@ -153,20 +153,20 @@ class Streams(unittest.TestCase):
 
 
 class Progress(unittest.TestCase):
-    """On a terminal one line says how far it is, and is wiped at the end."""
+    """On a terminal, a progress line is shown and erased at the end."""
 
     def told(self, *words: str, text: bytes) -> list[str]:
-        """The lines of what is written to a terminal."""
+        """Returns the lines that are written to a terminal."""
         said = self.written(*words, text=text)
         self.assertTrue(said.endswith(b"\r\x1b[K"))
         return [line for line in said.decode().split("\r\x1b[K") if line]
 
     def written(self, *words: str, text: bytes) -> bytes:
-        """What is written to a terminal as standard error."""
+        """Returns what is written to a terminal as standard error."""
         return read_terminal(lambda stderr: call(words, io.BytesIO(text), io.StringIO(), stderr))
 
     def test_objects_that_are_separated(self) -> None:
-        """After each five hundred."""
+        """Progress is shown after each five hundred objects."""
         codes = [f"xs4_{number}" for number in range(1000, 1600)]
         text = text_of(
             Haul(
@@ -186,7 +186,7 @@ class Progress(unittest.TestCase):
             )
 
     def test_soups_that_are_run(self) -> None:
-        """A hundred by one call."""
+        """One call runs a hundred soups."""
         codes = [f"xs4_{number}" for number in range(1000, 1150)]
         text = text_of(
             Haul(
@@ -235,7 +235,8 @@ class Progress(unittest.TestCase):
         )
 
     def test_a_census(self) -> None:
-        """That of the program is passed on, as docs/COMMANDS.md has it, and wiped."""
+        """The progress line of the program is passed on, as described in docs/COMMANDS.md, and
+        erased."""
         said = self.written("check", text=taken(40))
         self.assertTrue(said.startswith(b"\r0 of 40 soups") and said.endswith(b" \r"))
 
@@ -262,7 +263,7 @@ class Usage(unittest.TestCase):
         self.assertEqual(run("--help")[0], 0)
 
     def test_values(self) -> None:
-        """What isn't one is told, whatever else it is."""
+        """An invalid value is reported, whatever it is."""
         for words, told in (
             (["check", "--workers=0"], "0 is not in 1 to 16"),
             (["check", "--workers=17"], "17 is not in 1 to 16"),
@@ -279,7 +280,8 @@ class Usage(unittest.TestCase):
             self.assertIn(told, errors)
 
     def test_help(self) -> None:
-        """Each command says what it does, in the list of all and by itself."""
+        """The help says what each command does, both in the list of commands and in the command's
+        own help."""
         listed = " ".join(run("--help")[1].split())
         for command, does in (
             ("search", "run soups until it is stopped, and keep their haul in FILE"),
@@ -316,7 +318,7 @@ class Usage(unittest.TestCase):
 
 
 class Starter(unittest.TestCase):
-    """What Python itself would say before this program begins."""
+    """What Python itself would print before this program begins."""
 
     def test_a_folder_as_input(self) -> None:
         ended = subprocess.run(
@@ -327,7 +329,7 @@ class Starter(unittest.TestCase):
         )
 
     def test_an_interrupt_while_python_starts(self) -> None:
-        """It ends without a word, whenever it comes; a shell says 130 then."""
+        """`haul` ends silently, whenever the interrupt comes. A shell reports status 130."""
         for moment in range(30):
             with subprocess.Popen(
                 [HAUL, "join"],
@@ -338,14 +340,14 @@ class Starter(unittest.TestCase):
             ) as program:
                 time.sleep(moment * 0.003)
                 program.send_signal(signal.SIGINT)
-                # Its input stays open until then, since an empty haul would be a fault to tell of.
+                # The input stays open until then, since an empty haul would be reported as a fault.
                 program.wait(60)
                 errors = program.communicate()[1]
             self.assertEqual((program.returncode, errors), (-signal.SIGINT, b""))
 
 
 class NoThreads(unittest.TestCase):
-    """The system starts no more threads, of which the first one is that in which all is done."""
+    """The system starts no thread, or none after the first one, in which all work is done."""
 
     def test_each_is_told(self) -> None:
         for least, words in (
@@ -371,13 +373,13 @@ class NoThreads(unittest.TestCase):
 
 class Unforeseen(unittest.TestCase):
     def test_a_fault_of_this_program(self) -> None:
-        """It has a status of its own."""
+        """It has its own status."""
         script = f"import os, sys; sys.path.insert(0, {str(TOP)!r}); from haul.cli.process import run_heeding_signals; os._exit(run_heeding_signals(lambda: 1 // 0))"
         ended = subprocess.run([sys.executable, "-c", script], capture_output=True, check=False)
         self.assertEqual(ended.returncode, 1)
 
     def test_another_error_is_not_one_of_memory(self) -> None:
-        """A `RuntimeError` that no thread has to do with is a fault of this program."""
+        """A `RuntimeError` that isn't about threads is a fault of this program."""
         with patch(
             "haul.cli.main.run_command", side_effect=RuntimeError("other")
         ), self.assertRaisesRegex(RuntimeError, "^other$"):
@@ -411,10 +413,10 @@ class LittleMemory(unittest.TestCase):
 
 
 class OtherPrograms(unittest.TestCase):
-    """What stands at the path isn't the census program."""
+    """The program at the path isn't the census program."""
 
-    # A program that ends well, and answers nothing, its words, bytes that are no text, a haul that
-    # wasn't asked for, a line of another job, and something like a pattern.
+    # Programs that end successfully, and print nothing, their arguments, bytes that aren't text, a
+    # haul that wasn't asked for, a line of another job, or something like a pattern.
     ANSWERS = [
         "true",
         'echo "$@"',
@@ -428,8 +430,8 @@ class OtherPrograms(unittest.TestCase):
     COMMANDS = ["check", "check --samples", "page"]
 
     def answer(self, script: str, command: str, program: str = "./other") -> tuple[int, str, str]:
-        """What `haul` says of a haul of three soups, if this shell script, or another program, is
-        the one that it asks."""
+        """Returns what `haul` prints about a haul of three soups if it calls this shell script, or
+        another program, as the census program."""
         with tempfile.TemporaryDirectory() as folder:
             fill(folder, script)
             return run(*command.split(), "--census", program, "three", cwd=folder)
@@ -442,14 +444,15 @@ class OtherPrograms(unittest.TestCase):
             )
 
     def test_an_empty_path(self) -> None:
-        """It names no program, so no other is asked in its place."""
+        """It doesn't name a program, but no other program is called instead."""
         for command in self.COMMANDS:
             status, output, errors = self.answer("", command, "")
             self.assertEqual((status, output), (2, ""))
             self.assertIn("argument --census: an empty path\n", errors)
 
     def test_too_few_descriptors(self) -> None:
-        """There is a program, and it can't be started: that isn't said to be no program."""
+        """There is a program, but it can't be started. The message doesn't say that there is no
+        program."""
         for most in (6, 7, 8, 9, 10, 11, 12):
             status, output, errors = in_shell(
                 f"ulimit -n {most}; exec '{sys.executable}' '{HAUL}' check --census ./other small"
@@ -498,15 +501,15 @@ class OtherPrograms(unittest.TestCase):
 
 
 class Calls(unittest.TestCase):
-    """What a page, a check and the other commands ask of the census program. In these scripts
-    `real` is the program."""
+    """The calls of the census program by a page, a check and the other commands. In these scripts
+    `real` is the census program."""
 
-    # Notes the words of the call, and answers as the program does.
+    # Records the words of the call, and answers like the program.
     NOTES = f'echo "$*" >> calls; real() {{ "{CENSUS}" "$@"; }}; '
 
     def ended(self, command: str, script: str) -> tuple[int, str, str, list[str]]:
-        """What a command ends with and prints over a haul of forty soups, if this script is the
-        program, and the calls that it made."""
+        """Runs a command on a haul of forty soups, with this script as the program. Returns its
+        status, both outputs, and the calls of the program."""
         with tempfile.TemporaryDirectory() as folder:
             fill(folder, self.NOTES + script)
             Path(folder, "forty").write_bytes(taken(40))
@@ -529,7 +532,7 @@ class Calls(unittest.TestCase):
         self.assertEqual(self.ended("page --play 0 --census ./other", 'real "$@"')[3], [])
 
     def test_a_call_that_fails(self) -> None:
-        """What it said is told, and nothing of the page is printed."""
+        """The program's message is passed on, and no part of the page is printed."""
         for failing, status, line in (
             ("echo census: because >&2; exit 4", 4, "because"),
             ("exit 70", 5, "census ended with status 70"),
@@ -544,7 +547,7 @@ class Calls(unittest.TestCase):
                 )
 
     def test_the_others_ask_nothing(self) -> None:
-        """Not even if there is no program."""
+        """They don't call the program even if there is none."""
         with tempfile.TemporaryDirectory() as folder:
             shutil.copytree(TOP / "haul", Path(folder, "haul"))
             shutil.copytree(TOP / "reference", Path(folder, "reference"))
@@ -569,15 +572,16 @@ class Calls(unittest.TestCase):
 
 
 class Signals(unittest.TestCase):
-    """A signal that ends `haul` ends the programs that it has started."""
+    """A signal that ends `haul` also ends the programs that it has started."""
 
     def running(self) -> dict[int, tuple[str, int]]:
-        """The processes that run, each with its name and its parent; none that is dead and only not
-        yet waited for."""
+        """Returns the running processes, each with its name and its parent. Processes that have
+        ended but haven't been waited for aren't included."""
         found: dict[int, tuple[str, int]] = {}
         for folder in Path("/proc").glob("[0-9]*"):
             with suppress(OSError):
-                # The name is in brackets and may be any; after it come the state and the parent.
+                # The name is in brackets and may contain anything. The state and the parent follow
+                # it.
                 before, _, after = (folder / "stat").read_text().rpartition(")")
                 state, parent = after.split()[:2]
                 if state not in "ZX":
@@ -585,7 +589,8 @@ class Signals(unittest.TestCase):
         return found
 
     def below(self, process: int) -> dict[int, str]:
-        """What a process has started, and what these have, by name."""
+        """Returns the processes that a process has started, and the processes that these have
+        started, with their names."""
         running = self.running()
         found: dict[int, str] = {}
         above = {process}
@@ -595,16 +600,15 @@ class Signals(unittest.TestCase):
         return found
 
     def ended_by(self, number: int, words: list[str], least: int) -> None:
-        """A signal ends `haul`, and so many calls of the program at least that run then, with all
-        that was started for them."""
+        """Checks that a signal ends `haul`, at least `least` running calls of the program, and
+        everything that was started for them."""
         with tempfile.TemporaryDirectory() as folder:
             Path(folder, "long").write_text(LONG)
             Path(folder, "many").write_text(MANY)
-            # A program that would go on for long, and answers nothing.
+            # A program that would run for a long time and answers nothing.
             Path(folder, "sleeps").write_text("#!/bin/sh\nexec sleep 1000\n")
             Path(folder, "sleeps").chmod(0o755)
-            # Who runs tests in the background takes no notice of SIGINT, and neither would the
-            # program.
+            # Tests that run in the background ignore SIGINT, and the program would inherit that.
             program = subprocess.Popen(
                 [sys.executable, HAUL, *words],
                 cwd=folder,
@@ -643,7 +647,7 @@ class Signals(unittest.TestCase):
                     self.ended_by(number, [*words, "--census", "./sleeps", "many"], least)
 
     def test_a_signal_that_is_ignored(self) -> None:
-        """As `nohup` has it."""
+        """`nohup` ignores a signal in this way."""
         with tempfile.TemporaryDirectory() as folder:
             Path(folder, "slow").write_text("#!/bin/sh\nkill -HUP $PPID\nexit 4\n")
             Path(folder, "slow").chmod(0o755)

@@ -1,4 +1,5 @@
-"""Hauls with one fault, whose place is known from how it was made and not from what reads it."""
+"""Hauls with a single fault. Its place is known from how the haul was made, and not from the code
+that reads it."""
 
 from __future__ import annotations
 
@@ -13,14 +14,15 @@ from haul.formats.haul_reader import read_one_haul
 from haul.formats.haul_writer import format_haul
 from haul.tests.drawn import any_haul
 
-# A line and a column, both from 1.
+# A line and a column. Both count from 1.
 Place = tuple[int, int]
-# No field is any of these; an empty one is two spaces in a row, or one at the end of a line.
+# None of these is a valid field. An empty field is two spaces in a row, or a space at the end of a
+# line.
 NO_FIELDS = ["", "*", "\x01", "\xff", "@", "-1", "x.y"]
 
 
 class Fields:
-    """The lines of a haul, each cut into its fields, and where its parts begin."""
+    """The lines of a haul, each split into its fields, and where its parts begin."""
 
     def __init__(self, haul: Haul) -> None:
         self.lines = [line.split(" ") if line else [] for line in format_haul(haul)]
@@ -46,7 +48,7 @@ class Fields:
 
 
 def wrong_fields(haul: Haul, at: Fields) -> Iterator[tuple[str, Place]]:
-    """A field that isn't as it should be, whatever the others are."""
+    """Yields hauls with a field that is wrong, whatever the other fields are."""
     for line, fields in enumerate(at.lines):
         for field in range(len(fields)):
             for word in NO_FIELDS:
@@ -60,7 +62,7 @@ def wrong_fields(haul: Haul, at: Fields) -> Iterator[tuple[str, Place]]:
 
 
 def wrong_numbers(haul: Haul, at: Fields) -> Iterator[tuple[int, int, int]]:
-    """Lines and fields with numbers out of their ranges."""
+    """Yields the places of numbers that are out of range, with the numbers."""
     period = haul.job.profile[0]
     yield from (
         (4, 1, 0),
@@ -89,7 +91,7 @@ def wrong_numbers(haul: Haul, at: Fields) -> Iterator[tuple[int, int, int]]:
 
 
 def wrong_writing(haul: Haul, at: Fields) -> Iterator[tuple[str, Place]]:
-    """Numbers that aren't written as numbers are, or are out of their ranges."""
+    """Yields hauls with numbers that are written wrongly or out of range."""
     for line, field, number in wrong_numbers(haul, at):
         if number >= 0:
             yield at.with_field(line, field, str(number)), at.place(line, field)
@@ -101,8 +103,8 @@ def wrong_writing(haul: Haul, at: Fields) -> Iterator[tuple[str, Place]]:
 
 
 def wrong_lines(haul: Haul, at: Fields) -> Iterator[tuple[str, Place]]:
-    """A line that is left out or stands twice, two that have changed places, and a sample too
-    many."""
+    """Yields hauls in which a line is left out or occurs twice, two lines have changed places, or
+    there is a sample too many."""
     lines = at.text().splitlines(True)
     is_row = range(at.totals, at.totals + len(haul.totals))
     for line in range(len(lines)):
@@ -129,8 +131,9 @@ def wrong_lines(haul: Haul, at: Fields) -> Iterator[tuple[str, Place]]:
 
 
 def cut(haul: Haul, at: Fields) -> Iterator[tuple[str, Place]]:
-    """An input that ends before a field, or after a line's last one: bad at its end. In a word that
-    is no field: where that begins."""
+    """Yields inputs that end before a field or after the last field of a line, so that the fault is
+    at the end, or within a word that isn't a field yet, so that the fault is where the word
+    begins."""
     text = ""
     for line, fields in enumerate(at.lines):
         for field, word in enumerate(fields):
@@ -154,7 +157,7 @@ class Faults(unittest.TestCase):
 
 
 def place_of(text: str) -> Place | None:
-    """Where a text is no haul's."""
+    """Returns the place at which a text isn't a haul, or `None` if it is one."""
     try:
         read_one_haul(io.BytesIO(text.encode("latin-1")))
     except BadHaul as bad:

@@ -1,4 +1,5 @@
-"""Finds: which parts a search tells of, how, and what it calls for each. And its status line."""
+"""Finds: which parts a search reports, how it reports them, and the calls of the program for finds.
+Also the status line."""
 
 from __future__ import annotations
 
@@ -43,8 +44,7 @@ LIFE, OTHER_RULE, OTHER_PROFILE = (
     Job("a", "b36s23", STANDARD),
     Job("a", "b3s23", Profile(4, 8, 10, 30)),
 )
-# The last of them is two blocks. The bipole isn't common under Life, and the others are.
-# Fewer than one soup in so many has a bipole.
+# The last object is two blocks. Under Life the bipole isn't common, and the others are.
 RARER = 10_000
 RARE = [f"--rarer={RARER}"]
 BIPOLE, BLINKER, BLOCK, BI_BLOCK = "xp2_31ago", "xp2_7", "xs4_33", "xs8_rr"
@@ -63,7 +63,7 @@ def haul_of(job: Job, *codes: str) -> Haul:
 
 
 def found(finder: Finder, *batches: list[tuple[str, int]]) -> list[Find]:
-    """The finds that are told after these batches."""
+    """Returns the finds that are reported after these batches."""
     for batch in batches:
         finder.add(batch)
     finds: list[Find] = []
@@ -74,7 +74,7 @@ def found(finder: Finder, *batches: list[tuple[str, int]]) -> list[Find]:
 
 class Common(unittest.TestCase):
     def test_the_limit(self) -> None:
-        """A part is common if at least one soup of the reference in so many has it."""
+        """A part is common if at least one soup of the reference in `rarer` has it."""
         reference = load_reference()
         for rarer, some in ((10_000, 37), (1_000_000, 100), (SOUPS, 971)):
             common = list_common_parts(rarer)
@@ -84,7 +84,7 @@ class Common(unittest.TestCase):
         self.assertEqual(list_common_parts(1), frozenset())
 
     def test_rarity(self) -> None:
-        """The sixth field is that of the reference under Life with the standard profile."""
+        """The sixth field is the rarity in the reference under Life with the standard profile."""
         self.assertEqual(Find(BIPOLE, 1).fields(LIFE)[5], find_occurrence(BIPOLE).describe())
         self.assertEqual(Find("xs99_0", 1).fields(LIFE)[5], "none in 100000000")
         for job in (OTHER_PROFILE, OTHER_RULE):
@@ -116,8 +116,8 @@ class Finds(unittest.TestCase):
         )
 
     def test_parts_of_objects_that_were_there(self) -> None:
-        """A blinker that was there as a part of a traffic light is known, and so is one that was an
-        object."""
+        """A blinker that was there as a part of a traffic light is known, and so is a blinker that
+        was an object."""
         for there in ("xp2_s01110szw222", BLINKER):
             finder = Finder(OTHER_RULE, haul_of(OTHER_RULE, BLOCK, there), RARER)
             self.assertEqual(
@@ -131,14 +131,15 @@ class Finds(unittest.TestCase):
         )
 
     def test_parts_of_a_new_object(self) -> None:
-        """The soup is the lowest of those that left the part."""
+        """The soup is the lowest soup that left the part."""
         finder = Finder(OTHER_RULE, haul_of(OTHER_RULE, "xs6_696"), RARER)
         self.assertEqual(
             found(finder, [(BI_BLOCK, 9), (BLOCK, 20)], [(BLOCK, 30)]), [Find(BLOCK, 9)]
         )
 
     def test_the_part_that_begins_a_haul(self) -> None:
-        """Under another rule or profile it tells nothing, and what it had is known."""
+        """Under another rule or profile, the first batch reports nothing, and its parts are known
+        afterwards."""
         for job, finds in ((LIFE, [Find(BIPOLE, 5)]), (OTHER_RULE, []), (OTHER_PROFILE, [])):
             finder = Finder(job, haul_of(job), RARER)
             self.assertEqual(found(finder, [(BIPOLE, 5)]), finds)
@@ -147,7 +148,7 @@ class Finds(unittest.TestCase):
             )
 
     def test_a_haul_without_objects(self) -> None:
-        """Its soups have begun the file, though they left nothing, so that later batches tell
+        """Although its soups left nothing, they have begun the file, so later batches report
         finds."""
         self.assertEqual(
             found(
@@ -185,8 +186,8 @@ class Finds(unittest.TestCase):
         ) as separated:
             self.assertEqual(found(finder, [(BIPOLE, 200), (BLOCK, 201)]), [])
             self.assertEqual(separated.call_count, 2)
-            # An oscillator of period 3 is in none of the three, and a still life of seven cells may
-            # be in each of them.
+            # An oscillator of period 3 is a part of none of the three. A still life of seven cells
+            # may be a part of each of them.
             self.assertEqual(found(finder, [("xp3_695qc8zx33", 11)]), [Find("xp3_695qc8zx33", 11)])
             self.assertEqual(separated.call_count, 3)
             finder.add([("xs7_2552", 11)])
@@ -197,7 +198,7 @@ class Finds(unittest.TestCase):
             self.assertEqual(separated.call_count, 7)
 
     def test_how_many_are_left(self) -> None:
-        """Objects of the file count once those of the batch are separated."""
+        """Objects of the file count once the objects of the batch are separated."""
         finder = Finder(LIFE, haul_of(LIFE, BI_BLOCK), RARER)
         self.assertEqual(finder.left(), 0)
         finder.add([("xs7_2552", 11), (BIPOLE, 12)])
@@ -206,7 +207,7 @@ class Finds(unittest.TestCase):
         self.assertEqual(finder.left(), 1)
 
     def test_which_objects_can_have_a_part(self) -> None:
-        """All objects with several parts in 100,000 soups, and some more kinds."""
+        """Checks all objects with several parts in 100,000 soups, and some more kinds."""
         with open(TOP / "examples" / "100000.haul", "rb") as file:
             haul = read_one_haul(file)
         separator = Separator(read_rule("b3s23"))
@@ -277,7 +278,7 @@ class Fields(Searches):
         self.assertEqual(Find("xs99_0", 1).fields(LIFE)[2], "-")
 
     def test_commands_are_for_a_shell(self) -> None:
-        """Each shows what the soup leaves."""
+        """Each command shows what the soup leaves."""
         (self.folder / "census").symlink_to(CENSUS)
         for seed in ("", "a", "-a", "a'b", "$(x)", '`x`;"\\'):
             for job, words in (
@@ -354,7 +355,7 @@ class Fields(Searches):
 
 
 class Calls(Searches):
-    """The program of `--finds`."""
+    """Tests the program of `--finds`."""
 
     ONE = ["--seed=", "--first", str(CLOCK_SOUP), "--until", "1", *RARE]
 
@@ -367,7 +368,7 @@ class Calls(Searches):
         )
 
     def test_it_is_called_for_each(self) -> None:
-        """Under another rule there are many, and the calls come one after another."""
+        """Under another rule there are many finds, and the calls come one after another."""
         program = self.stub(
             '[[ ! -e runs ]] || echo two >> said; touch runs; sleep 0.05; rm runs; echo "$2" >> said'
         )
@@ -387,7 +388,7 @@ class Calls(Searches):
         self.assertTrue((self.folder / "closed").exists())
 
     def test_it_fails(self) -> None:
-        """A line says so, and that is all."""
+        """A single line reports the failure."""
         for name, line in (
             (self.stub("exit 1"), "ended with status 1"),
             (self.stub("kill -9 $$", "dies"), "was ended by signal 9"),
@@ -402,7 +403,7 @@ class Calls(Searches):
             self.assert_right()
 
     def test_it_cant_be_started(self) -> None:
-        """The reason of the system is told, if there is one, and the next one is called."""
+        """The system's reason is reported, if there is one, and the next call is made."""
         said: list[str] = []
         calls = FindCalls(StreamWaiter(), "program", said.append)
         calls.add(["a"])
@@ -419,7 +420,7 @@ class Calls(Searches):
         )
 
     def test_what_is_left_is_told(self) -> None:
-        """If that takes over five seconds."""
+        """A line says what is left if that takes over five seconds."""
         program = self.stub("sleep 5.5; touch done")
         self.assertEqual(
             self.search(*self.ONE, "--finds", program)[::2],
@@ -428,14 +429,14 @@ class Calls(Searches):
         self.assertTrue((self.folder / "done").exists())
 
     def test_what_it_leaves_running(self) -> None:
-        """It is killed, even if it takes no notice of signals."""
+        """Processes that it leaves running are killed, even if they ignore signals."""
         self.search(
             *self.ONE, "--finds", self.stub("trap '' HUP INT USR1 TERM; sleep 1000 & exit 0")
         )
         self.assert_nothing_runs()
 
     def test_it_takes_long(self) -> None:
-        """It is ended, and the next one is called."""
+        """A call that takes too long is ended, and the next call is made."""
         said: list[str] = []
         calls = FindCalls(
             StreamWaiter(),
@@ -457,7 +458,7 @@ class Calls(Searches):
         self.assert_nothing_runs()
 
     def test_an_interrupt_before_it_has_its_session(self) -> None:
-        """A Ctrl-C for `haul` that comes then is dropped, and later the program is ended by that
+        """A Ctrl-C for `haul` that comes then is dropped. Later, the program is ended by that
         signal as usual."""
 
         def interrupted() -> None:
@@ -490,7 +491,7 @@ class Calls(Searches):
         )
 
     def test_how_long_it_may_take(self) -> None:
-        """A minute, by a clock that the test sets."""
+        """A call may take a minute, according to a clock that the test sets."""
         said: list[str] = []
         calls = FindCalls(StreamWaiter(), self.stub("sleep 1000"), said.append)
         calls.add([])
@@ -508,7 +509,7 @@ class Calls(Searches):
         self.assert_nothing_runs()
 
     def test_signals_while_it_runs(self) -> None:
-        """Ctrl-C doesn't reach it. The second one ends it, and so does a kill."""
+        """Ctrl-C doesn't reach the program. A second Ctrl-C ends it, and so does a kill."""
         program = self.stub("touch runs; sleep 1000 & sleep 1000")
         for numbers in ([signal.SIGINT, signal.SIGINT], [signal.SIGTERM], [signal.SIGKILL]):
             for name in ("runs", "mine.haul"):
@@ -535,7 +536,7 @@ class Calls(Searches):
 
 
 class Telling(Searches):
-    """The status line."""
+    """Tests the status line."""
 
     STATUS = Status(1234567, 20000, 30, 4, 1, 10.0, 40000)
 
@@ -555,7 +556,7 @@ class Telling(Searches):
         self.assertTrue(Status(1, 0, 1, 1, 0, 0.0, None).text().endswith("running for 0:00:00"))
 
     def test_a_search_that_goes_on(self) -> None:
-        """Its rate is that of the soups which this call has run."""
+        """The rate is for the soups that this call has run."""
         with patch("time.monotonic", return_value=1000.0) as now:
             keeper = Keeper(str(self.file))
             search = make_search(
@@ -598,7 +599,7 @@ class Telling(Searches):
         os.close(keeper.lock)
 
     def test_when_the_batch_ends(self) -> None:
-        """By the rate so far, if there is one."""
+        """The end is estimated from the rate so far, if there is one."""
         said = io.StringIO()
         with patch("time.monotonic", return_value=1000.0) as now:
             keeper = Keeper(str(self.file))
@@ -665,7 +666,8 @@ class Telling(Searches):
         self.assertEqual(said.getvalue(), f"haul: {self.STATUS.text()}\n")
 
     def shown(self, status: Status, columns: int) -> str:
-        """What is shown on a terminal of so many columns; 0 if it doesn't say."""
+        """Returns what is shown on a terminal with `columns` columns. 0 means that the terminal
+        doesn't say how many it has."""
         ours, its = pty.openpty()
         ioctl(its, TIOCSWINSZ, pack("HHHH", 0, columns, 0, 0))
         with open(its, "w") as errors:
@@ -676,7 +678,8 @@ class Telling(Searches):
         return said.removeprefix("\r\x1b[K")
 
     def test_where_a_line_is_short(self) -> None:
-        """It is if the other one is as wide as the terminal, and a short one is cut then."""
+        """The line is short if the other one would fill the terminal, and the short line is cut if
+        necessary."""
         by_length = {
             len(status.text()): status
             for status in (
@@ -685,7 +688,7 @@ class Telling(Searches):
                 for other in range(9)
             )
         }
-        # A terminal that doesn't say how wide it is has 80 columns.
+        # A terminal that doesn't say how wide it is counts as 80 columns wide.
         for columns in (0, 80):
             self.assertEqual(self.shown(by_length[79], columns), by_length[79].text())
             self.assertEqual(self.shown(by_length[80], columns), by_length[80].short_text())
@@ -695,7 +698,7 @@ class Telling(Searches):
         self.assertEqual(self.shown(self.STATUS, 20), self.STATUS.short_text()[:19])
 
     def test_a_line_per_second(self) -> None:
-        """On a terminal."""
+        """On a terminal, the line is updated every second."""
         ours, its = pty.openpty()
         with open(its, "w") as errors, patch("sys.stderr", errors), patch(
             "time.monotonic", return_value=100.0
@@ -714,7 +717,8 @@ class Telling(Searches):
         os.close(ours)
 
     def test_on_a_terminal(self) -> None:
-        """One line that is written again, no wider than the terminal, and wiped at the end."""
+        """On a terminal, a single line is updated in place, no wider than the terminal, and erased
+        at the end."""
         ours, its = pty.openpty()
         program = self.stub('sleep 0.1; real "$@"')
         with subprocess.Popen(
@@ -754,7 +758,7 @@ class Telling(Searches):
 
 
 class Pace(Searches):
-    """When the file is written."""
+    """Tests when the file is written."""
 
     def test_a_fiftieth_of_the_time(self) -> None:
         with patch("time.monotonic", return_value=1000.0) as now:
@@ -772,7 +776,7 @@ class Pace(Searches):
             for at, may in ((1099.0, False), (1100.0, True)):
                 now.return_value = at
                 self.assertEqual(search.may_keep(), may)
-            # Ten minutes after the latest writing, less the time that writing takes.
+            # Ten minutes after the latest writing, minus the time that writing takes.
             search.writing, search.unkept, search.kept_at = 500.0, [(0, [])], 1200.0
             for at, must in ((1798.9, False), (1799.0, True)):
                 now.return_value = at
@@ -782,7 +786,7 @@ class Pace(Searches):
         os.close(keeper.lock)
 
     def test_how_long_writing_took(self) -> None:
-        """All of it counts. While it goes on, no signal ends the program."""
+        """All writing time counts. During writing, no signal ends the program."""
         with patch("time.monotonic", return_value=1000.0) as now:
             keeper, stopping = Keeper(str(self.file)), Stopping()
             search = make_search(
@@ -816,9 +820,9 @@ class Pace(Searches):
         os.close(keeper.lock)
 
     def test_how_long_it_waits(self) -> None:
-        """For streams up to half a second, or until the status is due. Where there are objects to
-        look at, it looks at them for a fiftieth of a second, and doesn't wait. After a signal it
-        looks at them for a second."""
+        """The search waits for streams for up to half a second, or until the status is due. If
+        there are objects to examine, it examines them for a fiftieth of a second, and doesn't wait.
+        After a signal it examines them for a second."""
         keeper, stopping = Keeper(str(self.file)), Stopping()
         said, told = io.StringIO(), io.StringIO()
         client = Census(CENSUS, Terminal(said))
@@ -850,7 +854,7 @@ class Pace(Searches):
         os.close(keeper.lock)
 
     def test_when_it_says_what_is_left(self) -> None:
-        """After five seconds, once."""
+        """A line says so after five seconds, once."""
         keeper = Keeper(str(self.file))
         with patch("time.monotonic", return_value=1000.0) as now, redirect_stderr(
             io.StringIO()
@@ -882,7 +886,7 @@ class Pace(Searches):
         os.close(keeper.lock)
 
     def test_a_signal_while_batches_wait(self) -> None:
-        """They are written, and the batch that runs isn't."""
+        """The waiting batches are written, but not the running one."""
         keeper, stopping = Keeper(str(self.file)), Stopping()
         search = make_search(
             Plan(0, None, 10, 1, None, RARER),

@@ -46,7 +46,7 @@ class Indexes(unittest.TestCase):
         return errors.removeprefix("haul: ").removesuffix("\n")
 
     def test_an_index(self) -> None:
-        """In any order of the hauls it is the same."""
+        """The index doesn't depend on the order of the hauls."""
         for names in (["0.haul", "5.haul", "20.haul"], ["20.haul", "0.haul", "5.haul"]):
             self.assertEqual(self.called("index", *names), (0, self.index, ""))
 
@@ -143,7 +143,7 @@ class Indexes(unittest.TestCase):
         self.assertEqual(self.refused("check", "index"), "index: bad index at line 7 column 1")
 
     def test_the_reference(self) -> None:
-        """It has 100 parts of a million soups."""
+        """The index of the reference has 100 parts of a million soups."""
         lines = (TOP / "reference" / "index").read_text().splitlines()[6:]
         self.assertEqual(
             [line.split()[:2] for line in lines],

@@ -1,4 +1,4 @@
-"""Hauls are joined."""
+"""Joining of hauls."""
 
 from __future__ import annotations
 

@@ -27,7 +27,7 @@ class LateSearches(Searches):
         self.late = self.folder / "mine.haul.late"
 
     def lines_of_work(self, count: int, late: int, *words: str, first: int = 0) -> list[bytes]:
-        """The lines of late and unsettled soups, by `census work`."""
+        """Returns the lines of late and unsettled soups, as printed by `census work`."""
         job = words or ("--seed=a", *SHORT)
         lines = census("work", "--worker=1", f"--first={first}", f"--count={count}", *job)
         return [
@@ -37,7 +37,7 @@ class LateSearches(Searches):
         ]
 
     def kept(self) -> tuple[str, list[bytes]]:
-        """The header of FILE.late, and its lines without their workers."""
+        """Returns the header of FILE.late, and its lines without their workers."""
         header, *lines = self.late.read_bytes().splitlines()
         return header.decode(), [WORKER.sub(b" ", line) for line in lines]
 
@@ -49,7 +49,7 @@ class LateSearches(Searches):
 
 class Kept(LateSearches):
     def test_exactly_those(self) -> None:
-        """In batches of any size, and by any number of workers."""
+        """The lines are the same for batches of any size and for any number of workers."""
         for until, size, workers in ((70, 100, 1), (100, 7, 2), (101, 1, 3), (160, 25, 17)):
             words = ["--part", str(size), "--workers", str(workers), "--late=404", "--seed=a"]
             self.assertEqual(self.search(*words, *SHORT, "--until", str(until))[0], 0)
@@ -58,8 +58,8 @@ class Kept(LateSearches):
         self.assert_left("mine.haul", "mine.haul.late", "mine.haul.lock")
 
     def test_generations(self) -> None:
-        """Without `--late` that of the file, or else the usual one. A higher one drops lines, and a
-        lower one is refused."""
+        """Without `--late`, the generation is that of the file, or the default. A higher generation
+        drops lines, and a lower one is refused."""
         self.search("--seed=a", *SHORT, "--until=30")
         self.assert_kept(12000, 30)
         told = "haul: mine.haul.late: has soups from generation 12000 on, and not from 11999\n"
@@ -84,7 +84,7 @@ class Kept(LateSearches):
         self.assert_kept(303, 40)
 
     def test_a_file_from_before(self) -> None:
-        """It has no lines for its first soups."""
+        """Such a file has no lines for its first soups."""
         self.file.write_bytes(census("take", "--seed=a", *SHORT, "--count=40"))
         self.search("--until=70", "--late=505")
         self.assert_kept(505, 70, 40)
@@ -105,7 +105,7 @@ class Kept(LateSearches):
             self.assert_right()
 
     def test_a_kill_between_the_files(self) -> None:
-        """Lines of soups that aren't in FILE are dropped, and come again."""
+        """Lines of soups that aren't in FILE are dropped, and written again later."""
         self.search("--seed=a", *SHORT, "--late=505", "--until=60")
         earlier = self.file.read_bytes()
         self.search("--until=100")
@@ -116,13 +116,13 @@ class Kept(LateSearches):
         self.late.write_bytes(later)
         self.search("--until=100")
         self.assert_kept(505, 100)
-        # Also if there is no FILE yet.
+        # The same holds if there is no FILE yet.
         self.file.unlink()
         self.assertEqual(self.search("--seed=a", *SHORT, "--until=30")[::2], (0, ""))
         self.assert_kept(505, 30)
 
     def test_a_full_disk(self) -> None:
-        """FILE fits, and FILE.late doesn't. Both stay as they are."""
+        """FILE fits but FILE.late doesn't. Neither is changed."""
         self.search("--seed=a", *QUICK, "--late=0", "--until=10")
         before = self.file.read_bytes(), self.late.read_bytes()
         status, _, errors = self.search("--until=4000", "--part=3990", most_bytes=20_000)
@@ -152,7 +152,7 @@ class Kept(LateSearches):
         self.assert_kept(505, self.soups())
 
     def test_drawn_faults(self) -> None:
-        """After each, the next search goes on, and the files are right at the end."""
+        """After each fault, the next search continues, and the files are right at the end."""
         draw = random.Random("late")
         for trial in range(12):
             soups = self.soups()
@@ -170,7 +170,7 @@ class Kept(LateSearches):
 
 
 class Told(LateSearches):
-    """Late soups are told as finds are."""
+    """Late soups are reported in the same way as finds."""
 
     def test_fields(self) -> None:
         words = ["--seed=a", *SHORT, "--late=606", "--until=60", "--rarer=1"]
@@ -204,7 +204,7 @@ class Told(LateSearches):
         self.assertEqual(said, output)
 
     def test_under_another_rule(self) -> None:
-        """Unsettled soups are kept, and told only if that is asked for."""
+        """Unsettled soups are kept, but reported only on request."""
         words = ["--seed=a", "--rule=b2s", "--limit=0"]
         self.assertEqual(self.search(*words, "--until=20"), (0, "", ""))
         header, lines = self.kept()
@@ -273,7 +273,8 @@ class Reports(LateSearches):
     """Report lines of a batch."""
 
     def test_wrong_lines(self) -> None:
-        """Those of other soups, of another job, of soups that aren't late, or too few."""
+        """The lines are of other soups, of another job or of soups that aren't late, or there are
+        too few."""
         line = f"report 2 {JOB} worker=1"
         for said in (
             f"echo '{line} soup=900 unsettled' >&2",
@@ -292,8 +293,8 @@ class Reports(LateSearches):
         self.assertFalse(self.file.exists())
 
     def test_progress_and_lines(self) -> None:
-        """What stands before the last carriage return of a line is progress, and what is neither
-        that nor a report is a complaint."""
+        """The part of a line before the last carriage return is progress. Anything that is neither
+        progress nor a report is a complaint."""
         program = self.stub(
             "printf '\\r3 of 9 soups\\r      \\rreport ' >&2; sleep 0.1; "
             f"printf '2 {JOB} worker=9 soup=1 at=808 good=no\\n\\r5 of 9 soups\\rcensus: why\\n' >&2; exit 5"
@@ -334,7 +335,7 @@ class ManyWorkers(Searches):
         self.assert_nothing_runs()
 
     def test_they_run_at_once_and_are_added_in_order(self) -> None:
-        """The first batch waits until the other two have ended, and two more have begun."""
+        """The first batch waits until the other two have ended, and two more have been started."""
         program = self.stub(
             "case $* in *--first=0*) until [ $(ls -d done* | wc -l) -ge 4 ]; do sleep 0.05; done;; esac; "
             f'"{CENSUS}" "$@"; touch done$RANDOM'
@@ -344,7 +345,7 @@ class ManyWorkers(Searches):
         self.assert_right()
 
     def test_one_that_fails(self) -> None:
-        """The batches before it are in the file."""
+        """The batches before the failed one are in the file."""
         program = self.stub('case $* in *--first=20*) echo why >&2; exit 5;; *) real "$@";; esac')
         words = ["--seed=a", "--until=200", "--part=10", "--workers=40", "--late=never", *QUICK]
         self.assertEqual(self.search(*words, program=program), (5, "", "haul: why\n"))
@@ -353,7 +354,7 @@ class ManyWorkers(Searches):
         self.assert_nothing_runs()
 
     def stopped(self, change: Callable[[int], None]) -> tuple[int, str]:
-        """Stops a search of three batches, and returns its status and what it says."""
+        """Stops a search of three batches. Returns its status and what it prints."""
         program = self.stub('sleep 1; real "$@"')
         words = ["--seed=a", "--part=10", "--workers=40", "--late=never", *QUICK]
         with self.start(*words, program=program) as running:

@@ -1,4 +1,4 @@
-"""The folders of `haul`, which import only from the folders below them."""
+"""The folders of `haul` import only from the folders below them."""
 
 from __future__ import annotations
 

@@ -18,14 +18,14 @@ from haul.life.generations import MOST_PERIOD, advance, find_recurrence, find_sh
 from haul.life.soups import make_soup
 from haul.tests.called import CENSUS, TOP
 
-# Where all cells stay and none is born, each cluster is a still life.
+# In this rule all cells stay and none is born, so each cluster is a still life.
 STILL = "bs012345678"
 RULES = ["b3s23", "b36s23", "b3678s34678", "b37s0123", STILL]
 
 
 def asked(calls: list[tuple[list[str], str]]) -> list[str]:
-    """What `census` prints for these calls, some of which read a text. A shell makes them, one
-    after another."""
+    """Returns what `census` prints for these calls, some of which read a text. A shell makes the
+    calls one after another."""
     script = "".join(
         f"\"$0\" {' '.join(words)}" + (f" << 'END'\n{read}\nEND" if read else "") + "\necho =$?\n"
         for words, read in calls
@@ -55,7 +55,7 @@ def plaintext(cells: Cells) -> str:
 
 
 def found(text: str) -> Counter[str]:
-    """The objects that `census name` found."""
+    """Returns the objects that `census name` found."""
     settled, *lines = text.splitlines()
     return (
         Counter({code: int(count) for code, count in map(str.split, lines)})
@@ -72,7 +72,7 @@ def example() -> Haul:
 
 @lru_cache
 def patterns() -> tuple[Cells, ...]:
-    """A thousand drawn patterns, of one cell up to ten by ten."""
+    """Returns a thousand random patterns, from one cell up to ten by ten."""
     draw = random.Random("patterns")
     found: list[Cells] = []
     while len(found) < 1000:
@@ -90,7 +90,7 @@ def patterns() -> tuple[Cells, ...]:
 
 class Drawings(unittest.TestCase):
     def test_each_code_of_the_example(self) -> None:
-        """It is drawn as `census show` draws it, and its phases have the code that `census` gave
+        """Each code is drawn as by `census show`, and its phases have the code that `census` gave
         them."""
         codes, rule = list(example().totals), read_rule("b3s23")
         for code, shown in zip(codes, asked([(["show", code], "") for code in codes]), strict=True):
@@ -102,8 +102,8 @@ class Drawings(unittest.TestCase):
             self.assertEqual((find_code(recurrence), recurrence.phases[0]), (code, cells))
 
     def test_texts(self) -> None:
-        """What is written is read again, by `census show` too, and nothing shorter could be
-        written."""
+        """A text that is written can be read again, by `census show` too, and there is no shorter
+        text."""
         written = [text for cells in patterns() if (text := write_wechsler(cells)) is not None]
         for cells, text, shown in zip(
             patterns(), written, asked([(["show", text], "") for text in written]), strict=True
@@ -125,7 +125,7 @@ class Drawings(unittest.TestCase):
             self.assertEqual(write_wechsler(frozenset([(0, 0), (runs + 1, 0)])), text)
 
     def test_texts_that_draw_nothing(self) -> None:
-        """`census show` refuses them, or they are larger than what `census run` reads."""
+        """`census show` refuses these texts, or they are larger than what `census run` reads."""
         for text in ("", "0", "z", "y0", "1y", "1A", "_1", "1_", "1y-", "w0zx"):
             self.assertIsNone(read_wechsler(text))
         # A run of 39 dead columns is written `yz`. These are 998 dead columns, and one more.
@@ -139,8 +139,8 @@ class Drawings(unittest.TestCase):
 
 class Generations(unittest.TestCase):
     def test_drawn_patterns(self) -> None:
-        """One, two and three generations later they are as `census run` has them; each in its
-        place, beside a far cell that stays."""
+        """After one, two and three generations, the patterns are the same as those of `census run`.
+        Each is in its place, beside a far cell that stays."""
         calls, wanted = [], []
         for place, cells in enumerate(patterns()):
             name, later = RULES[place % len(RULES)], cells
@@ -152,7 +152,7 @@ class Generations(unittest.TestCase):
             self.assertEqual(drawn_cells(printed), move_to_corner(later) if later else frozenset())
 
     def test_a_generation_stays_in_its_place(self) -> None:
-        """By the definition: the middle of a blinker, and the cells beside it."""
+        """According to the definition: the middle of a blinker, and the cells beside it."""
         self.assertEqual(
             advance(read_rule("b3s23"), frozenset([(-1, 7), (0, 7), (1, 7)])),
             {(0, 6), (0, 7), (0, 8)},
@@ -165,7 +165,7 @@ class Generations(unittest.TestCase):
 
     def test_how_patterns_recur(self) -> None:
         """A single cluster that recurs within eight generations has the code that `census name`
-        gives it; of anything else it names no single object."""
+        gives it. For any other pattern, `census name` doesn't print a single object."""
         most = ["--period=8", "--horizon=8"]
         calls = [
             (["name", "--limit=0", *most, f"--rule={RULES[place % len(RULES)]}"], plaintext(cells))
@@ -185,7 +185,7 @@ class Generations(unittest.TestCase):
         self.assertGreater(recurring, 100)
 
     def test_kinds(self) -> None:
-        """A block, a blinker and a glider, where they are after a period."""
+        """A block, a blinker and a glider, and where they are after a period."""
         for code, kind, period, shift in (
             ("33", "s", 1, (0, 0)),
             ("7", "p", 2, (0, 0)),
@@ -209,8 +209,8 @@ class Generations(unittest.TestCase):
             )
 
     def test_the_longest_period(self) -> None:
-        """A census looks for 64 generations, and a pulsar takes three; what dies or becomes another
-        pattern never recurs."""
+        """A census looks for 64 generations, and a pulsar takes three. A pattern that dies or
+        becomes another pattern never recurs."""
         self.assertEqual(MOST_PERIOD, 64)
         pulsar = read_wechsler("co9nas0san9oczgoldlo0oldlogz1047210127401")
         assert pulsar is not None
@@ -239,10 +239,11 @@ class Generations(unittest.TestCase):
 
 class Clusters(unittest.TestCase):
     def test_clusters_and_islands(self) -> None:
-        """Where all cells stay, `census` counts the clusters. Stretched by two, cells that touch
-        are two steps apart, and cells two steps apart are four: so the clusters are the islands."""
+        """Where all cells stay, `census` counts the clusters. If a pattern is stretched by two,
+        cells that touched are two steps apart, and cells that were two steps apart are four steps
+        apart, so the clusters are the islands."""
         stretched = [frozenset((2 * x, 2 * y) for x, y in cells) for cells in patterns()]
-        # A longer horizon shows nothing where all cells stay.
+        # A longer horizon makes no difference where all cells stay.
         short = ["--period=1", "--horizon=1"]
         clusters = asked(
             [
@@ -266,9 +267,9 @@ class Clusters(unittest.TestCase):
         self.assertFalse(is_cluster(frozenset()))
 
     def test_islands_of_several_phases(self) -> None:
-        """Cells that touch in a later phase belong together; a place that lives in two phases is
-        one cell; a cell beside a place that lives only in another phase does not touch it; and what
-        has no cell in phase 0 is no island."""
+        """Cells that touch in a later phase belong together. A place that is alive in two phases is
+        one cell. A cell beside a place that is alive only in another phase doesn't touch it. A set
+        without cells in phase 0 isn't an island."""
         a, b, far, between = (0, 0), (3, 0), (9, 9), frozenset([(1, 0), (2, 0)])
         self.assertEqual(find_islands([frozenset([b, a, far])]), [{a}, {b}, {far}])
         self.assertEqual(find_islands([frozenset([a, b, far]), between | {a, b}]), [{a, b}, {far}])
@@ -284,7 +285,7 @@ class Clusters(unittest.TestCase):
 
 class Shapes(unittest.TestCase):
     def test_images(self) -> None:
-        """The eight of docs/FORMATS.md, moved to the corner."""
+        """There are eight, as in docs/FORMATS.md, moved to the corner."""
         wanted = [
             "OOO\nO..",
             "OO\n.O\n.O",
@@ -308,7 +309,7 @@ class Shapes(unittest.TestCase):
         self.assertIsNone(find_shift(one, frozenset([(2, 5), (3, 7), (6, 7)])))
 
     def test_no_text(self) -> None:
-        """What has no phase of at most 40 by 40 is named by its number alone."""
+        """An object without a phase of at most 40 by 40 is named only by its number."""
         large = frozenset((x, 0) for x in range(41))
         recurrence = find_recurrence(read_rule(STILL), large)
         assert recurrence is not None
@@ -317,7 +318,7 @@ class Shapes(unittest.TestCase):
 
 class Soups(unittest.TestCase):
     def test_a_thousand(self) -> None:
-        """Under several seeds, and numbers of one to thirteen digits."""
+        """The soups have several seeds, and numbers of one to thirteen digits."""
         draw = random.Random("soups")
         asks = [
             (

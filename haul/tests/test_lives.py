@@ -21,7 +21,7 @@ DATA = re.compile(r'"lives": (\[.*?\]), "soups": \[', re.DOTALL)
 
 
 def list_late(generation: int) -> list[str]:
-    """The report lines of late and unsettled soups."""
+    """Returns the report lines of late and unsettled soups."""
     return [
         line
         for line in census("work", "--worker=1", *JOB).decode().splitlines()
@@ -68,7 +68,7 @@ class Pages(unittest.TestCase):
         self.assertIn("Still active: 2 unsettled soups", output)
 
     def named(self, soup: bytes) -> int:
-        """The exact generation in which a soup settles."""
+        """Returns the exact generation in which a soup settles."""
         text = subprocess.run(
             [CENSUS, "name", "--stride=1", "--limit=3030"],
             input=soup,
@@ -84,7 +84,7 @@ class Pages(unittest.TestCase):
         self.assertIn('"lives": []', output)
 
     def test_wrong_lines(self) -> None:
-        """Each is told, and the page shows what is right."""
+        """Each wrong line is reported, and the page shows what is right."""
         lines = list_late(1000)
         settled = next(line for line in lines if "at=" in line)
         soup = int(settled.split("soup=")[1].split()[0])

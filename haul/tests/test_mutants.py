@@ -1,4 +1,4 @@
-"""Sixty of the changes that `haul/tests/mutate` makes, each of which a test has to see."""
+"""Sixty of the changes that `haul/tests/mutate` makes. A test must notice each of them."""
 
 from __future__ import annotations
 

@@ -1,4 +1,4 @@
-"""What a page has: its words, its table, the data of its script, and the ends of soups."""
+"""The contents of a page: its words, its table, the data of its script, and the ends of soups."""
 
 from __future__ import annotations
 
@@ -47,7 +47,7 @@ def tiles(text: str) -> list[tuple[str, str]]:
 
 
 def folds(text: str) -> dict[str, str]:
-    """Returns what opens at the top of a page, by what it is called."""
+    """Returns the collapsible parts at the top of a page, by title."""
     return dict(
         re.findall(
             "<details><summary>(.*?)</summary>\n(.*?)</details>", before_table(text), re.DOTALL
@@ -67,7 +67,7 @@ class Top(unittest.TestCase):
     )
 
     def test_each_word(self) -> None:
-        """The whole top of a small page."""
+        """Checks the whole top of a small page."""
         self.assertTrue(
             before_table(page(self.HAUL, 0)).startswith(
                 """
@@ -92,7 +92,7 @@ and <code>haul check --samples all.haul</code> runs only the sample soups.</p>
         )
 
     def test_the_foot(self) -> None:
-        """What made the page, and what its commands need, also without scripts."""
+        """The foot says what made the page, and what its commands need, even without scripts."""
         for text, hauls in (
             (page(self.HAUL, 0), "a haul"),
             (compared(self.HAUL, self.HAUL), "2 hauls"),
@@ -105,7 +105,7 @@ and <code>haul check --samples all.haul</code> runs only the sample soups.</p>
             self.assertIn("commands on this page need both programs", foot)
 
     def test_all_objects_count(self) -> None:
-        """Also those that have no place on the page."""
+        """Objects that aren't on the page count too."""
         self.assertEqual(tiles(compared(self.HAUL, least=50)), tiles(page(self.HAUL, 0)))
 
     def test_no_soup(self) -> None:
@@ -127,7 +127,7 @@ and <code>haul check --samples all.haul</code> runs only the sample soups.</p>
         self.assertNotIn("unsettled soup<", before_table(text).partition("</dl>")[2])
 
     def test_missing_soups(self) -> None:
-        """They can't be run again, since a haul doesn't say which ones they are."""
+        """Missing soups can't be run again, since a haul doesn't say which ones they are."""
         some = Haul(
             Job("", "b3s23", Profile(1, 1, 1, 0)),
             ranges=[(0, 2000)],
@@ -153,7 +153,8 @@ and <code>haul check --samples all.haul</code> runs only the sample soups.</p>
         self.assertIn("Soups are missing from the hauls A, C, so only", compared(some, whole, some))
 
     def test_ranges(self) -> None:
-        """More than twelve are counted, and a range of one number has no end."""
+        """If there are more than twelve ranges, only their number is given. A range of one soup has
+        no end."""
 
         def numbers(ranges: list[Range]) -> str:
             return "".join(
@@ -184,7 +185,7 @@ and <code>haul check --samples all.haul</code> runs only the sample soups.</p>
             )
 
     def test_profiles_of_several_hauls(self) -> None:
-        """Which hauls a profile is of is said only if there are several profiles."""
+        """The hauls with a profile are named only if there are several profiles."""
         one, other = (
             made({"xs4_33": 1}, [(5, 1)], profile)
             for profile in (Profile(64, 512, 101, 30300), Profile(4, 8, 10, 30))
@@ -202,7 +203,7 @@ and <code>haul check --samples all.haul</code> runs only the sample soups.</p>
 
 
 class Unsettled(unittest.TestCase):
-    """The command that lists unsettled soups."""
+    """Tests the command that lists unsettled soups."""
 
     def haul(self, ranges: list[Range], seed: str = "", rule: str = "b3s23") -> Haul:
         return Haul(
@@ -227,7 +228,7 @@ class Unsettled(unittest.TestCase):
         )
 
     def test_long_sets(self) -> None:
-        """No call takes more than 2^24 numbers, and more than twelve calls aren't written."""
+        """No call takes more than 2^24 soups, and more than twelve calls aren't written."""
         self.assertEqual(
             format_unsettled_command(self.haul([(0, 2**24 + 1)])).count(
                 "--count=16777216 --worker=1; census work --first=16777216 --count=1 "
@@ -241,7 +242,7 @@ class Unsettled(unittest.TestCase):
             )
 
     def test_it_lists_them(self) -> None:
-        """Run by a shell, it lists as many soups as the page says."""
+        """A shell that runs the command lists as many soups as the page says."""
         words = ["--first=600", "--count=40", "--limit=7070"]
         text = page(read_one_haul(io.BytesIO(census("take", *words))), 0)
         found = re.findall(
@@ -259,7 +260,7 @@ class Unsettled(unittest.TestCase):
 
 
 class Rows(unittest.TestCase):
-    """The table for readers without scripts."""
+    """Tests the table for readers without scripts."""
 
     def test_each_cell(self) -> None:
         haul = made(
@@ -379,8 +380,8 @@ class Rows(unittest.TestCase):
         )
 
     def test_pictures(self) -> None:
-        """Objects of more than ten rows, too, cell for cell, with a margin of one cell. A cell has
-        twelve points if there are under ten."""
+        """Pictures match cell for cell, with a margin of one cell, also for objects of more than
+        ten rows. A cell has twelve points if there are fewer than ten cells."""
         for code, scale in (
             ("xs28_g88m952g8gz1218kid221", 4),
             (PULSAR, 4),
@@ -399,7 +400,7 @@ class Rows(unittest.TestCase):
             )
 
     def test_addresses_of_soups(self) -> None:
-        """A seed may have any sign."""
+        """A seed may have any character."""
         haul = Haul(
             Job("a/b?#%", "b36s23", STANDARD),
             ranges=[(5, 1)],
@@ -427,7 +428,7 @@ class Rows(unittest.TestCase):
 
 
 class Data(unittest.TestCase):
-    """What the script of the page reads."""
+    """Tests the data that the script of the page reads."""
 
     HAUL = made(
         {"xp2_1110s": 7, "xs10_25520oo": 3, "xs4_33": 2, "xs8_rr": 1, "ov_p3": 1},
@@ -442,7 +443,8 @@ class Data(unittest.TestCase):
     )
 
     def test_each_object(self) -> None:
-        """14 blinkers, of which no object is one alone; 3 + 2 + 2 blocks; 3 beehives."""
+        """There are 14 blinkers, all of them parts of larger objects; 3 + 2 + 2 blocks; and 3
+        beehives."""
         self.assertEqual(
             list(map(without_rates, data_of(page(self.HAUL, 0))["objects"])),
             [
@@ -526,8 +528,8 @@ class Data(unittest.TestCase):
         )
 
     def test_least(self) -> None:
-        """An object has a place if there are as many of it, and a part if there are as many by
-        parts. What is left out counts as parts."""
+        """An object is on the page if a haul has at least `least` of it. A part is on the page if
+        there are that many by parts. Objects that are left out count by their parts."""
         text = compared(self.HAUL, least=3)
         self.assertEqual(
             [
@@ -545,7 +547,7 @@ class Data(unittest.TestCase):
         self.assertEqual((data_of(text)["kinds"], data_of(text)["hauls"][0]["objects"]), (5, 14))
 
     def test_large_totals(self) -> None:
-        """JavaScript loses digits of a number over 2^53, so that is a text."""
+        """JavaScript loses digits of a number above 2^53, so such a number is a text."""
         objects = objects_of(page(made({"xs4_33": 2**53, "xs5_253": 2**53 + 1}, [(0, 9)]), 0))
         self.assertEqual(
             [objects[code]["objects"][0][0] for code in ("xs4_33", "xs5_253")],
@@ -553,7 +555,7 @@ class Data(unittest.TestCase):
         )
 
     def test_soups(self) -> None:
-        """Cell for cell as `census soup` draws them, of objects and of parts."""
+        """Soups of objects and of parts match those of `census soup`, cell for cell."""
         soups = data_of(page(self.HAUL, 0))["soups"][0]
         self.assertEqual(sorted(map(int, soups)), [0, 1, 2, 4, 5, 7, 8])
         for number, (cells,) in soups.items():
@@ -581,7 +583,7 @@ class Data(unittest.TestCase):
         self.assertEqual((text.count("</script>"), text.count("<!--")), (2, 0))
 
     def test_the_files_are_in_it(self) -> None:
-        """The page has each of its files, and loads nothing."""
+        """The page contains each of its files, and loads nothing."""
         text = page(self.HAUL, 0)
         files = [*TOP.glob("haul/page/*.js"), *TOP.glob("haul/page/*.css")]
         self.assertGreater(len(files), 8)
@@ -617,7 +619,7 @@ class Comparing(unittest.TestCase):
             self.assertIn(f"<title>{title}</title>", compared(*hauls))
 
     def test_facts(self) -> None:
-        """A row for each haul."""
+        """There is a row for each haul."""
         rows = re.findall(
             '<tr><th scope="row">(.*?)</th>(.*?)</tr>',
             before_table(compared(self.LIFE, self.OTHER)),
@@ -656,7 +658,7 @@ class Comparing(unittest.TestCase):
         )
 
     def test_each_under_its_rule(self) -> None:
-        """A table on table falls apart under the rule of B alone, and each value has a place for
+        """A table on table falls apart only under the rule of B, and each value has a place for
         each haul."""
         objects = objects_of(compared(self.LIFE, self.OTHER))
         self.assertEqual(
@@ -685,7 +687,7 @@ class Comparing(unittest.TestCase):
         self.assertEqual(list(objects), ["xs4_33", "xp2_7", "xs12_raar", "xs6_9f"])
 
     def test_intervals(self) -> None:
-        """Those of each total on the page, and of 0."""
+        """The intervals are those of each total on the page, and of 0."""
         found = data_of(compared(self.LIFE, self.OTHER))["intervals"]
         self.assertEqual(
             {int(total): tuple(ends) for total, ends in found.items()},
@@ -760,7 +762,7 @@ class Comparing(unittest.TestCase):
             self.assertEqual(len(known), 3)
 
     def test_files(self) -> None:
-        """One to eight."""
+        """There may be one to eight."""
         with tempfile.TemporaryDirectory() as folder:
             name = f"{folder}/haul"
             Path(name).write_text(text_of(self.LIFE))
@@ -778,7 +780,7 @@ class Comparing(unittest.TestCase):
 
 class Ends(unittest.TestCase):
     def test_when_soups_settle(self) -> None:
-        """As `census name` says, and `census run` up to then."""
+        """The ends are the same as those of `census name`, and of `census run` up to then."""
         haul, exact = read_one_haul(io.BytesIO(census("take", "--count", "12"))), 0
         soups = data_of(page(haul))["soups"][0]
         self.assertEqual(
@@ -799,8 +801,8 @@ class Ends(unittest.TestCase):
         self.assertGreater(exact, 5)
 
     def test_how_many_cells_there_are_then(self) -> None:
-        """A pulsar has 48, 56 or 72 cells, a glider always five. What can't be drawn is known only
-        if it is a still life."""
+        """A pulsar has 48, 56 or 72 cells, and a glider always has five. For an object that can't
+        be drawn, the number is known only if it is a still life."""
         life = read_rule("b3s23")
         for code, sizes in (
             (PULSAR, {48, 56, 72}),
@@ -823,7 +825,7 @@ class Ends(unittest.TestCase):
             self.assertEqual(read_end(life, fields), end)
 
     def test_which_have_one(self) -> None:
-        """Those of the first objects. Strict ones come first, and objects that couldn't be
+        """The first objects have ends. Strict objects come first, and objects that couldn't be
         separated count as strict."""
         haul = made(
             {"xp2_1110s": 9, "xs4_33": 8, "ov_p3": 7},
@@ -844,7 +846,7 @@ class Ends(unittest.TestCase):
         )
 
     def test_a_soup_without_end(self) -> None:
-        """It was asked about, and its end is 0."""
+        """`census` was asked about it, and its end is 0."""
         (end,) = data_of(page(made({"xs4_33": 8}, [(9, 1)], Profile(1, 1, 1, 0))))["soups"][
             0
         ].values()

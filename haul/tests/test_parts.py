@@ -1,4 +1,4 @@
-"""Parts of objects, totals by parts, names, and the labels that are made of parts."""
+"""Parts of objects, totals by parts, names, and labels that are made from parts."""
 
 from __future__ import annotations
 
@@ -30,9 +30,9 @@ from haul.tests.called import CENSUS, census, run
 from haul.tests.test_life import STILL, example
 from haul.tests.test_tables import haul
 
-# Those of the twenty most frequent objects that have no name. What they are is seen from their
-# texts: `7` is a column of three cells, `111` a row of them, `33` two columns of two, `2552` and
-# `8kk8` a ring of six.
+# The objects without a name among the twenty most frequent ones. Their codes show what they are:
+# `7` is a column of three cells, `111` a row of three, `33` two columns of two, and `2552` and
+# `8kk8` rings of six.
 FREQUENT = {
     "xp2_1110s": "2 blinkers",
     "xp2_70ggg07": "3 blinkers",
@@ -62,14 +62,14 @@ FALL_APART = ("queen bee shuttle", "twin bees shuttle", "Coe's p8")
 
 
 def read_pictures(text: str) -> dict[str, str]:
-    """Returns the pictures by their names. A line with a name begins with `!`."""
+    """Returns the pictures by name. A line with a name begins with `!`."""
     found = (picture.partition("\n") for picture in text.split("!")[1:])
     return {name: rows for name, _, rows in found}
 
 
 class Names(unittest.TestCase):
     def test_each_picture_has_the_code(self) -> None:
-        """`census` names the picture of each name as names.tsv does."""
+        """`census` gives the picture of each name the same code as names.tsv."""
         pictures = read_pictures((FOLDER / "pictures.txt").read_text())
         names = load_names()
         self.assertEqual(list(pictures), list(names.shown.values()))
@@ -143,8 +143,8 @@ class Names(unittest.TestCase):
 
 class Parts(unittest.TestCase):
     def test_pseudo_objects(self) -> None:
-        """A bi-block is two blocks, a traffic light four blinkers; a block beside a pulsar is taken
-        off it."""
+        """A bi-block is two blocks, and a traffic light is four blinkers. A block beside a pulsar
+        is separated from it."""
         pulsar = "xp3_co9nas0san9oczgoldlo0oldlogz1047210127401"
         for code, wanted in (
             ("xs8_rr", ["xs4_33"] * 2),
@@ -156,8 +156,8 @@ class Parts(unittest.TestCase):
             self.assertEqual(parts(code), Separation(tuple(wanted)))
 
     def test_strict_objects(self) -> None:
-        """One island; two tables that are unstable alone; the four islands of a beacon, a pulsar's
-        sixteen and a pentadecathlon."""
+        """One island; two tables that are unstable by themselves; and the islands of a beacon
+        (four), a pulsar (sixteen) and a pentadecathlon."""
         for code in (
             "xs4_33",
             "xq4_153",
@@ -170,7 +170,7 @@ class Parts(unittest.TestCase):
             self.assertEqual(parts(code), strict(code))
 
     def test_what_is_not_separated(self) -> None:
-        """What can't be drawn, doesn't recur as its prefix says, or outgrows the plane."""
+        """Objects that can't be drawn, don't recur as their prefix says, or outgrow the plane."""
         for code in (
             "ov_p12",
             "ov_s400",
@@ -195,13 +195,13 @@ class Parts(unittest.TestCase):
         self.assertTrue(strict("xs4_33").is_strict() and not parts("xs8_rr").is_strict())
 
     def test_many_islands(self) -> None:
-        """Where all cells stay, eleven cells two steps apart are eleven parts. In Life, of so many
-        islands only that is tried."""
+        """Where all cells stay, eleven cells two steps apart are eleven parts. In Life, no other
+        separation is tried for so many islands."""
         for count in (MOST_ISLANDS, MOST_ISLANDS + 1, 30):
             row = "0".join("1" * count)
             self.assertEqual(parts(f"xs{count}_{row}", STILL), Separation(("xs1_1",) * count))
-        # Six bi-blocks in a row are twelve blocks; two tables on each other beside nine blocks have
-        # eleven islands, and two are no parts.
+        # Six bi-blocks in a row are twelve blocks. Two stacked tables beside nine blocks have
+        # eleven islands, two of which aren't parts.
         self.assertEqual(parts("xs48_" + "rr0" * 6), Separation(("xs4_33",) * 12))
         for blocks, wanted in ((8, Separation(("xs12_raar", *["xs4_33"] * 8))), (9, None)):
             code = f"xs{12 + 4 * blocks}_raar" + "0rr" * (blocks // 2) + "w33" * (blocks % 2)
@@ -209,8 +209,8 @@ class Parts(unittest.TestCase):
             self.assertEqual(parts(code), wanted or unknown(code))
 
     def test_a_part_that_falls_apart(self) -> None:
-        """A blocker is one cluster in two of its eight phases, and not in the one that is drawn. A
-        block is beside it."""
+        """A blocker is one cluster in two of its eight phases, but not in the phase that is drawn.
+        It is beside a block."""
         self.assertFalse(is_cluster(read_object(read_rule("b3s23"), "xp8_g3jgz1ut").phases[0]))  # type: ignore[union-attr]
         self.assertEqual(parts("xp8_g3jgy066z1ut"), Separation(("xp8_g3jgz1ut", "xs4_33")))
 
@@ -223,7 +223,7 @@ class Parts(unittest.TestCase):
                 )
 
     def test_each_condition_of_a_separation(self) -> None:
-        """By the cells of a bi-block, of which no run has to be that of a block."""
+        """The test uses the cells of a bi-block. Its runs needn't be the runs of a block."""
         found = read_object(read_rule("b3s23"), "xs8_rr")
         assert found is not None
         blocks = Blocks(read_rule("b3s23"), {}, found)
@@ -231,14 +231,14 @@ class Parts(unittest.TestCase):
         self.assertEqual((len(left), len(right), left | right), (4, 4, found.phases[0]))
         one, other = [left, left], [right, right]
         self.assertTrue(blocks.is_separation([one, other]))
-        # They share a cell, though together they are the object; they have as many cells, and
-        # aren't the object; one is missing.
+        # They share a cell, although together they are the object; they have as many cells, but
+        # aren't the object; and one is missing.
         shared = left | {min(right)}
         self.assertFalse(blocks.is_separation([[shared, shared], other]))
         self.assertFalse(blocks.is_separation([one, one]))
         self.assertFalse(blocks.is_separation([one]))
-        # It is in order; another block a period later; no cluster; and a cell that the object
-        # doesn't have.
+        # It is right; it is another block a period later; it isn't a cluster; and it has a cell
+        # that the object doesn't have.
         run = Run(read_rule("b3s23"), left)
         self.assertEqual(blocks.checked(run, iter(one)), one)
         self.assertIsNone(blocks.checked(run, iter([left, right])))
@@ -248,20 +248,20 @@ class Parts(unittest.TestCase):
         self.assertIsNone(blocks.checked(run, iter([left | {(9, 9)}] * 2)))
 
     def test_codes_that_are_not_canonical(self) -> None:
-        """A part is called by its own code, whatever drawing of it stands in a haul."""
+        """A part has its own code, whatever drawing of it a haul has."""
         self.assertEqual(
             (parts("xp2_111").parts, parts("xs6_4a4w").parts), (("xp2_7",), ("xs6_4a4w",))
         )
 
     def test_the_object_of_a_code(self) -> None:
-        """Its phases are those of its drawing, one after another."""
+        """The phases begin with the drawing, and follow one another."""
         found = read_object(read_rule("b3s23"), "xp2_7")
         assert found is not None
         self.assertEqual(found.phases, [{(0, 0), (0, 1), (0, 2)}, {(-1, 1), (0, 1), (1, 1)}])
 
     def test_by_brute_force(self) -> None:
-        """Drawn objects of the example, without long ones, which take too long; and those of two
-        other rules."""
+        """Random objects of the example, except for long ones, which take too long; and objects of
+        two other rules."""
         draw = random.Random("objects")
         tried = [("b3s23", draw.sample([code for code in example().totals if len(code) < 22], 250))]
         for rule, count in (("b36s23", 800), ("b3678s34678", 3000)):
@@ -318,7 +318,8 @@ class Labels(unittest.TestCase):
             self.assertEqual(find_label(code, parts(code)), label)
 
     def test_words(self) -> None:
-        """Oscillators first and still lifes last, those with a lower number before others."""
+        """Oscillators come first and still lifes last. Parts with a lower number come before
+        others."""
         for codes, words in (
             (("xs10_178kk8", "xs4_33", "xp2_7"), "blinker, block and beehive with tail"),
             (("xs4_33", "xs4_252", "xs4_33"), "tub and 2 blocks"),
@@ -338,7 +339,7 @@ class Labels(unittest.TestCase):
         self.assertEqual([mark_label(label, strict("x")) for label in ("block", "")], ["block", ""])
 
 
-# An object of which nothing is known, two blocks in two ways, and strict ones.
+# An object about which nothing is known, two blocks in two ways, and strict objects.
 CODES = {
     "xs4_33": 50,
     "xs8_rr": 10,
@@ -360,7 +361,7 @@ SAMPLED = {
 
 
 def sampled(rule: str, totals: dict[str, int]) -> str:
-    """The text of a haul with those samples."""
+    """Returns the text of a haul with the samples above."""
     head, _, _ = haul(rule, 100, totals).partition("@SAMPLE_SOUPIDS\n")
     return (
         head
@@ -396,7 +397,8 @@ class Tables(unittest.TestCase):
         )
 
     def test_strict(self) -> None:
-        """Objects of one part, with their ranks among all, and what isn't separated, marked so."""
+        """Only objects of a single part are shown, with their ranks among all, and objects that
+        aren't separated, with a note."""
         strict = [
             ["1", "xs4_33", "block"],
             ["5", "xp2_7", "blinker"],
@@ -413,8 +415,8 @@ class Tables(unittest.TestCase):
         )
 
     def test_by_parts(self) -> None:
-        """50 blocks and two in each of 17 objects; 3 blinkers and three in each of 4. The samples
-        are the three lowest numbers."""
+        """There are 50 blocks and two in each of 17 objects, and 3 blinkers and three in each of 4
+        objects. The samples are the three lowest numbers."""
         self.assertEqual(
             self.rows("--parts"),
             [
@@ -485,7 +487,7 @@ class Tables(unittest.TestCase):
         self.assertIn("not allowed with argument", errors)
 
     def test_an_enormous_code(self) -> None:
-        """It has its row, and the other ones have theirs."""
+        """Neither its row nor the other rows are lost."""
         code = "xp2_1" + "yz" * 30 + "1"
         with tempfile.TemporaryDirectory() as folder:
             Path(folder, "a").write_text(haul("b3s23", 100, {code: 2, "xs4_33": 1}))
@@ -538,8 +540,8 @@ class SideBySide(unittest.TestCase):
 
     def test_other_parts_under_another_rule(self) -> None:
         """Each table of a table on table dies in Life, and stays where nothing is born and one
-        neighbour is enough. On its side it is two columns of four cells, of which one lacks the
-        middle."""
+        neighbour is enough. Turned on its side, it is two columns of four cells, one of which lacks
+        the middle."""
         for name, rule in zip(self.names, ("b3s23", "bs123"), strict=True):
             Path(name).write_text(haul(rule, 100, {"xs12_raar": 4}))
         told = json.loads(run("compare", "--json", "--whole", *self.names)[1])

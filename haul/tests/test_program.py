@@ -1,5 +1,5 @@
-"""What asks the census program: checks, joins, comparisons and pages. The built program is used,
-and not the launcher."""
+"""Commands that call the census program: checks, joins, comparisons and pages. The built program is
+called without the launcher."""
 
 from __future__ import annotations
 
@@ -31,7 +31,7 @@ from haul.views.compare import Comparison
 
 
 class Kept(Census):
-    """The program, with what each call of `take` printed kept."""
+    """The census program. Keeps what each call of `take` printed."""
 
     def __init__(self) -> None:
         super().__init__(CENSUS, QUIET)
@@ -45,7 +45,7 @@ class Kept(Census):
 
 
 def said_of(kept: Kept, text: bytes) -> list[str] | None:
-    """What `haul check` says of a text, if it isn't refused."""
+    """Returns what `haul check` says about a text, or `None` if the text is refused."""
     try:
         haul = read_one_haul(io.BytesIO(text))
     except BadHaul:
@@ -60,7 +60,7 @@ def says_right(kept: Kept, text: bytes) -> bool:
 
 
 def is_printed(kept: Kept, text: bytes) -> bool:
-    """Whether `take` prints this text, by the words that stand in it."""
+    """Checks whether `take` prints this text, given the job and the set in it."""
     haul = read_one_haul(io.BytesIO(text))
     again = io.BytesIO()
     kept.take(haul.job, haul.ranges, 1, again)
@@ -68,7 +68,7 @@ def is_printed(kept: Kept, text: bytes) -> bool:
 
 
 class Checking(unittest.TestCase):
-    # Small numbers, so that a changed one is taken quickly too, under whatever rule.
+    # Small numbers, so that a changed haul is also taken quickly, under any rule.
     WORDS = ["--seed=a", "--count=30", "--period=4", "--horizon=8", "--stride=10", "--limit=30"]
 
     def test_right(self) -> None:
@@ -82,7 +82,7 @@ class Checking(unittest.TestCase):
         self.assertTrue(says_right(kept, text))
         draw = random.Random("bytes")
         for at, byte in enumerate(text):
-            # One of three is a digit, since most other bytes are bad wherever they stand.
+            # One of three is a digit, since most other bytes are wrong everywhere.
             digit = draw.choice([b for b in b"0123456789" if b != byte])
             for other in (
                 digit,
@@ -93,7 +93,7 @@ class Checking(unittest.TestCase):
                     self.assertTrue(is_printed(kept, changed), changed)
 
     def test_each_byte_changed_after_the_ranges(self) -> None:
-        """It is refused, or the line with the change is told, and no other."""
+        """The text is refused, or only the line with the change is reported."""
         kept, text = Kept(), census("take", "--count", "40")
         draw = random.Random("bytes after the ranges")
         told = 0
@@ -196,7 +196,7 @@ class Checking(unittest.TestCase):
         )
 
     def test_a_haul_that_is_taken_again_in_pieces(self) -> None:
-        """More ranges than one call has words for."""
+        """There are more ranges than fit into the arguments of one call."""
         job = Job("", "b3s23", Profile(1, 1, 1, 0))
         parts = b""
         for start in (0, 2000):
@@ -303,7 +303,7 @@ class Comparing(unittest.TestCase):
 
 
 class Finding(unittest.TestCase):
-    """Which program is asked where none is named."""
+    """Tests which program is called if none is named."""
 
     def setUp(self) -> None:
         self.folder = tempfile.TemporaryDirectory()
@@ -338,7 +338,7 @@ class Finding(unittest.TestCase):
             find_beside()
 
     def test_one_of_a_checkout(self) -> None:
-        """The launcher builds it."""
+        """The launcher builds the program."""
         starter = self.put("bin/census", f'#!/bin/sh\necho "$@" >> "{self.top}/asked"\n')
         self.put("bin/built.bash", "")
         built = str(self.top / "crates" / "census" / "out" / "census")
@@ -364,8 +364,8 @@ class Pages(unittest.TestCase):
     ]
 
     def test_hostile_seeds(self) -> None:
-        """What the page shows is run by a shell, and prints what the program prints of that
-        soup."""
+        """A shell runs the commands that the page shows, and they print what the program prints for
+        that soup."""
         with tempfile.TemporaryDirectory() as folder:
             os.symlink(CENSUS, os.path.join(folder, "census"))
             for seed in self.HOSTILE:
@@ -409,7 +409,7 @@ class Pages(unittest.TestCase):
         )
 
     def test_options_of_a_sample(self) -> None:
-        """Those that aren't standard, and no other."""
+        """The command has the options that aren't standard, and no others."""
         for profile, words in (
             (Profile(64, 512, 101, 30300), ""),
             (Profile(64, 512, 100, 30300), " --stride=100"),
@@ -426,8 +426,8 @@ class Pages(unittest.TestCase):
                 )
 
     def test_codes_that_name_nothing(self) -> None:
-        """A haul may be lawful with codes that the program can't draw. What else is in it is
-        shown."""
+        """A haul may be valid although the program can't draw some of its codes. Everything else in
+        it is shown."""
         codes = ["xs4_33", "xs4_y", "yl3_1", "zz_"]
         haul = Haul(
             Job("", "b3s23", Profile(64, 512, 101, 30300)),

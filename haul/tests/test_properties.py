@@ -1,5 +1,5 @@
-"""What holds of every haul: one wrong thing at a time is told where it is, and what a page shows is
-what the haul has."""
+"""Properties of every haul: a single fault is reported at its place, and a page shows what the haul
+has."""
 
 from __future__ import annotations
 
@@ -25,8 +25,8 @@ def read(lines: list[str]) -> Haul:
 
 
 class OneWrongThing(unittest.TestCase):
-    """A right haul with one row changed, at each place. What is said is put together from its
-    lines."""
+    """A right haul in which one row is changed, at each place. The expected message is composed
+    from its lines."""
 
     def setUp(self) -> None:
         self.lines = census("take", "--count", "40").decode().splitlines()
@@ -39,7 +39,7 @@ class OneWrongThing(unittest.TestCase):
         return list(list_differences(read(lines), self.right))
 
     def with_objects(self, more: int) -> tuple[list[str], str]:
-        """The lines with another number of objects, and what is said of that."""
+        """Returns the lines with another number of objects, and the message about it."""
         lines = list(self.lines)
         lines[9] = f"@NUM_OBJECTS {self.objects + more}"
         return lines, f"line 10: is {lines[9]}, should be {self.lines[9]}"
@@ -56,7 +56,7 @@ class OneWrongThing(unittest.TestCase):
                 )
 
     def test_codes(self) -> None:
-        """One that is missing, and one that is too much, before each."""
+        """A code is missing, or there is one too many, before each code."""
         for place, row in zip(self.totals, self.samples, strict=True):
             code, total = self.lines[place].split()
             lines, told = self.with_objects(-int(total))
@@ -71,7 +71,7 @@ class OneWrongThing(unittest.TestCase):
                 )
 
     def test_samples(self) -> None:
-        """Another number at each place, one less, and one more."""
+        """There is another number at each place, one number less, or one more."""
         tried = 0
         for row in self.samples:
             code, *numbers = self.lines[row].split()
@@ -110,7 +110,7 @@ class OneWrongThing(unittest.TestCase):
                 )
 
     def test_sample_soups(self) -> None:
-        """A soup that doesn't leave the object, at each place, and by itself."""
+        """A soup that doesn't leave the object is at each place, and by itself."""
         left = {
             number: {field.partition("*")[0] for field in line.split()[9:]}
             for number, line in enumerate(
@@ -137,7 +137,7 @@ class OneWrongThing(unittest.TestCase):
 
 
 class Once(Census):
-    """The program, of which each soup's objects are known already."""
+    """The census program, for which the objects of each soup are known already."""
 
     def __init__(self, left: dict[int, set[str]]) -> None:
         super().__init__(CENSUS, QUIET)
@@ -151,8 +151,8 @@ class Once(Census):
 
 
 def how_often(soups: int, total: int) -> str:
-    """Returns how often an object comes: at most in one of this many soups, or, if there are more
-    objects than half the soups, how many there are per soup, with three digits."""
+    """Returns how often an object occurs: at most in one of this many soups or, if there are more
+    objects than half the number of soups, how many per soup, with three digits."""
     if soups == 0:
         return "none"
     if Fraction(total, soups) <= Fraction(1, 2):
@@ -166,8 +166,8 @@ def how_often(soups: int, total: int) -> str:
 
 class Shown(unittest.TestCase):
     def test_number_for_number(self) -> None:
-        """Each code with its numbers, the most frequent first, in the table and in the data, and
-        all facts before the table."""
+        """Each code has its numbers, the most frequent first, in the table and in the data, and all
+        facts come before the table."""
         draw = random.Random("pages")
         rows = 0
         for _ in range(200):
@@ -206,7 +206,7 @@ class Shown(unittest.TestCase):
         self.assertGreater(rows, 300)
 
     def test_least(self) -> None:
-        """Codes with as many are there."""
+        """Codes with exactly as many objects are included."""
         draw = random.Random("least")
         for _ in range(40):
             haul = any_haul(draw)

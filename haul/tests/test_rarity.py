@@ -20,7 +20,7 @@ from haul.tests.called import TOP, run
 
 
 def binomial_tail(least: int, trials: int, share: float) -> float:
-    """The probability of at least so many successes, as a sum."""
+    """Returns the probability of at least `least` successes, as a sum."""
     return math.fsum(
         math.comb(trials, k) * share**k * (1 - share) ** (trials - k)
         for k in range(least, trials + 1)
@@ -45,7 +45,7 @@ class Functions(unittest.TestCase):
                 )
 
     def test_beta_of_other_numbers(self) -> None:
-        """Of parameters 1/2 it is an arcsine, and of one parameter 1 a power."""
+        """With both parameters 1/2 it is an arcsine, and with one parameter 1 it is a power."""
         for x in (0.01, 0.3, 0.9):
             self.near(compute_beta(0.5, 0.5, x), 2 / math.pi * math.asin(math.sqrt(x)))
             self.near(compute_beta(2.7, 1, x), x**2.7)
@@ -63,7 +63,8 @@ class Functions(unittest.TestCase):
         self.assertEqual(compute_gamma_tail(2, 0), 1)
 
     def test_clopper_and_pearson(self) -> None:
-        """The ends for 10 of 100 are those of statistical tables. At each end the tail has 2.5 %."""
+        """The ends for 10 of 100 are those in statistical tables. At each end, the tail has 2.5
+        %."""
         self.assertEqual(
             (round(find_share_low(10, 100), 4), round(find_share_high(10, 100), 4)),
             (0.0490, 0.1762),
@@ -81,7 +82,7 @@ class Functions(unittest.TestCase):
         self.assertIsNone(Occurrence(0, 1000).one_in_high())
 
     def test_equal_rates(self) -> None:
-        """Against the sums of the binomial distribution."""
+        """The p-values are compared with sums of the binomial distribution."""
         for one, other, soups, others in ((5, 15, 100, 100), (0, 6, 10, 20), (9, 4, 7, 3)):
             trials, share = one + other, soups / (soups + others)
             at_least = binomial_tail(one, trials, share)
@@ -117,7 +118,7 @@ class TheReference(unittest.TestCase):
                 parse_reference(b"\n".join([heads, b"\t".join(fields), *rows]))
 
     def test_sizes(self) -> None:
-        """The tables have at most 2 MB together."""
+        """Together, the tables have at most 2 MB."""
         self.assertLess(sum(file.stat().st_size for file in (TOP / "reference").iterdir()), 2e6)
 
     def test_the_other_tables(self) -> None:
@@ -146,7 +147,7 @@ xs4_33 (block): one in 1.10 soups (95 %: 1.10 to 1.10); 673827113 objects in 911
         )
 
     def test_a_pseudo_object(self) -> None:
-        """It has a line of its own, and one for each of its parts; nothing says `none`."""
+        """It has a line of its own, and a line for each of its parts. None of them says `none`."""
         status, output, errors = run("rarity", "xp2_33ws")
         self.assertEqual((status, errors), (0, ""))
         first, *others = output.splitlines()

@@ -1,4 +1,4 @@
-"""Report lines: what is read from them, and where a bad one is wrong."""
+"""Report lines: what is read from them, and where a bad line is wrong."""
 
 from __future__ import annotations
 
@@ -14,7 +14,7 @@ from haul.formats.report_files import split_lines
 from haul.formats.report_lines import BadLine, Report, read_report_line
 from haul.tests.called import CENSUS
 
-# 57 bytes, as in docs/FORMATS.md.
+# There are 57 bytes, as in docs/FORMATS.md.
 START = "report 1 rule=b3s23 profile=1,1,1,0 seed= worker=1 soup=0"
 SMALL_JOB = Job("", "b3s23", Profile(1, 1, 1, 0))
 # Soup 101 of the empty seed.
@@ -24,7 +24,7 @@ MOST = 16_777_216
 
 
 def fault(line: str | bytes) -> int | None:
-    """The place at which a line is bad."""
+    """Returns the place at which a line is wrong, or `None` if it is good."""
     try:
         read_report_line(line if isinstance(line, bytes) else line.encode("latin-1"))
     except BadLine as bad:
@@ -95,7 +95,7 @@ class Reading(unittest.TestCase):
 
 class Faults(unittest.TestCase):
     def test_what_follows(self) -> None:
-        """The table of docs/FORMATS.md, and more."""
+        """These are the table of docs/FORMATS.md, and further cases."""
         for after, place in (
             ("", 57),
             (" unsettled x", 68),
@@ -162,8 +162,8 @@ class Faults(unittest.TestCase):
             self.assertEqual(fault(second + after), place, after)
 
     def test_a_line_that_lost_its_end(self) -> None:
-        """It is bad where its last field begins, or at its length if that field is right, unless it
-        is a line by itself."""
+        """The line is bad where its last field begins, or at its length if that field is right,
+        unless it is a good line itself."""
         for end, place in (
             ("", 0),
             ("repor", 0),
@@ -187,7 +187,7 @@ class Faults(unittest.TestCase):
             self.assertEqual(fault(WHOLE.partition(" good")[0] + left), bad, left)
 
     def test_a_line_that_is_too_long(self) -> None:
-        """It is bad at the first fault of its first 16,777,216 bytes, or after them."""
+        """The line is bad at the first fault of its first 16,777,216 bytes, or after them."""
         start = f"{START} at=0"
         field = f" {'a' * 400}*1"
         fields = "".join(
@@ -212,8 +212,8 @@ class Faults(unittest.TestCase):
 
 class BesideGather(unittest.TestCase):
     def test_changed_lines(self) -> None:
-        """Each is bad at the same place for `census gather`, or for neither. No soup is in the set,
-        so none is run."""
+        """Each line is bad at the same place for `census gather`, or good for both. No soup is in
+        the set, so no soup is run."""
         draw = random.Random("changed lines")
         lines = [
             self.changed(

@@ -1,4 +1,5 @@
-"""Patterns in RLE: read as plaintext, written from it, and refused where they are none."""
+"""Patterns in RLE: they are read as plaintext, written from plaintext, and refused if they are
+wrong."""
 
 from __future__ import annotations
 
@@ -17,7 +18,7 @@ from haul.patterns.rules import RULES, find_named_rule, parse_rule
 from haul.formats.syntax import RULE
 from haul.tests.called import CENSUS, HAUL, census, run
 
-# The glider gun as LifeWiki has it in RLE, which is the one of examples/glider-gun.cells.
+# The glider gun in LifeWiki's RLE, which is the gun of examples/glider-gun.cells.
 GUN = """\
 #N Gosper glider gun
 #C This was the first gun discovered.
@@ -40,7 +41,7 @@ def life(words: list[str], pattern: str) -> str:
 
 
 def boxed(rows: list[str]) -> list[str]:
-    """The rows of the least box."""
+    """Returns the rows of the bounding box."""
     live = [y for y, row in enumerate(rows) if "O" in row]
     left = min((rows[y].index("O") for y in live), default=0)
     right = max((rows[y].rindex("O") for y in live), default=-1)
@@ -48,7 +49,7 @@ def boxed(rows: list[str]) -> list[str]:
 
 
 def drawn_rows(draw: random.Random, most: int) -> list[str]:
-    """Rows whose least box begins at the corner, at any density."""
+    """Returns random rows whose bounding box begins at the corner, with any density."""
     width, height, density = (
         draw.randint(1, most),
         draw.randint(1, most),
@@ -58,7 +59,7 @@ def drawn_rows(draw: random.Random, most: int) -> list[str]:
         "".join("O" if draw.random() < density else "." for _ in range(width))
         for _ in range(height)
     ]
-    # The box is as wide and as high as this says.
+    # The width and the height of the bounding box.
     return (
         ["O" + "." * (width - 1), *rows[1:-1], "." * (width - 1) + "O"]
         if height > 1
@@ -72,7 +73,7 @@ class Reading(unittest.TestCase):
         self.assertEqual((status, errors), (0, ""))
         known = (Path(HAUL).parents[1] / "examples" / "glider-gun.cells").read_text()
         self.assertEqual(life(["run", "0"], output), life(["run", "0"], known))
-        # It has 36 cells, and after 30 generations those and a glider.
+        # The gun has 36 cells. After 30 generations, it has these cells and a glider.
         self.assertEqual((output.count("O"), life(["run", "30"], output).count("O")), (36, 41))
 
     def test_what_may_stand_there(self) -> None:
@@ -160,7 +161,8 @@ class Reading(unittest.TestCase):
 
 class NamedRules(unittest.TestCase):
     def test_each_can_be_run(self) -> None:
-        """Each is a value of `--rule`, and no birth is on zero neighbours; a name stands once."""
+        """Each rule is a value of `--rule` without birth on zero neighbours, and no name occurs
+        twice."""
         for name, option in RULES.items():
             self.assertTrue(RULE.fullmatch(option.encode()), option)
             self.assertEqual(find_named_rule(name.upper()), option)
@@ -272,7 +274,7 @@ class Refused(unittest.TestCase):
 
 class Writing(unittest.TestCase):
     def test_a_glider(self) -> None:
-        """As LifeWiki has it."""
+        """The RLE is the same as on LifeWiki."""
         self.assertEqual(
             run("rle", text=GLIDER.encode()), (0, "x = 3, y = 3, rule = B3/S23\nbo$2bo$3o!\n", "")
         )
@@ -286,7 +288,7 @@ class Writing(unittest.TestCase):
             self.assertEqual(run("rle", text=text), (0, "x = 0, y = 0, rule = B3/S23\n!\n", ""))
 
     def test_the_gun(self) -> None:
-        """Lines have at most 70 characters, and no run is cut."""
+        """Lines have at most 70 characters, and no run is split."""
         lines = run("rle", text=cells(GUN)[1].encode())[1].splitlines()
         self.assertEqual(lines[0], "x = 36, y = 9, rule = B3/S23")
         self.assertEqual(
@@ -316,7 +318,7 @@ class Writing(unittest.TestCase):
 
 @unittest.skipUnless(shutil.which("bgolly"), "there is no bgolly")
 class Golly(unittest.TestCase):
-    """Golly reads what is written, and what it writes is read."""
+    """Golly reads what `haul` writes, and `haul` reads what Golly writes."""
 
     def by_golly(self, rle: str, generations: int) -> str:
         with tempfile.TemporaryDirectory() as folder:
@@ -358,7 +360,8 @@ class Golly(unittest.TestCase):
             )
 
     def test_patterns_of_golly(self) -> None:
-        """One of three that fit: each is, moved to the corner, what Golly writes of it."""
+        """Of the patterns that fit, a third is tested: each is, moved to the corner, what Golly
+        writes of it."""
         tried = 0
         for file in sorted(Path("/usr/share/golly/Patterns").rglob("*.rle"))[::3]:
             text = file.read_bytes()

@@ -1,4 +1,5 @@
-"""`haul search`: which soups it takes, what it refuses, and what the file has whatever happens."""
+"""`haul search`: which soups it takes, what it refuses, and that its file is right whatever
+happens."""
 
 from __future__ import annotations
 
@@ -32,7 +33,7 @@ from haul.tests.searching import QUICK, Searches
 
 
 class Soups(Searches):
-    """Which soups are taken."""
+    """Tests which soups are taken."""
 
     def test_begins_with_a_random_seed(self) -> None:
         seeds = set()
@@ -64,7 +65,8 @@ class Soups(Searches):
         self.assertEqual(self.file.read_bytes(), census("take", *words, "--count", "30"))
 
     def test_goes_on(self) -> None:
-        """In batches of other sizes, and up to just as many soups as are asked for."""
+        """A search may continue in batches of other sizes, and up to exactly as many soups as
+        requested."""
         for until, size in ((10, 100), (50, 7), (51, 1), (200, 40)):
             self.assertEqual(
                 self.search("--seed=a", "--until", str(until), "--part", str(size))[0], 0
@@ -96,7 +98,7 @@ class Soups(Searches):
         )
 
     def test_as_many_as_there_are_or_fewer(self) -> None:
-        """It ends at once, and asks no program."""
+        """The search ends at once, and doesn't call the program."""
         self.file.write_bytes(census("take", "--count", "20"))
         before = self.file.stat()
         for until in ("20", "19", "0"):
@@ -126,7 +128,7 @@ class Soups(Searches):
         self.assertEqual(self.file.read_bytes(), census("take", "--seed=a", "--count", "0"))
 
     def test_how_the_program_is_called(self) -> None:
-        """By default with as many workers as there are processors."""
+        """By default there are as many workers as processors."""
         program = self.stub('echo "$@" >> calls; real "$@"')
         self.search("--seed=a", "--until", "7", "--part", "4", *QUICK, program=program)
         with patch("os.sched_getaffinity", return_value=range(100)) as asked:
@@ -150,7 +152,7 @@ class Soups(Searches):
         self.assertIn(" --first=0 --count=100000 ", (self.folder / "calls").read_text())
 
     def test_rights_and_links(self) -> None:
-        """The file keeps its rights, and a link to it stays a link."""
+        """The file keeps its permissions, and a link to it stays a link."""
         self.file.write_bytes(census("take", "--count", "5", *QUICK))
         self.file.chmod(0o640)
         (self.folder / "link").symlink_to("mine.haul")
@@ -161,7 +163,7 @@ class Soups(Searches):
 
 
 class Refusals(Searches):
-    """What is refused. The file stays as it is."""
+    """Tests what is refused. The file isn't changed."""
 
     def refused(self, status: int, line: str, *words: str, file: str = "mine.haul") -> None:
         before = self.file.read_bytes() if self.file.exists() else None
@@ -264,7 +266,7 @@ class Refusals(Searches):
             first.send_signal(signal.SIGINT)
             self.assertEqual(first.wait(60), 0)
         self.assert_right()
-        # The lock is kept, and locks nothing now.
+        # The lock file remains, but is no longer locked.
         self.assertEqual(self.search("--until", "1")[0], 0)
 
     def test_no_program(self) -> None:
@@ -282,7 +284,8 @@ class Refusals(Searches):
         self.assertFalse(self.file.exists())
 
     def test_a_program_that_cant_be_started(self) -> None:
-        """A text that says no interpreter is no program. With another reason there may be one."""
+        """A text that doesn't name an interpreter isn't a program. If starting fails for any other
+        reason, there may be a program."""
         text, loop = self.folder / "text", self.folder / "loop"
         text.write_text("x\n")
         text.chmod(0o755)
@@ -301,7 +304,8 @@ class Faults(Searches):
     """The file is always a right haul, whatever fails."""
 
     def test_a_program_that_fails(self) -> None:
-        """Its status and its line are passed on, and the batches before are in the file."""
+        """The program's status and message are passed on, and the batches before are in the
+        file."""
         for how, status, line in (
             ("echo census: because >&2; exit 4", 4, "because"),
             ("exit 70", 5, "census ended with status 70"),
@@ -324,7 +328,7 @@ class Faults(Searches):
             self.assert_nothing_runs()
 
     def test_a_wrong_answer(self) -> None:
-        """Another haul than the one that was asked for isn't added."""
+        """A haul other than the requested one isn't added."""
         for answer in (
             "real take --count 20 --seed a",
             "real take --count 20 --seed b --first 20",
@@ -348,7 +352,7 @@ class Faults(Searches):
         self.assert_nothing_runs()
 
     def test_a_full_disk(self) -> None:
-        """By a limit on the size of files, over which the file grows."""
+        """A limit on the size of files stands in for a full disk. The file grows beyond it."""
         self.assertEqual(self.search("--seed=a", "--until", "5")[0], 0)
         before = self.file.read_bytes()
         limit = len(before) + 1000
@@ -358,7 +362,7 @@ class Faults(Searches):
         )
         self.assertEqual(self.file.read_bytes(), before)
         self.assert_left("mine.haul", "mine.haul.late", "mine.haul.lock")
-        # A file that an earlier search has left doesn't matter.
+        # A file that an earlier search has left behind makes no difference.
         (self.folder / "mine.haul.new").write_text("x" * 100000)
         self.assertEqual(self.search("--until", "400")[0], 0)
         self.assert_right()
@@ -371,7 +375,7 @@ class Faults(Searches):
         self.assertFalse(self.file.exists())
 
     def test_nobody_reads(self) -> None:
-        """The batch whose find can't be told is in the file."""
+        """The batch whose find can't be reported is in the file."""
         with self.start("--seed=", "--first=23473", "--part", "20") as program:
             assert program.stdout
             program.stdout.close()
@@ -384,7 +388,7 @@ class Faults(Searches):
         self.assert_nothing_runs()
 
     def test_killed_at_drawn_moments(self) -> None:
-        """After it has begun to write, which it does again and again."""
+        """The search is killed after it has begun to write, which it does again and again."""
         draw = random.Random("kills")
         for _ in range(8):
             soups = self.soups()
@@ -405,13 +409,13 @@ class Faults(Searches):
 
 
 class Signals(Searches):
-    """A signal loses no more than the batch that runs, and leaves nothing running."""
+    """A signal loses only the running batch, and leaves nothing running."""
 
-    # In this program the batch from soup 40 on goes on for long.
+    # In this program, the batch from soup 40 on takes a long time.
     SLOW = 'case "$*" in *--first=40*) echo census >&2; touch slow; exec sleep 1000 ;; *) real "$@" ;; esac'
 
     def slow(self) -> subprocess.Popen[bytes]:
-        """A search whose third batch goes on for long."""
+        """Starts a search whose third batch takes a long time."""
         program = self.start("--seed=a", "--part", "20", program=self.stub(self.SLOW))
         self.wait_for(20)
         while not (self.folder / "slow").exists():
@@ -419,7 +423,7 @@ class Signals(Searches):
         return program
 
     def test_the_first_interrupt(self) -> None:
-        """The batch that runs is finished."""
+        """The running batch is finished."""
         with self.start("--seed=a", "--part", "300") as program:
             self.wait_for(300)
             os.killpg(program.pid, signal.SIGINT)
@@ -463,7 +467,7 @@ class Signals(Searches):
         self.assert_right()
 
     def test_a_signal_that_is_ignored(self) -> None:
-        """As `nohup` has it."""
+        """`nohup` ignores a signal in this way."""
         program = self.stub('kill -HUP $(cut -d " " -f 4 /proc/$$/stat); sleep 0.3; real "$@"')
         self.has_nohup = True
         self.assertEqual(self.search("--seed=a", "--until", "20", program=program)[0], 0)
@@ -471,10 +475,10 @@ class Signals(Searches):
 
 
 class Programs(Searches):
-    """A program that runs in a session of its own."""
+    """A program that runs in its own session."""
 
     def test_streams_that_are_closed_early(self) -> None:
-        """It is waited for then, a moment at a time."""
+        """The program is then waited for, a moment at a time."""
         running = BackgroundProgram(
             StreamWaiter(), LAUNCH_CENSUS, [self.stub("exec 1>&-; exec sleep 1000")], None
         )
@@ -487,8 +491,8 @@ class Programs(Searches):
         self.assert_nothing_runs()
 
     def test_what_holds_one_stream(self) -> None:
-        """When the program has ended, what it has left running is killed, although one stream is
-        closed by then."""
+        """When the program has ended, the processes that it has left running are killed, even if
+        one stream is already closed."""
         for closed in ("1", "2"):
             running = BackgroundTake(
                 StreamWaiter(), [self.stub(f"exec {closed}>&-; sleep 1000 & exit 0")]
@@ -500,7 +504,7 @@ class Programs(Searches):
             self.assert_nothing_runs()
 
     def test_lines_of_progress(self) -> None:
-        """The last whole one counts."""
+        """The last complete progress line counts."""
         take = BackgroundTake(StreamWaiter(), [self.stub("exec sleep 1000")])
         for piece, soups in (
             (b"", 0),
@@ -517,7 +521,7 @@ class Programs(Searches):
 
 
 class Stops(unittest.TestCase):
-    """What signals ask of the work."""
+    """Tests what signals ask of the work."""
 
     def test_what_is_noted(self) -> None:
         interrupt, term = signal.SIGINT, signal.SIGTERM
@@ -535,7 +539,7 @@ class Stops(unittest.TestCase):
             stopping.hear()
 
     def test_work_that_doesnt_end(self) -> None:
-        """Another signal ends the program after ten seconds, unless the file is being replaced."""
+        """After ten seconds another signal ends the program, unless the file is being replaced."""
         with patch("time.monotonic", return_value=100.0) as now:
             stopping = Stopping()
             stopping.came(signal.SIGTERM)
@@ -564,7 +568,7 @@ class Stops(unittest.TestCase):
 
 
 class Keeping(Searches):
-    """How a file is replaced."""
+    """Tests how a file is replaced."""
 
     def test_one_lock_for_two_names(self) -> None:
         (self.folder / "link").symlink_to(self.file)
@@ -575,7 +579,7 @@ class Keeping(Searches):
         os.close(Keeper(str(self.folder / "link")).lock)
 
     def test_a_link_to_a_link(self) -> None:
-        """The lock is that of the file, in its folder."""
+        """The lock belongs to the file, and is in its folder."""
         (self.folder / "far").mkdir()
         (self.folder / "far" / "link").symlink_to("../near")
         (self.folder / "near").symlink_to("mine.haul")
@@ -589,7 +593,7 @@ class Keeping(Searches):
         self.assertEqual(os.listdir(self.folder / "far"), ["link"])
 
     def test_steps_of_a_replacement(self) -> None:
-        """The new text is on the disk before it has the name, and then the name is."""
+        """The new text is on disk before it gets the name, and afterwards the name is on disk."""
         self.file.write_bytes(census("take", "--count", "3"))
         keeper = Keeper(str(self.file))
         haul = keeper.read()
@@ -615,7 +619,7 @@ class Keeping(Searches):
         os.close(keeper.lock)
 
     def test_rights_of_a_new_file(self) -> None:
-        """Everybody may read and write it, unless the mask says otherwise."""
+        """Everyone may read and write it, unless the mask says otherwise."""
         mask = os.umask(0)
         try:
             keeper = Keeper(str(self.file))
@@ -627,8 +631,8 @@ class Keeping(Searches):
         os.close(keeper.lock)
 
     def test_a_folder_that_cant_be_synced(self) -> None:
-        """Some file systems refuse that with `EINVAL`, which is no fault. Another refusal is
-        one."""
+        """Some file systems refuse this with `EINVAL`, which isn't a fault. Any other refusal
+        is."""
         keeper = Keeper(str(self.file))
         fsync = os.fsync
         for number, is_fault in ((errno.EINVAL, False), (errno.EIO, True)):

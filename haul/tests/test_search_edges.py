@@ -1,4 +1,5 @@
-"""`haul search` in hard conditions: what others do to its file, its programs and its memory."""
+"""`haul search` under difficult conditions: interference with its file, its programs and its
+memory."""
 
 from __future__ import annotations
 
@@ -18,7 +19,7 @@ from haul.tests.searching import QUICK, Searches
 
 
 class Programs(Searches):
-    """Nothing that a program has started goes on."""
+    """No process that a program has started goes on."""
 
     def test_finds_in_another_session(self) -> None:
         program = self.stub("cd ..; setsid -f sleep 77.5 < /dev/null > /dev/null 2>&1", "finder")
@@ -48,7 +49,7 @@ class Programs(Searches):
         return [line for line in found if line == f"sleep {seconds}"]
 
     def test_without_a_path(self) -> None:
-        """Then Python may not know where it is."""
+        """Without a PATH, Python may not know where it is."""
         ended = subprocess.run(
             [sys.executable, "-c", WITHOUT_EXECUTABLE, HAUL, CENSUS, str(self.file), *QUICK],
             stdout=subprocess.PIPE,
@@ -78,7 +79,7 @@ runpy.run_path(haul, run_name="__main__")"""
 
 
 class Files(Searches):
-    """What others do to FILE."""
+    """Tests what others may do to FILE."""
 
     def test_lock_that_is_held_for_a_moment(self) -> None:
         with open(f"{self.file}.lock", "w", encoding="ascii") as lock:
@@ -90,7 +91,7 @@ class Files(Searches):
         self.assertEqual((running.returncode, errors), (0, b""))
 
     def test_changed_by_another_program(self) -> None:
-        """The file stays as the other program left it, and the haul is beside it."""
+        """The file isn't changed further, and the haul is written beside it."""
         other = census("take", "--seed=other", "--count=3")
         changes: list[tuple[Callable[[], object], str]] = [
             (self.file.unlink, "mine.haul.mine"),
@@ -115,7 +116,7 @@ class Files(Searches):
 
 
 class Arguments(Searches):
-    """Numbers and names of files."""
+    """Tests numbers and names of files."""
 
     def test_numbers_as_for_census(self) -> None:
         words = ["--seed=", "--first", "+5", "--limit", "+700"]
@@ -138,7 +139,7 @@ class Arguments(Searches):
 
 
 class Reports(Searches):
-    """Many lines that are bad."""
+    """Tests many bad lines."""
 
     def test_counts_lines_after_a_thousand(self) -> None:
         line = census("work", "--count=1", "--worker=1")
@@ -158,7 +159,7 @@ class Reports(Searches):
 
 
 class Memory(Searches):
-    """A thread that has no memory ends without a word."""
+    """A thread without memory ends silently."""
 
     def test_thread_that_does_not_begin(self) -> None:
         script = (

@@ -1,4 +1,4 @@
-"""`haul soups`: what is told of all soups of report lines together, and of some by themselves."""
+"""`haul soups`: what it prints about all soups of report lines together, and about single soups."""
 
 from __future__ import annotations
 
@@ -29,7 +29,7 @@ from haul.views.soup_lists import Longest
 
 JOB = "rule=b3s23 profile=64,512,101,30300 seed=abc"
 JOB_LINE = "seed=abc rule=b3s23 profile=64,512,101,30300"
-# Five settled soups and an unsettled one, of both versions.
+# Five settled soups and an unsettled one, in both versions.
 LINES = [
     f"report 2 {JOB} worker=1 soup=7 at=499 good=yes xs4_33*2",
     f"report 2 {JOB} worker=1 soup=3 at=1200 good=no xp2_7*3 xq4_153*1 xs4_33*1",
@@ -47,7 +47,7 @@ def text_of(lines: list[str]) -> bytes:
 
 
 def rows(*words: str, lines: list[str] | bytes = LINES) -> list[list[str]]:
-    """The table that is printed, without its heads."""
+    """Returns the rows of the printed table, without its heads."""
     status, output, errors = run(
         "soups", "--csv", *words, text=lines if isinstance(lines, bytes) else text_of(lines)
     )
@@ -58,7 +58,7 @@ def rows(*words: str, lines: list[str] | bytes = LINES) -> list[list[str]]:
 
 @contextmanager
 def program(script: str) -> Iterator[str]:
-    """A program in place of `census`."""
+    """Yields the path of a program that takes the place of `census`."""
     with tempfile.TemporaryDirectory() as folder:
         path = Path(folder) / "census"
         path.write_text(f"#!/bin/sh\n{script}\n")
@@ -124,8 +124,8 @@ from    to  settled
         )
 
     def test_quartiles(self) -> None:
-        """They are the smallest but so many: a quarter, a half, and three quarters of all, rounded
-        up."""
+        """The quartiles are the checkpoints at a quarter, a half and three quarters of all soups in
+        ascending order, rounded up."""
         for number, quartiles in (
             (1, [1, 1, 1]),
             (2, [1, 1, 2]),
@@ -171,7 +171,7 @@ from    to  settled
         self.assertIn("1 soup, 1 unsettled, 0 for good\nno soup has settled\n", output)
 
     def test_small_bars(self) -> None:
-        """A bar has a character if it stands for any soup."""
+        """A bar that stands for at least one soup has a character."""
         lines = [
             f"report 2 {JOB} worker=1 soup={soup} at={0 if soup else 700} good=yes"
             for soup in range(101)
@@ -185,8 +185,8 @@ from    to  settled
 
 class Lines(unittest.TestCase):
     def test_what_is_skipped(self) -> None:
-        """Bad lines and those of another job are told by file and number, and soups that come again
-        are not."""
+        """Bad lines and lines of another job are reported with file and number. Soups that occur
+        again aren't reported."""
         with tempfile.TemporaryDirectory() as folder:
             one, other = os.path.join(folder, "one"), os.path.join(folder, "other")
             Path(one).write_bytes(
@@ -243,7 +243,7 @@ class Lines(unittest.TestCase):
             self.assertEqual(run("soups", text=text_of(lines))[2], "haul: line 2: other job\n")
 
     def test_progress(self) -> None:
-        """A line of progress is written after each ten thousand lines of all inputs together."""
+        """The progress line is updated after each ten thousand lines of all inputs together."""
         terminal = Mock()
         reports, inputs = Reports(terminal), [
             text_of(LINES[:1] * number) for number in (6_000, 6_000, 7_999)
@@ -260,7 +260,7 @@ class Lines(unittest.TestCase):
         )
 
     def test_lines_of_work(self) -> None:
-        """All that a haul says of the soups, too, is told of the lines."""
+        """Everything that a haul says about the soups is also printed for the lines."""
         haul = census("take", "--count=300", "--seed=b").decode().splitlines()
         told = json.loads(
             run("soups", "--json", text=census("work", "--count=300", "--seed=b", "--worker=2"))[1]
@@ -350,7 +350,7 @@ class TheLongest(unittest.TestCase):
         self.assertEqual(rows("--longest=2", lines=lines), [["9", "1", "0"], ["4", "0", "0"]])
 
     def test_equal_checkpoints(self) -> None:
-        """The soup with the lower number comes first, in whatever order they are read."""
+        """The soup with the lower number comes first, in whichever order they are read."""
         lines = [
             f"report 2 {JOB} worker=1 soup={soup} at={at} good=yes"
             for soup, at in ((4, 7), (9, 5), (2, 5), (6, 5), (1, 3), (8, 5))
@@ -364,14 +364,14 @@ class TheLongest(unittest.TestCase):
             )
 
     def test_few_are_kept(self) -> None:
-        """Of however many soups, only those that may be listed are kept."""
+        """However many soups there are, only soups that may be listed are kept."""
         longest = Longest(3, None)
         for soup in range(999):
             longest.add(Report(Job("", "b3s23", Profile(1, 1, 1, 0)), soup, soup // 2, None, {}))
         self.assertEqual(longest.kept, {498: [(996, 0), (997, 0)], 499: [(998, 0)]})
 
     def test_exact(self) -> None:
-        """The generations are those of a census with each generation as a checkpoint; they decide
+        """The generations are those of a census with each generation as a checkpoint. They decide
         between equal checkpoints."""
         lines = census("work", "--count=60", "--worker=1", "--seed=c")
         each = {
@@ -389,7 +389,7 @@ class TheLongest(unittest.TestCase):
         self.assertTrue(all(int(row[1]) <= int(row[2]) < int(row[1]) + 101 for row in table))
 
     def test_an_exact_generation_that_is_not_there(self) -> None:
-        """The lines are believed, so they may say of a soup that doesn't settle that it does."""
+        """The lines are trusted, so they may say that a soup settles although it doesn't."""
         line = "report 2 rule=b3s23 profile=1,1,1,0 seed= worker=1 soup=0 at=0 good=yes xs4_33*1"
         output = run("soups", "--longest=1", "--exact", "--census", CENSUS, text=text_of([line]))[1]
         self.assertEqual(
@@ -432,7 +432,8 @@ def population(seed: str, soup: int, rule: str, generations: int) -> int:
 
 class UnsettledSoups(unittest.TestCase):
     def test_populations(self) -> None:
-        """The last checkpoint, the population there, and how much more that is than in the soup."""
+        """The columns are the last checkpoint, the population there, and how much larger it is than
+        the population of the soup."""
         for rule in ("b3s23", "b36s23"):
             lines = census("work", "--count=12", "--worker=1", f"--rule={rule}", *SHORT)
             soups = [
@@ -456,8 +457,8 @@ class UnsettledSoups(unittest.TestCase):
             )
 
     def test_a_thousand_generations(self) -> None:
-        """It is called with the last checkpoint, and a thousand generations before; the growth may
-        be negative."""
+        """The program is called with the last checkpoint, and with a thousand generations before.
+        The growth may be negative."""
         line = "report 2 rule=b36s23 profile=1,1,7,1010 seed=a worker=1 soup=0 unsettled"
         script = 'case "$*" in "run --rule=b36s23 8") echo OOO.O ;; "run --rule=b36s23 1008") echo "O..O" ;; *) exit 5 ;; esac; cat > "$0.read"'
         with program(script) as path:
@@ -470,7 +471,7 @@ class UnsettledSoups(unittest.TestCase):
             self.assertEqual(Path(f"{path}.read").read_text().splitlines(), make_soup("a0"))
 
     def test_a_large_pattern(self) -> None:
-        """Of what `census run` prints nothing is kept, here 300 MB."""
+        """Nothing that `census run` prints is kept, which is 300 MB here."""
         line = "report 2 rule=b3s23 profile=1,1,1,0 seed=a worker=1 soup=0 unsettled"
         with tempfile.NamedTemporaryFile() as cells, program(f"cat{f' {cells.name}' * 30}") as path:
             cells.write(b"O" * 10**7)

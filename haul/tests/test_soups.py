@@ -1,4 +1,4 @@
-"""Soups by the names of Catagolue's samples."""
+"""Soups, given by the names of Catagolue's samples."""
 
 from __future__ import annotations
 
@@ -12,7 +12,7 @@ from haul.tests.called import census, run
 
 
 def said_of(*names: str) -> str:
-    """Why names are refused."""
+    """Returns why the names are refused."""
     try:
         for name in names:
             read_sample(name)
@@ -23,8 +23,8 @@ def said_of(*names: str) -> str:
 
 class Soups(unittest.TestCase):
     def test_a_sample(self) -> None:
-        """With its symmetry or without, it is the soup of the seed and the number, wherever the
-        number begins."""
+        """With its symmetry or without, a sample is the soup of the seed and the number, wherever
+        the number begins."""
         for seed, number in (
             ("k_abcdef", "12345"),
             ("k_abcdef1", "2345"),
@@ -41,7 +41,7 @@ class Soups(unittest.TestCase):
         )
 
     def test_the_rule_behind_it(self) -> None:
-        """The address of a sample's page is read, too. Another rule than Life is told."""
+        """The address of a sample's page is read, too. A rule other than Life is reported."""
         soup = census("soup", "--seed=k_a", "1").decode()
         page = "https://catagolue.hatsya.com/hashsoup/C1/k_a1"
         for name, rule in (
@@ -58,13 +58,13 @@ class Soups(unittest.TestCase):
         self.assertEqual(run("soup", sign), (0, census("soup", "--seed=~!", "1").decode(), ""))
 
     def test_several(self) -> None:
-        """In one stream they would be one pattern, so they are refused."""
+        """In a single stream they would be one pattern, so they are refused."""
         status, printed, told = run("soup", "C1/b2", "a1")
         self.assertEqual((status, printed), (2, ""))
         self.assertIn("several samples need --separate FOLDER or --rle", told)
 
     def test_rle(self) -> None:
-        """It has the name and the rule, so several can stand in one stream."""
+        """RLE includes the name and the rule, so a stream may contain several."""
         status, printed, told = run("soup", "--rle", "C1/b2/b36s23", "a1")
         self.assertEqual((status, told), (0, ""))
         first, second = printed.split("#N a1\n")
@@ -84,7 +84,7 @@ class Soups(unittest.TestCase):
             self.assertEqual(run("soup", "--separate", soups, "C1/b2", "a1"), (0, "", ""))
             for name, words in (("b2", ("--seed=b", "2")), ("a1", ("--seed=a", "1"))):
                 self.assertEqual(Path(soups, f"{name}.cells").read_bytes(), census("soup", *words))
-            # A file that is there is not written again.
+            # A file that already exists isn't written again.
             Path(soups, "a1.cells").write_text("mine")
             self.assertEqual(
                 run("soup", "--separate", soups, "a1"),
@@ -95,7 +95,7 @@ class Soups(unittest.TestCase):
             self.assertTrue(Path(soups, "a1.rle").read_text().startswith("#N a1\nx = "))
 
     def test_other_symmetries(self) -> None:
-        """They are refused by their names, and nothing is printed of a soup before."""
+        """They are refused by their names, and no soup before them is printed."""
         for name, symmetry in (
             ("D8_1/k_a1", "D8_1"),
             ("C2_4/k_a1", "C2_4"),

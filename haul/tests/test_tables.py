@@ -29,7 +29,7 @@ from haul.views.intervals import find_dispersed_interval, find_interval
 from haul.views.layout import format_figure
 from haul.views.rates import compute_rate
 
-# Garwood (1936): the ends of the interval of 95 %.
+# The ends of the interval of 95 %, from Garwood (1936).
 GARWOOD = {
     0: (0, 3.689),
     1: (0.0253, 5.572),
@@ -45,7 +45,7 @@ GARWOOD = {
 
 
 def haul(rule: str, soups: int, totals: dict[str, int]) -> str:
-    """The text of a haul that is lawful: each code has one sample, its place in the table."""
+    """Returns the text of a valid haul. Each code has one sample: its place in the table."""
     rows = sorted(totals.items())
     lines = [
         "@VERSION 2",
@@ -86,7 +86,8 @@ class Tables(unittest.TestCase):
             Path(self.folder.name, name).write_text(text)
 
     def printed(self, command: str, *words: str) -> str:
-        """What a call prints, which counts whole objects unless its words say otherwise."""
+        """Returns what a call prints. It counts whole objects unless its arguments say
+        otherwise."""
         whole = [] if {"--parts", "--strict", "--default"} & {*words} else ["--whole"]
         words = tuple(word for word in words if word != "--default")
         status, output, errors = run(
@@ -99,8 +100,8 @@ class Tables(unittest.TestCase):
 
 
 def exact_ends(total: int) -> tuple[float, float]:
-    """The ends of the interval of 95 %, by halving, of sums of the terms of Poisson's law as it is
-    defined."""
+    """Returns the ends of the interval of 95 %, found by bisection of sums of the terms of the
+    Poisson distribution."""
 
     def mean_at(count: int, chance: float) -> float:
         low, high = 0.0, 2.0 * count + 20
@@ -123,7 +124,8 @@ class Intervals(unittest.TestCase):
                 )
 
     def test_both_tails_are_as_long(self) -> None:
-        """The sum of the terms of Poisson's law up to a count, as it is defined."""
+        """The tails are sums of the terms of the Poisson distribution up to a count, according to
+        its definition."""
 
         def up_to(count: int, mean: float) -> float:
             return fsum(exp(k * log(mean) - mean - lgamma(k + 1)) for k in range(count + 1))
@@ -134,15 +136,16 @@ class Intervals(unittest.TestCase):
             self.assertAlmostEqual(up_to(total, high), 0.025, places=6)
 
     def test_large_totals(self) -> None:
-        """There Poisson's law is the normal one, of which 1.95996 deviations leave out 2.5 %."""
+        """For large totals, the Poisson distribution is normal, and 2.5 % are beyond 1.95996
+        standard deviations."""
         for total in (2**40, 2**53, 2**64 - 1):
             low, high = find_interval(total)
             self.assertAlmostEqual((total - low) / total**0.5, 1.95996, places=3)
             self.assertAlmostEqual((high - total) / total**0.5, 1.95996, places=3)
 
     def test_by_an_expansion(self) -> None:
-        """The quantile of the gamma law, of which these ends are some, by its expansion after
-        Cornish and Fisher: to the last digits."""
+        """The ends are quantiles of the gamma distribution. They agree to the last digits with the
+        expansion by Cornish and Fisher."""
         deviations = 1.959963984540054
 
         def quantile(shape: int, z: float) -> float:
@@ -175,8 +178,8 @@ class Intervals(unittest.TestCase):
             self.assertAlmostEqual(high, quantile(total + 1, deviations), delta=near)
 
     def test_by_sums(self) -> None:
-        """By its terms up to 30, and from there on by an expansion that has four digits after the
-        point."""
+        """The probabilities are sums of terms up to 30, and above that an expansion with four
+        digits after the point."""
         for total in (*range(0, 12), 29, 30, 31, 32, 40, 60):
             for found, known in zip(find_interval(total), exact_ends(total), strict=True):
                 self.assertAlmostEqual(found, known, delta=1e-9 if total < 30 else 2e-5)
@@ -195,8 +198,8 @@ class Intervals(unittest.TestCase):
             self.assertEqual(format_figure(number), shown)
 
     def test_dispersed(self) -> None:
-        """The ends are Garwood's for the count divided by the dispersion, times that. Between whole
-        counts they lie between those."""
+        """The ends are Garwood's ends for the count divided by the dispersion, multiplied by the
+        dispersion. Between whole counts, they are between the ends of these counts."""
         for total in (0, 1, 7, 30, 31, 5000):
             self.assertEqual(find_dispersed_interval(total, 1), find_interval(total))
             low, high = find_dispersed_interval(4 * total, 4)
@@ -218,14 +221,14 @@ class Intervals(unittest.TestCase):
                 self.assertAlmostEqual(chance, wanted, places=6)
 
     def test_time(self) -> None:
-        """The lines that it runs are counted, since a clock tells what else runs on the machine as
-        well."""
+        """The test counts the lines that are run, since a clock also depends on what else is
+        running on the machine."""
         for total in (0, 10, 28, 29, 30, 31, 1000, 2**64 - 1):
             self.assertLess(lines_of(find_interval, total), 12_000)
 
 
 def lines_of(function: Callable[[int], object], number: int) -> int:
-    """How many lines of Python it runs for this number."""
+    """Returns how many lines of Python the function runs for this number."""
     lines = 0
 
     def count(_frame: FrameType, event: str, _argument: Any) -> Any:
@@ -243,8 +246,8 @@ def lines_of(function: Callable[[int], object], number: int) -> int:
 
 
 class Rates(unittest.TestCase):
-    """Each is the double nearest to the exact quotient, which `Fraction` rounds to, and is printed
-    as short as it reads back."""
+    """Each rate is the double nearest to the exact quotient, which `Fraction` rounds to, and is
+    printed in the shortest form that reads back the same."""
 
     def test_each_is_the_nearest(self) -> None:
         self.assertEqual(
@@ -300,7 +303,7 @@ rank  code     total  per_million  one_in_at_most  samples  label
    4  xs8_rr       1      1000.00            1000  3        bi-block
 """,
         )
-        # One in a soup at least, though there are more of them than soups.
+        # The bound is at least 1, although there are more blocks than soups.
         self.assertEqual(
             self.printed("table", "--top", "1", "b").splitlines()[1].split(),
             ["1", "xs4_33", "1000", "2000000.00", "1", "2", "block"],
@@ -342,7 +345,7 @@ rank  code     total  per_million  one_in_at_most  samples  label
             self.assertEqual(run("table", *words)[0], 2, words)
 
     def test_codes_that_say_nothing(self) -> None:
-        """One that names no kind has none, and no period."""
+        """A code that names no kind has neither a kind nor a period."""
         text = haul("b3s23", 10, {"xs4_33": 3, "zz_1": 2, "y": 1}).encode()
         none: list[str] = []
         for words, codes in (
@@ -407,7 +410,7 @@ rank  code     total  per_million  one_in_at_most  samples  label
         )
 
     def test_large_totals(self) -> None:
-        """What is over 2^53 is a text in JSON."""
+        """A number above 2^53 is a text in JSON."""
         text = haul(
             "b3s23", 2**40, {"xs4_33": 2**53, "xp2_7": 2**53 + 1, "xs8_rr": 2**63}
         ).encode()
@@ -422,7 +425,7 @@ rank  code     total  per_million  one_in_at_most  samples  label
 
 class OfSeveral(Tables):
     def test_two(self) -> None:
-        """Without a new option: no interval, and no star."""
+        """Without further options there are no intervals and no stars."""
         self.assertEqual(
             self.printed("compare", "a", "b"),
             JOBS
@@ -451,7 +454,7 @@ in A alone: xq4_153 xs8_rr; in B alone: xp15_4r4z4r4
         )
 
     def test_intervals(self) -> None:
-        """Garwood's of 20, 2 and 3, in a million soups."""
+        """The intervals are Garwood's for 20, 2 and 3, per million soups."""
         rows = {
             row[0]: row
             for row in map(
@@ -503,7 +506,7 @@ in A alone: xq4_153 xs8_rr; in B alone: xp15_4r4z4r4
         self.assertEqual([code for code, row in rows.items() if row[6].endswith("*")], [])
 
     def test_stars(self) -> None:
-        """By parts, under Life with the standard profile, a star is a test by the reference."""
+        """By parts, under Life with the standard profile, a star is a test with the reference."""
         Path(self.folder.name, "l").write_text(haul("b3s23", 1000, {"xs4_33": 700, "xp2_7": 20}))
         Path(self.folder.name, "m").write_text(haul("b3s23", 500, {"xs4_33": 700, "xp2_7": 12}))
         lines = self.printed("compare", "--parts", "--intervals", "l", "m").splitlines()
@@ -565,7 +568,7 @@ in A alone: xq4_153 xs8_rr; in B alone: xp15_4r4z4r4
 
     def test_all_that_is_printed(self) -> None:
         """Three hauls in each order, with each option: facts, rates, intervals, ratios and stars,
-        and who has what alone."""
+        and which haul alone has a code."""
         names = {
             "xs4_33": "block",
             "xp2_7": "blinker",
@@ -697,7 +700,7 @@ in A alone: xq4_153 xs8_rr; in B alone: xp15_4r4z4r4
         self.assertAlmostEqual(float(rows["xp2_7"]["low_a"]), 12216.5, places=0)
         self.assertAlmostEqual(float(rows["xp2_7"]["high_a"]), 30888.4, places=0)
         self.assertEqual(rows["ov_p123"]["ratio_c"], "")
-        # All that the text has, too.
+        # The output has everything that the text has.
         for letter, facts in (
             ("a", ["x", "b3s23", "64,512,101,30300", "1000", "1", "2", "524"]),
             ("b", ["x", "b36s23", "64,512,101,30300", "500", "1", "2", "1006"]),
@@ -765,7 +768,7 @@ in A alone: xq4_153 xs8_rr; in B alone: xp15_4r4z4r4
         self.assertEqual(run("compare", "--csv", "--json", "-", "-")[0], 2)
 
     def test_none_vanishes(self) -> None:
-        """There are sixteen letters."""
+        """There are sixteen letters for sixteen hauls."""
         none = Haul(
             Job("", "b3s23", Profile(1, 1, 1, 0)),
             ranges=[],
@@ -804,7 +807,7 @@ class Terminals(Tables):
     CODE = "xs40_" + "g" * 120
 
     def on_terminal(self, columns: int, *words: str) -> list[str]:
-        """The lines that are printed on a terminal of so many columns."""
+        """Returns the lines that are printed on a terminal with `columns` columns."""
         with patch.dict(os.environ, COLUMNS=str(columns)):
             said = read_terminal(
                 lambda stdout: call(
@@ -833,8 +836,8 @@ class Terminals(Tables):
                 self.assertIn(self.CODE, self.printed(words[0], *words[1:]))
 
     def test_where_they_are_cut(self) -> None:
-        """Nothing is cut where all fits; a column less costs a character, and eight are always
-        left."""
+        """Nothing is cut if everything fits. Each column less costs a character, but eight
+        characters always remain."""
         code = "xs40_" + "g" * 20
         Path(self.folder.name, "a").write_text(haul("b3s23", 10, {"xs4_33": 5, code: 7}))
         for words in (["table", "a"], ["compare", "a", "a"]):

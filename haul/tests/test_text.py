@@ -1,4 +1,4 @@
-"""Haul texts are read and written."""
+"""Reading and writing of haul texts."""
 
 from __future__ import annotations
 
@@ -12,7 +12,7 @@ from haul.formats.haul import Haul
 from haul.formats.haul_reader import read_hauls, read_one_haul
 from haul.tests.drawn import any_haul, text_of
 
-# Two of four soups of the empty seed, each unsettled, as docs/FORMATS.md has it.
+# Two of four soups of the empty seed, each unsettled, as in docs/FORMATS.md.
 SMALL = """\
 @VERSION 2
 @ROOT seed=
@@ -59,8 +59,8 @@ def read(text: str) -> Haul:
 
 
 def said_of(text: str) -> str:
-    """What is said of a text that is no haul's: a place, and a reason if its words are well
-    formed."""
+    """Returns the message about a text that isn't a haul: a place, and a reason if its words are
+    well formed."""
     try:
         list(read_hauls(io.BytesIO(text.encode("latin-1"))))
     except BadHaul as bad:
@@ -69,7 +69,7 @@ def said_of(text: str) -> str:
 
 
 def fault(text: str) -> str:
-    """The place at which a text is no haul's."""
+    """Returns the place at which a text isn't a haul."""
     return said_of(text).partition(":")[0]
 
 
@@ -114,8 +114,8 @@ class Reading(unittest.TestCase):
         self.assertEqual([haul.line for haul in hauls], [1, 15, 34])
 
     def test_places_and_reasons(self) -> None:
-        """Where the words are well formed, the message says why they are wrong, and otherwise only
-        where. `None`: the reason isn't looked at."""
+        """If the words are well formed, the message says why they are wrong, otherwise only where.
+        `None` means that the reason isn't checked."""
         for old, new, place, reason in [
             ("@VERSION 2", "", "line 1 column 1", None),
             ("@VERSION 2", "@VERSION", "line 1 column 9", None),
@@ -207,7 +207,7 @@ class Reading(unittest.TestCase):
                     self.assertEqual(said, f"{place}: {reason}" if reason else place)
 
     def test_what_comes_before_a_fault_is_right(self) -> None:
-        """The largest total, and the least number of a soup."""
+        """The text has the largest total, and the lowest number of a soup."""
         most = 2**64 - 1
         self.assertEqual(
             said_of(LARGER.replace("xs4_33 4\n", f"xs4_33 {most} x\n")),
@@ -239,8 +239,8 @@ class Reading(unittest.TestCase):
         self.assertEqual(fault(""), "line 1 column 1")
 
     def test_cut(self) -> None:
-        """Cut within a word that is no field yet, it is bad where that word begins, and else at the
-        end."""
+        """A text that ends within a word that isn't a field yet is bad where the word begins.
+        Otherwise it is bad at the end."""
         self.assertEqual(fault(LARGER[:5]), "line 1 column 1")
         self.assertEqual(fault("@VERSION "), "line 1 column 10")
         self.assertEqual(fault("@VERSION 2"), "line 1 column 11")
@@ -261,9 +261,9 @@ class Drawn(unittest.TestCase):
             self.assertEqual(read(text_of(haul)), haul)
 
     def test_changed_bytes(self) -> None:
-        """A text with a byte changed, added or left out is lawful, and then it is written as it was
-        read, or it is refused at a place. What stands before that is refused only where it ends,
-        and whatever comes after the field at that place, it is refused there."""
+        """A text in which a byte was changed, added or left out either is valid, and is then
+        written as it was read, or is refused at a place. The text before that place is refused only
+        at its end, and whatever follows the field at that place, the text is refused there."""
         draw = random.Random("mutations")
         refused = 0
         for _ in range(4000):
@@ -279,9 +279,9 @@ class Drawn(unittest.TestCase):
             line, column = (int(word) for word in place.split() if word.isdigit())
             lines = changed.split("\n")
             before = sum(len(one) + 1 for one in lines[: line - 1]) + column - 1
-            # That the number of objects isn't the sum is seen later.
+            # Whether the number of objects is the sum is checked later.
             if not lines[line - 1].startswith("@NUM_OBJECTS "):
-                # A whole haul may stand before it.
+                # The text before it may be a whole haul.
                 self.assertIn(fault(changed[:before]), (place, "none"))
                 field_and_after = re.match("[^ \n]*[ \n]", changed[before:])
                 if field_and_after:

@@ -1,4 +1,4 @@
-"""`haul search`: FILE.finds, which keeps the finds that weren't told for the next search."""
+"""`haul search`: FILE.finds, which keeps the finds that weren't reported for the next search."""
 
 from __future__ import annotations
 
@@ -14,7 +14,7 @@ from haul.search import untold
 from haul.tests.called import CENSUS, HAUL, census
 from haul.tests.searching import CLOCK, CLOCK_SOUP, Searches
 
-# The soups from here on leave three finds, of which the second is a clock.
+# The soups from here on leave three finds. The second is a clock.
 WORDS = ["--seed=", "--first=23000", "--rarer=10000"]
 HEADER = "rule=b3s23 profile=64,512,101,30300 seed="
 
@@ -25,7 +25,7 @@ class UntoldFinds(Searches):
         self.finds = self.folder / "mine.haul.finds"
 
     def told(self, output: str) -> list[str]:
-        """The codes of finds that are printed."""
+        """Returns the codes of the printed finds."""
         return [line.split("\t")[1] for line in output.splitlines()]
 
     def to_device(self, *words: str) -> tuple[int, str]:
@@ -64,7 +64,7 @@ class NotPrinted(UntoldFinds):
         self.assertEqual(self.search(*words), (0, "", ""))
 
     def test_a_search_that_runs_no_soup(self) -> None:
-        """It prints them, too."""
+        """Such a search also prints the finds."""
         self.to_device(*WORDS, "--until=700")
         output = self.search("--until=700")[1]
         self.assertEqual(len(self.told(output)), 3)
@@ -79,7 +79,7 @@ class NotPrinted(UntoldFinds):
         self.assertIn(CLOCK, self.told(self.search("--until=700", "--rarer=10000")[1]))
 
     def test_a_call_that_does_not_end(self) -> None:
-        """Its find comes again, after those that it kept waiting."""
+        """Its find is reported again, after the finds that it kept waiting."""
         program = self.stub("sleep 1000", "finder")
         with self.start(*WORDS, "--until=700", "--finds", program) as running:
             assert running.stdout
@@ -92,7 +92,7 @@ class NotPrinted(UntoldFinds):
 
 
 class AfterAKill(UntoldFinds):
-    """FILE.finds says which objects weren't looked at."""
+    """FILE.finds says which objects haven't been examined."""
 
     def header(self, since: int, left_out: int = 0, job: str = HEADER) -> str:
         return f"# finds since {since} left-out {left_out} {job}\n"
@@ -147,7 +147,7 @@ class AfterAKill(UntoldFinds):
             self.assert_right()
 
     def test_killed_at_drawn_moments(self) -> None:
-        """Each find is told at least once."""
+        """Each find is reported at least once."""
         self.file.unlink()
         told: set[str] = set()
         for seconds in (0.4, 0.6, 0.8, 1.0, 1.2):
@@ -162,7 +162,7 @@ class AfterAKill(UntoldFinds):
 
 
 class Launcher(Searches):
-    """A launcher that builds the program is ended with `haul`."""
+    """A launcher that is building the program is ended together with `haul`."""
 
     def test_it_ends(self) -> None:
         for number in (signal.SIGKILL, signal.SIGTERM):

@@ -1,5 +1,5 @@
-"""What is printed of hauls that are made by hand: each number, row and word that a slip could
-change unseen."""
+"""The output for hauls that are made by hand: each number, row and word that a mistake could change
+unnoticed."""
 
 from __future__ import annotations
 
@@ -44,7 +44,7 @@ def made(
 
 
 def drawn(path: str) -> set[tuple[int, int]]:
-    """The cells that a path draws: a pen that is moved, and draws a line for each run."""
+    """Returns the cells that a path draws. The path moves a pen, and draws a line for each run."""
     cells: set[tuple[int, int]] = set()
     x = y = 0.0
     for name, first, second in re.findall(r"([Mmh])(-?[\d.]+)(?: (-?[\d.]+))?", path):
@@ -69,14 +69,15 @@ def cells_of(plaintext: str) -> set[tuple[int, int]]:
 
 class Codes(unittest.TestCase):
     def test_each_length(self) -> None:
-        """Codes have 1 to 400 bytes, and beside one may stand three numbers of thirteen digits."""
+        """Codes have 1 to 400 bytes, and up to three numbers of thirteen digits may follow one."""
         numbers = [2**40 - 3, 2**40 - 2, 2**40 - 1]
         for length in (1, 2, 99, 100, 101, 255, 256, 299, 300, 301, 399, 400):
             with self.subTest(length=length):
                 code = "x" * length
                 text = text_of(made({code: 3}, [(2**40 - 3, 3)], samples={code: numbers}))
                 self.assertEqual(run("join", text=text.encode()), (0, text, ""))
-                # A large total, and another range, so that neither row is what nearly every row is.
+                # There is a large total, and another range, so that neither row is like nearly all
+                # others.
                 text = text_of(
                     made({code: 2**63}, [(0, 1), (2**40 - 3, 3)], samples={code: numbers})
                 )
@@ -87,7 +88,7 @@ class Codes(unittest.TestCase):
         )
 
     def test_none_is_lost(self) -> None:
-        """A column has as many cells as its number in binary has ones."""
+        """A column has as many cells as its number has ones in binary."""
         for count in (1, 99, 100, 101, 201):
             with self.subTest(count=count):
                 codes = [
@@ -141,7 +142,8 @@ class Checks(unittest.TestCase):
             )
 
     def test_each_sample(self) -> None:
-        """Of the forty soups just one leaves a beacon. It stands first, in the middle or last."""
+        """Only one of the forty soups leaves a beacon. It is the first, a middle or the last
+        one."""
         haul = read_one_haul(io.BytesIO(self.TEXT.encode()))
         code = "xp2_318c"
         self.assertEqual(haul.samples[code], [37])
@@ -159,7 +161,7 @@ class Checks(unittest.TestCase):
             )
 
     def asked(self, haul: Haul, *words: str) -> list[str]:
-        """The calls that a program gets which answers none."""
+        """Returns the calls of a program that answers none of them."""
         with tempfile.TemporaryDirectory() as folder:
             Path(folder, "other").write_text(NOTES)
             Path(folder, "other").chmod(0o755)
@@ -187,7 +189,7 @@ class Checks(unittest.TestCase):
             )
 
     def test_no_call_is_too_large(self) -> None:
-        """`census take` takes 2^24 numbers at most."""
+        """`census take` takes at most 2^24 soups."""
         self.assertIn(
             "--first=5 --count=16777216 ", self.asked(made({"xs4_33": 1}, [(5, 2**25)]))[0]
         )
@@ -235,7 +237,7 @@ class Joins(unittest.TestCase):
             )
 
     def test_samples_between_others(self) -> None:
-        """The least three, wherever those of the second haul lie."""
+        """The samples are the three lowest, wherever the samples of the second haul are."""
 
         def part(ranges: list[Range], numbers: list[int]) -> Haul:
             return Haul(
@@ -272,12 +274,13 @@ class Joins(unittest.TestCase):
 
 class Compares(unittest.TestCase):
     def test_exchanged(self) -> None:
-        """Over drawn hauls, B beside A is A beside B with its columns exchanged, ratios apart."""
+        """For random hauls, B beside A is A beside B with the columns exchanged, except for the
+        ratios."""
         draw = random.Random("pairs")
         rows = 0
         for _ in range(200):
             one, other = any_haul(draw), any_haul(draw)
-            # Some codes are in both.
+            # Both hauls have some of the codes.
             other.totals |= {
                 code: total + 1 for code, total in one.totals.items() if draw.random() < 0.5
             }
@@ -309,12 +312,12 @@ class Compares(unittest.TestCase):
         self.assertGreater(rows, 1000)
 
     def test_order(self) -> None:
-        """By the greater of the two rates, to which a haul that lacks the code adds nothing, and
-        then by code."""
+        """The order is by the higher of the two rates (a haul without the code has none), then by
+        code."""
         one = made({"xs4_33": 5, "xs5_253": 1, "xq4_153": 1}, [(0, 10)])
         other = made({"xs4_33": 30, "xp2_7": 4, "xs6_696": 3, "xs8_rr": 99}, [(0, 1000)])
         for pair in ([one, other], [other, one]):
-            # 5 in 10, then 1 in 10 twice, 99 in 1,000, 4 in 1,000, 3 in 1,000.
+            # These are 5 in 10, then 1 in 10 twice, 99 in 1,000, 4 in 1,000, and 3 in 1,000.
             self.assertEqual(
                 rank_codes(pair, 1), ["xs4_33", "xq4_153", "xs5_253", "xs8_rr", "xp2_7", "xs6_696"]
             )
@@ -331,7 +334,7 @@ class Compares(unittest.TestCase):
             rows = [
                 line.split() for line in run("compare", "--whole", *names)[1].splitlines()[5:-1]
             ]
-        # 50 in 4,000 are 12,500 in a million, and 5 in 1,001 are 4,995.004995; 2 are 500, and 3 are
+        # 50 in 4,000 are 12,500 in a million, and 5 in 1,001 are 4,995.004995. 2 are 500, and 3 are
         # 2,997.002997.
         self.assertEqual(
             rows,

@@ -1,4 +1,4 @@
-"""`haul why`: what becomes of soups and patterns, by the definition in docs/HAUL.md."""
+"""`haul why`: the fates of soups and patterns, according to the definition in docs/HAUL.md."""
 
 from __future__ import annotations
 
@@ -40,7 +40,7 @@ GUN = (
 REPLICATOR = "x = 5, y = 5, rule = B36/S23\n2b3o$bo2bo$o3bo$o2bo$3o!"
 PULSAR = "2b3o3b3o2$o4bobo4bo$o4bobo4bo$o4bobo4bo$2b3o3b3o2$2b3o3b3o$o4bobo4bo$o4bobo4bo$o4bobo4bo2$2b3o3b3o!"
 OCTAGON_2 = "3b2o$2bo2bo$bo4bo$o6bo$o6bo$bo4bo$2bo2bo$3b2o!"
-# A glider that flies to a block.
+# A glider that flies towards a block.
 TO_A_BLOCK = "bo$2bo$3o48$50b2o$50b2o!"
 
 
@@ -63,17 +63,17 @@ def why(*words: str, text: str = "") -> tuple[int, str, str]:
 
 
 def why_pattern(text: str, *words: str) -> str:
-    """What is told of a pattern."""
+    """Returns what is printed about a pattern."""
     status, output, errors = why("--pattern", "-", *words, text=text)
     assert (status, errors) == (0, ""), errors
     return output.removeprefix("- ").removesuffix("\n")
 
 
 class Fields(unittest.TestCase):
-    """Patterns that run."""
+    """Tests patterns that are run."""
 
     def test_as_the_model(self) -> None:
-        """A field goes on as the model does, under several rules."""
+        """A field gives the same generations as the model, under several rules."""
         for rule_text in ("b3s23", "b36s23", "b2s", "b1s012345678", "b3678s34678", "b3s023"):
             rule = read_rule(rule_text)
             for soup in range(3):
@@ -95,7 +95,8 @@ class Fields(unittest.TestCase):
 
 
 def plain_groups(cells: set[int], generations: int) -> set[frozenset[tuple[int, int]]]:
-    """The groups of a pattern as sets of cells with their generations, by the definition."""
+    """Returns the groups of a pattern as sets of cells with their generations, according to the
+    definition."""
     field = Field(LIFE, cells)
     live = {(cell, 0) for cell in cells}
     for generation in range(1, generations + 1):
@@ -150,7 +151,8 @@ class WiderRest(unittest.TestCase):
             self.assertEqual(look_for_rest(LIFE, cells_of(rle), STANDARD), Rest([code]))
 
     def test_objects_that_a_census_knows(self) -> None:
-        """Also those that are several clusters in some phases, or near one another."""
+        """This includes objects that are several clusters in some phases, or that are near one
+        another."""
         for rle in ("2o$2o!", "3o!", PULSAR, "bo$2bo$3o!", "2o3b2o$2o3b2o!", "3o4$3o!", "10o!"):
             field = Field(LIFE, cells_of(rle))
             for _ in range(40):
@@ -158,8 +160,8 @@ class WiderRest(unittest.TestCase):
             self.assertEqual(look_for_rest(LIFE, field.live, STANDARD), Rest(), rle)
 
     def test_two_that_blink_by_themselves(self) -> None:
-        """Their cells are near in successive generations only, so they are one group, which doesn't
-        fall apart: each of its clusters does the same alone."""
+        """Their cells are near only in successive generations, so they are one group. It doesn't
+        fall apart, since each of its clusters does the same by itself."""
         cells = cells_of_rows("OOO.....\n.....O..\n.....O..\n.....O..")
         groups = Watched(Field(LIFE, cells), 2).groups()
         self.assertEqual(len(groups), 1)
@@ -167,7 +169,7 @@ class WiderRest(unittest.TestCase):
         self.assertEqual(look_for_rest(LIFE, cells, STANDARD), Rest())
 
     def test_sparks_dont_count(self) -> None:
-        """What has died when the groups are looked at has no part in it."""
+        """A group that has died when the groups are examined makes no difference."""
         cells = cells_of_rows("OO......O\nOO.......")
         self.assertEqual(look_for_rest(LIFE, cells, STANDARD), Rest())
 
@@ -175,7 +177,7 @@ class WiderRest(unittest.TestCase):
         self.assertIsNone(look_for_rest(LIFE, cells_of(GUN), STANDARD))
 
     def test_periods(self) -> None:
-        """An object may recur later than it would have to."""
+        """An object may recur later than a census requires."""
         short = STANDARD._replace(period=2)
         self.assertEqual(look_for_rest(LIFE, cells_of(PULSAR), short), Rest(periods=[3]))
         few = STANDARD._replace(period=4)
@@ -185,13 +187,13 @@ class WiderRest(unittest.TestCase):
                 self.assertIsNone(look_for_rest(LIFE, cells_of(OCTAGON_2), few))
 
     def test_many_cells(self) -> None:
-        """A pattern that grows too large isn't run on."""
+        """A pattern that grows too large isn't run any further."""
         rule = read_rule("b1s012345678")
         with patch.object(field_module, "MOST_CELLS", 500):
             self.assertIsNone(look_for_rest(rule, cells_of("o!"), STANDARD))
 
     def test_meetings(self) -> None:
-        """A glider comes near a block: in the generation that a plain run finds."""
+        """A glider comes near a block in the generation that a plain run finds."""
         for away in (60, 100, 150):
             glider = {cell + pack((-away, -away)) for cell in cells_of("bo$2bo$3o!")}
             block = cells_of("2o$2o!")
@@ -251,7 +253,7 @@ class Growths(unittest.TestCase):
 
 
 class Told(unittest.TestCase):
-    """What is printed, by the census program."""
+    """Tests what is printed, with the census program."""
 
     def test_each_kind(self) -> None:
         limit = ["--limit", "1010"]
@@ -275,7 +277,7 @@ class Told(unittest.TestCase):
                 self.assertEqual(found, told)
 
     def test_it_settles_after_the_limit(self) -> None:
-        """A blocker is two clusters in this phase, and one in another."""
+        """A blocker is two clusters in this phase, and one cluster in another."""
         blocker = census("show", "xp8_g3jgz1ut").decode()
         field, texts = Field(LIFE, cells_of_rows(blocker)), set()
         for _ in range(8):
@@ -298,7 +300,7 @@ class Told(unittest.TestCase):
     def test_formats_of_a_pattern(self) -> None:
         gliders = "bo$2bo$3o!", ".O.\n..O\nOOO\n", "1 0\n2 1\n0 2\n1 2\n2 2\n"
         self.assertEqual({why_pattern(text) for text in gliders}, {"settled 0"})
-        # The rule in a header counts, unless another one is given.
+        # The rule in a header is used, unless another rule is given.
         header = "x = 1, y = 1, rule = B1/S\no!"
         self.assertTrue(why_pattern(header, "--limit=9").startswith("still active"))
         self.assertTrue(
@@ -345,7 +347,7 @@ class Told(unittest.TestCase):
 
 
 class Files(unittest.TestCase):
-    """Report lines."""
+    """Tests files of report lines."""
 
     JOB = "rule=b3s23 profile=64,512,101,101 seed="
 

@@ -1,1 +1,1 @@
-"""What the commands print about hauls and report lines: text, CSV and JSON."""
+"""Prints hauls and report lines for the commands, as text, CSV and JSON."""

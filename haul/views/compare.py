@@ -1,5 +1,4 @@
-"""Sets hauls side by side: each code, with how often each haul has it, and how far each count may
-lie from what it is expected to be."""
+"""Compares hauls side by side: how often each haul has each code, with confidence intervals."""
 
 from __future__ import annotations
 
@@ -39,12 +38,11 @@ from haul.views.rarity import (
 )
 from haul.views.rates import MILLION, compute_rate
 
-# The hauls are called by these letters, so no more of them stand side by side.
+# The hauls are named by these letters, so there can't be more hauls than letters.
 LETTERS = "ABCDEFGHIJKLMNOP"
 MOST_HAULS = len(LETTERS)
 UNITS = {"million": MILLION, "soup": 1}
-# The columns about a haul in each row of comma-separated values: what the text says before its
-# table.
+# The columns about a haul in each row of CSV. The text has these facts before its table.
 FACTS = ("seed", "rule", "profile", "soups", "unsettled", "for_good", "objects")
 EXPLAINED = "intervals: 95 %"
 SINGLY = "~: as if objects came singly"
@@ -52,13 +50,14 @@ STARRED = f"*: differs from A (p < {STARRED_BELOW})"
 
 
 def letter_hauls(hauls: list[Haul]) -> Iterator[tuple[str, Haul]]:
-    """Yields the hauls, A for the first, B for the second, and so on."""
+    """Yields the hauls, each with its letter: A for the first, B for the second, and so on."""
     return zip(LETTERS[: len(hauls)], hauls, strict=True)
 
 
 def rank_codes(hauls: list[Haul], least: int, rare: bool = False) -> list[str]:
-    """Returns the codes by descending rate, without those of which each haul has less than so many
-    objects. With `rare` the rarest come first, and those that all hauls have are left out."""
+    """Returns the codes by descending rate, without the codes of which every haul has fewer than
+    `least` objects. If `rare` is set, the rarest come first, and codes that all hauls have are left
+    out."""
     codes = [
         code
         for code in set().union(*(haul.totals for haul in hauls))
@@ -79,20 +78,20 @@ def rank_codes(hauls: list[Haul], least: int, rare: bool = False) -> list[str]:
 
 @dataclass
 class Cell:
-    """What one haul has of a code."""
+    """The count of one code in one haul, with its statistics."""
 
     total: int
-    # Objects in a million soups, or in one.
+    # The number of objects per million soups, or per soup.
     rate: float
-    # The ends of the interval of the rate; none without a soup.
+    # The ends of the rate's interval, or `None` if the haul has no soups.
     ends: tuple[float, float] | None
-    # By how many times the variance of the number in a soup is larger than its mean; none if that
-    # isn't known.
+    # The variance of the number in a soup divided by its mean, or `None` if it isn't known.
     dispersion: float | None
-    # How many times as many as in the first haul; none if that has none.
+    # The rate divided by the rate in the first haul, or `None` if the first haul has no such
+    # object.
     ratio: float | None = None
-    # The probability of such a difference to the first haul if the rates are equal; none if that
-    # can't be computed.
+    # The probability of a difference from the first haul at least as large as this one, if the
+    # rates are equal, or `None` if it can't be computed.
     p_value: float | None = None
 
     @property
@@ -102,16 +101,17 @@ class Cell:
 
 @dataclass
 class Comparison:
-    """Hauls side by side, by these codes."""
+    """A comparison of hauls, with one row for each of these codes."""
 
-    # With totals by parts these aren't the hauls whose objects are separated.
+    # If objects are counted by parts, these hauls have the parts, and `objects` has the original
+    # hauls.
     hauls: list[Haul]
     objects: list[Objects]
     codes: list[str]
     by_parts: bool = False
-    # Rates are those in a `million` soups or in a `soup`.
+    # The unit of rates: per `million` soups or per `soup`.
     per: str = "million"
-    # Whether intervals stand in the text. They always do in comma-separated values and JSON.
+    # Whether the text has intervals. CSV and JSON always have them.
     has_intervals: bool = True
 
     def letters(self) -> list[str]:
@@ -148,20 +148,21 @@ class Comparison:
         return Cell(total, compute_rate(total, haul.soups, unit), ends, dispersion)
 
     def is_referred(self, haul: Haul) -> bool:
-        """Checks whether the reference says how much the objects of a haul vary."""
+        """Checks whether the reference has the dispersion of the haul's objects."""
         return self.by_parts and is_covered(haul.job)
 
     def has_rarity(self) -> bool:
-        """Checks whether each row says how often the reference has the object."""
+        """Checks whether each row has the rarity of its object in the reference."""
         return all(map(self.is_referred, self.hauls))
 
     def text(self, width: int | None) -> Iterator[str]:
-        """Yields the lines for a reader. On a terminal of this width long codes are cut."""
+        """Yields the lines for a reader. If `width` is the width of a terminal, long codes are cut
+        to fit."""
         for letter, haul in letter_hauls(self.hauls):
             yield describe_lettered_job(letter, haul)
             yield describe_soups(letter, haul, self.by_parts)
         heads = self.heads()
-        # Numbers stand between the code and the name.
+        # Between the code and the name, each column is a number.
         texts = {0, len(heads) - 1}
         yield from align_columns([heads, *map(self.row, self.codes)], texts, 0, width)
         yield self.alone_line()
@@ -198,15 +199,15 @@ class Comparison:
         return [code, *self.arranged(shown), *ratios, *rarity, label]
 
     def occurrence(self, code: str) -> Occurrence | None:
-        """Returns how often the reference has a code, or `None` if `census` doesn't count such
-        objects."""
+        """Returns how often a code occurs in the reference, or `None` if `census` doesn't count
+        such objects."""
         return find_occurrence_of_counted(code)
 
     def label(self, code: str) -> str:
         return find_label(code, self.separate(code))
 
     def separate(self, code: str) -> Separation:
-        """Returns what an object is made of under the rule of the first haul that has it."""
+        """Returns the parts of an object under the rule of the first haul that has it."""
         objects = next(
             objects
             for objects, haul in zip(self.objects, self.hauls, strict=True)
@@ -215,12 +216,12 @@ class Comparison:
         return objects.separate(code)
 
     def arranged(self, shown: list[list[str]]) -> Iterable[str]:
-        """Arranges what each haul has in columns: haul by haul, or without intervals the totals and
-        then the rates."""
+        """Arranges the values of all hauls in columns: haul by haul if there are intervals,
+        otherwise all totals before all rates."""
         return chain(*shown) if self.has_intervals else chain(*list(zip(*shown, strict=True))[:-1])
 
     def alone(self, haul: Haul) -> list[str]:
-        """Returns the codes that this haul has, and no other."""
+        """Returns the codes that only this haul has."""
         others = [other for other in self.hauls if other is not haul]
         return [
             code
@@ -235,8 +236,8 @@ class Comparison:
         )
 
     def csv(self) -> Iterator[str]:
-        """Yields the lines of a table for a spreadsheet, with all that the text has. A missing
-        value is empty."""
+        """Yields the lines of CSV, which has everything that the text has. A missing value is
+        empty."""
         heads = ["code", "name", "alone"]
         for letter in self.letters():
             heads += [
@@ -256,7 +257,8 @@ class Comparison:
         return format_csv([heads, *map(self.csv_row, self.codes)])
 
     def p_heads(self) -> list[str]:
-        """Returns the heads of the p-values: `p` for two hauls, otherwise one for each but A."""
+        """Returns the heads of the columns of p-values: `p` if there are two hauls, otherwise one
+        for each haul but A."""
         letters = self.letters()[1:]
         return ["p"] if len(letters) == 1 else [f"p_{letter}" for letter in letters]
 
@@ -283,7 +285,7 @@ class Comparison:
         return [*row, format_truth(self.by_parts), *p_values, *rarity]
 
     def json(self) -> Iterator[str]:
-        """Yields the lines of a JSON object, in which each code has one."""
+        """Yields the lines of a JSON object, which has an object for each code."""
         hauls: list[dict[str, object]] = [
             {
                 "haul": letter,

@@ -1,4 +1,4 @@
-"""What `haul why` prints: a line for each soup."""
+"""The output of `haul why`: a line for each soup."""
 
 from __future__ import annotations
 
@@ -13,9 +13,9 @@ from haul.views.layout import format_csv, format_json
 
 @dataclass(frozen=True)
 class FateTable:
-    """Soups, or one pattern, with their fates."""
+    """A table of soups, or of a single pattern, with their fates."""
 
-    # Without a soup there may be no job.
+    # `None` if there are no soups.
     job: Job | None
     # The number of each soup, or the name of the pattern's file.
     fates: Sequence[tuple[int | str, Fate]]
@@ -49,7 +49,7 @@ class FateTable:
         )
 
     def facts(self) -> dict[str, str | None]:
-        """Returns the job. A pattern has no seed."""
+        """Returns the facts of the job. The job of a pattern has no seed."""
         seed = {} if self.is_of_pattern else {"seed": self.job.seed if self.job else None}
         return {
             **seed,

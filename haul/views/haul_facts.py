@@ -1,4 +1,4 @@
-"""What a haul says before its table."""
+"""The facts that a haul states before its table."""
 
 from __future__ import annotations
 
@@ -28,7 +28,7 @@ def describe_soups(letter: str, haul: Haul, by_parts: bool = False) -> str:
 
 
 def list_haul_facts(haul: Haul) -> dict[str, object]:
-    """Returns the facts for JSON."""
+    """Returns the facts as fields of JSON."""
     return {
         "seed": haul.job.seed,
         "rule": haul.job.rule,
@@ -43,8 +43,7 @@ def list_haul_facts(haul: Haul) -> dict[str, object]:
 
 
 def list_csv_facts(haul: Haul) -> list[str]:
-    """Returns the facts for comma-separated values. What a haul of apgsearch doesn't say is
-    empty."""
+    """Returns the facts as values of CSV. Facts that a haul of apgsearch doesn't have are empty."""
     job = haul.job
     if haul.apgsearch:
         return [job.seed, job.rule, "", str(haul.soups), "", "", str(haul.objects())]
@@ -57,7 +56,8 @@ def list_csv_facts(haul: Haul) -> list[str]:
 
 
 def list_part_facts(objects: Objects) -> dict[str, object]:
-    """Returns the parts of each object of a haul, and which objects aren't separated, for JSON."""
+    """Returns, as fields of JSON, the parts of each object of a haul, and the objects that aren't
+    separated."""
     separations = objects.separate_all(objects.haul.totals)
     return {
         "parts": {code: list(separation.parts) for code, separation in separations.items()},

@@ -1,12 +1,13 @@
-"""How far a count may lie from what it is expected to be: the exact interval of 95 % of a Poisson
-count (Garwood 1936).
+"""Confidence intervals of counts: the exact interval of 95 % for a Poisson count (Garwood 1936).
 
-A count follows Poisson's law if what is counted comes singly. Objects don't: a soup often leaves
-several of a kind. Under Life with the standard profile, the reference says how large the variance of
-the number in a soup is as a multiple of its mean, the dispersion, and the interval allows for that.
+A count has a Poisson distribution if events occur one by one. Objects don't: a soup often leaves
+several of the same kind. For Life with the standard profile, the reference has the dispersion,
+which is the variance of the number of objects in a soup divided by its mean. The interval allows
+for it.
 
-The low end is the mean at which so many or more come with a chance of 2.5 %, and the high end the
-one at which so many or less do. Both are found by bisection. """
+The low end is the mean at which the count or more has a probability of 2.5 %. The high end is the
+mean at which the count or less has a probability of 2.5 %. Both are found by bisection.
+"""
 
 from __future__ import annotations
 
@@ -16,45 +17,47 @@ from math import erfc, exp, log1p, pi, sqrt
 from haul.rarity.incomplete import compute_gamma_tail
 
 TAIL = 0.025
-# After so many steps a double changes no more.
+# After this many steps a double no longer changes.
 # mutant: equal because a double changes no more
 STEPS = 60
-# Up to here the chance is computed exactly. Above it two terms of an expansion have more than
-# six digits.
+# Up to this count the probability is computed exactly. Above it, two terms of an expansion give
+# more than six digits.
 # mutant: equal because both ways have more digits than are shown
 MOST_TERMS = 30
-# Neither end is as many standard deviations away, above that.
+# Above `MOST_TERMS`, neither end is this many standard deviations away.
 # mutant: equal because the same value is found between other ends
 DEVIATIONS = 5
 
 
 def find_interval(total: int) -> tuple[float, float]:
-    """Returns the low and the high end for a count."""
+    """Returns the low and the high end of the interval for a count."""
     low = find_mean(total, 1 - TAIL) if total else 0.0
     return low, find_mean(total + 1, TAIL)
 
 
 def find_dispersed_interval(total: int, dispersion: float) -> tuple[float, float]:
-    """Returns the ends for a count whose variance is this multiple of its mean: those of the count
-    divided by it, which needn't be whole, times the same."""
+    """Returns the ends of the interval for a count whose variance is `dispersion` times its mean.
+    These are the ends for the count divided by `dispersion`, which needn't be a whole number,
+    multiplied by `dispersion`."""
     count = total / dispersion
     low = find_mean(count, 1 - TAIL) if total else 0.0
     return low * dispersion, find_mean(count + 1, TAIL) * dispersion
 
 
 def find_mean(count: float, chance: float) -> float:
-    """Returns the mean at which fewer than `count` come with this chance."""
+    """Returns the mean at which the probability of fewer than `count` events is `chance`."""
     # mutant: equal because both ways have more digits than are shown
     if count <= MOST_TERMS:
         # mutant: equal because the same value is found between other ends
         return bisect(lambda mean: find_chance(count, mean), chance, 0.0, 2.0 * MOST_TERMS)
-    # The mean is looked for by how far it is from the count, since that has more digits.
+    # Bisects the relative distance from the count rather than the mean itself, since it has more
+    # digits.
     most = DEVIATIONS / sqrt(count)
     return count * (1 + bisect(lambda apart: expand(count, apart), chance, -most, most))
 
 
 def bisect(falls: Callable[[float], float], wanted: float, low: float, high: float) -> float:
-    """Returns where a falling function has a value."""
+    """Returns the argument at which a decreasing function has the value `wanted`."""
     for _ in range(STEPS):
         middle = (low + high) / 2
         # mutant: equal because a double changes no more
@@ -66,14 +69,14 @@ def bisect(falls: Callable[[float], float], wanted: float, low: float, high: flo
 
 
 def find_chance(count: float, mean: float) -> float:
-    """Returns the chance that fewer than `count` come."""
+    """Returns the probability of fewer than `count` events."""
     if count == int(count):
         return sum_terms(int(count), mean)
     return compute_gamma_tail(count, mean)
 
 
 def sum_terms(count: int, mean: float) -> float:
-    """Returns the chance that fewer than `count` come, as a sum of terms."""
+    """Returns the probability of fewer than `count` events as a sum of terms."""
     term = chance = exp(-mean)
     for number in range(1, count):
         term *= mean / number
@@ -82,11 +85,12 @@ def sum_terms(count: int, mean: float) -> float:
 
 
 def expand(count: float, apart: float) -> float:
-    """Returns the same chance if the mean is `count * (1 + apart)`, by Temme's expansion of the
-    incomplete gamma function: the NIST Digital Library of Mathematical Functions, 8.12.4."""
+    """Returns the probability of fewer than `count` events if the mean is `count * (1 + apart)`,
+    with Temme's expansion of the incomplete gamma function: the NIST Digital Library of
+    Mathematical Functions, 8.12.4."""
     # mutant: equal because both forms agree there
     if abs(apart) < 1e-4:
-        # Here a difference would lose most of its digits.
+        # A difference would lose most of its digits here.
         half_square = apart * apart * (1 / 2 - apart * (1 / 3 - apart / 4))
     else:
         half_square = apart - log1p(apart)

@@ -1,4 +1,4 @@
-"""Tables as text, as comma-separated values, and as JSON."""
+"""Lays out tables as text, CSV and JSON."""
 
 from __future__ import annotations
 
@@ -8,17 +8,17 @@ import json
 from collections.abc import Iterable, Iterator
 
 GAP = "  "
-# A code is cut to no fewer characters than these.
+# The fewest characters to which a code is cut.
 LEAST_OF_A_CODE = 8
-# Larger numbers lose digits where numbers are doubles, as they are in JavaScript.
+# Larger integers lose digits in programs that read numbers as doubles, such as JavaScript.
 EXACT = 2**53
 
 
 def align_columns(
     rows: list[list[str]], texts: set[int], code: int, width: int | None
 ) -> Iterator[str]:
-    """Yields lines whose columns line up: texts to the left, numbers to the right. If there is a
-    width, the codes in column `code` are cut so that no line is wider."""
+    """Yields lines with aligned columns: texts to the left, numbers to the right. If `width` is
+    given, codes in column `code` are cut so that no line is wider."""
     widths = [max(len(row[column]) for row in rows) for column in range(len(rows[0]))]
     over = sum(widths) + len(GAP) * (len(widths) - 1) - width if width is not None else 0
     # mutant: equal because a column that is cut to its width is whole
@@ -37,8 +37,8 @@ def cut_text(text: str, most: int) -> str:
 
 
 def format_figure(number: float) -> str:
-    """Returns a number with two digits after the point, or with three significant digits if it
-    is below 1."""
+    """Returns a number with two decimal places, or with three significant digits if it is below
+    1."""
     return f"{number:.2f}" if number >= 1 or number == 0 else f"{number:.3g}"
 
 
@@ -47,12 +47,12 @@ def format_truth(holds: bool) -> str:
 
 
 def make_exact(number: int) -> int | str:
-    """Returns a whole number for JSON, as text if a double would lose digits."""
+    """Returns an integer for JSON, as a string if a double would lose digits."""
     return number if number <= EXACT else str(number)
 
 
 def format_csv(rows: Iterable[list[str]]) -> Iterator[str]:
-    """Yields the lines of these rows, without their line feeds."""
+    """Yields the rows as lines of CSV, without their line feeds."""
     for row in rows:
         text = io.StringIO()
         csv.writer(text, lineterminator="").writerow(row)
@@ -62,8 +62,8 @@ def format_csv(rows: Iterable[list[str]]) -> Iterator[str]:
 def format_json(
     facts: dict[str, object], objects: Iterable[dict[str, object]], name: str = "objects"
 ) -> Iterator[str]:
-    """Yields the lines of a JSON object, in which the objects are a list of this name, each on a
-    line of its own."""
+    """Yields the lines of a JSON object that has the facts, and the objects as a list called
+    `name`. Each object is on its own line."""
     yield f'{json.dumps(facts)[:-1]}, "{name}": ['
     before: str | None = None
     for one in objects:

@@ -1,4 +1,4 @@
-"""What `haul rarity` prints: in one of how many soups of the reference an object occurs."""
+"""The output of `haul rarity`: an object occurs in one of how many soups of the reference."""
 
 from __future__ import annotations
 
@@ -20,7 +20,8 @@ NOT_COUNTED = "no object that `census` counts, so the reference can't have it"
 
 
 def describe_rarity(separator: Separator, code: str) -> Iterator[str]:
-    """Yields the lines for an object. A pseudo-object has a line, and one for each of its parts."""
+    """Yields the lines about an object. A pseudo-object has a line of its own and a line for each
+    part."""
     separation = separator.separate(code)
     if len(separation.parts) == 1:
         unsure = "" if separation.is_separated else f", {NOT_SEPARATED}"
@@ -53,14 +54,14 @@ def describe_part(code: str) -> str:
 
 
 def round_down(number: float) -> int:
-    """Returns a number with three digits and zeros after them."""
+    """Returns a number rounded down to three digits, followed by zeros."""
     unit = int(10 ** (len(str(int(number))) - ROUNDED))
     return int(number) // unit * unit
 
 
 def list_rarity_words(occurrence: Occurrence | None) -> list[str]:
-    """Returns the three columns for a reader. `none` stands for a number that there isn't, and `-`
-    for an object that `census` doesn't count."""
+    """Returns the three columns for a reader. `none` means that a number doesn't exist, and `-`
+    that `census` doesn't count such objects."""
     if occurrence is None:
         return ["-"] * len(RARITY_HEADS)
     return [
@@ -69,16 +70,14 @@ def list_rarity_words(occurrence: Occurrence | None) -> list[str]:
 
 
 def list_rarity_values(occurrence: Occurrence | None) -> list[str]:
-    """Returns the three columns of comma-separated values, which are empty for an object that
-    `census` doesn't count."""
+    """Returns the three columns of CSV. They are empty if `census` doesn't count such objects."""
     if occurrence is None:
         return [""] * len(RARITY_HEADS)
     return ["none" if number is None else str(number) for number in list_numbers(occurrence)]
 
 
 def list_rarity_facts(occurrence: Occurrence | None) -> dict[str, object]:
-    """Returns the three fields of JSON, which are null for an object that `census` doesn't
-    count."""
+    """Returns the three fields of JSON. They are null if `census` doesn't count such objects."""
     if occurrence is None:
         return dict.fromkeys(RARITY_HEADS)
     return dict(zip(RARITY_HEADS, list_numbers(occurrence), strict=True))

@@ -1,5 +1,5 @@
-"""When soups settled: how many at each checkpoint, and the quartiles and the mean of the
-checkpoints."""
+"""Statistics of when soups settled: the number of soups at each checkpoint, and the quartiles and
+the mean of the checkpoints."""
 
 from __future__ import annotations
 
@@ -7,20 +7,20 @@ from collections import Counter
 
 from haul.formats.report_lines import Report
 
-# The generations of a bar.
+# The number of generations that a bar covers.
 GENERATIONS_OF_A_BAR = 500
 QUARTERS = 4
 
 
 class Settling:
-    """Counts soups by what their reports say."""
+    """Counts soups according to their reports."""
 
     def __init__(self) -> None:
         self.unsettled = 0
         self.for_good = 0
-        # Settled soups whose reports don't say whether their objects stay for good.
+        # The number of settled soups whose reports don't say whether they settled for good.
         self.unmarked = 0
-        # How many soups settled, by the checkpoint.
+        # The number of soups that settled at each checkpoint.
         self.checkpoints: Counter[int] = Counter()
 
     def add(self, report: Report) -> None:
@@ -38,8 +38,8 @@ class Settling:
         return self.unsettled + self.settled()
 
     def quartiles(self) -> list[int] | None:
-        """Returns the first quartile, the median and the third quartile of the checkpoints; nothing
-        without a settled soup."""
+        """Returns the first quartile, the median and the third quartile of the checkpoints, or
+        `None` if no soup has settled."""
         soups = self.settled()
         return (
             [self.smallest(-(-quarter * soups // QUARTERS)) for quarter in range(1, QUARTERS)]
@@ -48,8 +48,8 @@ class Settling:
         )
 
     def smallest(self, place: int) -> int:
-        """Returns the `place`-th smallest checkpoint, counted from 1, where each settled soup has
-        one."""
+        """Returns the `place`-th smallest checkpoint, counted from 1. A checkpoint counts once for
+        each soup that settled there."""
         for checkpoint, soups in sorted(self.checkpoints.items()):
             place -= soups
             if place <= 0:
@@ -65,8 +65,8 @@ class Settling:
         )
 
     def bars(self) -> list[tuple[int, int, int]]:
-        """Returns the bars, up to the last checkpoint: the first and the last generation of each,
-        and how many soups settled there."""
+        """Returns the bars up to the last checkpoint. Each has its first and last generation, and
+        the number of soups that settled in between."""
         soups: Counter[int] = Counter()
         for checkpoint, number in self.checkpoints.items():
             soups[checkpoint // GENERATIONS_OF_A_BAR] += number

@@ -1,4 +1,5 @@
-"""The lists of `haul soups`. Each keeps what it needs of the reports, and makes a table of that."""
+"""The lists of `haul soups`. Each list keeps what it needs of the reports, and makes a table from
+it."""
 
 from __future__ import annotations
 
@@ -17,15 +18,15 @@ from haul.views.soup_table import Row, SoupTable, describe_settling
 
 
 class SoupList:
-    """Lists no single soup: its table counts all soups together. This is the base of the other
-    lists."""
+    """The base of all lists. It lists no soups: its table only has statistics of all soups
+    together."""
 
     def add(self, report: Report) -> None:
         """Keeps what the list needs of a report."""
 
     def table(self, _job: Job | None, settling: Settling) -> SoupTable:
-        """Returns the table of the reports that were added, which are of this job. Without a report
-        there is no job."""
+        """Returns the table of the added reports, whose job is `job`, or `None` if there are no
+        reports."""
         return SoupTable(
             "bars",
             ["from", "to", "settled"],
@@ -40,10 +41,10 @@ class Longest(SoupList):
     """The soups that settled last."""
 
     most: int
-    # The program that is asked for exact generations; none if checkpoints will do.
+    # The program that finds exact generations, or `None` if checkpoints are enough.
     census: Census | None
-    # Numbers of soups and of their objects, by the checkpoint. All soups of a checkpoint are kept,
-    # so that exact generations can decide between them.
+    # The numbers of soups, with their numbers of objects, by checkpoint. All soups of a checkpoint
+    # are kept, because exact generations may decide between them.
     kept: dict[int, list[tuple[int, int]]] = field(default_factory=dict)
     count: int = 0
 
@@ -57,8 +58,8 @@ class Longest(SoupList):
             self.count -= len(self.kept.pop(first))
 
     def table(self, job: Job | None, _settling: Settling) -> SoupTable:
-        """Returns the table by descending generation. If generations are equal, the lower number
-        comes first."""
+        """Returns the table by descending generation. If generations are equal, lower numbers come
+        first."""
         rows: list[Row] = [
             [soup, checkpoint, objects]
             for checkpoint, soups in self.kept.items()
@@ -84,7 +85,7 @@ class Unsettled(SoupList):
     that."""
 
     census: Census
-    # Whether it says what became of each soup.
+    # Whether the table has the fate of each soup.
     says_why: bool = False
     soups: list[int] = field(default_factory=list)
 
@@ -113,7 +114,7 @@ class Unsettled(SoupList):
 
 @dataclass
 class Leaving(SoupList):
-    """The soups that left objects of a code, and how many each left."""
+    """The soups that left objects of a code, each with the number of such objects."""
 
     code: str
     objects: dict[int, int] = field(default_factory=dict)

@@ -1,4 +1,4 @@
-"""What `haul soups` prints: facts on all soups together, and a table."""
+"""The output of `haul soups`: facts about all soups together, and a table."""
 
 from __future__ import annotations
 
@@ -11,7 +11,7 @@ from haul.views.haul_facts import describe_job
 from haul.views.layout import align_columns, format_csv, format_figure, format_json, make_exact
 from haul.views.settling import Settling
 
-# What comma-separated values have after the columns of each table.
+# The columns of CSV that follow the columns of each table.
 FACTS = [
     "seed",
     "rule",
@@ -25,27 +25,27 @@ FACTS = [
     "third_quartile",
     "mean",
 ]
-# The longest bar, in characters.
+# The length of the longest bar, in characters.
 LONGEST_BAR = 50
 
 
-# A row of whole numbers, and perhaps a word at its end. A number that isn't known is none.
+# A row of integers, of which the last may be a word instead. An unknown number is `None`.
 Row = list[int | str | None]
 
 
 @dataclass
 class SoupTable:
-    """A table of whole numbers, and perhaps of words in its last column."""
+    """A table of integers, whose last column may have words."""
 
-    # What the list of its rows is called in JSON.
+    # The name of the list of rows in JSON.
     name: str
     heads: list[str]
     rows: list[Row]
-    # A line before the table; none if it is empty.
+    # A line before the table, or an empty text if there is none.
     title: str = ""
-    # What JSON has besides.
+    # Further fields of the JSON object.
     facts: dict[str, object] = field(default_factory=dict)
-    # Whether a reader sees a bar for the last number of each row.
+    # Whether the text has a bar for the last number of each row.
     has_bars: bool = False
 
     def text(self, job: Job | None, settling: Settling) -> Iterator[str]:
@@ -61,15 +61,16 @@ class SoupTable:
         yield from align_columns([heads, *shown], self.columns_of_text(), 0, None)
 
     def columns_of_text(self) -> set[int]:
-        """Returns the columns that aren't numbers: that of the bars, and a last one of words."""
+        """Returns the columns that aren't numbers: the column of bars, and the last column if it
+        has words."""
         last = len(self.heads) - 1
         return {last + 1} | (
             {last} if any(isinstance(row[last], str) for row in self.rows) else set()
         )
 
     def bars(self) -> list[str]:
-        """Returns a bar for each row. The longest has `LONGEST_BAR` characters, and only that of 0
-        is empty."""
+        """Returns a bar for each row. The longest has `LONGEST_BAR` characters, and only the bar of
+        0 is empty."""
         numbers = [int(row[-1] or 0) for row in self.rows]
         most = max(numbers)
         return ["#" * -(-number * LONGEST_BAR // most) if number else "" for number in numbers]

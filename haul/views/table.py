@@ -1,4 +1,4 @@
-"""The table of one haul, with how often each object comes."""
+"""The table of one haul, with the rate of each object."""
 
 from __future__ import annotations
 
@@ -32,24 +32,24 @@ from haul.views.rates import bound_rarity, compute_rate
 BEFORE_RARITY = ["rank", "code", "total", "per_million"]
 AT_MOST = ["one_in_at_most"]
 AFTER_RARITY = ["samples", "label"]
-# What comma-separated values have besides.
+# The columns that only CSV has.
 MORE_HEADS = ["parts", "strict", "separated", "by_parts"]
 CODE = 1
 
 
 @dataclass
 class TableRow:
-    """A code in the table."""
+    """A row of the table, which is about one code."""
 
     rank: int
     code: str
     total: int
     per_million: float
-    # A bound by the haul.
+    # The bound that follows from the haul: at most one soup in this number has the object.
     one_in_at_most: int
     samples: list[int]
     separation: Separation
-    # Whether the row says how often the reference has the code, and how often that is: `None` if
+    # Whether the row has the rarity in the reference, and the rarity itself, which is `None` if
     # `census` doesn't count such objects.
     has_rarity: bool = False
     occurrence: Occurrence | None = None
@@ -120,19 +120,19 @@ class TableRow:
 
 @dataclass
 class RowChoice:
-    """Which lines of a table are shown, and in which order."""
+    """Which rows of a table are shown, and in which order."""
 
-    # The letters of the kinds; all kinds if it is none.
+    # The letters of the kinds, or `None` for all kinds.
     kind: str | None = None
-    # The least and the most period; the last is none if there is no most.
+    # The smallest and the largest period. The latter is `None` if there is no upper limit.
     period: tuple[int, int | None] | None = None
-    # Objects that are strict, and those that aren't separated.
+    # Whether only strict objects, and objects that aren't separated, are shown.
     strict: bool = False
     rare: bool = False
     top: int | None = None
 
     def has(self, code: str) -> bool:
-        """Returns whether a code is of the chosen kind and period."""
+        """Checks whether a code has a chosen kind and period."""
         known = read_kind(code)
         if known is None:
             return self.kind is None and self.period is None
@@ -144,8 +144,9 @@ class RowChoice:
 def choose_rows(
     haul: Haul, objects: Objects, choice: RowChoice, has_rarity: bool
 ) -> list[TableRow]:
-    """Returns the chosen lines of a haul's table, each with its rank among all: by descending
-    total, or the rarest first. With `has_rarity` each says how often the reference has it."""
+    """Returns the chosen rows of a haul's table, by descending total, or with the rarest first. The
+    rank of each row is its rank among all rows. If `has_rarity` is set, each row has its rarity in
+    the reference."""
     codes = sorted(haul.totals, key=lambda code: (-haul.totals[code], code))
     ranks = [(rank, code) for rank, code in enumerate(codes, 1) if choice.has(code)]
     if choice.strict:
@@ -182,7 +183,7 @@ def list_heads(has_rarity: bool) -> list[str]:
 
 
 def format_table_text(lines: list[TableRow], has_rarity: bool, width: int | None) -> Iterator[str]:
-    """Yields the lines for a reader. Each column is a word, except for the last one."""
+    """Yields the lines for a reader. Each column except for the last one is a single word."""
     heads = list_heads(has_rarity)
     texts = {CODE, *(heads.index(head) for head in AFTER_RARITY)}
     return align_columns([heads] + [line.words() for line in lines], texts, CODE, width)
@@ -195,8 +196,8 @@ def format_table_csv(lines: list[TableRow], has_rarity: bool, by_parts: bool) ->
 
 
 def format_table_json(haul: Haul, lines: list[TableRow], by_parts: Objects | None) -> Iterator[str]:
-    """Yields the lines of a JSON object. Where totals are by parts it has the parts of each object,
-    too."""
+    """Yields the lines of a JSON object. If totals are by parts, it also has the parts of each
+    object."""
     facts = list_haul_facts(haul) | {"by_parts": by_parts is not None}
     return format_json(
         facts | list_part_facts(by_parts) if by_parts else facts,

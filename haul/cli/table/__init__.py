@@ -1,1 +1,1 @@
-"""The entries of the table of commands: what each command takes, and what it says in its help."""
+"""The entries of the table of commands: the arguments and the help of each command."""

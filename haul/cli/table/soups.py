@@ -1,4 +1,4 @@
-"""The commands about soups, report lines and patterns, as the table of commands has them."""
+"""The entries of the commands about soups, report lines and patterns."""
 
 from __future__ import annotations
 

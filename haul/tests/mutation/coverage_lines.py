@@ -1,4 +1,4 @@
-"""Which tests run which lines, as `coverage` notes it with a context for each test."""
+"""Finds out which tests run which lines, using `coverage` with a context for each test."""
 
 from __future__ import annotations
 
@@ -13,7 +13,7 @@ from concurrent.futures import ThreadPoolExecutor
 from pathlib import Path
 
 TOP = Path(__file__).resolve().parents[3]
-# The tests that run each line, as `formats/rle.py:12`, with the seconds that each test takes.
+# The tests that run each line, such as `formats/rle.py:12`, with the seconds that each test takes.
 Lines = dict[str, dict[str, float]]
 
 SETTINGS = """\
@@ -25,8 +25,8 @@ data_file = {data}/lines
 context = ${{CONTEXT}}
 disable_warnings = no-data-collected
 """
-# What each process of Python does first. `haul` ends by `os._exit`, or by a signal that it sends to
-# itself, and `coverage` keeps nothing then unless it is told to.
+# The first thing that each Python process does. `haul` ends with `os._exit`, or with a signal that
+# it sends to itself, and `coverage` then saves nothing unless it is told to.
 START = """\
 import os
 import coverage
@@ -72,7 +72,7 @@ def list_tests(suite: unittest.TestSuite | unittest.TestCase) -> Iterator[str]:
 
 
 def note_lines(copy: Path, names: list[str], workers: int) -> Lines:
-    """Runs each test of a copy of the checkout, and returns which lines they run."""
+    """Runs each test in a copy of the checkout, and returns which lines they run."""
     from coverage import CoverageData  # type: ignore[import]
 
     data = copy / "coverage"
@@ -113,13 +113,13 @@ def run_noted(copy: Path, name: str) -> float:
         env=environment,
     )
     if ended.returncode != 0:
-        # Mostly because it measures how long something takes.
+        # The usual reason is that the test measures how long something takes.
         print(f"fails while its lines are noted: {name}", flush=True)
     return time.monotonic() - began
 
 
 def read_or_note(kept: Path | None, copy: Path, workers: int) -> Lines:
-    """Returns the lines that an earlier call has kept in a file, or notes them anew."""
+    """Returns the lines that an earlier call has kept in a file, or records them anew."""
     if kept is not None and kept.exists():
         lines: Lines = json.loads(kept.read_text())
         return lines

@@ -35,11 +35,12 @@ ALLOWANCE = re.compile(r"# (?:(?P<number>[0-9]+) )?mutants?: equal because ")
 
 @dataclass
 class Place:
-    """Where a file is changed: the field of a node, or an entry of it, and what comes there."""
+    """A place where a file is changed: the field of a node, or an entry of the field, and the new
+    value."""
 
     file: str
     line: int
-    # The class and the function in which it is.
+    # The class and the function that contain the place.
     within: str
     words: str
     node: ast.AST
@@ -54,14 +55,14 @@ class Place:
         return f"{self.file}: {self.within}{self.words}"
 
     def changed(self, tree: ast.Module) -> str:
-        """Returns the file with the change. The tree is as before after it."""
+        """Returns the text of the file with the change. The tree is restored afterwards."""
         kept = self.change()
         text = ast.unparse(ast.fix_missing_locations(tree))
         setattr(self.node, self.field, kept)
         return text
 
     def change(self) -> object:
-        """Makes the change in the tree, and returns what was there."""
+        """Makes the change in the tree, and returns the old value."""
         kept = getattr(self.node, self.field)
         new = self.new
         if self.entry is not None:
@@ -107,8 +108,8 @@ def find_truths(tree: ast.Module) -> set[int]:
 
 
 def find_signals(tree: ast.Module) -> set[int]:
-    """Returns the nodes in calls that send signals. With another number a signal would go to
-    processes of others: `killpg(1, ..)` ends all that there are."""
+    """Returns the nodes in calls that send signals. With a changed number, a signal would go to
+    other users' processes: `killpg(1, ..)` ends all processes."""
     return {
         id(node)
         for call in ast.walk(tree)
@@ -118,7 +119,7 @@ def find_signals(tree: ast.Module) -> set[int]:
 
 
 def list_changes(node: ast.AST, is_truth: bool) -> Iterator[tuple[str, int | None, object]]:
-    """Yields what may be changed in a node: a field, an entry of it, and what comes there."""
+    """Yields the possible changes of a node: a field, an entry of the field, and the new value."""
     match node:
         case ast.Compare():
             for entry, op in enumerate(node.ops):
@@ -139,7 +140,8 @@ def list_changes(node: ast.AST, is_truth: bool) -> Iterator[tuple[str, int | Non
 
 
 def name_nodes(outer: ast.AST, before: str) -> Iterator[tuple[str, ast.AST]]:
-    """Yields the classes and functions in a node with their names, each before those within it."""
+    """Yields the classes and functions in a node with their names, each before those that it
+    contains."""
     for node in ast.iter_child_nodes(outer):
         name = before
         if isinstance(node, (ast.ClassDef, ast.FunctionDef)):
@@ -149,7 +151,7 @@ def name_nodes(outer: ast.AST, before: str) -> Iterator[tuple[str, ast.AST]]:
 
 
 def list_shown_parts(statement: ast.stmt) -> list[ast.AST]:
-    """Returns what is shown of a statement that is changed: all of it, or the parts before its
+    """Returns the parts of a changed statement that are shown: all of it, or the parts before its
     body."""
     if not hasattr(statement, "body"):
         return [statement]
@@ -158,7 +160,8 @@ def list_shown_parts(statement: ast.stmt) -> list[ast.AST]:
 
 
 def find_allowances(text: str) -> Counter[int]:
-    """Returns how many changes of a line may go unnoticed, by the comment above the line."""
+    """Returns how many changes of each line may go unnoticed, according to the comment above the
+    line."""
     allowances: Counter[int] = Counter()
     number = 0
     for line, words in enumerate(text.splitlines(), 1):

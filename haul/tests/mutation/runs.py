@@ -1,4 +1,4 @@
-"""Runs tests over changed copies of `haul`, each in processes of its own."""
+"""Runs tests on changed copies of `haul`, each in processes of its own."""
 
 from __future__ import annotations
 
@@ -25,17 +25,18 @@ from haul.tests.forked import go_on
 
 TOP = Path(__file__).resolve().parents[3]
 PROGRAM = TOP / "crates" / "census" / "out" / "census"
-# What `unittest` writes about a test that fails.
+# The line that `unittest` writes about a test that fails.
 FAILED = re.compile(r"^(?:FAIL|ERROR): \w+ \(([\w.]+)\)", re.MULTILINE)
-# A changed program may go on for ever, or ask for all memory.
+# A changed program may run forever, or ask for all memory.
 MOST_SECONDS, MOST_BYTES = 15, 2**30
-# Of the system's call `prctl`: a process whose parent has ended gets this one as its parent.
+# An option of the system call `prctl`: this process becomes the parent of processes whose parent
+# has ended.
 PR_SET_CHILD_SUBREAPER = 36
 
 
 class Trial(NamedTuple):
-    """A changed file, by its path below haul/, and the tests that may notice the change, each with
-    the seconds that it takes."""
+    """A changed file, given by its path below haul/, and the tests that may notice the change, each
+    with the seconds that it takes."""
 
     file: str
     text: str
@@ -43,7 +44,7 @@ class Trial(NamedTuple):
 
 
 def make_copy(copy: Path) -> None:
-    """Copies what tests need of a checkout. The launcher of the copy builds nothing."""
+    """Copies the files of a checkout that tests need. The launcher of the copy builds nothing."""
     for folder in ("haul", "release"):
         shutil.copytree(TOP / folder, copy / folder, ignore=shutil.ignore_patterns("__pycache__"))
     for folder in ("bin", "crates/census/out"):
@@ -58,8 +59,8 @@ def make_copy(copy: Path) -> None:
 
 
 def compile_copy(copy: Path) -> None:
-    """Makes a copy in which all modules are compiled, so that no test has to do it. Python doesn't
-    check whether a file has changed since."""
+    """Compiles all modules of a copy, so that no test has to. Python doesn't check whether a file
+    has changed since."""
     make_copy(copy)
     mode = py_compile.PycInvalidationMode.UNCHECKED_HASH
     for file in copy.glob("haul/**/*.py"):
@@ -70,13 +71,13 @@ def try_all(trials: list[Trial], workers: int) -> Iterator[str | None]:
     """Yields the test that notices each change, or `None` if no test does."""
     with tempfile.TemporaryDirectory() as compiled:
         compile_copy(Path(compiled))
-        # A process in which threads run can't be forked as these are.
+        # A process with running threads can't be forked in this way.
         with get_context("fork").Pool(workers, load_libraries, [compiled]) as pool:
             yield from pool.imap(partial(find_noticing_test, compiled), trials)
 
 
 def find_noticing_test(compiled: str, trial: Trial) -> str | None:
-    """Returns the first test that fails over the changed file, `time` or `start` if the tests take
+    """Returns the first test that fails on the changed file, `time` or `start` if the tests take
     too long or can't start, or `None` if all tests pass."""
     if not trial.tests:
         return None
@@ -99,7 +100,7 @@ def find_noticing_test(compiled: str, trial: Trial) -> str | None:
 
 
 def run_tests(copy: Path, tests: dict[str, float], errors: int) -> int | None:
-    """Returns the status of tests of a copy, or `None` if they take too long."""
+    """Returns the status of a copy's tests, or `None` if they take too long."""
     program = subprocess.Popen(
         ["unittest", *tests],
         cwd=copy,
@@ -109,8 +110,8 @@ def run_tests(copy: Path, tests: dict[str, float], errors: int) -> int | None:
         start_new_session=True,
         preexec_fn=lambda: go_on(partial(run_tests_here, copy, list(tests))),
     )
-    # A signal ends the tests, too. At any other time it ends this process at once, even if the
-    # process waits for a lock.
+    # Here a signal also ends the tests. At any other time it ends this process at once, even if the
+    # process is waiting for a lock.
     signal.signal(signal.SIGTERM, end)
     try:
         return program.wait(MOST_SECONDS + sum(tests.values()))
@@ -124,7 +125,8 @@ def run_tests(copy: Path, tests: dict[str, float], errors: int) -> int | None:
 
 
 def run_tests_here(copy: Path, names: list[str]) -> int:
-    """Runs tests of a copy up to the first that fails, as `python3 -m unittest --failfast` does."""
+    """Runs the tests of a copy up to the first that fails, like
+    `python3 -m unittest --failfast`."""
     resource.setrlimit(resource.RLIMIT_AS, (MOST_BYTES, MOST_BYTES))
     signal.signal(signal.SIGTERM, signal.SIG_DFL)
     forget_modules()
@@ -138,8 +140,8 @@ def run_tests_here(copy: Path, names: list[str]) -> int:
 
 
 def end_orphans() -> None:
-    """Kills what a changed program has left running, in whatever session. It is a child of this
-    process then."""
+    """Kills everything that a changed program has left running, in any session. Such processes have
+    become children of this process."""
     while left := list_children():
         for number in left:
             os.kill(number, signal.SIGKILL)
@@ -152,8 +154,8 @@ def list_children() -> list[int]:
 
 
 def load_libraries(compiled: str) -> None:
-    """Imports once, for all tests that are forked from here, what `haul` and its tests import of
-    Python's library. That takes longer than most tests."""
+    """Imports what `haul` and its tests need of Python's library, once for all tests that are
+    forked from here. The imports take longer than most tests."""
     signal.signal(signal.SIGTERM, signal.SIG_DFL)
     ctypes.CDLL(None).prctl(PR_SET_CHILD_SUBREAPER, 1)
     sys.path.insert(0, compiled)
@@ -164,12 +166,12 @@ def load_libraries(compiled: str) -> None:
 
 
 def forget_modules() -> None:
-    """Forgets the modules of this checkout, so that the next import takes those of a copy."""
+    """Forgets the modules of this checkout, so that the next import takes the modules of a copy."""
     for name in list(sys.modules):
         if name.partition(".")[0] in ("haul", "release"):
             del sys.modules[name]
 
 
 def end(_number: int, _frame: object) -> None:
-    """Ends this process in order, with those that it has started."""
+    """Ends this process in an orderly way, together with the processes that it has started."""
     sys.exit(1)
