@@ -273,7 +273,7 @@ class Usage(unittest.TestCase):
             (["table", "--top=-1"], "-1 is no number"),
             (["table", "--top=\u0663"], "\u0663 is no number"),
             (["check", "--census="], "an empty path"),
-            (["rle", "--rule=b3/s23"], "b3/s23 is no rule, as b3s23 is one"),
+            (["rle", "--rule=b9/s23"], "b9/s23 is no rule, as b3s23, B3/S23 and Life are"),
         ):
             status, output, errors = run(*words)
             self.assertEqual((status, output), (2, ""))

@@ -560,12 +560,12 @@ class SideBySide(unittest.TestCase):
         self.assertEqual(lines[1], "A: 100 soups, 1 unsettled, 2 for good, 102 objects by parts")
         self.assertEqual(lines[3], "B: 100 soups, 1 unsettled, 2 for good, 11 objects by parts")
         self.assertEqual(
-            [line.split()[:4] for line in lines[5:-1]],
+            [[*line.split()[:3], line.split(None, 6)[-1]] for line in lines[5:-1]],
             [
-                ["xs4_33", "block", "84", "11"],
-                ["xp2_7", "blinker", "15", "0"],
-                ["xs12_256o8a6", "-", "2", "0"],
-                ["ov_p12", "not_separated", "1", "0"],
+                ["xs4_33", "84", "11", "block"],
+                ["xp2_7", "15", "0", "blinker"],
+                ["xs12_256o8a6", "2", "0", "-"],
+                ["ov_p12", "1", "0", "not separated"],
             ],
         )
         told = json.loads(run("compare", "--parts", "--json", *self.names)[1])
@@ -583,9 +583,9 @@ class SideBySide(unittest.TestCase):
             [("xs4_33", "84", "11", "yes"), ("xp2_7", "15", "0", "yes")],
         )
 
-    def test_names_are_words_there(self) -> None:
+    def test_names_come_last(self) -> None:
         rows = [
-            line.split()[:2]
+            [line.split()[0], line.split(None, 6)[-1]]
             for line in run("compare", "--whole", *self.names)[1].splitlines()[5:-1]
         ]
         self.assertEqual(
@@ -593,11 +593,11 @@ class SideBySide(unittest.TestCase):
             [
                 ["xs4_33", "block"],
                 ["xs8_rr", "bi-block"],
-                ["xs8_330oo", "2_blocks"],
-                ["xp2_70ggg07", "3_blinkers"],
+                ["xs8_330oo", "2 blocks"],
+                ["xp2_70ggg07", "3 blinkers"],
                 ["xp2_7", "blinker"],
                 ["xs12_256o8a6", "-"],
-                ["ov_p12", "not_separated"],
+                ["ov_p12", "not separated"],
             ],
         )
 
