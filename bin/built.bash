@@ -18,8 +18,8 @@ get_version() {
     if [[ -r $version ]]; then version=$(<"$version"); else version=$(rt version </dev/null 2>/dev/null); fi
 }
 
-# Sets `cpu` to the level of processors that this machine's belongs to: x86-64-v3, for which programs are faster by some
-# fifth, or default, which is the least one for which the toolchain builds: x86-64-v2, which has SSE4.2.
+# Sets `cpu` to the level of processors that this machine's belongs to: x86-64-v3, for which the program is about
+# twice as fast, or default, which is the lowest one for which the toolchain builds: x86-64-v2, which has SSE4.2.
 get_cpu() {
     cpu=default
     local flags feature

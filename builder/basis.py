@@ -11,8 +11,8 @@ import shutil
 import subprocess
 from pathlib import Path
 
-from builder import cannot_build
 from builder.crates import Crates
+from builder.failure import cannot_build
 from builder.places import Places
 
 # Finds the crate's name in the line of a file.

@@ -7,9 +7,9 @@ from collections.abc import Callable
 from dataclasses import dataclass, replace
 from pathlib import Path
 
-from builder import Failed, cannot_build
 from builder.basis import Built, part_of, toolchain
 from builder.crates import Crates, uses_in, weights_of
+from builder.failure import Failed, cannot_build
 from builder.kept import Kept
 from builder.places import Places
 from builder.progress import Progress

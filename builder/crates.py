@@ -7,7 +7,7 @@ from collections.abc import Iterable, Mapping
 from graphlib import CycleError, TopologicalSorter
 from pathlib import Path
 
-from builder import cannot_build
+from builder.failure import cannot_build
 from builder.places import PROGRAM
 
 

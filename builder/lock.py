@@ -7,7 +7,8 @@ from __future__ import annotations
 import fcntl
 import os
 
-from builder import cannot_build, say
+from builder.failure import cannot_build
+from builder.messages import say
 from builder.places import Places
 
 

@@ -9,8 +9,9 @@ import traceback
 from pathlib import Path
 from types import FrameType
 
-from builder import NOT_BUILT, Failed, say
-from builder.launch import build_for_this_machine
+from builder.build_if_stale import build_for_this_machine
+from builder.failure import NOT_BUILT, Failed
+from builder.messages import say
 from builder.places import Places
 from builder.programs import Asked, look_at, make_programs
 

@@ -14,11 +14,12 @@ from dataclasses import replace
 from pathlib import Path
 from typing import NamedTuple
 
-from builder import Failed, say, tell
 from builder.basis import Built
 from builder.build import Build, get_ready
+from builder.failure import Failed
 from builder.kept import text_of, write_whole
 from builder.lock import take_lock
+from builder.messages import say, tell
 from builder.places import LEAST, LEVELS, PROGRAM, Places
 
 # The files in the folder, apart from `from`.
@@ -173,8 +174,8 @@ def digests_of(folder: Path) -> str:
 
 
 def look_at(places: Places, folder: str) -> int:
-    """Compares a folder's programs with this checkout. Returns 0 if they belong together, otherwise
-    names the first difference.
+    """Compares a folder's programs with this checkout. Returns 0 if they belong together. Otherwise
+    writes the first difference to standard error, and returns 1.
     """
     wrong = fault_of(places, folder)
     if wrong:

@@ -8,7 +8,7 @@ import time
 from dataclasses import dataclass, field
 from pathlib import Path
 
-from builder import is_terminal, say, tell
+from builder.messages import is_terminal, say, tell
 
 # Moves to the beginning of the line and clears it.
 WIPE = "\r\x1b[K"
@@ -56,8 +56,9 @@ class Progress:
         return f"crate {self.places[crate]} of {self.crates}, {crate}"
 
     def _functions(self, crate: str) -> str:
-        """Returns the number of functions of a crate that have been started. For each function, the
-        prover first writes a file with its code, and later a file with what the logic sees of it.
+        """Returns a text that says how many functions of a crate have been started. For each
+        function, the prover first writes a file with its code, and later a file with what the logic
+        sees of it.
         """
         seen, coded = (
             len(list(self.room.glob(f"{crate}/*/Rattle-{crate}-proofs.*.{kind}.oantt")))

@@ -10,7 +10,7 @@ import tarfile
 import zlib
 from pathlib import PurePosixPath
 
-from release.files import PROGRAM, Tree
+from release.file_tree import PROGRAM, Tree
 
 # The library that packs an archive.
 PACKED_BY = f"zlib {zlib.ZLIB_RUNTIME_VERSION}"

@@ -1,9 +1,9 @@
 # shellcheck shell=sh
-# Sets `program` to the census program for the processor that is there, of those in the folder `libexec`. Ends with one line and
-# status 70 if there is none.
+# Sets `program` to the census program in the folder `libexec` that fits this processor. If there is none, prints one line and ends
+# with status 70.
 #
-# For processors of the level x86-64-v3 the program is faster by some fifth. Where the system doesn't say what the processor has,
-# the program of the level below is taken, which looks for itself.
+# On processors of the level x86-64-v3, their own program is about a fifth faster. If the system doesn't say what the processor has,
+# the program for the level below is used, which itself checks what the processor has.
 
 flags=
 {
@@ -12,7 +12,7 @@ flags=
     done </proc/cpuinfo
 } 2>/dev/null
 
-# Whether the processor has all of these features.
+# Checks whether the processor has all of these features.
 has() {
     for feature; do
         case $flags in *" $feature "*) ;; *) return 1 ;; esac

@@ -26,13 +26,12 @@ Element: TypeAlias = WebElement
 HEIGHT = 1000
 # A point that is darker than this belongs to a live cell.
 DARK = 128
-# How many pictures to take until a picture no longer changes, and the time between two of them.
+# The most pictures that are taken until two in a row are the same, and the seconds between them.
 MOST_PICTURES, SECONDS_BETWEEN = 40, 0.05
 
-# Finds the visible texts that have too little contrast with their background, each with its
-# contrast, according to WCAG's formula. If a dialog is open, only its texts count. Disabled
-# controls don't count.
-CONTRASTS = """
+# The beginning of the scripts that look for faults: WCAG's formula for contrasts, and functions
+# that list elements and note faults. If a dialog is open, only its elements are listed.
+SHARED = """
 const numbers = color => { const [r, g, b, a = 1] = color.match(/[\\d.]+/g).map(Number); return [r, g, b, a]; };
 const over = ([r, g, b, a], under) => [r, g, b].map((value, at) => value * a + under[at] * (1 - a)).concat(1);
 const behind = element => {
@@ -46,8 +45,18 @@ const behind = element => {
 const light = color => color.slice(0, 3).map(value => value / 255).map(value => value <= .03928 ? value / 12.92 : ((value + .055) / 1.055) ** 2.4)
   .reduce((sum, value, at) => sum + value * [.2126, .7152, .0722][at], 0);
 const contrast = (one, other) => { const [dark, bright] = [light(one), light(other)].sort((a, b) => a - b); return (bright + .05) / (dark + .05); };
-const faults = [];
-for (const element of (document.querySelector('dialog[open]') ?? document.body).querySelectorAll('*')) {
+const root = document.querySelector('dialog[open]') ?? document.body, faults = [], all = selector => [...root.querySelectorAll(selector)];
+const fault = (rule, one) => faults.push(`${rule}: ${(one.ariaLabel || one.textContent.trim() || one.outerHTML).slice(0, 40)}`);
+const isSeen = one => one.checkVisibility() && one.getClientRects().length > 0 && !one.closest('.hidden, .skip');
+"""
+
+# Finds the visible texts that have too little contrast with their background, each with its
+# contrast, according to WCAG's formula. If a dialog is open, only its texts count. Disabled
+# controls don't count.
+CONTRASTS = (
+    SHARED
+    + """
+for (const element of all('*')) {
   const isText = [...element.childNodes].some(node => node.nodeType === 3 && node.data.trim()) && !element.matches('script, style, option, noscript');
   if (!isText && !element.matches('.live, input[type=search]') || !element.checkVisibility() || element.closest('.hidden, .skip, :disabled, label:has(:disabled)')) continue;
   const style = getComputedStyle(element), isDrawn = element instanceof SVGElement;
@@ -56,6 +65,7 @@ for (const element of (document.querySelector('dialog[open]') ?? document.body).
 }
 return faults;
 """
+)
 
 
 def browser(width: int, dark: bool = False, still: bool = True) -> Driver:
@@ -101,7 +111,7 @@ def look_like(
 
 
 def opened(driver: Driver, path: Path, address: str = "") -> Driver:
-    """Loads a page again, at an address within it."""
+    """Loads a page afresh, with the fragment `address`, even if the browser already shows it."""
     driver.get("about:blank")
     driver.get(path.as_uri() + address)
     return driver
@@ -209,7 +219,7 @@ setTimeout(() => done(seen), seconds * 1000);""",
 
 
 def is_narrow(driver: Driver) -> bool:
-    """Checks that nothing is wider than the page."""
+    """Checks that the page doesn't scroll sideways. What scrolls in a box of its own may be wider."""
     return bool(driver.execute_script("return document.documentElement.scrollWidth <= innerWidth"))
 
 

@@ -25,9 +25,9 @@ from checks.haul.made_pages import (
 
 def try_dialogs(driver: Driver, path: Path, haul: bytes) -> None:
     totals = {code: int(total) for code, total in rows_of(haul, "@CENSUS TABLE")}
-    opened(driver, path, "#&strict=0")
+    opened(driver, path, "#&parts=0")
     for code in sorted(totals, key=lambda code: (-totals[code], in_order(code)))[:12]:
-        go_to(driver, f"#{code}&strict=0")
+        go_to(driver, f"#{code}&parts=0")
         wait_for_object(driver, code)
         if code.startswith("xs"):
             count.equal(
@@ -41,17 +41,17 @@ def try_dialogs(driver: Driver, path: Path, haul: bytes) -> None:
         (4, [("Previous", 3), ("Next", 5)]),
         (-1, [("Previous", -2)]),
     ):
-        go_to(driver, f"#{by_total[place]}&strict=0")
+        go_to(driver, f"#{by_total[place]}&parts=0")
         wait_for_object(driver, by_total[place])
         count.equal(
             f"links from object {place}",
             driver.execute_script(
                 "return [...document.querySelectorAll('.step')].map(one => [one.ariaLabel, one.getAttribute('href')])"
             ),
-            [[f"{name} object", f"#{by_total[other]}&strict=0"] for name, other in steps],
+            [[f"{name} object", f"#{by_total[other]}&parts=0"] for name, other in steps],
         )
     for code, period in ((PULSAR, 3), ("xq4_153", 4), ("xp2_318c", 2)):
-        go_to(driver, f"#{code}&strict=0")
+        go_to(driver, f"#{code}&parts=0")
         wait_for_object(driver, code)
         for phase in range(period):
             path_seen = driver.execute_script(
@@ -69,7 +69,7 @@ def try_dialogs(driver: Driver, path: Path, haul: bytes) -> None:
         [facts[name] for name in ("kind", "cells in each phase", "bounding box", "parts")],
         ["oscillator of period 2", "6, 8", "4 by 4", "none: it is strict"],
     )
-    go_to(driver, "#xq4_153&strict=0")
+    go_to(driver, "#xq4_153&parts=0")
     count.holds(
         "how a glider moves",
         wait_for(lambda: "in 4 generations, which is c/4 diagonal" in text(driver, ".facts dd")),

@@ -23,25 +23,6 @@ if (one === document.body || right <= 0) return '';
 const x = Math.min(Math.max((left + right) / 2, 0), innerWidth - 1), y = top + Math.min(10, (bottom - top) / 2);
 const over = document.elementFromPoint(x, y), sticky = over?.closest('#controls, thead, dialog > header');
 return y < 0 || sticky && !sticky.contains(one) ? `${one.textContent.trim().slice(0, 20)} at ${y}` : '';"""
-# Finds visible controls that are less than 24 points high or wide. Links within lines of text don't
-# count.
-SMALL = """
-return [...document.querySelectorAll(arguments[0])].filter(one => one.checkVisibility())
-  .filter(one => { const { width, height } = one.getBoundingClientRect(); return width < 24 || height < 24; })
-  .map(one => one.outerHTML.slice(0, 60));"""
-TARGETS = (
-    ".frequencies > a, .card > a, #controls button, #controls select, #query, dialog button, .step"
-)
-# Finds the contrasts between the borders of inputs and chips and their backgrounds.
-BORDERS = """
-const numbers = color => color.match(/[\\d.]+/g).slice(0, 3).map(Number);
-const light = color => numbers(color).map(value => value / 255).map(value => value <= .03928 ? value / 12.92 : ((value + .055) / 1.055) ** 2.4)
-  .reduce((sum, value, at) => sum + value * [.2126, .7152, .0722][at], 0);
-const paper = light(getComputedStyle(document.body).backgroundColor);
-return [...document.querySelectorAll('#query, #sort, .chip:not(:has(:disabled))')].filter(one => one.checkVisibility()).filter(one => {
-  const [dark, bright] = [light(getComputedStyle(one).borderTopColor), paper].sort((a, b) => a - b);
-  return (bright + .05) / (dark + .05) < 3;
-}).map(one => one.outerHTML.slice(0, 60));"""
 
 
 def try_edges(driver: Driver, path: Path, folder: Path) -> None:
@@ -57,7 +38,6 @@ def try_edges(driver: Driver, path: Path, folder: Path) -> None:
             for view in ("gallery", "table"):
                 try_focus(driver, page, width, view)
             try_focus_in_dialog(driver, page, width)
-            try_targets(driver, page, width)
     try_telephone(driver, two)
     try_columns(driver, path)
     try_chart(driver, two)
@@ -72,7 +52,7 @@ def try_edges(driver: Driver, path: Path, folder: Path) -> None:
 
 def try_focus(driver: Driver, page: Path, width: int, view: str) -> None:
     """Checks that no object is hidden when Shift+Tab goes back from an object far down."""
-    opened(driver, page, f"#&strict=0&view={view}")
+    opened(driver, page, f"#&parts=0&view={view}")
     driver.execute_script("scrollTo(0, 2500)")
     time.sleep(0.3)
     driver.execute_script(
@@ -96,31 +76,6 @@ def try_focus_in_dialog(driver: Driver, page: Path, width: int) -> None:
         covered.append(driver.execute_script(COVERED))
     hidden = [one for one in covered if one]
     count.equal(f"nor is it in the dialog: {page.name} at {width}", hidden, [])
-
-
-def try_targets(driver: Driver, page: Path, width: int) -> None:
-    """Checks sizes of targets and contrasts of borders, in light and dark, with the charts and a
-    dialog open.
-    """
-    for address in ("", "#xs4_33"):
-        opened(driver, page, address)
-        driver.execute_script("document.querySelector('#charts').open = true")
-        where = f"{page.name}{address} at {width}"
-        count.holds(
-            f"controls are large: {where}",
-            wait_for(lambda: not driver.execute_script(SMALL, TARGETS), 1),
-            driver.execute_script(SMALL, TARGETS),
-        )
-    opened(driver, page)
-    for dark in (False, True):
-        look_like(driver, width, dark)
-        mode = "dark" if dark else "light"
-        count.equal(
-            f"borders have contrast: {page.name} at {width}, {mode}",
-            driver.execute_script(BORDERS),
-            [],
-        )
-    look_like(driver, width)
 
 
 def try_telephone(driver: Driver, two: Path) -> None:
@@ -149,8 +104,8 @@ def try_telephone(driver: Driver, two: Path) -> None:
 
 
 def try_columns(driver: Driver, path: Path) -> None:
-    """Checks that there is one column up to 800 points, and two above that, the right one of which
-    is used.
+    """Checks that the dialog has one column at up to 800 points, and two at 1,400 points, with the
+    player in the right one.
     """
     sides = "return [...document.querySelectorAll('.columns > div')].map(one => one.offsetLeft)"
     for width, columns in ((390, 1), (641, 1), (700, 1), (800, 1), (1400, 2)):
@@ -172,8 +127,8 @@ def try_columns(driver: Driver, path: Path) -> None:
 
 
 def try_chart(driver: Driver, two: Path) -> None:
-    """Checks that the logarithmic axis has dots and the linear one bars, and that after a search
-    the chart is below a heading.
+    """Checks that the logarithmic axis has dots and the linear one bars, that the objects have a
+    heading, and that the search comes before the links of the charts.
     """
     look_like(driver, 1400)
     drawn = """
@@ -192,7 +147,7 @@ return [bars.some(one => getComputedStyle(one).backgroundColor !== 'rgba(0, 0, 0
 
 
 def try_words(driver: Driver, path: Path, two: Path) -> None:
-    opened(driver, two, "#&strict=0")
+    opened(driver, two)
     cards = len(texts(driver, ".card"))
     count.equal(
         "each card of two hauls has its unit",
@@ -224,8 +179,8 @@ def try_keys(driver: Driver, path: Path) -> None:
     opened(driver, path, "#xs4_33")
     wait_for_object(driver, "xs4_33")
     press(driver, RIGHT)
-    wait_for_object(driver, "xs6_696")
-    count.equal("the right arrow", text(driver, "#object header code"), "xs6_696")
+    wait_for_object(driver, "xp2_7")
+    count.equal("the right arrow", text(driver, "#object header code"), "xp2_7")
     press(driver, LEFT)
     wait_for_object(driver, "xs4_33")
     count.equal("the left arrow", text(driver, "#object header code"), "xs4_33")
@@ -329,9 +284,9 @@ def try_without_scripts(driver: Driver, two: Path, folder: Path) -> None:
 
 
 def try_long_scrolling(driver: Driver, folder: Path) -> None:
-    """Checks that cards that are far from the screen are removed, also on a telephone."""
+    """Checks that cards that are far from the screen are removed, on a telephone."""
     look_like(driver, 390)
-    opened(driver, folder / "many.html", "#&strict=0")
+    opened(driver, folder / "many.html", "#&parts=0")
     nodes = "return document.querySelectorAll('*').length"
     for _ in range(100):
         driver.execute_async_script("scrollBy(0, 500); requestAnimationFrame(arguments[0])")

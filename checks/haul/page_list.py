@@ -1,4 +1,4 @@
-"""Checks the list of objects on a page: its orders, parts and charts."""
+"""Checks the list of objects on a page: its orders and charts."""
 
 from __future__ import annotations
 
@@ -7,25 +7,14 @@ import re
 from pathlib import Path
 
 from checks.haul import browser
-from checks.haul.browser import Driver, all_of, choose, click, opened, text, texts, wait_for
-from checks.haul.made_pages import (
-    CODES,
-    PULSAR,
-    census,
-    count,
-    go_to,
-    haul_of,
-    in_order,
-    page_of,
-    rows_of,
-)
-from checks.haul.page_dialogs import wait_for_object
+from checks.haul.browser import Driver, all_of, choose, click, opened, text, texts
+from checks.haul.made_pages import PULSAR, census, count, haul_of, in_order, page_of, rows_of
 
 
 def try_list(driver: Driver, path: Path, haul: bytes) -> None:
     """Checks the list of all objects of a census, in each order, with the search and the chips."""
     totals = {code: int(total) for code, total in rows_of(haul, "@CENSUS TABLE")}
-    opened(driver, path, "#&strict=0")
+    opened(driver, path, "#&parts=0")
     count.equal("nothing is on the console", browser.complaints(driver), [])
     by_total = sorted(totals, key=lambda code: (-totals[code], in_order(code)))
     count.equal("each object has a card, the most frequent first", all_of(driver), by_total)
@@ -54,8 +43,8 @@ def try_list(driver: Driver, path: Path, haul: bytes) -> None:
     count.equal(
         "a search finds codes", all_of(driver), [code for code in by_total if "xp2_7" in code]
     )
-    count.equal("the address keeps the search", browser.address(driver), "#&q=xp2_7&strict=0")
-    opened(driver, path, "#&strict=0&view=table&kind=p,q&period=3")
+    count.equal("the address keeps the search", browser.address(driver), "#&q=xp2_7&parts=0")
+    opened(driver, path, "#&parts=0&view=table&kind=p,q&period=3")
     wanted = [code for code in by_total if re.match("xp3_|xq", code)]
     count.equal("chips choose kinds and periods, also from the address", all_of(driver), wanted)
     count.equal(
@@ -87,7 +76,7 @@ def try_list(driver: Driver, path: Path, haul: bytes) -> None:
     count.equal(
         "a chip is taken back with its periods",
         (all_of(driver), browser.address(driver)),
-        ([code for code in by_total if code.startswith("xq")], "#&kind=q&strict=0&view=table"),
+        ([code for code in by_total if code.startswith("xq")], "#&kind=q&parts=0&view=table"),
     )
     opened(driver, path, "#xs99_0")
     count.holds(
@@ -113,7 +102,7 @@ def try_orders(driver: Driver, totals: dict[str, int], by_total: list[str]) -> N
         ("-period", lambda code: -period(code)),
     ):
         choose(driver, "#sort", order)
-        # Equals are in the order of frequency, then of their codes.
+        # Objects with equal keys are in the order of frequency, then of their codes.
         count.equal(f"the order {order}", all_of(driver), sorted(by_total, key=key))
     click(driver, "[name=view][value=table]")
     for head, order in (
@@ -139,124 +128,6 @@ def try_orders(driver: Driver, totals: dict[str, int], by_total: list[str]) -> N
     choose(driver, "#sort", "frequency")
 
 
-def try_parts(driver: Driver, path: Path) -> None:
-    """Checks which objects are strict, and what is counted by parts."""
-    opened(driver, path)
-    count.equal(
-        "strict objects are shown at first", all_of(driver), ["xp2_7", "xp14_j9d0d9j", "xs5_253"]
-    )
-    count.equal(
-        "and the others are counted", text(driver, "#shown"), "3 of 7 kinds, 9 of 21 objects."
-    )
-    tiles = ["99", "21", "0.21", "7", "3", "0", "0"]
-    count.equal("the tiles count all", texts(driver, ".tiles dd"), tiles)
-    click(driver, "[name=parts]")
-    count.equal(
-        "parts are counted",
-        all_of(driver),
-        ["xp2_7", "xs4_33", "xp14_j9d0d9j", "xs5_253", "xs6_696"],
-    )
-    count.equal(
-        "with their totals",
-        texts(driver, ".card .total"),
-        ["21 objects", "9 objects", "3 objects", "3 objects", "3 objects"],
-    )
-    count.equal(
-        "and how often they come",
-        texts(driver, ".card .often"),
-        ["≤ 1 in 4 soups", "≤ 1 in 11 soups"] + ["≤ 1 in 33 soups"] * 3,
-    )
-    count.equal("all of them", text(driver, "#shown"), "5 of 5 kinds, 39 of 39 parts.")
-    count.holds(
-        "strict only is without effect then",
-        driver.find_element("name", "strict").get_property("disabled") is True,
-    )
-    count.equal("the tiles stay", texts(driver, ".tiles dd"), tiles)
-    go_to(driver, "#xs8_rr&parts=1")
-    count.holds(
-        "a pseudo-object opens though it isn't chosen",
-        wait_for(lambda: "bi-block" in text(driver, "#object-name")),
-    )
-    count.equal("it has its parts", texts(driver, ".part"), ["2 × block"])
-    click(driver, ".part")
-    count.holds(
-        "a part that is no object has a dialog",
-        wait_for(lambda: text(driver, "#object-name") == "block"),
-    )
-    count.equal(
-        "with both totals",
-        texts(driver, ".facts dd")[-2:],
-        ["0", "9 (≤ 1 in 11 soups, 90,909 per million soups)"],
-    )
-    for code, said, links in (
-        ("xp2_1110s", "counted as 2 × blinker", ["Catagolue"]),
-        ("xp2_s01110szw222", "counted as 4 × blinker", ["Catagolue", "LifeWiki"]),
-    ):
-        go_to(driver, f"#{code}")
-        wait_for_object(driver, code)
-        count.equal(
-            f"{code} counts as its parts, and LifeWiki has its name or no link",
-            (texts(driver, ".facts dd")[-1], texts(driver, ".actions > a")),
-            (said, links),
-        )
-    go_to(driver, "#xp2_7")
-    wait_for_object(driver, "xp2_7")
-    count.equal(
-        "its soups are those of objects, and then those of parts",
-        driver.execute_script(
-            "return [...document.querySelectorAll('.soups li span')].map(one => [one.querySelector('a').textContent, one.textContent.includes('as a part')])"
-        ),
-        [[f"Soup {number}", False] for number in "678"]
-        + [[f"Soup {number}", True] for number in "345"],
-    )
-    opened(
-        driver,
-        page_of(path.with_name("least.html"), haul_of(CODES, 99), more=("--least=4", "--play=0")),
-        "#&strict=0",
-    )
-    count.equal(
-        "objects that are left out have no card",
-        (all_of(driver), text(driver, "#shown"), text(driver, ".none")),
-        (
-            [],
-            "0 of 7 kinds, 0 of 21 objects. Kinds with fewer than 4 are left out.",
-            "No object is found. Show all",
-        ),
-    )
-    click(driver, "[name=parts]")
-    count.equal("but their parts count", all_of(driver), ["xp2_7", "xs4_33"])
-    go_to(driver, "#xs4_33&soup=A12&parts=1")
-    count.holds(
-        "a soup about which census wasn't asked has no end",
-        wait_for(
-            lambda: "doesn’t know when this soup settles. The command below"
-            in text(driver, ".player .note")
-        ),
-    )
-    count.holds(
-        "so it can't be played to that",
-        driver.find_element("css selector", "[data-act=end]").get_property("disabled") is True,
-    )
-    click(driver, "[data-act=step]")
-    count.holds(
-        "but it plays",
-        wait_for(lambda: text(driver, ".player output").startswith("generation 1, ")),
-        text(driver, ".player output"),
-    )
-    opened(driver, path, "#&q=bi-block&sort=cells&axis=linear")
-    count.equal(
-        "it is said if a search finds what is hidden",
-        text(driver, ".none"),
-        "The other choices hide 1 object that the search finds. Show",
-    )
-    click(driver, ".none button")
-    count.equal(
-        "and a button shows it",
-        (all_of(driver), browser.address(driver)),
-        (["xs8_rr"], "#&q=bi-block&strict=0&sort=cells&axis=linear"),
-    )
-
-
 def try_charts(driver: Driver, folder: Path) -> None:
     """Checks the charts, and how frequencies are written at the bound between the two notations."""
     path = page_of(
@@ -272,7 +143,7 @@ def try_charts(driver: Driver, folder: Path) -> None:
         ("log", ["1", "10", "100", "1k", "10k"]),
         ("linear", ["0", "500", "1k", "1.5k"]),
     ):
-        opened(driver, path, f"#&axis={axis}")
+        opened(driver, path, f"#&parts=0&axis={axis}")
         count.equal(f"the marks of the {axis} axis", texts(driver, ".marks .mark"), marks)
         count.equal(
             "the most frequent",
@@ -302,7 +173,7 @@ def try_charts(driver: Driver, folder: Path) -> None:
     count.equal(
         "just half as many objects as soups are no more than that",
         texts(driver, ".card .often"),
-        ["0.75 per soup", "≤ 1 in 2 soups", "≤ 1 in 2,000 soups"],
+        ["0.75 per soup", "≤ 1 in 2 soups", *["≤ 1 in 2,000 soups"] * 2],
     )
     click(driver, "[name=parts]")
     count.equal(
@@ -311,9 +182,9 @@ def try_charts(driver: Driver, folder: Path) -> None:
         "One kind was found once (rank 3).",
     )
     count.holds(
-        "and all points have the colour of strict objects",
-        texts(driver, "#charts .key") == [" strict"]
-        and "parts counted" in text(driver, "#charts figure:last-child figcaption")
+        "and all points have the same colour, which needs no key",
+        texts(driver, "#charts .key") == [""]
+        and "of parts" in text(driver, "#charts figure:last-child figcaption")
         and driver.execute_script(
             "const [all, strict] = document.querySelectorAll('.dots'); return all.getAttribute('d') === strict.getAttribute('d')"
         ),

@@ -92,8 +92,8 @@ def try_one_life(driver: Driver, name: str) -> None:
 
 
 def try_steps(driver: Driver, links: list[str]) -> None:
-    """Checks that arrow keys move through the lists, and that the page is where it was after the
-    dialog is closed.
+    """Checks that arrow keys move through the lists, that the address names no soup after the
+    dialog is closed, and that a click opens a soup.
     """
     driver.execute_script("document.querySelector('#object-name').focus()")
     press(driver, RIGHT)

@@ -1,10 +1,11 @@
-"""Checks how pages look and work: at three widths, in light and dark, with the keyboard only,
-printed, without scripts, and with 12,124 objects.
+"""Checks how pages look and work: at three widths, in light and dark, printed, without scripts, and
+with 12,124 objects.
 """
 
 from __future__ import annotations
 
 import os
+import subprocess
 import sys
 from pathlib import Path
 
@@ -15,18 +16,17 @@ from checks.haul.browser import (
     click,
     look_like,
     opened,
-    press,
     text,
     texts,
     wait_for,
 )
-from checks.haul.made_pages import PULSAR, WIDTHS, count, haul_of, in_order, page_of, rows_of
+from checks.haul.made_pages import HAUL, PULSAR, WIDTHS, count, haul_of, in_order, page_of, rows_of
 
 TAB, ENTER, ESCAPE, SPACE, BACKSPACE = "\ue004", "\ue007", "\ue00c", " ", "\ue003"
 STATES = {
     "gallery": "",
-    "all": "#&strict=0&sort=rarity",
-    "table": "#&view=table&strict=0",
+    "objects": "#&strict=1&parts=0&sort=rarity",
+    "table": "#&view=table",
     "dialog": f"#{PULSAR}",
     "parts": "#xp2_s01110szw222",
     "oscillators": "#&kind=p&axis=linear&q=zz",
@@ -96,57 +96,11 @@ return [...document.querySelectorAll('.card .total, #chips .chip')].filter(one =
     look_like(driver, 1400)
 
 
-def try_keyboard(driver: Driver, path: Path) -> None:
-    """Goes from the start of the page to a dialog and back, with the keyboard only."""
-    opened(driver, path)
-    press(driver, TAB, ENTER)
-    count.equal("a first link skips to the objects", browser.focused(driver), "Objects")
-    press(driver, TAB, "g", "l", "i", "d", "e", "r")
-    count.equal("the search takes letters", all_of(driver)[:1], ["xq4_153"])
-    press(driver, *[BACKSPACE] * 6)
-    for _ in range(12):
-        press(driver, TAB)
-        if browser.focused(driver).startswith("Oscillators"):
-            break
-    press(driver, SPACE)
-    count.holds(
-        "a key presses a chip",
-        all(code.startswith("xp") for code in all_of(driver))
-        and "kind=p" in browser.address(driver),
-    )
-    count.holds(
-        "and the chip keeps the focus",
-        browser.focused(driver).startswith("Oscillators"),
-        browser.focused(driver),
-    )
-    for _ in range(30):
-        press(driver, TAB)
-        if "xp2_7" in browser.focused(driver):
-            break
-    press(driver, ENTER)
-    count.holds("a key opens a card", wait_for(lambda: text(driver, "#object-name") == "blinker"))
-    places = []
-    for _ in range(25):
-        press(driver, TAB)
-        places.append(
-            driver.execute_script(
-                "return document.activeElement === document.body || document.querySelector('dialog').contains(document.activeElement)"
-            )
-        )
-    count.holds("the focus stays in the dialog", all(places))
-    press(driver, ESCAPE)
-    count.holds(
-        "a key closes it, and the focus is where it was",
-        wait_for(lambda: "xp2_7" in browser.focused(driver))
-        and browser.address(driver) == "#&kind=p",
-        browser.focused(driver),
-    )
-
-
 def try_other_readers(driver: Driver, path: Path, haul: bytes) -> None:
     """Checks a page on paper, without scripts, and in a browser that can't tell what is visible."""
     totals = [row[0] for row in rows_of(haul, "@CENSUS TABLE")]
-    for address in ("#&strict=0", "#&strict=0&view=table"):
+    parts = parts_of(path)
+    for address in ("#&parts=0", "#&parts=0&view=table"):
         opened(driver, path, address)
         look_like(driver, 720, medium="print")
         count.equal("on paper all objects are there", len(all_of(driver)), len(totals))
@@ -169,7 +123,7 @@ def try_other_readers(driver: Driver, path: Path, haul: bytes) -> None:
         rows = driver.find_elements("css selector", ".all tbody tr")
         count.holds(
             f"without scripts there is a table at {width}",
-            len(rows) == len(totals)
+            len(rows) == len(parts)
             and rows[-1].is_displayed()
             and not driver.find_element("id", "objects").is_displayed(),
         )
@@ -194,9 +148,16 @@ def try_other_readers(driver: Driver, path: Path, haul: bytes) -> None:
     added = driver.execute_cdp_cmd(
         "Page.addScriptToEvaluateOnNewDocument", {"source": "delete window.IntersectionObserver"}
     )
-    opened(driver, path, "#&strict=0")
+    opened(driver, path, "#&parts=0")
     count.equal("without an observer all cards are there", len(texts(driver, ".card")), len(totals))
     driver.execute_cdp_cmd("Page.removeScriptToEvaluateOnNewDocument", added)
+
+
+def parts_of(path: Path) -> list[str]:
+    """Returns the codes of the parts in the haul of a page, as `haul table` lists them."""
+    words = [str(HAUL), "table", "--csv", f"{path}.0"]
+    listed = subprocess.run(words, stdout=subprocess.PIPE, check=True).stdout.decode()
+    return [row.split(",")[0] for row in listed.splitlines()[1:]]
 
 
 def seconds_of_children() -> float:
@@ -253,14 +214,14 @@ def try_large_page(driver: Driver, folder: Path) -> None:
     )
     took = browser.least_of(lambda: browser.seconds_to_open(driver, path), tries=10, enough=2)
     count.holds(f"it opens in under two seconds: {took:.1f} s", took < 2)
-    opened(driver, path, "#&strict=0")
+    opened(driver, path, "#&parts=0")
     count.equal(
         "it has all objects",
         text(driver, "#shown"),
         "12,124 of 12,124 kinds, 36,372 of 36,372 objects.",
     )
     for view in ("gallery", "table"):
-        opened(driver, path, f"#&strict=0&view={view}")
+        opened(driver, path, f"#&parts=0&view={view}")
         took = browser.least_of(lambda: browser.longest_frame(driver), tries=10, enough=100)
         count.holds(
             f"the {view} scrolls without a frame of over 100 ms: {took:.0f} ms", took <= 100

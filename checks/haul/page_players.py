@@ -24,10 +24,10 @@ return count;"""
 
 
 def try_players(driver: Driver, path: Path, haul: bytes) -> None:
-    """Checks that ten soups, played to their ends, have as many cells as `census` reports, and as
-    many rings.
+    """Checks that ten soups, played to their ends, have as many live cells as `census` reports, and
+    a ring around each object of the code.
     """
-    opened(driver, path, "#&strict=0")
+    opened(driver, path, "#&parts=0")
     labels: dict[str, str] = driver.execute_script(
         "return Object.fromEntries(JSON.parse(document.querySelector('#data').textContent).objects.map(one => [one.code, one.label]))"
     )
@@ -96,7 +96,7 @@ def plural_of(label: str, code: str) -> str:
 
 
 def play_to_end(driver: Driver, code: str, number: str) -> None:
-    go_to(driver, f"#{code}&soup=A{number}&strict=0")
+    go_to(driver, f"#{code}&soup=A{number}&parts=0")
     wait_for(
         lambda: text(driver, "#object header code") == code
         and text(driver, "#player h3") == f"Soup {number}"

@@ -4,7 +4,7 @@ from __future__ import annotations
 
 import os
 import sys
-from collections.abc import Iterable
+from collections.abc import Callable, Iterable
 from dataclasses import dataclass
 from typing import NoReturn
 
@@ -41,6 +41,15 @@ class Count:
                 print(f"FAILED: {fault}")
             self.failed += fault != ""
             self.passed += fault == ""
+
+    def attempt(self, name: str, do: Callable[[], object]) -> None:
+        """Does a part of the checks. If something is so wrong that the part can't go on, such as a
+        missing file that it reads, that counts as a failed check.
+        """
+        try:
+            do()
+        except (OSError, ValueError, LookupError) as error:
+            self.check(name, f"it can't go on: {type(error).__name__}: {error}")
 
     def skip(self, what: str, why: str, checks: int = 1) -> None:
         """Counts checks that can't run here, and prints why."""

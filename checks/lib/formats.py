@@ -38,7 +38,7 @@ def profile_pairs(profile: Profile) -> list[str]:
     ]
 
 
-# Under this profile no soup settles.
+# Under Life with this profile, no soup settles.
 NEVER = profile_words(ONE_CHECKPOINT)
 # Under this rule and profile every soup is dead at the second checkpoint.
 DEAD = [*profile_words(TWO_CHECKPOINTS), f"--rule={DEADLY}"]

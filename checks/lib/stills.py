@@ -1,5 +1,5 @@
-"""Soups under a rule by which nothing dies, so that each cluster is an object, and the haul of such
-soups.
+"""Soups under a rule under which nothing dies, so that each cluster is an object, and the haul of
+such soups.
 """
 
 from __future__ import annotations

@@ -112,7 +112,7 @@ def live_cells() -> Iterator[Call]:
 
 
 def places() -> Iterator[Call]:
-    """Yields calls of `run` with a blinker far to the right of a block and far below it, for one
+    """Yields calls of `run` with a blinker far to the right of a block, or far below it, for one
     generation.
     """
     for far in numbers(996, 996):

@@ -218,7 +218,11 @@ def add_view(of_type: Definition, lines: list[str]) -> None:
         if keeps and line.strip():
             kept.append(line)
     value = next((line for line in kept if line.startswith("    ghost Value")), "")
-    of_type.seen_as = value.partition("{")[2].rpartition("}")[0].strip()
+    # A view may have its own name for a type, such as `Range as Numbers`.
+    of_type.seen_as = WORD.sub(
+        lambda word: names.single.get(word[0], ("", word[0]))[1],
+        value.partition("{")[2].rpartition("}")[0].strip(),
+    )
     of_type.lines += len(kept)
     of_type.text, of_type.names = "\n".join(kept), names
 

@@ -1,4 +1,4 @@
-"""The definitions of the toolchain, for `audit`: where each one is, and its comment."""
+"""The definitions of the toolchain, for `audit`: where each one is, and what it is."""
 
 from __future__ import annotations
 
@@ -12,9 +12,54 @@ from checks.repository.audit_definitions import CRATES, HEAD, WORD, Key, Names, 
 # such as `◌+◌`, and Rust's types.
 NOTATION = set(
     "Bool true false not IsTrue MatchBool List length map take drop zero suc pos negsuc max min nat_eq nat_le nat_lt int_eq int_lt int_le unsigned_abs "
-    "Option Some None IfSome OnSome IsSomeAnd is_some unwrap_or option_map option_and_then "
-    "Result Ok Err IfOk IfErr OnOk OnErr IsOkAnd IsErrOf MatchResult is_ok is_err is_eq".split()
+    "Option Some None is_some unwrap_or option_map option_and_then Result Ok Err is_ok is_err is_eq".split()
 )
+
+
+# What definitions are, if the toolchain has no comment on them, or one that needs its context.
+GLOSSES = {
+    "Appends": "[a value in the clauses](AUDIT.md#the-values-in-the-clauses)",
+    "IfErr": "[a word of contracts](READING-SPECS.md#a-contract)",
+    "IfOk": "[a word of contracts](READING-SPECS.md#a-contract)",
+    "IfSome": "[a word of contracts](READING-SPECS.md#a-contract)",
+    "IsDistinct": "no two elements are equal, by the test e",
+    "IsErrOf": "the result is this error",
+    "IsNumeral": "at least one digit of the radix, and nothing else",
+    "IsOkAnd": "[a word of contracts](READING-SPECS.md#a-contract)",
+    "IsSomeAnd": "[a word of contracts](READING-SPECS.md#a-contract)",
+    "MatchResult": "[a word of contracts](READING-SPECS.md#a-contract)",
+    "OnErr": "P holds, if there is an error",
+    "OnOk": "[a word of contracts](READING-SPECS.md#a-contract)",
+    "OnSome": "P holds, if there is a value",
+    "beq": "whether two Booleans are equal",
+    "bytes_eq": "whether two lists of bytes are equal",
+    "codes": "the code of each character of a text: its bytes, if it is ASCII",
+    "count_by": "how many elements pass the test",
+    "decimal": "the decimal digits of a number (only the last 64, if it has more)",
+    "enumerate_from": "each element after its place, counted from n",
+    "filter": "the elements that pass the test",
+    "filter_map": "what f gives for the elements, without those for which it gives `None`",
+    "find": "the first element that passes the test, if there is one",
+    "flat_map": "the lists that f gives for the elements, joined",
+    "int_cmp": "the order of two integers",
+    "int_max": "the greater of two integers",
+    "int_min": "the smaller of two integers",
+    "is_ascii_digit": "whether a byte is one of `0` to `9`",
+    "is_ascii_lowercase": "whether a byte is one of `a` to `z`",
+    "list_all": "whether each element passes the test",
+    "list_any": "whether some element passes the test",
+    "nat_cmp": "the order of two natural numbers",
+    "ordering_then": "the first ordering or, if that is `Equal`, the second",
+    "pointwise": "whether two lists have one length, and E is true at each place",
+    "range_with_len": "the n numbers from a on",
+    "slice_cmp": "the order of two lists, by the first place at which they differ; a prefix is less",
+    "slice_index": "the i-th number of a list, and 0 past its end",
+    "slice_split": "the parts of a list between the elements that pass the test",
+    "sha256": "the digest of a message under SHA-256 (FIPS 180-4)",
+    "string_bytes": "the bytes of a string",
+    "sum": "the sum of the elements",
+    "sum_by": "the sum of what f gives for the elements",
+}
 
 
 # The folders of the libraries from which the toolchain's crates re-export names, below the
@@ -114,13 +159,13 @@ def is_meant(key: Key) -> bool:
 
 
 def told_rows(keys: Iterable[Key]) -> list[str]:
-    """Returns a row for each of the toolchain's definitions that carry meaning."""
+    """Returns a row for each of the toolchain's definitions that carry meaning, by name."""
     found = {
         (told.path, key[1]): told
         for key in keys
         if is_meant(key) and (told := told_by_toolchain(*key))
     }
     return [
-        f"| `{name}` | `{path}`:{told.line} | {told.says.replace('|', '&#124;')} |"
-        for (path, name), told in sorted(found.items())
+        f"| `{name}` | `{path}`:{told.line} | {GLOSSES.get(name, told.says).replace('|', '&#124;')} |"
+        for (path, name), told in sorted(found.items(), key=lambda it: (it[0][1].lower(), it[0]))
     ]

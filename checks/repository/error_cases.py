@@ -49,6 +49,14 @@ REFUSED = [
     "fn f() { std::io::Error::from_raw_os_error(12) }",
     "fn f() { command.error(kind, text) }",
     "fn f() { unsafe { g() } }",
+    "fn f() { std::mem::forget(pattern); }",
+    "fn f() { ManuallyDrop::new(pattern); }",
+    "fn f() { count.fetch_add(1, Ordering::Relaxed); }",
+    "use std::sync::atomic::Ordering::Acquire;",
+    "impl Drop for A { fn drop(self) { let A { b, c } = self; drop(b); } }",
+    "impl Drop for A { fn drop(self) { let A { b, .. } = self; drop(b); } }",
+    "impl Drop for A { fn drop(self) { let A { b, c } = self; drop(b); keep(c); } }",
+    "impl<T> Drop for A<T> { fn drop(self) {} }",
 ]
 
 
@@ -64,4 +72,32 @@ PASSED = [
     "struct S { kind: Option<ErrorKind> }",
     "fn f(error: &io::Error) {}",
     "fn f() { OutOfMemory::of_stream(&error) }",
+    "fn f() -> Ordering { Ordering::Less }",
+    "impl Drop for A { fn drop(self) { let A { b, c: _, } = self; drop(b); } }",
+]
+
+# A file's name, its source on one line, and whether that line is listed.
+PLACES: list[tuple[str, str, list[str]]] = [
+    (name, source, [source] * is_listed)
+    for name, source, is_listed in [
+        ("a/b.rt", "fn f() { for _ in rt.forever() { g() } }", True),
+        ("a/b.rt", "fn f() { for _ in 0..5_000_000_000u64 {} }", True),
+        ("a/b.rt", "fn f() { for _ in 0..0x1_0000_0000 {} }", True),
+        ("a/b.rt", "fn f() { for _ in 0..(1 << 32) {} }", True),
+        ("a/b.rt", "fn f() { for _ in 0..u32::MAX {} }", True),
+        ("a/b.rt", "fn f() { for _ in 0..4_294_967_295 {} }", False),
+        ("a/b.rt", "fn f() { for _ in 0..1 << 24 {} }", False),
+        ("a/b.rt", "fn f(n: u8) { n == u8::MAX }", False),
+        ("a/b.rt", "fn f() { WriteError { kind } }", True),
+        ("a/b.rt", "fn f() { WriteError::of_stream(&error) }", True),
+        ("plane_core/output.rt", "impl WriteError { fn f() { Self { kind } } }", True),
+        ("a/b.rt", "fn f() -> WriteError { g() }", False),
+        ("a/b.rt", "fn f() { Err(no_room()) }", True),
+        ("a/b.rt", "fn no_room() -> WriteError { g() }", False),
+        ("a/b.rt", "fn f() { count.load(Ordering::SeqCst) }", True),
+        ("handover/b.rt", "fn f() { self.left.notify() }", True),
+        ("a/b.rt", "fn f() { self.left.notify() }", False),
+        ("census/main.rt", "fn main() { f() }", True),
+        ("a/main.rt", "fn main() { f() }", False),
+    ]
 ]

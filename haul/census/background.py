@@ -6,14 +6,14 @@ from __future__ import annotations
 import os
 import re
 import selectors
-import signal
 import subprocess
 from collections.abc import Callable
 from contextlib import suppress
 from typing import IO
 
+from haul.census.children import children, kill_apart
 from haul.census.client import FAILED, Ended, check_ending
-from haul.census.starters import LAUNCH_CENSUS, list_starter_words
+from haul.census.starters import LAUNCH_CENSUS
 from haul.formats.report_lines import LINE_LIMIT
 
 # The launcher's mode for the program of `haul search --finds`.
@@ -25,8 +25,6 @@ BYTES_AT_A_TIME = 65_536
 MOST_PRINTED, BYTES_OF_A_SOUP, MOST_COMPLAINED = 2**26, 4096, 2**20
 # How long to wait at a time for a program that has closed its streams.
 SECONDS_TO_END = 0.05
-# How long the starter of a program may take to end everything that the program has started.
-MOST_SECONDS_TO_END = 2.0
 # The progress line of `census take`.
 PROGRESS = re.compile(rb"([0-9]{1,8}) of [0-9]{1,8} soups")
 # The report lines of `census take`, and how many of them are kept.
@@ -66,21 +64,8 @@ class BackgroundProgram:
     ) -> None:
         """Starts a program with `launcher.py`. `how` is `LAUNCH_CENSUS` or `FIND`. Raises `OSError`
         if that fails."""
-        starts = list_starter_words(how)
         self.waiter = waiter
-        # Ctrl-C mustn't end the starter before it is in its own session. It drops a Ctrl-C that
-        # came earlier.
-        mask = signal.pthread_sigmask(signal.SIG_BLOCK, {signal.SIGINT})
-        try:
-            self.process = subprocess.Popen(
-                [*starts, *words],
-                stdin=subprocess.DEVNULL,
-                stdout=subprocess.PIPE,
-                stderr=stderr,
-                start_new_session=True,
-            )
-        finally:
-            signal.pthread_sigmask(signal.SIG_SETMASK, mask)
+        self.process = children.start(words, subprocess.PIPE, stderr, apart=how)
         self.printed, self.complained = bytearray(), bytearray()
         # The name of the stream on which the program has written too much, or `None`.
         self.flooded: str | None = None
@@ -126,22 +111,19 @@ class BackgroundProgram:
         elif self.process.poll() is not None:
             # Processes that the program has left running would keep the streams open.
             self.kill()
-        return self.open == 0 and self.process.returncode is not None
+        if self.open > 0 or self.process.returncode is None:
+            return False
+        children.remove(self.process)
+        return True
 
     def kill(self) -> None:
-        """Kills all processes that the program has started. The starter does this, and is then
-        killed itself."""
-        if self.process.poll() is None:
-            self.process.terminate()
-            with suppress(subprocess.TimeoutExpired):
-                self.process.wait(MOST_SECONDS_TO_END)
-        with suppress(ProcessLookupError, PermissionError):
-            os.killpg(self.process.pid, signal.SIGKILL)
+        kill_apart(self.process)
 
     def end(self) -> None:
         """Kills the program, waits for its end, and discards what it printed."""
         self.kill()
         self.process.wait()
+        children.remove(self.process)
         for stream in (self.process.stdout, self.process.stderr):
             if stream is not None and not stream.closed:
                 self.waiter.remove(stream)

@@ -1,4 +1,5 @@
-"""The programs that this process has started. They must not outlive it if a signal ends it."""
+"""The processes that this process has started, and the only way in which they are started. If a
+signal ends this process, they must not outlive it."""
 
 from __future__ import annotations
 
@@ -7,9 +8,11 @@ import os
 import signal
 import subprocess
 import threading
-from collections.abc import Iterator
-from contextlib import contextmanager, suppress
-from typing import Protocol
+from collections.abc import Callable, Iterator
+from contextlib import contextmanager, nullcontext, suppress
+from typing import Protocol, TypeVar
+
+from haul.census.starters import list_starter_words
 
 # The reasons that mean that there is no such program, or none for this machine. If starting fails
 # for any other reason, there may be such a program.
@@ -23,6 +26,8 @@ NOT_THERE = (
     errno.ENAMETOOLONG,
     errno.EINVAL,
 )
+# How long the starter of a program may take to end everything that the program has started.
+MOST_SECONDS_TO_END = 2.0
 # The number of bytes that fit into a pipe before anyone reads from it, on every Linux.
 BYTES_OF_A_PIPE = 65_536
 
@@ -58,31 +63,56 @@ class Running(Protocol):
         """Returns how the process has ended, or `None` if it is still running."""
 
 
+Started = TypeVar("Started", bound=Running)
+
+
 class Children:
-    """The running programs."""
+    """The running processes."""
 
     def __init__(self) -> None:
         self.running: list[Running] = []
-        # Held while a program is started, so that every running program is known.
+        # Held while a process is started, so that every running process is known.
         self.starts = threading.Lock()
         # The work to notify of signals, which then ends by itself, or `None` if a signal ends this
         # process.
         self.stopping: SignalHandler | None = None
 
     def start(
-        self, words: list[str], stdout: int, stderr: int | None, stdin: int, new_session: bool
+        self,
+        words: list[str],
+        stdout: int,
+        stderr: int | None,
+        stdin: int = subprocess.DEVNULL,
+        apart: str | None = None,
     ) -> subprocess.Popen[bytes]:
-        """Starts a program, in its own session if `new_session` is set. Raises `OSError` if that
-        fails."""
-        with self.starts:
-            program = subprocess.Popen(
-                words, stdin=stdin, stdout=stdout, stderr=stderr, start_new_session=new_session
+        """Starts a program. If `apart` is given, `launcher.py` starts it in this mode, in a session
+        of its own. Raises `OSError` if that fails."""
+        starter = [] if apart is None else list_starter_words(apart)
+        with block_interrupts() if starter else nullcontext():
+            return self.add(
+                lambda: subprocess.Popen(
+                    [*starter, *words],
+                    stdin=stdin,
+                    stdout=stdout,
+                    stderr=stderr,
+                    start_new_session=apart is not None,
+                )
             )
-            self.running.append(program)
-        return program
+
+    def add(self, start: Callable[[], Started]) -> Started:
+        """Calls a function that starts a process, and returns the process."""
+        with self.starts:
+            process = start()
+            self.running.append(process)
+        return process
+
+    def remove(self, process: Running) -> None:
+        """Forgets a process that has ended. It may have been forgotten before."""
+        if process in self.running:
+            self.running.remove(process)
 
     def heed(self, stopping: SignalHandler) -> None:
-        """From now on, passes signals to the work, which then ends by itself."""
+        """Makes signals go to the work `stopping` from now on, which then ends by itself."""
         self.stopping = stopping
 
     @contextmanager
@@ -93,10 +123,10 @@ class Children:
             with program:
                 yield
         finally:
-            self.running.remove(program)
+            self.remove(program)
 
     def end(self) -> None:
-        """Ends all programs. No further program can start, since the lock isn't released."""
+        """Ends all processes. No further process can start, since the lock isn't released."""
         self.starts.acquire()
         for program in list(self.running):
             if program.poll() is None:
@@ -106,6 +136,28 @@ class Children:
 
 # The only instance, since a signal is for the whole process.
 children = Children()
+
+
+@contextmanager
+def block_interrupts() -> Iterator[None]:
+    """Blocks Ctrl-C, which mustn't end a starter before the starter is in its own session. The
+    starter drops a Ctrl-C that came earlier."""
+    mask = signal.pthread_sigmask(signal.SIG_BLOCK, {signal.SIGINT})
+    try:
+        yield
+    finally:
+        signal.pthread_sigmask(signal.SIG_SETMASK, mask)
+
+
+def kill_apart(program: subprocess.Popen[bytes]) -> None:
+    """Kills all processes that a program in a session of its own has started. Its starter does this,
+    and is then killed itself."""
+    if program.poll() is None:
+        program.terminate()
+        with suppress(subprocess.TimeoutExpired):
+            program.wait(MOST_SECONDS_TO_END)
+    with suppress(ProcessLookupError, PermissionError):
+        os.killpg(program.pid, signal.SIGKILL)
 
 
 class NoCensus(Exception):
@@ -141,12 +193,13 @@ def start_child(
     stdout: int,
     stderr: int | None,
     stdin: int = subprocess.DEVNULL,
-    new_session: bool = False,
+    apart: str | None = None,
 ) -> Iterator[subprocess.Popen[bytes]]:
-    """Starts a program. It has ended when the context is left. If `stderr` is `None`, the program
-    writes to this process's standard error. Raises `NoCensus` if there is no such program."""
+    """Starts a program like `Children.start`. It has ended when the context is left. If `stderr` is
+    `None`, the program writes to this process's standard error. Raises `NoCensus` if there is no
+    such program."""
     try:
-        program = children.start(words, stdout, stderr, stdin, new_session)
+        program = children.start(words, stdout, stderr, stdin, apart)
     except OSError as error:
         if error.errno in NOT_THERE:
             raise NoCensus.at(words[0]) from None

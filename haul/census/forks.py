@@ -39,13 +39,7 @@ def work_apart(work: Callable[[], Result]) -> Result:
     can be started or if the process is killed, and `MemoryError` if it runs out of memory."""
     reading, writing = os.pipe()
     try:
-        with children.starts:
-            parent = os.getpid()
-            pid = os.fork()
-            if pid == 0:
-                become_worker(work, writing, parent)
-            fork = Fork(pid)
-            children.running.append(fork)
+        fork = children.add(lambda: begin_worker(work, writing))
     except OSError:
         os.close(reading)
         raise
@@ -56,16 +50,24 @@ def work_apart(work: Callable[[], Result]) -> Result:
             printed = pipe.read()
     finally:
         status = fork.wait()
-        children.running.remove(fork)
+        children.remove(fork)
     if status == NO_MEMORY:
         raise MemoryError
     if status != DONE:
-        raise OSError(None, "a process that looks at a soup was ended")
+        raise OSError(None, "a process that was forked was ended")
     result: Result = pickle.loads(printed)
     return result
 
 
-def become_worker(work: Callable[[], Result], writing: int, parent: int) -> NoReturn:
+def begin_worker(work: Callable[[], object], writing: int) -> Fork:
+    parent = os.getpid()
+    pid = os.fork()
+    if pid == 0:
+        become_worker(work, writing, parent)
+    return Fork(pid)
+
+
+def become_worker(work: Callable[[], object], writing: int, parent: int) -> NoReturn:
     """Does the work, writes the result to a pipe, and ends this process. The process also ends when
     its parent does, and leaves Ctrl-C to the parent."""
     status = FAILED

@@ -52,7 +52,8 @@ def drop_interrupts() -> None:
 
 
 def end_with(parent: int, number: int) -> None:
-    """Asks for a signal when the parent ends. If the parent has ended already, ends at once."""
+    """Asks for the signal `number` when the parent ends. If the parent has ended already, ends this
+    process at once."""
     call_prctl(PR_SET_PDEATHSIG, number)
     if os.getppid() != parent:
         os._exit(FAILED)
@@ -111,8 +112,8 @@ def run_program(parent: int, words: list[str], closes_streams: bool) -> tuple[in
     with open(reason, encoding="utf-8") as pipe:
         why = pipe.read()
     if not closes_streams and not why:
-        # Only the program has these streams, so `haul` notices when it closes them. They may be
-        # closed already.
+        # From here on, only the program has these streams, so `haul` notices when the program
+        # closes them. They may be closed already.
         os.closerange(1, 3)
     _, ended = os.waitpid(program, 0)
     end_descendants()

@@ -8,7 +8,7 @@ import sys
 from pathlib import Path
 
 from haul.census.children import NoCensus, start_child
-from haul.census.starters import LAUNCH_CENSUS, list_starter_words
+from haul.census.starters import LAUNCH_CENSUS
 
 # A release has a program for each level of processors. This shell script says which one is right
 # for this processor.
@@ -29,8 +29,8 @@ def find_beside() -> str | None:
     if not (starter.parent / "built.bash").is_file():
         return str(starter)
     # The launcher may build the program. Everything that it starts ends with this process.
-    words = [*list_starter_words(LAUNCH_CENSUS), str(starter), "--version"]
-    with start_child(words, subprocess.DEVNULL, None, new_session=True) as launcher:
+    words = [str(starter), "--version"]
+    with start_child(words, subprocess.DEVNULL, None, apart=LAUNCH_CENSUS) as launcher:
         launcher.wait()
     if launcher.returncode != 0:
         raise NoCensus.at(str(starter))

@@ -129,6 +129,7 @@ def run_index_check(asked: argparse.Namespace, streams: Streams) -> int:
             return USAGE
         choice = FileChoice(list(map(name_part, parts)), asked.random, asked.choice, "part")
         streams.write_lines([choice.text()])
+        streams.stdout.flush()
         chosen = set(choice.choose())
         parts = [part for part in parts if name_part(part) in chosen]
     return report(retake_parts(asked, streams, index, parts), streams)

@@ -28,7 +28,7 @@ from haul.search.batches import Plan
 from haul.search.companion import Companion
 from haul.search.job import Disagrees, USUAL_RARER, begin_haul, find_next_soup, refuse_other_jobs
 from haul.search.keeper import CantKeep, Keeper
-from haul.search.late import BadLate, read_late
+from haul.search.late_file import BadLate, read_late
 from haul.search.late_soups import open_late
 from haul.search.search import Dropped, Kept, Search, count_processors
 from haul.search.stopping import Stopping

@@ -21,8 +21,8 @@ from haul.terminal import Terminal
 ENDING = (signal.SIGINT, signal.SIGTERM, signal.SIGHUP)
 # Takes the place of a signal when the work is done. No signal has this number.
 IS_DONE = 0
-# Takes the place of a signal when the work begins, which must happen within this time. It does if
-# there is enough memory.
+# The number that takes the place of a signal when the work begins, and how many seconds it may take
+# to begin. It begins in time if there is enough memory.
 HAS_BEGUN, SECONDS_TO_BEGIN = 128, 10.0
 
 

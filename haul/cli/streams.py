@@ -73,7 +73,7 @@ class Streams:
             # mutant: equal because what is longer is refused, however much of it is read
             text = stream.read(PATTERN_LIMIT + 1)
             if is_coordinates(text):
-                # The last of these lines may have been cut off.
+                # The last line of the text may have been cut off.
                 start = io.BytesIO(text + stream.readline(MOST_LINE))
                 yield text, limit_input(chain(read_short_lines(start), read_short_lines(stream)))
                 return

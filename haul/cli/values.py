@@ -7,7 +7,7 @@ from collections.abc import Callable
 
 from haul.formats.haul import NUMBER_LIMIT
 from haul.patterns.rules import parse_rule
-from haul.search.late import ONLY_UNSETTLED
+from haul.search.late_file import ONLY_UNSETTLED
 from haul.formats.syntax import CODE, RULE, SEED
 from haul.names.objects import find_code_of_name
 from haul.search.batches import MOST_WORKERS

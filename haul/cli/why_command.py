@@ -21,7 +21,7 @@ from haul.formats.profile import STANDARD, Profile
 from haul.formats.report_files import Reports
 from haul.patterns.rle import BadRle, read_rle
 from haul.patterns.rules import LIFE, parse_rule
-from haul.views.fates import FateTable
+from haul.views.why import FateTable
 
 # How many soups of a file are explained by default.
 USUAL_MOST = 20

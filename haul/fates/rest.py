@@ -1,5 +1,5 @@
-"""Checks whether a pattern is at rest in a wider sense than in a census. docs/HAUL.md has the
-definition."""
+"""Checks whether a pattern is at rest in a wider sense than in a census. docs/HAUL-DETAILS.md
+has the definition."""
 
 from __future__ import annotations
 

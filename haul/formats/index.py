@@ -1,5 +1,5 @@
-"""Indexes: the SHA-256 of each haul of a census in parts, with which anyone can check some of
-them."""
+"""Indexes: the SHA-256 of each haul of a census in parts, so that anyone can check some of the
+parts."""
 
 from __future__ import annotations
 

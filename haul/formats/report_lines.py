@@ -166,7 +166,8 @@ def can_follow(fields: list[bytes], place: int) -> bool:
 
 
 def is_leading_field(field: bytes, place: int) -> bool:
-    """Checks whether a field is right as one of the first seven, which every line has."""
+    """Checks whether the field at `place` is right. It is one of the first seven fields, which
+    every line has."""
     profile = PROFILE_FIELD.fullmatch(field)
     return bool(
         [

@@ -1,5 +1,5 @@
-"""Checks a haul of apgsearch: either its samples, one by one, or its totals, by a census of as many
-soups."""
+"""Checks a haul of apgsearch: either its samples, one by one, or its totals, with a census of as
+many soups."""
 
 from __future__ import annotations
 

@@ -3,10 +3,16 @@ parts."""
 
 from __future__ import annotations
 
+import os
 from collections import defaultdict
 from collections.abc import Iterable
+from concurrent.futures import ThreadPoolExecutor
+from contextlib import suppress
 from dataclasses import replace
+from functools import partial
 
+from haul.census.client import ask_all
+from haul.census.forks import work_apart
 from haul.formats.haul import MOST_SAMPLES, Haul
 from haul.life.generations import read_rule
 from haul.life.parts import Separation, Separator
@@ -14,6 +20,9 @@ from haul.terminal import Terminal
 
 # The progress line is updated after this many objects.
 OBJECTS_BETWEEN_PROGRESS = 500
+# If there are at least `MANY_OBJECTS` objects, they are separated in processes of their own, each
+# of which separates about `OBJECTS_IN_A_SHARE`. With fewer objects, this wouldn't save time.
+MANY_OBJECTS, OBJECTS_IN_A_SHARE = 6000, 3000
 
 
 class Objects:
@@ -35,14 +44,48 @@ class Objects:
 
     def separate_all(self, codes: Iterable[str]) -> dict[str, Separation]:
         """Returns the separations of these objects. Shows progress on a terminal."""
-        codes = list(codes)
+        codes = list(dict.fromkeys(codes))
+        left = [code for code in codes if code not in self.known]
+        if len(left) >= MANY_OBJECTS and not self.haul.apgsearch:
+            self.separate_apart(left)
+        else:
+            self.separate_here(left)
+        self.terminal.show_progress("")
+        return {code: self.known[code] for code in codes}
+
+    def separate_here(self, codes: list[str]) -> None:
         for done in range(0, len(codes), OBJECTS_BETWEEN_PROGRESS):
-            self.terminal.show_progress(f"{done} of {len(codes)} objects separated")
+            self.show_progress(done, codes)
             # 2 mutants: equal because each object is separated once
             for code in codes[done : done + OBJECTS_BETWEEN_PROGRESS]:
                 self.separate(code)
-        self.terminal.show_progress("")
-        return {code: self.known[code] for code in codes}
+
+    def separate_apart(self, codes: list[str]) -> None:
+        """Separates objects with all processors. Neighbours in the list are often alike and take a
+        similar time, so each share has some from everywhere."""
+        number = -(-len(codes) // OBJECTS_IN_A_SHARE)
+        shares = [codes[place::number] for place in range(number)]
+        self.show_progress(0, codes)
+        with ThreadPoolExecutor(len(os.sched_getaffinity(0))) as pool:
+            done = 0
+            for share, found in zip(
+                shares, ask_all(pool, self.separate_share, shares), strict=True
+            ):
+                self.known.update(zip(share, found, strict=True))
+                done += len(share)
+                self.show_progress(done, codes)
+
+    def separate_share(self, codes: list[str]) -> list[Separation]:
+        """Separates objects in a process of its own, or in this one if there can't be another."""
+        with suppress(OSError):
+            return work_apart(partial(self.separate_list, codes))
+        return self.separate_list(codes)
+
+    def separate_list(self, codes: list[str]) -> list[Separation]:
+        return [self.separator.separate(code) for code in codes]
+
+    def show_progress(self, done: int, codes: list[str]) -> None:
+        self.terminal.show_progress(f"{done} of {len(codes)} objects separated")
 
     def by_parts(self) -> Haul:
         """Returns the haul with each object replaced by its parts. The samples of a part are the

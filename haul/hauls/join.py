@@ -57,12 +57,13 @@ class Joining:
             self.samples[code] = sorted(self.samples.get(code, []) + numbers)[:MOST_SAMPLES]
 
     def put(self, range_: Range) -> bool:
-        """Adds a range to the set and returns `True`, or returns `False` if they overlap."""
+        """Adds a range to the set and returns `True`, or returns `False` if the set already has one
+        of its numbers."""
         first, end = range_[0], range_[0] + range_[1]
         # mutant: equal because a range with the same first number overlaps on either side
         place = bisect_right(self.ranges, (first, 0))
-        # The range before `place` begins at or before `first`. Those from `place` on begin at
-        # `first` or later.
+        # The range before `place` begins before `first`. Those from `place` on begin at `first` or
+        # later.
         if (
             place > 0
             and sum(self.ranges[place - 1]) > first

@@ -9,6 +9,9 @@ from haul.life.cells import Cells, find_corner, move
 from haul.life.clusters import find_islands, is_cluster
 from haul.life.generations import Recurrence, Rule, advance
 
+# For an object with more islands than this, only the separation into single islands is tried, since
+# there are too many others.
+MOST_ISLANDS = 10
 # Islands of an object, by their places in its list of islands.
 Block = frozenset[int]
 
@@ -114,8 +117,9 @@ class Blocks:
         )
 
     def checked(self, run: Run, placed: Iterator[Cells]) -> list[Cells] | None:
-        """Returns a run in its true place. Returns `None` if the block has a live cell that the
-        object doesn't have, doesn't recur with the object, or is a cluster in no phase."""
+        """Returns the generations of a block, which are in their true place in `placed`. Returns
+        `None` if the block has a live cell that the object doesn't have, doesn't recur with the
+        object, or is a cluster in no phase."""
         generations: list[Cells] = []
         for together, alone in zip(self.generations, placed, strict=True):
             # mutant: equal because a block that is the whole object leaves no cell to others

@@ -10,8 +10,8 @@ def find_islands(phases: list[Cells]) -> list[Cells]:
     """Returns the islands of an object in the order of their first cells. An island is given by its
     cells in phase 0.
 
-    Two cells that touch (also at corners) in the same phase belong to one island, and a place is
-    one cell in all phases.
+    Two live cells that touch (also at corners) in the same phase belong to one island. A place that
+    is alive in several phases counts as one cell.
     """
     left = [set(phase) for phase in phases]
     islands: list[Cells] = []

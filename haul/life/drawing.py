@@ -11,7 +11,7 @@ from haul.patterns.plaintext import Rows
 from haul.life.cells import Cells, draw_rows
 from haul.plurals import write_count
 
-# The size of a cell in points, for most objects and for objects with few cells.
+# The size of a cell in pixels, for most objects and for objects with few cells.
 SCALE, LARGER_SCALE = 4, 12
 # Objects with fewer cells than this have few cells.
 FEW_CELLS = 10
@@ -19,8 +19,8 @@ RUNS = re.compile("O+")
 
 
 def draw_path(rows: Rows) -> str:
-    """Returns the path that draws the runs of live cells, row by row. Each move is relative to the
-    end of the previous run."""
+    """Returns the path that draws the runs of live cells, row by row. Each move except for the
+    first one is relative to the end of the previous run."""
     moves: list[str] = []
     # 2 mutants: equal because the first run is placed, not moved to
     end, before = 0, 0

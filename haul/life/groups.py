@@ -1,5 +1,5 @@
 """Groups: cells of a pattern that belong together over many generations, as defined in
-docs/HAUL.md.
+docs/HAUL-DETAILS.md.
 
 Two cells are in the same group if they are near one another in the same generation or in successive
 generations, or if a chain of such cells links them. A stay is an unbroken range of generations in

@@ -12,14 +12,12 @@ from dataclasses import dataclass
 
 from haul.patterns.codes import read_drawing, read_kind
 from haul.life.apgcodes import find_code, read_wechsler
-from haul.life.blocks import Blocks, Run
+from haul.life.bitmaps import list_cells
+from haul.life.blocks import MOST_ISLANDS, Blocks, Run
 from haul.life.cells import Cells, move_to_corner
 from haul.life.clusters import is_cluster
 from haul.life.generations import MOST_PERIOD, Recurrence, Rule, find_recurrence
-
-# For an object with more islands than this, only the separation into single islands is tried, since
-# there are too many others.
-MOST_ISLANDS = 10
+from haul.life.quick_parts import QuickSeparator
 
 
 @dataclass(frozen=True)
@@ -45,8 +43,38 @@ class Separator:
         # The runs of islands, by their cells moved to the corner. Many objects have the same
         # islands.
         self.runs: dict[Cells, Run] = {}
+        self.quick = QuickSeparator(rule)
+        # The codes of parts that were found quickly.
+        self.quickly_known: dict[int, str] = {}
+
+    def count_runs(self) -> int:
+        """Returns the number of islands whose runs are remembered."""
+        return len(self.runs) + len(self.quick.known)
+
+    def forget(self) -> None:
+        """Forgets all runs of islands, and all codes of parts."""
+        self.runs.clear()
+        self.known.clear()
+        self.quick.known.clear()
+        self.quickly_known.clear()
 
     def separate(self, code: str) -> Separation:
+        return self.separate_quickly(code) or self.separate_by_definition(code)
+
+    def separate_quickly(self, code: str) -> Separation | None:
+        """Returns the parts of a small object, or `None` if it isn't small, or isn't what its code
+        says."""
+        found = self.quick.separate(code)
+        return None if found is None else Separation(min(map(self.quick_codes, found)))
+
+    def quick_codes(self, parts: list[int]) -> tuple[str, ...]:
+        known = self.quickly_known
+        for part in parts:
+            if part not in known:
+                known[part] = self.code(list_cells(part))
+        return tuple(sorted([known[part] for part in parts]))
+
+    def separate_by_definition(self, code: str) -> Separation:
         recurrence = read_object(self.rule, code)
         if recurrence is None:
             return Separation((code,), is_separated=False)

@@ -4,6 +4,7 @@ from __future__ import annotations
 
 import re
 from collections import Counter
+from functools import cache
 
 from haul.patterns.codes import read_kind
 from haul.life.parts import Separation
@@ -32,9 +33,10 @@ def mark_label(label: str, separation: Separation) -> str:
     )
 
 
+@cache
 def describe_parts(parts: tuple[str, ...]) -> str:
-    """Returns the parts in words, such as `2 blocks` or `block and beehive`. Oscillators come first
-    and still lifes last, and small parts come before large ones."""
+    """Returns the parts in words, such as `2 blocks` or `block and beehive`. Oscillators come
+    first, then spaceships, both by period. Still lifes come last, by number of cells."""
     counts = Counter(sorted(parts, key=lambda code: (read_kind(code), code)))
     *before, last = (name_several(code, count) for code, count in counts.items())
     return f"{', '.join(before)} and {last}" if before else last

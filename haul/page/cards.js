@@ -17,7 +17,7 @@ const linkTo = (object, text) => `<a href="${addressOf(object.code)}">${text}</a
 // ---- A bar for each haul that is compared. The longest one on a card is that of the haul with the most.
 const letterOf = haul => `<span class="letter" data-haul="${haul.letter}">${haul.letter}</span>`;
 const intervalWords = ends => ends ? `, 95 % interval ${figure(ends[0])} to ${figure(ends[1])}` : '';
-const UNIT = '<span class="per">per million soups</span>';
+const unitOf = object => `<span class="per">per million soups${isReferred(object) ? `<span class="rarity">${object.rarity[0]}</span>` : ''}</span>`;
 const MARK = '<b class="differs">*<span class="hidden"> differs from A</span></b>';
 const bar = (way, haul) => {
   const { letter, place: at } = haul, rate = way.rates[at], mark = differs(way, at) ? MARK : '';
@@ -28,14 +28,19 @@ const bar = (way, haul) => {
 };
 const bars = way => `<span class="bars">${hauls.map(haul => bar(way, haul)).join('')}</span>`;
 
-const counts = way => {
-  if (isCompared) return bars(way) + UNIT;
-  const [total] = way.totals;
-  return `<span class="counts"><span class="total">${whole(total)}<span class="unit"> ${noun(total, 'object')}</span></span>`
-    + `<span class="often">${oftenWords(total, hauls[0].soups)}</span></span>`;
+// How often an object occurs: by the reference, or else by the haul, which has only a bound. Text that is cut is in the title.
+const often = object => {
+  if (!isReferred(object)) return `<span class="often">${oftenWords(wayOf(object).totals[0], hauls[0].soups)}</span>`;
+  const [words, interval] = object.rarity;
+  return `<span class="often" title="In the reference: ${words} soups, ${interval}">${words}</span>`;
+};
+const counts = object => {
+  const way = wayOf(object), [total] = way.totals;
+  if (isCompared) return bars(way) + unitOf(object);
+  return `<span class="counts"><span class="total">${whole(total)}<span class="unit"> ${noun(total, 'object')}</span></span>${often(object)}</span>`;
 };
 const card = (object, at, count) => {
-  const words = `${named(object)}<code>${object.code}</code>${counts(wayOf(object))}`;
+  const words = `${named(object)}<code>${object.code}</code>${counts(object)}`;
   return `<div class="card" role="listitem" aria-posinset="${at + 1}" aria-setsize="${count}">`
     + linkTo(object, `<span class="picture">${pictureOfObject(object, CARD_SIDE)}</span><span class="words">${words}</span>`)
     + `<span class="tags">${tags(object)}</span></div>`;
@@ -69,11 +74,16 @@ const GALLERY = {
 
 // ---- The table. A click on a head sorts by its column, and another one turns the order. If two columns have the same order, the arrow is
 // at the first one. How often an object comes is below its total on a telephone.
+const RATES = ['rates', 'Per million soups', 'frequency', 'rarity'], REFERENCE = ['in', 'In the reference'];
 const HEADS = [
   ['picture', 'Picture'], ['name', 'Name and code'], ['kind', 'What it is', 'period', '-period'], ['cells', 'Cells', 'cells', '-cells'],
-  ...isCompared ? [['rates', 'Per million soups', 'frequency', 'rarity']]
-    : [['total', 'Total', 'frequency', 'rarity'], ['in', 'How often', 'frequency', 'rarity'], ['samples', 'Sample soups']],
 ];
+const isByReference = () => data.reference > 0 && choice.parts === '1';
+const headsNow = () => {
+  if (isCompared) return [...HEADS, RATES, ...isByReference() ? [REFERENCE] : []];
+  const often = isByReference() ? REFERENCE : ['in', 'How often', 'frequency', 'rarity'];
+  return [...HEADS, ['total', 'Total', 'frequency', 'rarity'], often, ['samples', 'Sample soups']];
+};
 const ARROWS = { ascending: ' ↑', descending: ' ↓' };
 const orderOf = (column, order) => column === 'total' || column === 'rates' ? (order === 'frequency' ? 'descending' : 'ascending')
   : order[0] === '-' ? 'descending' : 'ascending';
@@ -85,14 +95,15 @@ const head = ([column, text, first, second]) => {
 };
 const samplesOf = object => wayOf(object).samples[0].map(number => `<a href="${addressOf(object.code, `A${number}`)}">${number}</a>`).join(' ');
 const row = (object, at) => {
-  const way = wayOf(object), [total] = way.totals, often = oftenWords(total, hauls[0].soups);
+  const way = wayOf(object), [total] = way.totals, words = often(object);
+  const interval = isReferred(object) ? `<small>${object.rarity[1]}</small>` : '', inReference = `<td class="in">${words}${interval}</td>`;
   const label = object.label ? `<b>${escaped(object.label)}</b>` : '';
   const cells = [
     `<td class="picture">${pictureOfObject(object, ROW_SIDE)}</td>`,
     `<th scope="row" class="name">${linkTo(object, `${label}<code>${object.code}</code>`)}</th>`,
     `<td class="kind">${kindWords(object)}${object.isUnsure ? `, ${NOT_SEPARATED}` : ''}</td>`, `<td class="cells">${object.cells ?? ''}</td>`,
-    ...isCompared ? [`<td class="rates">${bars(way)}</td>`]
-      : [`<td class="total"><b>${whole(total)}</b><span class="often">${often}</span></td>`, `<td class="in">${often}</td>`, `<td class="samples">${samplesOf(object)}</td>`],
+    ...isCompared ? [`<td class="rates">${bars(way)}</td>`, isByReference() ? inReference : '']
+      : [`<td class="total"><b>${whole(total)}</b>${words}</td>`, inReference, `<td class="samples">${samplesOf(object)}</td>`],
   ];
   return `<tr aria-rowindex="${at + 2}">${cells.join('')}</tr>`;
 };
@@ -103,7 +114,7 @@ const TABLE = {
     const table = document.createElement('table');
     table.className = 'table';
     table.setAttribute('aria-rowcount', count + 1);
-    table.innerHTML = `<thead><tr>${HEADS.map(head).join('')}</tr></thead>`;
+    table.innerHTML = `<thead><tr>${headsNow().map(head).join('')}</tr></thead>`;
     table.tHead.addEventListener('click', event => {
       const button = event.target.closest('button');
       if (button) choose({ sort: button.dataset.sort });

@@ -1,6 +1,6 @@
 // The charts: the twenty most frequent objects, and how the frequency of an object falls with its rank.
 //
-// Both show all objects of the page, or with "count parts" all parts. Neither depends on the other choices.
+// Both show all parts of the page, or all objects if parts aren't counted. Neither depends on the other choices.
 const MOST_BARS = 20, MOST_WIDTH = 640, PLOT = { width: MOST_WIDTH, height: 264, left: 64, right: 14, top: 12, bottom: 40 };
 const chartBox = document.querySelector('#charts > div');
 
@@ -43,7 +43,7 @@ const barsOf = (object, axis) => {
   const track = `<span class="track">${hauls.map(haul => barOf(object, axis, haul)).join('')}</span>`;
   const said = hauls.map(({ letter, place: at }) => `${letter}: ${figure(valueOf(object, at))}`).join(', ');
   const value = isCompared ? `<span class="value"><span class="hidden">${said}</span></span>` : `<span class="value">${whole(wayOf(object).totals[0])}</span>`;
-  return `<a role="listitem" href="${addressOf(object.code)}">${label}${track}${value}</a>`;
+  return `<div role="listitem"><a href="${addressOf(object.code)}">${label}${track}${value}</a></div>`;
 };
 const AXES = [['log', 'logarithmic'], ['linear', 'linear']];
 const axisSwitch = () => {
@@ -58,8 +58,8 @@ const frequencyChart = ranked => {
   // Numbers of objects are measured from one object on.
   const axis = choice.axis === 'log' ? logarithmicAxis(isCompared ? values : [1, ...values]) : linearAxis(values);
   const marks = axis.marks.map(mark => `<span class="mark" style="left:${percent(axis.at(mark))}"><span>${short(mark)}</span></span>`).join('');
-  const head = `The ${shown.length} most frequent${choice.parts === '1' ? ', parts counted' : ''}`;
-  const unit = isCompared ? 'Objects per million soups' : 'Number of objects';
+  const head = `The ${shown.length} most frequent ${wayName()}`, things = choice.parts === '1' ? 'Parts' : 'Objects';
+  const unit = isCompared ? `${things} per million soups` : `Number of ${wayName()}`;
   return `<figure><figcaption>${head}${axisSwitch()}</figcaption>`
     + `<div class="frequencies ${choice.axis}" role="list">${shown.map(object => barsOf(object, axis)).join('')}</div>`
     + `<div class="marks" aria-hidden="true"><span></span><span class="track">${marks}</span><span class="value"></span></div>`
@@ -83,7 +83,7 @@ const plotLines = (ranks, values) => {
     return `<path class="rule" d="M${left} ${y.toFixed(1)}H${width - right}"/>${plotText(left - 6, y + 4, short(mark), 'text-anchor="end"')}`;
   });
   const turned = `transform="translate(14 ${(top + floor) / 2}) rotate(-90)" text-anchor="middle"`;
-  const unit = isCompared ? 'per million soups' : 'number of objects';
+  const unit = isCompared ? 'per million soups' : `number of ${wayName()}`;
   return across.join('') + down.join('') + plotText(plotX(.5), height - 6, 'rank') + `<text ${turned}>${unit}</text>`;
 };
 const rankedIn = at => [...objects.values()].filter(object => Number(wayOf(object).totals[at]) > 0 && !object.isLeftOut[wayName()])
@@ -116,15 +116,14 @@ const seriesSvg = (series, at, ranks, values) => {
 };
 const rankKey = () => {
   if (isCompared) return hauls.map(haul => `<span>${letterOf(haul)} ${haul.rule}</span>`).join(' ');
-  const strict = '<span><i class="dot strict"></i> strict</span>';
-  return choice.parts === '1' ? strict : `${strict} <span><i class="dot"></i> made of parts</span>`;
+  return choice.parts === '1' ? '' : '<span><i class="dot strict"></i> strict</span> <span><i class="dot"></i> made of parts</span>';
 };
 const rankChart = () => {
   const all = hauls.map((_, at) => rankedIn(at)), there = all.map((series, at) => [series, at]).filter(([series]) => series.length);
   const ranks = logarithmicAxis([1, Math.max(...all.map(series => series.length), 2)]);
   const values = logarithmicAxis(all.flat().map(({ value }) => value));
   const words = there.map(([series, at]) => rarestWords(series, at)).join(' ');
-  return `<figcaption>Rank and frequency${choice.parts === '1' ? ', parts counted' : ''}, logarithmic axes <span class="key">${rankKey()}</span></figcaption>`
+  return `<figcaption>Rank and frequency of ${wayName()}, logarithmic axes <span class="key">${rankKey()}</span></figcaption>`
     + `<svg class="plot" viewBox="0 0 ${PLOT.width} ${PLOT.height}" role="img" aria-label="Frequency by rank. ${words}">`
     + plotLines(ranks, values) + there.map(([series, at]) => seriesSvg(series, at, ranks, values)).join('')
     + `</svg><p class="note">${words}</p>`;

@@ -1,5 +1,5 @@
 // What is chosen and what is open. The address keeps both: the code that is open, then `&` and each choice that isn't the first one.
-const FIRST_CHOICE = { q: '', kind: '', period: '', strict: '1', parts: '0', in: '', sort: 'frequency', view: 'gallery', axis: 'log' };
+const FIRST_CHOICE = { q: '', kind: '', period: '', strict: '0', parts: '1', in: '', sort: 'frequency', view: 'gallery', axis: 'log' };
 // The code that is open, and the soup that plays, such as `A39029`; or the soup of a long life. A code that isn't on the page is unknown.
 const open = { code: '', soup: '', unknown: '', life: '' };
 const choice = { ...FIRST_CHOICE };

@@ -13,6 +13,7 @@ from haul.patterns.codes import is_large, read_drawing, read_kind
 from haul.formats.haul import Haul
 from haul.patterns.rules import format_rule
 from haul.life.apgcodes import read_wechsler
+from haul.life.bitmaps import read_bitmap
 from haul.life.soups import make_soup
 from haul.names.labels import find_label
 from haul.names.objects import find_name, find_other_names
@@ -20,26 +21,41 @@ from haul.page.lives import Lives, describe_lives
 from haul.page.sides import Side, Sides
 from haul.views.intervals import find_interval
 from haul.views.layout import make_exact
-from haul.views.rarity import describe_part
+from haul.rarity.reference import SOUPS
+from haul.terminal import Terminal
+from haul.views.rarity import list_part_words
 
-# Takes the place of the parts of an object that has no parts but itself.
+# The words that take the place of the parts of an object that is strict or isn't separated.
 STRICT, NOT_SEPARATED = "strict", "not separated"
 BITS = str.maketrans(".O", "01")
+# The progress line is updated after this many objects.
+OBJECTS_BETWEEN_PROGRESS = 500
 
 
-def write_data(sides: Sides, lives: Lives | None) -> Iterator[str]:
-    """Yields the JSON, piece by piece. No text in it can end the HTML element that contains it."""
+def describe_objects(sides: Sides, terminal: Terminal) -> list[str]:
+    """Returns the data about each object, as JSON. Shows progress on a terminal."""
+    texts: list[str] = []
+    for code in sides.known:
+        if len(texts) % OBJECTS_BETWEEN_PROGRESS == 0:
+            terminal.show_progress(f"{len(texts)} of {len(sides.known)} objects described")
+        texts.append(dump(describe_object(sides, code)))
+    terminal.show_progress("")
+    return texts
+
+
+def write_data(sides: Sides, objects: list[str], lives: Lives | None) -> Iterator[str]:
+    """Yields the JSON, piece by piece. `objects` has the JSON of each object. No text in it can end
+    the HTML element that contains it."""
     yield f'{{"least": {sides.least}, "play": {sides.play}, "kinds": {len(sides.kinds())}, '
-    yield f'"kindsOfParts": {len(sides.kinds_of_parts())}, "hauls": '
+    yield f'"kindsOfParts": {len(sides.kinds_of_parts())}, '
+    yield f'"reference": {SOUPS if sides.has_rarity else 0}, "hauls": '
     yield dump([describe_haul(side) for side in sides.all])
     yield ', "intervals": ' + dump(list_intervals(sides))
     yield f', "lives": {dump(list_lives(lives))}'
     yield ', "soups": [' + ",\n".join(
         dump(list_soups(side, sides.known)) for side in sides.all
     ) + "]"
-    yield ', "objects": [' + ",\n".join(
-        dump(describe_object(sides, code)) for code in sides.known
-    ) + "]}"
+    yield ', "objects": [' + ",\n".join(objects) + "]}"
 
 
 def list_lives(lives: Lives | None) -> list[dict[str, object]]:
@@ -96,12 +112,11 @@ def describe_object(sides: Sides, code: str) -> dict[str, object]:
 def describe_rates(sides: Sides, code: str) -> dict[str, object]:
     """Returns the data about the rates of a part: its rarity in the reference and, if hauls are
     compared, the intervals and which rates differ from the rate in the first haul."""
-    comparison = sides.compare_parts()
     rates: dict[str, object] = {}
-    if comparison.has_rarity():
-        rates["rarity"] = describe_part(code)
+    if sides.has_rarity:
+        rates["rarity"] = list_part_words(code)
     if len(sides.all) > 1:
-        cells = comparison.cells(code)
+        cells = sides.comparison.cells(code)
         rates["ends"] = [cell.ends and [shorten(end) for end in cell.ends] for cell in cells]
         rates["stars"] = [int(cell.differs) for cell in cells]
     return rates
@@ -134,6 +149,9 @@ def count_cells(code: str) -> int | None:
     """Returns the number of live cells of an object in phase 0, or `None` if its code doesn't
     tell."""
     text, known = read_drawing(code), read_kind(code)
+    bits = read_bitmap(text) if text is not None else None
+    if bits is not None:
+        return bits.bit_count()
     cells = read_wechsler(text) if text is not None else None
     if cells is not None:
         return len(cells)

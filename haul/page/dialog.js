@@ -55,7 +55,7 @@ const phasesBlock = (object, haul) => {
   const known = object.made[haul.place] !== null ? recurrenceIn(object, haul) : null, cells = cellsOfCode(object.code);
   const phases = known ? known.phases : [cells], title = `${nameOf(object)}, ${kindWords(object)}`;
   const picture = cells ? pictureOf(phases, LARGE_SIDE, title) : pictureOfObject(object, LARGE_SIDE);
-  const facts = factsOf(object, known) + partsOf(object, haul) + (object.rarity && fact('in the reference', object.rarity)) + (isCompared ? '' : totalsOf(object, haul));
+  const facts = factsOf(object, known) + partsOf(object, haul) + (object.rarity.length ? fact('in the reference', rarityWords(object.rarity)) : '') + (isCompared ? '' : totalsOf(object, haul));
   const large = `<div class="large"><div class="frame">${picture}</div>${phases.length > 1 ? PHASE_BUTTONS : ''}</div>`;
   return { large, facts: `<dl class="facts">${facts}</dl>` };
 };
@@ -72,7 +72,7 @@ const rates = object => !isCompared ? ''
 const rleBlock = object => {
   const cells = cellsOfCode(object.code);
   if (!cells) return '';
-  return `<details class="rle"><summary>RLE</summary><pre tabindex="0">${rleOf(cells, firstWith(object).rule)}</pre></details>`;
+  return `<details class="rle"><summary>RLE</summary><pre tabindex="0" role="region" aria-label="RLE">${rleOf(cells, firstWith(object).rule)}</pre></details>`;
 };
 const linkOut = (address, text) => `<a href="${address}">${text}</a>`;
 // A button with a place for what is said when it is pressed.

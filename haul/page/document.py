@@ -14,7 +14,7 @@ from string import Template
 
 from haul.census.client import Census
 from haul.formats.haul import Haul
-from haul.page.data import write_data
+from haul.page.data import describe_objects, write_data
 from haul.page.lives import Lives, write_lives
 from haul.page.object_table import write_table
 from haul.page.sides import make_sides
@@ -43,12 +43,13 @@ def make_page(
     census: Census, hauls: list[Haul], least: int, play: int, lives: Lives | None = None
 ) -> Iterator[str]:
     """Yields the page, piece by piece. Codes with fewer than `least` objects in each haul are left
-    out. `census` is asked when the sample soups of the first `play` objects settle. The page of a
-    single haul may have long lives."""
+    out. `census` is asked when the sample soups of the first `play` objects settle. Only the page
+    of a single haul may have `lives`, the section *Long lives*."""
     sides = make_sides(hauls, least, play, census.terminal)
     # All data is computed before the first byte is written, so a page is either complete or
     # missing.
     sides.ask(census)
+    objects = describe_objects(sides, census.terminal)
     before, between, middle, after = map(Template, PIECES.split(read_file("page.html")))
     yield before.substitute(
         title=escape(write_title(sides)), style=read_file("page.css"), top=write_top(sides)
@@ -57,7 +58,7 @@ def make_page(
     yield between.substitute()
     yield from write_table(sides)
     yield middle.substitute(foot=write_foot(sides))
-    yield from write_data(sides, lives)
+    yield from write_data(sides, objects, lives)
     yield after.substitute(script="\n".join(read_file(f"{name}.js") for name in SCRIPTS))
 
 

@@ -12,7 +12,7 @@ from haul.census.soup_runs import draw_soup, find_exact_generation
 from haul.fates.explain import Fates
 from haul.fates.fate import Fate, Kind
 from haul.formats.haul import Haul, Job
-from haul.search.late import ONLY_UNSETTLED, Late, LateLine
+from haul.search.late_file import ONLY_UNSETTLED, Late, LateLine
 from haul.formats.report_lines import read_report_line
 from haul.life.drawing import draw_path
 from haul.life.soups import SOUP_SIDE, make_soup
@@ -41,8 +41,8 @@ class LongLife:
     soup: int
     checkpoint: int
     objects: int
-    # The exact generation in which the soup settled, and the number of live cells then, or `None`
-    # if its line is wrong because it doesn't settle.
+    # The exact generation in which the soup settled, and the number of live cells then. `None` and
+    # 0 if the soup doesn't settle, so that its line is wrong.
     generation: int | None = None
     cells: int = 0
 

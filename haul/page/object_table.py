@@ -13,38 +13,50 @@ from haul.names.labels import find_label, mark_label
 from haul.names.objects import find_name
 from haul.page.data import count_cells
 from haul.page.sides import Side, Sides
+from haul.views.rarity import list_part_words
 from haul.views.rates import bound_rarity
 
 KINDS = {"s": "still life", "p": "oscillator of period", "q": "spaceship of period"}
 CATAGOLUE = "https://catagolue.hatsya.com"
 # The most rows of the table. Browsers are slow with more.
 MOST_ROWS = 1000
+# The head of the column with what the reference says.
+IN_REFERENCE = "In the reference"
 
 
 def write_table(sides: Sides) -> Iterator[str]:
-    """Yields the table, row by row. It has the objects that are on the page."""
-    letters = [f" in {side.letter}" if len(sides.all) > 1 else "" for side in sides.all]
-    style = "all compared" if len(sides.all) > 1 else "all"
+    """Yields the table, row by row. It has the first parts that are on the page. If the reference
+    has the rarity of parts, this is shown instead of how often a single haul has a part. If there
+    are several hauls, the rarity is in a column of its own."""
+    is_single = len(sides.all) == 1
+    style = "all" if is_single else "all compared"
     heads = ["Picture", "Name and code", "What it is", "Cells"]
-    for letter in letters:
-        heads += [f"Total{letter}", f"How often{letter}", f"Sample soups{letter}"]
+    for side in sides.all:
+        letter = "" if is_single else f" in {side.letter}"
+        often = IN_REFERENCE if is_single and sides.has_rarity else f"How often{letter}"
+        heads += [f"Total{letter}", often, f"Sample soups{letter}"]
+    if sides.has_rarity and not is_single:
+        heads.append(IN_REFERENCE)
     yield f'<p>{describe_omissions(sides)}</p>\n<div class="scroll"><table class="{style}"><thead><tr>'
     yield "".join(f'<th scope="col">{head}</th>' for head in heads) + "</tr></thead><tbody>\n"
-    for code in sides.codes[:MOST_ROWS]:
+    for code in sides.parts[:MOST_ROWS]:
         yield write_row(sides, code)
     yield "</tbody></table></div>\n"
 
 
 def describe_omissions(sides: Sides) -> str:
-    """Returns a sentence that says how many objects have a row, and how many don't."""
-    kinds = len(sides.kinds())
-    text = f"{len(sides.codes):,} of {kinds:,} distinct objects, the most frequent first."
-    if kinds > len(sides.codes):
-        text += f" Of the others there are fewer than {sides.least:,}."
-    if len(sides.codes) > MOST_ROWS:
+    """Returns sentences that say what is counted, how many parts have a row, and how many don't."""
+    kinds = len(sides.kinds_of_parts())
+    text = (
+        f"{len(sides.parts):,} of {kinds:,} kinds, the most frequent first. Parts are counted: a "
+        "bi-block is two blocks."
+    )
+    if kinds > len(sides.parts):
+        text += f" Of the other kinds there are fewer than {sides.least:,}."
+    if len(sides.parts) > MOST_ROWS:
         text += (
             f" This table has the first {MOST_ROWS:,} of them. <code>haul table</code> lists all "
-            "objects of a haul."
+            "parts of a haul."
         )
     return text
 
@@ -57,20 +69,33 @@ def write_row(sides: Sides, code: str) -> str:
     named = f"<b>{escape(label)}</b> {link_code(code, rule)}" if label else link_code(code, rule)
     columns = [draw_object(code), named, describe_kind(code), "" if cells is None else cells]
     row = "".join(f"<td>{column}</td>" for column in columns)
-    counts = "".join(write_counts(side, code) for side in sides.all)
+    reference = write_occurrence(code) if sides.has_rarity else ""
+    if len(sides.all) == 1:
+        counts = write_counts(sides.all[0], code, reference)
+    else:
+        counts = "".join(write_counts(side, code) for side in sides.all)
+        counts += f'<td class="referred">{reference}</td>' if reference else ""
     return f'<tr id="{escape(code)}">{row}{counts}</tr>\n'
 
 
-def write_counts(side: Side, code: str) -> str:
-    """Returns the cell with a haul's counts of an object."""
-    haul = side.haul
+def write_occurrence(code: str) -> str:
+    """Returns how often the reference has a part, with the interval if there is one."""
+    often, *more = list_part_words(code)
+    return f"{often}<small>{more[0]}</small>" if more else often
+
+
+def write_counts(side: Side, code: str, reference: str = "") -> str:
+    """Returns the cells with a haul's counts of a part. If `reference` is given, it is shown
+    instead of how often the haul has the part."""
+    haul = side.by_parts
     if code not in haul.totals:
         return "<td>0</td><td></td><td></td>"
     total = haul.totals[code]
     samples = " ".join(
         f'<a href="{link_soup(side, number)}">{number}</a>' for number in haul.samples[code]
     )
-    return f"<td>{total:,}</td><td>{describe_frequency(haul.soups, total)}</td><td>{samples}</td>"
+    often = reference or describe_frequency(haul.soups, total)
+    return f"<td>{total:,}</td><td>{often}</td><td>{samples}</td>"
 
 
 def describe_frequency(soups: int, total: int) -> str:

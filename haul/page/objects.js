@@ -21,7 +21,7 @@ const counting = (values, ends, stars) => {
     samples: hauls.map((_, place) => values?.[place] ? values[place].slice(1) : []), ends, stars,
   };
 };
-const objectOf = ({ code, label, also = [], named, made, cells, objects: asObjects, parts: asParts, ends, stars, rarity = '' }) => {
+const objectOf = ({ code, label, also = [], named, made, cells, objects: asObjects, parts: asParts, ends, stars, rarity = [] }) => {
   const { letter, period } = kindOf(code), ways = { objects: counting(asObjects), parts: counting(asParts, ends, stars) };
   const isLeftOut = way => !ways[way].totals.some(total => BigInt(total) >= BigInt(data.least) && BigInt(total) > 0n);
   return {
@@ -45,6 +45,10 @@ const oneIn = (total, soups) => Math.max(1, Math.floor(soups / Number(total)));
 const figure = number => number >= 100 ? Math.round(number).toLocaleString('en') : String(Number(number.toPrecision(3)));
 const oftenWords = (total, soups) => !soups || !Number(total) ? 'none'
   : Number(total) * 2 > soups ? `${figure(Number(total) / soups)} per soup` : `≤ 1 in ${whole(oneIn(total, soups))} soups`;
+// The reference says how many soups have a part: one in how many, the interval of 95 %, and the numbers. Where it can't say it, there are
+// no such words, or a single text that says why.
+const isReferred = ({ rarity }) => choice.parts === '1' && rarity.length > 1;
+const rarityWords = ([often, interval, numbers]) => interval ? `${often} soups (${interval})${numbers && `; ${numbers}`}` : often ?? '';
 const perMillion = rate => `${figure(rate * PER)} per million soups`;
 
 // ---- Comparing: the interval of 95 % of a rate, and how many times as many there are as in the first haul. Those of parts are in the

@@ -43,22 +43,35 @@ const showControls = () => {
   byId('filter').lastChild.textContent = countFilters() || '';
 };
 const sumOf = some => some.reduce((sum, object) => sum + wayOf(object).total, 0n);
-const COMPARED = ' Bars: objects per million soups; * differs from A (p < 0.001).';
+const COMPARED = ' Bars: per million soups; * differs from A (p < 0.001).';
+const REFERRED = ` “One in” is from the reference, a census of ${whole(data.reference)} soups.`;
+// Cards of hauls that are compared have a line for it.
+document.documentElement.style.setProperty('--referred', isCompared && data.reference ? 1 : 0);
 const showCount = () => {
   const byParts = choice.parts === '1', kinds = byParts ? data.kindsOfParts : data.kinds;
   const every = hauls.reduce((sum, haul) => sum + BigInt(byParts ? haul.parts : haul.objects), 0n);
   const leftOut = data.least > 1 ? ` Kinds with fewer than ${whole(data.least)} are left out.` : '';
   const count = `${whole(shownObjects.length)} of ${whole(kinds)} kinds, ${whole(sumOf(shownObjects))} of ${whole(every)} ${byParts ? 'parts' : 'objects'}.`;
   const unknown = open.unknown ? `No object on this page has the code ${open.unknown}. ` : '';
-  byId('shown').textContent = unknown + count + leftOut + (isCompared ? COMPARED : '');
+  byId('shown').textContent = unknown + count + leftOut + (isCompared ? COMPARED : '') + (isByReference() ? REFERRED : '');
 };
 
 // ---- The list
-// What is said if nothing is chosen. Other choices may hide what the search finds.
-const noneWords = () => {
+// How many objects the search finds with this way of counting, whatever else is chosen.
+const countFound = parts => {
+  const before = choice.parts;
+  choice.parts = parts;
   const found = passing('kind', 'period', 'strict', 'in').length;
+  choice.parts = before;
+  return found;
+};
+// What is said if nothing is chosen. Other choices may hide what the search finds: a bi-block is found only if parts aren't counted.
+const noneWords = () => {
+  const other = choice.parts === '1' ? '0' : '1', isHidden = countFound(choice.parts) > 0;
+  const parts = isHidden ? choice.parts : other, found = countFound(parts);
   const words = found ? `The other choices hide ${whole(found)} ${noun(found, 'object')} that the search finds.` : 'No object is found.';
-  return `<p class="none">${words} <button type="button" data-q="${found ? escaped(choice.q) : ''}">${found ? 'Show' : 'Show all'}</button></p>`;
+  return `<p class="none">${words} <button type="button" data-parts="${found ? parts : choice.parts}" data-q="${found ? escaped(choice.q) : ''}">`
+    + `${found ? 'Show' : 'Show all'}</button></p>`;
 };
 const showList = () => {
   list?.end();
@@ -100,7 +113,7 @@ byId('filter').addEventListener('click', ({ currentTarget: button }) => {
 controls.addEventListener('submit', event => event.preventDefault());
 byId('query').addEventListener('input', event => choose({ q: event.target.value }));
 listBox.addEventListener('click', ({ target }) => {
-  if (target.dataset.q !== undefined) choose({ ...choice, kind: '', period: '', in: '', strict: '0', q: target.dataset.q });
+  if (target.dataset.q !== undefined) choose({ ...choice, kind: '', period: '', in: '', strict: '0', parts: target.dataset.parts, q: target.dataset.q });
 });
 
 // Phases play in the card that the pointer or the focus is on.

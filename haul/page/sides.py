@@ -3,6 +3,7 @@
 from __future__ import annotations
 
 from dataclasses import dataclass, field
+from functools import cached_property
 
 from haul.census.client import Census
 from haul.census.soup_ends import End, find_ends
@@ -38,11 +39,6 @@ class Side:
     def separate(self, code: str) -> Separation:
         return self.objects.separate(code)
 
-    def may_be_strict(self, code: str) -> bool:
-        """Checks whether the haul has an object that is strict, or that couldn't be separated."""
-        separation = self.separate(code) if self.has(code) else None
-        return separation is not None and (separation.is_strict() or not separation.is_separated)
-
     def samples(self, code: str) -> list[int]:
         """Returns the samples of a code, both as an object and as a part."""
         return sorted({*self.haul.samples.get(code, []), *self.by_parts.samples.get(code, [])})
@@ -60,37 +56,42 @@ class Sides:
     """All hauls of a page, and the codes on it."""
 
     all: list[Side]
-    # An object is on the page if at least one haul has this number of it.
+    # An object is on the page if at least one haul has this many of it or more.
     least: int
-    # The number of objects with sample soups about which `census` is asked.
+    # The number of parts and objects with sample soups about which `census` is asked.
     play: int
-    # The objects on the page, the most frequent first.
+    # The objects on the page, and the parts on it, the most frequent first.
     codes: list[str]
-    # These objects, and the parts on the page.
-    known: list[str]
+    parts: list[str]
+
+    @cached_property
+    def known(self) -> list[str]:
+        """The objects and the parts on the page."""
+        return list(dict.fromkeys([*self.codes, *self.parts]))
 
     def ask(self, census: Census) -> None:
-        """Asks `census` when the soups of the first objects settle. Strict objects come first,
-        since the page begins with them."""
-        asked = sorted(self.codes, key=lambda code: not self.may_be_strict(code))[: self.play]
+        """Asks `census` when the soups of the first parts settle, and then of the first objects,
+        since the page begins with parts."""
+        asked = list(dict.fromkeys([*self.parts, *self.codes]))[: self.play]
         for side in self.all:
             numbers = side.soups(asked)
             ends = find_ends(census, side.haul.job, numbers)
             side.ends = {number: ends.get(number) for number in numbers}
 
-    def may_be_strict(self, code: str) -> bool:
-        """Checks whether an object is strict, or couldn't be separated, in one of the hauls that
-        have it."""
-        return any(side.may_be_strict(code) for side in self.all)
-
-    def compare_parts(self) -> Comparison:
-        """Returns a comparison of the parts of all hauls."""
+    @cached_property
+    def comparison(self) -> Comparison:
+        """A comparison of the parts of all hauls."""
         return Comparison(
             [side.by_parts for side in self.all],
             [side.objects for side in self.all],
             self.known,
             by_parts=True,
         )
+
+    @cached_property
+    def has_rarity(self) -> bool:
+        """Whether the reference has the rarity of the parts."""
+        return self.comparison.has_rarity()
 
     def kinds(self) -> set[str]:
         """Returns the codes of all objects, on the page or not."""
@@ -108,10 +109,8 @@ def make_sides(hauls: list[Haul], least: int, play: int, terminal: Terminal) -> 
     for letter, haul in letter_hauls(hauls):
         objects = Objects(haul, terminal)
         sides.append(Side(letter, objects, objects.by_parts()))
-    codes, parts = rank_for_page(hauls, least), rank_for_page(
-        [side.by_parts for side in sides], least
-    )
-    return Sides(sides, least, play, codes, list(dict.fromkeys([*codes, *parts])))
+    parts = rank_for_page([side.by_parts for side in sides], least)
+    return Sides(sides, least, play, rank_for_page(hauls, least), parts)
 
 
 def rank_for_page(hauls: list[Haul], least: int) -> list[str]:

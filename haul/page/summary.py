@@ -27,16 +27,18 @@ MEANINGS = {
 
 NOTES = """\
 <p>An object is <em>strict</em> if it doesn't consist of smaller objects that would do the same each by itself, as the two blocks of a
-bi-block would. The parts are found by a definition of this project, not by apgsearch's code. Names are those of LifeWiki. A haul doesn't
-record how many soups contain an object, so only an upper bound is shown: “≤ 1 in 50 soups” means that at most one soup in 50 has one. The
-reference is a census of 100,000,000 soups of Life that comes with <code>haul</code>; it does record how many soups contain each part.</p>
+bi-block would. If parts are counted, a bi-block is two blocks. The parts are found by a definition of this project, not by apgsearch's code.
+Names are those of LifeWiki. A haul doesn't record how many soups contain an object, so only an upper bound is shown: “≤ 1 in 50 soups” means
+that at most one soup in 50 has one. The reference, a census of 100,000,000 soups of Life that comes with <code>haul</code>, does record how many
+soups contain each part: “one in 50” means one soup in 50, and the range after “95 %” is the confidence interval.</p>
 """
 ABOUT = """\
 <p>Made by <code>haul page</code> of Gokzerd $version from $hauls. A <em>haul</em> is the text that <code>census take</code> prints: how many of
 each object a set of soups left, with up to three sample soups for each. Gokzerd has two programs. <code>census</code> runs the soups and
 counts; it is formally verified, so its counts are proved to match a written definition. <code>haul</code> and this page are tested, but not
-proved. The commands on this page need both programs on the <code>PATH</code>, on Linux.</p>
+proved.$apgsearch The commands on this page need both programs on the <code>PATH</code>, on Linux.</p>
 """
+APGSEARCH = " The counts of a haul of apgsearch are apgsearch's."
 
 
 def write_title(sides: Sides) -> str:
@@ -75,7 +77,9 @@ def write_foot(sides: Sides) -> str:
     """Returns the foot: what made the page, what a haul is, and what the commands need."""
     count = len(sides.all)
     return Template(ABOUT).substitute(
-        version=VERSION, hauls="a haul" if count == 1 else write_count(count, "haul")
+        version=VERSION,
+        hauls="a haul" if count == 1 else write_count(count, "haul"),
+        apgsearch=APGSEARCH if any(side.haul.apgsearch for side in sides.all) else "",
     )
 
 

@@ -68,8 +68,8 @@ class RleReader:
         return end if end >= 0 else len(self.text)
 
     def header(self) -> str | None:
-        """Reads the header if there is one. Returns its rule as written, or `None` if there is
-        none."""
+        """Reads the header if there is one. Returns its rule as written, or `None` if there is no
+        header or the header has no rule."""
         self.skip()
         if self.text[self.place : self.place + 1] != b"x":
             return None

@@ -21,12 +21,14 @@ def compute_p_value(one: float, soups: int, other: float, other_soups: int) -> f
     share = other_soups / (soups + other_soups)
     # The probability of fewer than `other` and the probability of more, each plus half of the
     # probability of `other`.
+    # mutant: equal because the smaller tail is at most 1/2
     return min(1.0, 2 * min(compute_tail(one, other, 1 - share), compute_tail(other, one, share)))
 
 
 def compute_tail(more: float, fewer: float, share: float) -> float:
-    """Returns the probability that more than `more` of `more + fewer` events fall into a share,
-    plus half of the probability of exactly `more`."""
+    """Returns the probability of more than `more` successes in `more + fewer` trials that succeed
+    with probability `share`, plus half of the probability of exactly `more`."""
+    # mutant: equal because the other tail is the smaller one if there are no more
     at_least = compute_beta(more, fewer + 1, share) if more else 1.0
     above = compute_beta(more + 1, fewer, share) if fewer else 0.0
     return (at_least + above) / 2

@@ -11,10 +11,12 @@ from haul.rarity.incomplete import compute_beta, compute_beta_density
 
 TAIL = 0.025
 # The quantile of the normal distribution for `TAIL`, from which the search starts.
+# mutant: equal because the search finds the same value from any start
 DEVIATIONS = 1.96
 # The search ends at a step that is smaller than this, relative to the value.
 NEAR = 1e-12
 # The search ends after this many steps in any case.
+# mutant: equal because no search takes this many steps
 MOST_STEPS = 100
 
 
@@ -49,8 +51,8 @@ def format_one_in(one_in: float) -> str:
 
 
 def find_share_high(having: int, soups: int) -> float:
-    """Returns the share of soups at which at most `having` of `soups` have an object with a
-    probability of 2.5 %."""
+    """Returns the high end of the interval: if each soup had the object with this probability, the
+    chance that at most `having` of `soups` soups have it would be 2.5 %."""
     if having == soups:
         return 1.0
     if not having:
@@ -59,8 +61,8 @@ def find_share_high(having: int, soups: int) -> float:
 
 
 def find_share_low(having: int, soups: int) -> float:
-    """Returns the share of soups at which at least `having` of `soups` have an object with a
-    probability of 2.5 %."""
+    """Returns the low end of the interval: if each soup had the object with this probability, the
+    chance that at least `having` of `soups` soups have it would be 2.5 %."""
     if having == soups:
         return float(TAIL ** (1 / soups))
     return find_beta_quantile(having, soups - having + 1, TAIL, -DEVIATIONS)
@@ -71,14 +73,20 @@ def find_beta_quantile(a: int, b: int, chance: float, deviations: float) -> floa
     """Returns the argument at which the incomplete beta function has the value `chance`, with
     Newton's method in a shrinking interval."""
     low, high, mean = 0.0, 1.0, a / (a + b)
+    # 5 mutants: equal because the search finds the same value from any start
     x = mean + deviations * sqrt(mean * (1 - mean) / (a + b + 1))
+    # 3 mutants: equal because the search finds the same value from any start
     x = x if 0 < x < 1 else mean
     for _ in range(MOST_STEPS):
         over = compute_beta(a, b, x) - chance
+        # mutant: equal because the step from the value itself is 0
         low, high = (low, x) if over > 0 else (x, high)
         slope = compute_beta_density(a, b, x)
+        # mutant: equal because the interval also shrinks without Newton's method
         new = x - over / slope if slope else low
+        # 2 mutants: equal because a step to an end of the interval only takes longer
         new = new if low < new < high else (low + high) / 2
+        # 2 mutants: equal because further steps don't change the value
         if abs(new - x) <= NEAR * x:
             return new
         x = new

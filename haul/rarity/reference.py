@@ -51,7 +51,7 @@ def is_covered(job: Job) -> bool:
 
 @cache
 def load_reference() -> Reference:
-    """Returns the table by parts. Raises `BadTable` if it is damaged."""
+    """Returns the table, with an entry for each part. Raises `BadTable` if it is damaged."""
     return parse_reference(read_reference())
 
 

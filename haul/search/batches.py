@@ -35,7 +35,7 @@ class Plan:
     workers: int
     # The program to call for each find.
     finds: str | None
-    # A part is a find if fewer than one soup of the reference in this number has it.
+    # A part is a find if fewer than one in this many soups of the reference has it.
     rarer: int
     # The first generation at which a soup is late, or `None` if late soups aren't kept.
     late: int | None = None
@@ -78,7 +78,8 @@ class Batches:
         self.most = calls * BATCHES_FOR_EACH if calls > 1 else calls
 
     def fill(self) -> None:
-        """Starts batches until all workers are busy or the search is at its end."""
+        """Starts batches until all workers are busy, enough batches wait for earlier ones, a batch
+        has failed, or the search is at its end."""
         for batch in self.queue:
             if batch.workers and batch.call.is_ended():
                 self.free.append(batch.workers)

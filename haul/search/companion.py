@@ -47,8 +47,8 @@ class Companion:
         self.known: Stamp | None = None
 
     def read(self, parse: Callable[[Iterable[bytes]], Read], bad: type[Exception]) -> Read | None:
-        """Returns the result of `parse` for the lines of the file, or `None` if there is no file or
-        if `parse` raises `bad`. In the latter case, the file is renamed."""
+        """Returns the result of `parse` for the lines of the file, or `None` if there is no file.
+        If the file isn't regular or `parse` raises `bad`, renames the file and returns `None`."""
         with suppress(FileNotFoundError):
             if not stat.S_ISREG(os.lstat(self.path).st_mode):
                 self.reject("not a regular file")

@@ -1,7 +1,7 @@
 """Finds: parts of objects that a search encounters for the first time.
 
 A part is a find if no earlier object of the haul has a part with its code, and if it isn't common.
-Under Life, a part is common if the reference census has it in at least one soup in a given number.
+Under Life, a part is common if at least one in a given number of soups of the reference has it.
 docs/PROFILE.md defines the parts of an object. A batch consists of the soups that one call of
 `census take` runs, as in search.py.
 """
@@ -23,8 +23,8 @@ from haul.life.parts import Separator
 from haul.names.objects import find_name
 from haul.rarity.reference import SOUPS, find_occurrence, is_covered, load_reference
 
-# The separator remembers what it has run. After this many runs it forgets everything, since a
-# search may go on for weeks.
+# The separator remembers the islands that it has run. After this many, it forgets them and the
+# codes of parts, since a search may go on for weeks.
 # mutant: equal because one more remembered run doesn't change what is printed
 MOST_RUNS = 20_000
 
@@ -109,7 +109,7 @@ def can_hold(whole: Kind, part: Kind) -> bool:
 
 
 def list_common_parts(rarer: int) -> frozenset[str]:
-    """Returns the parts that occur in at least one soup of the reference in `rarer`."""
+    """Returns the parts that at least one in `rarer` soups of the reference has."""
     return frozenset(
         code for code, entry in load_reference().items() if entry.soups * rarer >= SOUPS
     )
@@ -119,14 +119,13 @@ class Finder:
     """Looks for finds, one object at a time, so that the search can do other things in between.
 
     Objects that were in the file at first are separated only when one of them might have a part
-    that looks new. If the part is itself an object of the file, it is known without that. For most
-    parts that is enough.
+    that looks new. A part that is itself an object of the file isn't new, which is known without
+    separating anything. Most parts are such objects.
     """
 
     def __init__(self, job: Job, haul: Haul, rarer: int, first: int = NUMBER_LIMIT) -> None:
-        """Looks for parts that occur, under Life, in fewer than one soup of the reference in
-        `rarer`. The objects of the haul that no soup before `first` left haven't been examined
-        yet."""
+        """Looks for parts that, under Life, fewer than one in `rarer` soups of the reference has.
+        The objects of the haul that no soup before `first` left haven't been examined yet."""
         new = [(code, soups[0]) for code, soups in haul.samples.items() if soups[0] >= first]
         self.separator = Separator(read_rule(job.rule))
         self.common = list_common_parts(rarer) if job.rule == LIFE else frozenset()
@@ -191,7 +190,6 @@ class Finder:
 
     def parts_of(self, code: str) -> tuple[str, ...]:
         # mutant: equal because one more remembered run doesn't change what is printed
-        if len(self.separator.runs) > MOST_RUNS:
-            self.separator.runs.clear()
-            self.separator.known.clear()
+        if self.separator.count_runs() > MOST_RUNS:
+            self.separator.forget()
         return self.separator.separate(code).parts

@@ -12,7 +12,7 @@ from haul.patterns.rules import LIFE
 
 # Seeds are drawn from 62^12 texts, so two people won't draw the same one and take the same soups.
 SEED_BEGINS, SEED_LENGTH = "h_", 12
-# The default for how rare a find has to be: fewer than one soup of the reference in this number.
+# The default for how rare a find has to be: fewer than one in this many soups of the reference.
 USUAL_RARER = 1_000_000
 
 
@@ -34,7 +34,8 @@ def begin_haul(asked: argparse.Namespace) -> Haul:
 
 
 def refuse_other_jobs(asked: argparse.Namespace, haul: Haul) -> None:
-    """Raises `Disagrees` if an argument is for another census than the haul's."""
+    """Raises `Disagrees` if an argument is for another census than the haul's, or if `--rarer` is
+    given and the rule isn't Life."""
     said = (asked.seed, asked.rule, *list_profile_numbers(asked), asked.first)
     first = haul.ranges[0][0] if haul.ranges else asked.first
     there = (haul.job.seed, haul.job.rule, *haul.job.profile, first)

@@ -22,8 +22,7 @@ from haul.search.whole_files import (
     ANY_RIGHTS,
     find_stamp,
     make_stamp,
-    sync_folder,
-    write_file,
+    replace_file,
     write_new_text,
 )
 
@@ -133,8 +132,7 @@ class Keeper:
             one.file.move_to(name, self.name + end)
             if one.is_changed or one.file.is_always_there:
                 one.file.write(one.write())
-        write_file(name, write_lines(haul), self.path)
-        sync_folder(os.path.dirname(self.path) or os.curdir)
+        replace_file(name, write_lines(haul), self.path)
         return name
 
 

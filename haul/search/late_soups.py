@@ -8,7 +8,7 @@ from haul.census.background import BackgroundTake
 from haul.census.children import NoCensus
 from haul.census.command_lines import format_find_command
 from haul.formats.haul import Haul, Job
-from haul.search.late import MOST_LINES, ONLY_UNSETTLED, BadLate, Late, LateLine, read_late
+from haul.search.late_file import MOST_LINES, ONLY_UNSETTLED, BadLate, Late, LateLine, read_late
 from haul.formats.report_lines import BadLine, read_report_line
 from haul.patterns.rules import LIFE
 from haul.search.companion import Companion

@@ -23,7 +23,7 @@ from typing import TextIO
 from haul.census.background import StreamWaiter
 from haul.census.client import Census
 from haul.formats.haul import NUMBER_LIMIT, Haul
-from haul.search.late import Late
+from haul.search.late_file import Late
 from haul.hauls.join import Joining
 from haul.plurals import write_count
 from haul.search.batches import MOST_WORKERS, Batches, Plan, Taken
@@ -90,7 +90,8 @@ class Search:
         self.objects = haul.objects()
         # The number of soups in finished batches.
         self.run_soups = 0
-        # The results of batches that aren't in the file yet, and the finds among their late soups.
+        # The new codes of the batches that aren't in the file yet, and the fields of the lines to
+        # report about their late soups.
         self.unkept: list[NewOfBatch] = []
         self.unkept_late: list[list[str]] = []
         self.waiter = StreamWaiter()

@@ -45,7 +45,8 @@ class Status:
         return ", ".join([*words, *self.time_left()])
 
     def short_text(self) -> str:
-        """Returns the same with three digits of each number, for a narrow terminal."""
+        """Returns the same facts as `text`, with three digits of each number, for a narrow
+        terminal."""
         numbers = (
             (self.soups, "soup"),
             (self.objects, "object"),

@@ -9,8 +9,8 @@ from haul.plurals import write_count
 from haul.search.find_calls import FindCalls
 from haul.terminal import Terminal
 
-# On a terminal, the line of a find that the reference doesn't have begins with this. The last field
-# of such a line says so.
+# On a terminal, the line of a find that the reference doesn't have begins with a mark. The last
+# field of such a line begins with `none`.
 UNKNOWN_MARK, UNKNOWN = "!", "none"
 
 

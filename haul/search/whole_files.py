@@ -37,9 +37,9 @@ def write_new_text(path: str, lines: Iterable[bytes], rights_of: str) -> Iterato
     # A search that was killed may have left a new text behind.
     with suppress(FileNotFoundError):
         os.unlink(new)
+    with named_in_faults(new):
+        write_file(new, lines, rights_of)
     with removed_on_failure(new):
-        with named_in_faults(new):
-            write_file(new, lines, rights_of)
         yield find_stamp(new)
         with named_in_faults(new):
             os.replace(new, path)
@@ -73,9 +73,10 @@ def replace_file(path: str, lines: Iterable[bytes], rights_of: str) -> Stamp | N
 
 
 def write_file(new: str, lines: Iterable[bytes], rights_of: str) -> None:
-    """Writes a file that doesn't exist yet, with the permissions of the file `rights_of`."""
+    """Writes a file that doesn't exist yet, with the permissions of the file `rights_of`. If that
+    fails, no file is left."""
     number = os.open(new, os.O_WRONLY | os.O_CREAT | os.O_EXCL | os.O_CLOEXEC, ANY_RIGHTS)
-    with open(number, "wb") as file:
+    with removed_on_failure(new), open(number, "wb") as file:
         with suppress(FileNotFoundError):
             os.fchmod(number, stat.S_IMODE(os.stat(rights_of).st_mode))
         file.writelines(lines)

@@ -63,7 +63,7 @@ def run(*words: str, text: bytes = b"", cwd: str | None = None) -> tuple[int, st
 
 
 def read_back(stream: io.TextIOWrapper) -> str:
-    """Returns what was written to a text stream over bytes."""
+    """Returns what was written to a text stream that is kept in memory."""
     stream.seek(0)
     return stream.read()
 

@@ -69,10 +69,12 @@ class Searches(unittest.TestCase):
         program: str = CENSUS,
         file: str = "mine.haul",
         most_bytes: int | None = None,
+        most_memory: int | None = None,
         is_forked: bool = False,
     ) -> subprocess.Popen[bytes]:
         """Starts a search in its own process group, in which no file may be longer than
-        `most_bytes`. If `is_forked` is set, it is forked from this process."""
+        `most_bytes`, and each process may use at most `most_memory` bytes. If `is_forked` is set,
+        it is forked from this process."""
         words = ("search", *words, "--census", program, file)
         become = as_haul(*words)
 
@@ -83,6 +85,8 @@ class Searches(unittest.TestCase):
             signal.signal(signal.SIGHUP, signal.SIG_IGN if self.has_nohup else signal.SIG_DFL)
             if most_bytes is not None:
                 resource.setrlimit(resource.RLIMIT_FSIZE, (most_bytes, most_bytes))
+            if most_memory is not None:
+                resource.setrlimit(resource.RLIMIT_AS, (most_memory, most_memory))
             if is_forked:
                 become()
 
@@ -138,7 +142,7 @@ class Searches(unittest.TestCase):
         self.assertEqual(self.file.read_bytes(), of_take(self.haul()))
 
     def assert_left(self, *names: str) -> None:
-        """Checks that nothing else is in the folder."""
+        """Checks that the folder has these files and no others."""
         self.assertEqual(sorted(os.listdir(self.folder)), sorted(names))
 
     def running_here(self) -> list[int]:

@@ -88,8 +88,8 @@ class Apgsearch(unittest.TestCase):
                 self.assertEqual(run("table", self.write(name, text)), printed)
 
     def test_compare(self) -> None:
-        """A haul of apgsearch can be compared with a haul of `census`, and stars are a test with
-        the reference."""
+        """A haul of apgsearch can be compared with a haul of `census`. A star marks a rate that
+        differs, given the dispersion in the reference."""
         own = self.folder / "own"
         own.write_bytes(census("take", "--count", "100"))
         status, printed, told = run("compare", str(own), self.file)
@@ -111,6 +111,9 @@ class Apgsearch(unittest.TestCase):
         self.assertIn("apgsearch v5.4-ll2.2 counted the objects", printed)
         self.assertNotIn("formally verified program <code>census</code> counted", printed)
         self.assertIn("haul check --totals all.haul", printed)
+        ours = "The counts of a haul of apgsearch are apgsearch's."
+        self.assertIn(ours, printed)
+        self.assertNotIn(ours, run("page", "--play=0", text=census("take", "--count=2"))[1])
 
     def test_what_it_cant_be_used_for(self) -> None:
         parts = (
@@ -175,6 +178,19 @@ class Apgsearch(unittest.TestCase):
         # The soups may be counted from 1.
         status, printed, _ = run("check", "--totals", "--first", "1", self.write("same", same))
         self.assertEqual(status, 7)
+        # The last soups that there are, and one soup more.
+        status, _, told = run("check", "--totals", "--first", str(2**40 - 100), self.file)
+        self.assertEqual((status, told), (7, ""))
+        status, printed, told = run("check", "--totals", "--first", str(2**40 - 99), self.file)
+        self.assertEqual(printed, "")
+        self.assertIn("census can't run so many soups", told)
+        lacking = self.write(
+            "lacking", TEXT.replace("xs4_33 665\n", "").replace("xs4_33 1 2 3\n", "")
+        )
+        self.assertIn(
+            f"xs4_33: 0, and {totals['xs4_33']} here",
+            run("check", "--totals", lacking)[1].splitlines(),
+        )
         shuttle = self.write("shuttle", TEXT.replace(GROWTH, "xp30_w33z8kqrqk8zzzx33"))
         self.assertIn(
             "xp30_w33z8kqrqk8zzzx33: 1, and 0 here (it is several clusters in every phase)",
@@ -199,6 +215,8 @@ class Apgsearch(unittest.TestCase):
             ("negative", "xs4_33 665", "xs4_33 -5", "line 11 column 8: no number"),
             ("none", "xs4_33 665", "xs4_33 0", "line 11 column 8: a row of the table is"),
             ("no total", "xs4_33 665", "xs4_33", "line 11 column 7"),
+            ("more", "xs4_33 665", "xs4_33 665 7", "line 11 column 12: a row of the table is"),
+            ("word", "PATHOLOGICAL 2", f"{'x' * 1001} 2", "line 13 column 1"),
             ("huge", "xs4_33 665", f"xs4_33 {2**64}", "line 11 column 8: the number is too large"),
             ("huger", "xs4_33 665", f"xs4_33 {'9' * 5000}", "line 11 column 8"),
             ("sample", "xs4_33 1 2", "xs4_33 a 2", "line 17 column 8: no number"),
@@ -215,9 +233,21 @@ class Apgsearch(unittest.TestCase):
                 self.assertIn(old, TEXT)
                 told = self.refused("table", self.write(name, TEXT.replace(old, new, 1)))
                 self.assertTrue(told.startswith(f"bad haul at {why}"), told)
-        self.assertIn("no line @CENSUS", self.refused("table", self.write("short", HEAD)))
-        long = self.write("long", TEXT + "x" * 2**21)
-        self.assertIn("the line is too long", self.refused("table", long))
+        short = self.refused("table", self.write("short", HEAD))
+        self.assertEqual(short, "bad haul at line 8 column 1: no line @CENSUS")
+        for text in (TEXT + "x" * 2**21, HEAD + "@MORES" + " x" * (2**19 - 3) + "\n" + TABLE):
+            long = self.refused("table", self.write("long", text))
+            self.assertIn(" column 1048576: the line is too long", long)
+
+    def test_limits(self) -> None:
+        """The longest words and lines, and the largest numbers."""
+        for text in (
+            TEXT.replace("PATHOLOGICAL", "z" * 1000),
+            TEXT.replace("xs4_33 1 2", f"xs4_33 1 {2**40 - 1}"),
+            TEXT.replace("xs4_33 665", f"xs4_33 {2**64 - 1}"),
+            HEAD + "@MORE" + " x" * (2**19 - 3) + "\n" + TABLE,
+        ):
+            self.assertEqual(run("table", self.write("limit", text))[0], 0)
 
     def test_what_texts_look_like(self) -> None:
         """A text that isn't a haul is refused with a message about what it looks like."""

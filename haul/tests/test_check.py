@@ -128,7 +128,8 @@ class Choices(unittest.TestCase):
     NAMES = [f"parts/{number}.haul" for number in range(250)]
 
     def test_it_can_be_repeated(self) -> None:
-        """The chosen files are in the given order, and don't depend on the order."""
+        """The chosen files are in the order in which the files were given. Which files are chosen
+        doesn't depend on that order."""
         chosen = FileChoice(self.NAMES, 20, "x").choose()
         self.assertEqual(len(set(chosen)), 20)
         self.assertEqual(chosen, sorted(chosen, key=self.NAMES.index))

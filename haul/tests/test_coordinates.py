@@ -72,7 +72,7 @@ class Written(unittest.TestCase):
         self.assertEqual(rle("\n1 2\r\n\r\n1 2\n0 2"), rle("0 2\n1 2\n"))
 
     def test_no_cell(self) -> None:
-        """Such a text has no place, so it is the empty plaintext."""
+        """A text without cells has no position, so it is read as plaintext without cells."""
         self.assertEqual(rle(""), (0, "x = 0, y = 0, rule = B3/S23\n!\n", ""))
 
 
@@ -96,7 +96,7 @@ class Refused(unittest.TestCase):
             self.assertEqual(rle(text), (3, "", line_of_error), text[:20])
 
     def test_rle_without_a_header_is_none(self) -> None:
-        """It may begin with a digit, too."""
+        """RLE without a header isn't coordinates, although it may begin with a digit, too."""
         self.assertFalse(is_coordinates(b"3o$2bo!"))
         self.assertFalse(is_coordinates(b""))
         self.assertTrue(is_coordinates(b"\n\n-3 5"))

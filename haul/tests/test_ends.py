@@ -58,7 +58,7 @@ def fill(folder: str, script: str) -> None:
 
 def in_shell(command: str, script: str = "", few: str = "") -> tuple[int, str, str]:
     """Runs a shell command in a folder that `fill` has filled. `haul` is the companion, and `$few`
-    is a text in Python. Returns the status and both outputs."""
+    is a program in Python. Returns the status and both outputs."""
     with tempfile.TemporaryDirectory() as folder:
         fill(folder, script)
         shell = f'haul() {{ "{sys.executable}" "{HAUL}" "$@"; }}; {command}'
@@ -200,8 +200,8 @@ class Progress(unittest.TestCase):
             )
         )
         self.assertEqual(
-            self.told("page", text=text.encode())[-2:],
-            ["100 of 150 soups run", "150 of 150 soups run"],
+            self.told("page", text=text.encode())[-3:],
+            ["100 of 150 soups run", "150 of 150 soups run", "0 of 150 objects described"],
         )
 
     def test_samples(self) -> None:
@@ -318,7 +318,7 @@ class Usage(unittest.TestCase):
 
 
 class Starter(unittest.TestCase):
-    """What Python itself would print before this program begins."""
+    """What Python itself would print before this program begins, such as a traceback."""
 
     def test_a_folder_as_input(self) -> None:
         ended = subprocess.run(
@@ -373,7 +373,7 @@ class NoThreads(unittest.TestCase):
 
 class Unforeseen(unittest.TestCase):
     def test_a_fault_of_this_program(self) -> None:
-        """It has its own status."""
+        """A fault of this program has a status of its own, which is 1."""
         script = f"import os, sys; sys.path.insert(0, {str(TOP)!r}); from haul.cli.process import run_heeding_signals; os._exit(run_heeding_signals(lambda: 1 // 0))"
         ended = subprocess.run([sys.executable, "-c", script], capture_output=True, check=False)
         self.assertEqual(ended.returncode, 1)
@@ -547,7 +547,7 @@ class Calls(unittest.TestCase):
                 )
 
     def test_the_others_ask_nothing(self) -> None:
-        """They don't call the program even if there is none."""
+        """The other commands don't call the program, so they work even if there is none."""
         with tempfile.TemporaryDirectory() as folder:
             shutil.copytree(TOP / "haul", Path(folder, "haul"))
             shutil.copytree(TOP / "reference", Path(folder, "reference"))

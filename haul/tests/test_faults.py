@@ -131,9 +131,9 @@ def wrong_lines(haul: Haul, at: Fields) -> Iterator[tuple[str, Place]]:
 
 
 def cut(haul: Haul, at: Fields) -> Iterator[tuple[str, Place]]:
-    """Yields inputs that end before a field or after the last field of a line, so that the fault is
-    at the end, or within a word that isn't a field yet, so that the fault is where the word
-    begins."""
+    """Yields inputs that are cut off. If an input ends before a field or after the last field of a
+    line, the fault is at its end. If it ends within a word that isn't a field yet, the fault is
+    where the word begins."""
     text = ""
     for line, fields in enumerate(at.lines):
         for field, word in enumerate(fields):

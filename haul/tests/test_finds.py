@@ -74,7 +74,7 @@ def found(finder: Finder, *batches: list[tuple[str, int]]) -> list[Find]:
 
 class Common(unittest.TestCase):
     def test_the_limit(self) -> None:
-        """A part is common if at least one soup of the reference in `rarer` has it."""
+        """A part is common if at least one in `rarer` soups of the reference has it."""
         reference = load_reference()
         for rarer, some in ((10_000, 37), (1_000_000, 100), (SOUPS, 971)):
             common = list_common_parts(rarer)
@@ -253,12 +253,14 @@ class Finds(unittest.TestCase):
                         [
                             (code, 1)
                             for code in (BIPOLE, "xp3_695qc8zx33", "xs8_rr", "xs6_696", "xp2_318c")
+                            + ("xs8_330oo", "xs10_25520oo", "xp2_33ws")
                         ],
                     )
                 ),
                 2,
             )
-            self.assertLessEqual(len(finder.separator.runs), 5)
+            self.assertLessEqual(finder.separator.count_runs(), 5)
+            self.assertLessEqual(len(finder.separator.quickly_known), 5)
 
 
 class Fields(Searches):
@@ -678,7 +680,7 @@ class Telling(Searches):
         return said.removeprefix("\r\x1b[K")
 
     def test_where_a_line_is_short(self) -> None:
-        """The line is short if the other one would fill the terminal, and the short line is cut if
+        """The short line is shown if the long one would fill the terminal. The short line is cut if
         necessary."""
         by_length = {
             len(status.text()): status

@@ -2,12 +2,17 @@
 
 from __future__ import annotations
 
+import io
 import re
 import tempfile
 import unittest
+from collections.abc import Iterator
 from hashlib import sha256
 from pathlib import Path
+from unittest.mock import patch
 
+from haul.cli.main import main
+from haul.formats.haul import Range
 from haul.tests.called import CENSUS, TOP, census, run
 
 LINES = """\
@@ -106,6 +111,24 @@ class Indexes(unittest.TestCase):
         lowest = sorted(names, key=lambda name: sha256(f"x {name}".encode()).digest())[:2]
         self.assertEqual(parts, [f"{name}: right" for name in names if name in lowest])
         self.assertEqual(self.check("index", "--random", "2", "--choice", "x")[1], output)
+
+    def test_a_choice_is_written_at_once(self) -> None:
+        """Its line comes before any soup is run."""
+        done: list[str] = []
+
+        class Output(io.StringIO):
+            def flush(self) -> None:
+                done.append(self.getvalue())
+
+        def retake(*_: object) -> Iterator[tuple[Range, bool]]:
+            done.append("runs")
+            yield (0, 5), True
+
+        words = ["check", "--census", CENSUS, str(self.folder / "index"), "--random", "1"]
+        with patch("haul.cli.check_commands.retake_parts", retake):
+            main(words, io.BytesIO(), Output(), io.StringIO())
+        self.assertRegex(done[0], "^choice [^:]*: 1 of 3 parts[^\n]*\n$")
+        self.assertEqual(done[1], "runs")
 
     def test_options_that_do_not_go_together(self) -> None:
         for words in (

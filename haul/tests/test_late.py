@@ -10,7 +10,7 @@ import time
 from collections.abc import Callable
 from unittest.mock import patch
 
-from haul.search import late as late_format
+from haul.search import late_file
 from haul.search.batches import share_workers
 from haul.tests.called import CENSUS, census, run
 from haul.tests.searching import QUICK, Searches
@@ -84,7 +84,7 @@ class Kept(LateSearches):
         self.assert_kept(303, 40)
 
     def test_a_file_from_before(self) -> None:
-        """Such a file has no lines for its first soups."""
+        """If FILE is older than FILE.late, FILE.late has no lines for the first soups."""
         self.file.write_bytes(census("take", "--seed=a", *SHORT, "--count=40"))
         self.search("--until=70", "--late=505")
         self.assert_kept(505, 70, 40)
@@ -94,7 +94,7 @@ class Kept(LateSearches):
         self.assertEqual(self.late.read_text(), "# late 12000 since 0 left-out 0\n")
 
     def test_the_lowest_numbers_are_kept(self) -> None:
-        with patch.object(late_format, "MOST_LINES", 5), patch(
+        with patch.object(late_file, "MOST_LINES", 5), patch(
             "haul.search.late_soups.MOST_LINES", 5
         ), patch("haul.census.background.MOST_REPORTS", 5):
             for until in (40, 80):
@@ -273,8 +273,8 @@ class Reports(LateSearches):
     """Report lines of a batch."""
 
     def test_wrong_lines(self) -> None:
-        """The lines are of other soups, of another job or of soups that aren't late, or there are
-        too few."""
+        """The lines are of other soups, of another job or of soups that aren't late; or one comes
+        twice, is malformed, or lines are missing."""
         line = f"report 2 {JOB} worker=1"
         for said in (
             f"echo '{line} soup=900 unsettled' >&2",
@@ -335,7 +335,8 @@ class ManyWorkers(Searches):
         self.assert_nothing_runs()
 
     def test_they_run_at_once_and_are_added_in_order(self) -> None:
-        """The first batch waits until the other two have ended, and two more have been started."""
+        """The first batch waits until four later batches have ended: the two that run beside it,
+        and two more."""
         program = self.stub(
             "case $* in *--first=0*) until [ $(ls -d done* | wc -l) -ge 4 ]; do sleep 0.05; done;; esac; "
             f'"{CENSUS}" "$@"; touch done$RANDOM'
@@ -354,7 +355,7 @@ class ManyWorkers(Searches):
         self.assert_nothing_runs()
 
     def stopped(self, change: Callable[[int], None]) -> tuple[int, str]:
-        """Stops a search of three batches. Returns its status and what it prints."""
+        """Stops a search while three batches run. Returns its status and its error output."""
         program = self.stub('sleep 1; real "$@"')
         words = ["--seed=a", "--part=10", "--workers=40", "--late=never", *QUICK]
         with self.start(*words, program=program) as running:

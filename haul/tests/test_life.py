@@ -18,7 +18,7 @@ from haul.life.generations import MOST_PERIOD, advance, find_recurrence, find_sh
 from haul.life.soups import make_soup
 from haul.tests.called import CENSUS, TOP
 
-# In this rule all cells stay and none is born, so each cluster is a still life.
+# Under this rule all cells stay and none is born, so each cluster is a still life.
 STILL = "bs012345678"
 RULES = ["b3s23", "b36s23", "b3678s34678", "b37s0123", STILL]
 
@@ -285,7 +285,7 @@ class Clusters(unittest.TestCase):
 
 class Shapes(unittest.TestCase):
     def test_images(self) -> None:
-        """There are eight, as in docs/FORMATS.md, moved to the corner."""
+        """A pattern has the eight orientations in docs/FORMATS.md, here moved to the corner."""
         wanted = [
             "OOO\nO..",
             "OO\n.O\n.O",
@@ -318,7 +318,7 @@ class Shapes(unittest.TestCase):
 
 class Soups(unittest.TestCase):
     def test_a_thousand(self) -> None:
-        """The soups have several seeds, and numbers of one to thirteen digits."""
+        """The soups have several seeds, and numbers of one to twelve digits."""
         draw = random.Random("soups")
         asks = [
             (

@@ -7,6 +7,7 @@ import sys
 import unittest
 
 from haul.tests.called import TOP
+from haul.tests.mutation.runs import Trial, find_failing_tests
 
 
 class Sixty(unittest.TestCase):
@@ -21,6 +22,13 @@ class Sixty(unittest.TestCase):
             (0, "60 passed, 0 failed\n"),
             ended.stderr.decode(),
         )
+
+    def test_a_test_that_fails_anyway(self) -> None:
+        """Such a test would seem to notice every change."""
+        text = (TOP / "haul" / "plurals.py").read_text()
+        tests = {"haul.tests.test_layers.Layers.test_imports_go_down": 1.0, "haul.tests.none": 1.0}
+        found = find_failing_tests(Trial("plurals.py", text, tests), 1)
+        self.assertEqual(found, ["haul.tests.none"])
 
 
 if __name__ == "__main__":

@@ -20,8 +20,11 @@ from haul.cli.streams import Streams
 from haul.formats.haul import Haul, Job, Range
 from haul.formats.haul_reader import read_one_haul
 from haul.life.generations import read_rule
+from haul.page.data import describe_objects
+from haul.page.sides import make_sides
 from haul.page.summary import describe_profile
-from haul.tests.called import CENSUS, TOP, census, run
+from haul.terminal import Terminal
+from haul.tests.called import CENSUS, QUIET, TOP, census, run
 from haul.tests.drawn import text_of
 from haul.tests.pages import (
     RATES,
@@ -36,7 +39,6 @@ from haul.tests.pages import (
 from haul.tests.test_whole import cells_of, drawn, made
 from haul.rarity.reference import find_dispersion
 from haul.views.intervals import find_dispersed_interval, find_interval
-from haul.views.rarity import describe_part
 
 PULSAR = "xp3_co9nas0san9oczgoldlo0oldlogz1047210127401"
 
@@ -67,7 +69,7 @@ class Top(unittest.TestCase):
     )
 
     def test_each_word(self) -> None:
-        """Checks the whole top of a small page."""
+        """Checks each word at the top of a small page, up to the unsettled soups."""
         self.assertTrue(
             before_table(page(self.HAUL, 0)).startswith(
                 """
@@ -263,17 +265,20 @@ class Rows(unittest.TestCase):
     """Tests the table for readers without scripts."""
 
     def test_each_cell(self) -> None:
+        """Parts are counted: two blinkers in one object are two blinkers. The reference says
+        nothing about another profile."""
         haul = made(
             {
                 "xs4_33": 1200,
                 "xp15_4r4z4r4": 40,
                 "xq4_153": 3,
-                "xp2_1110s": 2,
+                "xp2_1110s": 1,
                 "ov_p123": 1,
                 "ov_s4000": 1,
                 "zz_1": 1,
             },
             [(5, 7)],
+            Profile(64, 512, 101, 20200),
             samples={
                 "xs4_33": [5, 6, 11],
                 "xp15_4r4z4r4": [7],
@@ -328,10 +333,10 @@ class Rows(unittest.TestCase):
                     "8",
                 ],
                 [
-                    "xp2_1110s: 5 by 5, 6 cells",
-                    "2 blinkers xp2_1110s",
+                    "blinker: 1 by 3, 3 cells",
+                    "blinker xp2_7",
                     "oscillator of period 2",
-                    "6",
+                    "3",
                     "2",
                     "≤ 1 in 3 soups",
                     "9",
@@ -381,9 +386,8 @@ class Rows(unittest.TestCase):
 
     def test_pictures(self) -> None:
         """Pictures match cell for cell, with a margin of one cell, also for objects of more than
-        ten rows. A cell has twelve points if there are fewer than ten cells."""
+        ten rows. A cell has twelve pixels if there are fewer than ten cells."""
         for code, scale in (
-            ("xs28_g88m952g8gz1218kid221", 4),
             (PULSAR, 4),
             ("xs4_1zzzz1zz1", 12),
             ("xs9_31ego", 12),
@@ -417,14 +421,32 @@ class Rows(unittest.TestCase):
 
     def test_what_is_left_out(self) -> None:
         haul = made({"xs4_33": 3, "xp2_7": 2, "xs5_253": 2}, [(0, 9)])
+        counted = "the most frequent first. Parts are counted: a bi-block is two blocks."
         for least, said in (
-            (2, "3 of 3 distinct objects, the most frequent first.<"),
-            (
-                3,
-                "1 of 3 distinct objects, the most frequent first. Of the others there are fewer than 3.<",
-            ),
+            (2, f"3 of 3 kinds, {counted}<"),
+            (3, f"1 of 3 kinds, {counted} Of the other kinds there are fewer than 3.<"),
         ):
             self.assertIn(f"<p>{said}", compared(haul, least=least))
+
+    def test_what_the_reference_says(self) -> None:
+        """The numbers are from reference/parts.tsv, and the intervals those of `haul rarity`."""
+        haul = made({"xs4_33": 9, "xp5_idiidiz01w1": 1, "xs4_y": 1}, [(0, 9)])
+        said = {
+            "xs4_33": "one in 1.1095 %: 1.10 to 1.10",
+            "xp5_idiidiz01w1": "one in 100,000,00095 %: 17,948,025 to 3,949,789,091",
+            "xs4_y": "no object that census counts, so the reference can't have it",
+        }
+        table = table_of(page(haul, 0))
+        self.assertEqual(table.heads[4:], ["Total", "In the reference", "Sample soups"])
+        self.assertEqual({row.cells[1].split()[-1]: row.cells[5] for row in table.rows}, said)
+        table = table_of(compared(haul, haul))
+        self.assertEqual(table.heads[-1], "In the reference")
+        self.assertEqual({row.cells[1].split()[-1]: row.cells[-1] for row in table.rows}, said)
+        self.assertEqual(table.rows[0].cells[5], "1 per soup")
+        loafer = objects_of(page(made({"xq7_3nw17862z6952": 1}, [(0, 9)]), 0))["xq7_3nw17862z6952"]
+        self.assertEqual(
+            loafer["rarity"], ["none in 100,000,000", "95 %: less than one in 27,100,000", ""]
+        )
 
 
 class Data(unittest.TestCase):
@@ -511,6 +533,9 @@ class Data(unittest.TestCase):
             {name: data[name] for name in ("least", "play", "kinds", "kindsOfParts", "intervals")},
             {"least": 1, "play": 3, "kinds": 5, "kindsOfParts": 4, "intervals": {}},
         )
+        self.assertEqual(data["reference"], 100_000_000)
+        other = made({"xs4_33": 1}, [(0, 9)], Profile(64, 512, 101, 20200))
+        self.assertEqual(data_of(page(other, 0))["reference"], 0)
         self.assertEqual(
             data["hauls"],
             [
@@ -545,6 +570,20 @@ class Data(unittest.TestCase):
             ],
         )
         self.assertEqual((data_of(text)["kinds"], data_of(text)["hauls"][0]["objects"]), (5, 14))
+
+    def test_progress(self) -> None:
+        """There are five objects, and two parts that aren't among them."""
+        stderr = io.StringIO()
+        sides = make_sides([self.HAUL], 1, 0, QUIET)
+        with patch.object(stderr, "isatty", return_value=True), patch(
+            "haul.page.data.OBJECTS_BETWEEN_PROGRESS", 3
+        ):
+            texts = describe_objects(sides, Terminal(stderr))
+        self.assertEqual(len(texts), 7)
+        self.assertEqual(
+            stderr.getvalue().split("\r\033[K"),
+            ["", *(f"{done} of 7 objects described" for done in (0, 3, 6)), ""],
+        )
 
     def test_large_totals(self) -> None:
         """JavaScript loses digits of a number above 2^53, so such a number is a text."""
@@ -703,7 +742,14 @@ class Comparing(unittest.TestCase):
         low, high = find_dispersed_interval(5000, find_dispersion("xs4_33"))
         for end, wanted in zip(block["ends"][1], (low, high)):
             self.assertAlmostEqual(end / 1000 / wanted, 1, places=5)
-        self.assertEqual(block["rarity"], describe_part("xs4_33"))
+        self.assertEqual(
+            block["rarity"],
+            [
+                "one in 1.10",
+                "95 %: 1.10 to 1.10",
+                "673,827,113 objects in 91,186,721 of 100,000,000 soups",
+            ],
+        )
         one = objects_of(page(many, 0))["xs4_33"]
         self.assertEqual([name in one for name in RATES], [True, False, False])
         other = objects_of(compared(self.LIFE, self.OTHER))["xs4_33"]
@@ -727,8 +773,9 @@ class Comparing(unittest.TestCase):
             [row.cells[4:] for row in table.rows],
             [
                 ["1,000", "10 per soup", "0", "5", "≤ 1 in 10 soups", "8 9"],
+                ["0", "", "", "8", "≤ 1 in 6 soups", "7"],
                 ["10", "≤ 1 in 10 soups", "0", "0", "", ""],
-                ["4", "≤ 1 in 25 soups", "0", "4", "≤ 1 in 12 soups", "7"],
+                ["4", "≤ 1 in 25 soups", "0", "0", "", ""],
             ],
         )
 
@@ -762,7 +809,7 @@ class Comparing(unittest.TestCase):
             self.assertEqual(len(known), 3)
 
     def test_files(self) -> None:
-        """There may be one to eight."""
+        """A page may have one to eight hauls."""
         with tempfile.TemporaryDirectory() as folder:
             name = f"{folder}/haul"
             Path(name).write_text(text_of(self.LIFE))
@@ -825,12 +872,12 @@ class Ends(unittest.TestCase):
             self.assertEqual(read_end(life, fields), end)
 
     def test_which_have_one(self) -> None:
-        """The first objects have ends. Strict objects come first, and objects that couldn't be
-        separated count as strict."""
+        """The first objects have ends. Parts come first, the most frequent first: 16 blinkers in
+        pairs, 9 blocks, and 7 objects that couldn't be separated."""
         haul = made(
-            {"xp2_1110s": 9, "xs4_33": 8, "ov_p3": 7},
+            {"xp2_1110s": 8, "xs4_33": 7, "xs8_rr": 1, "ov_p3": 7},
             [(0, 9)],
-            samples={"xp2_1110s": [0, 1], "xs4_33": [1, 2], "ov_p3": [3]},
+            samples={"xp2_1110s": [0, 1], "xs4_33": [1, 2], "xs8_rr": [4], "ov_p3": [3]},
         )
 
         def known(play: int) -> list[int]:
@@ -842,7 +889,7 @@ class Ends(unittest.TestCase):
 
         self.assertEqual(
             [known(play) for play in (0, 1, 2, 3, 500)],
-            [[], [1, 2], [1, 2, 3], [0, 1, 2, 3], [0, 1, 2, 3]],
+            [[], [0, 1], [0, 1, 2, 4], [0, 1, 2, 3, 4], [0, 1, 2, 3, 4]],
         )
 
     def test_a_soup_without_end(self) -> None:

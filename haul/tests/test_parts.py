@@ -4,8 +4,10 @@ from __future__ import annotations
 
 import csv
 import json
+import os
 import random
 import re
+import signal
 import subprocess
 import tempfile
 import unittest
@@ -14,14 +16,17 @@ from pathlib import Path
 from unittest.mock import patch
 
 from haul.tests.called import QUIET
+from haul.census.children import children
+from haul.census.forks import work_apart
+from haul.hauls import by_parts
 from haul.hauls.by_parts import Objects
 from haul.fates.rest import Rest, look_for_rest
 from haul.formats.profile import STANDARD
 from haul.life.field import pack
-from haul.life.blocks import Blocks, Run
+from haul.life.blocks import MOST_ISLANDS, Blocks, Run
 from haul.life.clusters import is_cluster
 from haul.life.generations import read_rule
-from haul.life.parts import MOST_ISLANDS, Separation, Separator, read_object
+from haul.life.parts import Separation, Separator, read_object
 from haul.names.labels import describe_parts, find_label, make_plural, mark_label
 from haul.formats.tables import BadTable
 from haul.names.objects import find_code_of_name, load_names, parse_names
@@ -42,6 +47,7 @@ FREQUENT = {
     "xs10_25520oo": "block and beehive",
 }
 LIGHT = "xp2_s01110szw222"
+PULSAR = "xp3_co9nas0san9oczgoldlo0oldlogz1047210127401"
 FOLDER = Path(__file__).resolve().parent
 
 
@@ -145,7 +151,7 @@ class Parts(unittest.TestCase):
     def test_pseudo_objects(self) -> None:
         """A bi-block is two blocks, and a traffic light is four blinkers. A block beside a pulsar
         is separated from it."""
-        pulsar = "xp3_co9nas0san9oczgoldlo0oldlogz1047210127401"
+        pulsar = PULSAR
         for code, wanted in (
             ("xs8_rr", ["xs4_33"] * 2),
             (LIGHT, ["xp2_7"] * 4),
@@ -156,8 +162,8 @@ class Parts(unittest.TestCase):
             self.assertEqual(parts(code), Separation(tuple(wanted)))
 
     def test_strict_objects(self) -> None:
-        """One island; two tables that are unstable by themselves; and the islands of a beacon
-        (four), a pulsar (sixteen) and a pentadecathlon."""
+        """Objects that are one island, such as a beacon and a pentadecathlon; two tables that are
+        unstable by themselves; and a pulsar, whose four islands aren't parts."""
         for code in (
             "xs4_33",
             "xq4_153",
@@ -207,6 +213,8 @@ class Parts(unittest.TestCase):
             code = f"xs{12 + 4 * blocks}_raar" + "0rr" * (blocks // 2) + "w33" * (blocks % 2)
             self.assertIsNotNone(read_object(read_rule("b3s23"), code))
             self.assertEqual(parts(code), wanted or unknown(code))
+            by_definition = Separator(read_rule("b3s23")).separate_by_definition(code)
+            self.assertEqual(by_definition, wanted or unknown(code))
 
     def test_a_part_that_falls_apart(self) -> None:
         """A blocker is one cluster in two of its eight phases, but not in the phase that is drawn.
@@ -216,7 +224,9 @@ class Parts(unittest.TestCase):
 
     def test_the_longest_period(self) -> None:
         for most, is_separated in ((2, False), (3, True)):
-            with patch("haul.life.parts.MOST_PERIOD", most):
+            with patch("haul.life.parts.MOST_PERIOD", most), patch(
+                "haul.life.quick_parts.MOST_PERIOD", most
+            ):
                 self.assertEqual(
                     parts("xp3_co9nas0san9oczgoldlo0oldlogz1047210127401").is_separated,
                     is_separated,
@@ -318,8 +328,8 @@ class Labels(unittest.TestCase):
             self.assertEqual(find_label(code, parts(code)), label)
 
     def test_words(self) -> None:
-        """Oscillators come first and still lifes last. Parts with a lower number come before
-        others."""
+        """Oscillators come first and still lifes last. Among parts of a kind, those with the lower
+        period or fewer cells come first."""
         for codes, words in (
             (("xs10_178kk8", "xs4_33", "xp2_7"), "blinker, block and beehive with tail"),
             (("xs4_33", "xs4_252", "xs4_33"), "tub and 2 blocks"),
@@ -612,6 +622,51 @@ class Once(unittest.TestCase):
             objects.separate_all(codes)
             objects.separate_all(codes[5:])
         self.assertEqual(separated.call_count, 20)
+
+
+class Many(unittest.TestCase):
+    """Many objects are separated in several processes."""
+
+    CODES = sorted(example().totals)[:300]
+
+    def separate(self) -> dict[str, Separation]:
+        with patch.multiple(by_parts, MANY_OBJECTS=300, OBJECTS_IN_A_SHARE=70):
+            return Objects(example(), QUIET).separate_all(self.CODES)
+
+    def assert_right(self, found: dict[str, Separation]) -> None:
+        self.assertEqual(found, Objects(example(), QUIET).separate_all(self.CODES))
+        self.assertEqual(list(found), self.CODES)
+        self.assertEqual(children.running, [])
+
+    def test_processes(self) -> None:
+        with patch.object(by_parts, "work_apart", side_effect=work_apart) as worked:
+            self.assert_right(self.separate())
+        self.assertEqual(worked.call_count, 5)
+
+    def test_few_objects(self) -> None:
+        with patch.object(by_parts, "work_apart", side_effect=work_apart) as worked:
+            with patch.multiple(by_parts, MANY_OBJECTS=301, OBJECTS_IN_A_SHARE=70):
+                self.assert_right(Objects(example(), QUIET).separate_all(self.CODES))
+        self.assertEqual(worked.call_count, 0)
+
+    def test_no_process(self) -> None:
+        """If there can't be another process, or if it is killed, this one does the work."""
+        with patch("os.fork", side_effect=OSError):
+            self.assert_right(self.separate())
+        parent, separate = os.getpid(), Separator.separate
+
+        def end(separator: Separator, code: str) -> Separation:
+            if os.getpid() != parent:
+                os.kill(os.getpid(), signal.SIGKILL)
+            return separate(separator, code)
+
+        with patch.object(Separator, "separate", end):
+            self.assert_right(self.separate())
+
+    def test_no_memory(self) -> None:
+        with patch.object(Separator, "separate", side_effect=MemoryError):
+            self.assertRaises(MemoryError, self.separate)
+        self.assertEqual(children.running, [])
 
 
 if __name__ == "__main__":

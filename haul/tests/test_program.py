@@ -25,6 +25,7 @@ from haul.formats.haul import Haul, Job, Range
 from haul.formats.haul_reader import read_one_haul
 from haul.hauls.by_parts import Objects
 from haul.hauls.check import list_differences, retake
+from haul.tests import plain_parts
 from haul.tests.called import CENSUS, census, run
 from haul.tests.pages import before_table, data_of, page, table_of
 from haul.views.compare import Comparison
@@ -196,7 +197,7 @@ class Checking(unittest.TestCase):
         )
 
     def test_a_haul_that_is_taken_again_in_pieces(self) -> None:
-        """There are more ranges than fit into the arguments of one call."""
+        """There are more ranges than `haul` puts into one call (`RANGES_IN_A_CALL`)."""
         job = Job("", "b3s23", Profile(1, 1, 1, 0))
         parts = b""
         for start in (0, 2000):
@@ -396,16 +397,21 @@ class Pages(unittest.TestCase):
                     self.assertIn(f'<code class="seed">{escape(seed)}</code>', shown)
 
     def test_all_is_there(self) -> None:
-        shown = page(read_one_haul(io.BytesIO(census("take", "--count", "40"))))
+        """The table has each part, by brute force from the definition, and the data also have each
+        object. The reference has 16,203,883 soups with a pond."""
+        haul = read_one_haul(io.BytesIO(census("take", "--count", "40")))
+        shown, plain = page(haul), plain_parts.rule_of("b3s23")
         rows = table_of(shown).rows
+        parts = {part for code in haul.totals for part in plain_parts.parts_of(plain, code)[0]}
+        self.assertEqual({row.cells[1].split()[-1] for row in rows}, parts)
+        self.assertEqual((len(rows), sum(len(row.paths) for row in rows)), (14, 14))
         self.assertEqual(
-            (len(rows), sum(len(row.paths) for row in rows), len(data_of(shown)["objects"])),
-            (30, 30, 30),
+            {one["code"] for one in data_of(shown)["objects"]}, parts | haul.totals.keys()
         )
-        self.assertIn("traffic light xp2_s01110szw222", [row.cells[1] for row in rows])
+        self.assertNotIn("traffic light xp2_s01110szw222", [row.cells[1] for row in rows])
         self.assertEqual(
             [row.cells[4:] for row in rows if row.cells[1] == "pond xs8_6996"],
-            [["6", "≤ 1 in 6 soups", "1 17 18"]],
+            [["6", "one in 6.1795 %: 6.17 to 6.17", "1 17 18"]],
         )
 
     def test_options_of_a_sample(self) -> None:

@@ -206,7 +206,7 @@ class Shown(unittest.TestCase):
         self.assertGreater(rows, 300)
 
     def test_least(self) -> None:
-        """Codes with exactly as many objects are included."""
+        """Codes with exactly `least` objects are included."""
         draw = random.Random("least")
         for _ in range(40):
             haul = any_haul(draw)
@@ -217,13 +217,13 @@ class Shown(unittest.TestCase):
                     shown, [code for code, total in haul.totals.items() if total >= least]
                 )
                 self.assertIn(
-                    f"{len(shown):,} of {len(haul.totals):,} distinct objects, the most frequent first.",
+                    f"{len(shown):,} of {len(haul.totals):,} kinds, the most frequent first.",
                     text,
                 )
 
     def test_four_thousand(self) -> None:
-        """The table has the thousand most frequent objects."""
-        codes = [f"xs4_{number:04}" for number in range(4000)]
+        """The table has the thousand most frequent parts."""
+        codes = [f"ov_s{number:04}" for number in range(4000)]
         haul = Haul(
             Job("", "b3s23", Profile(1, 1, 1, 0)),
             ranges=[(0, 1)],

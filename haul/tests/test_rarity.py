@@ -4,11 +4,13 @@ from __future__ import annotations
 
 import math
 import unittest
+from unittest.mock import patch
 
 from haul.formats.tables import BadTable
 from haul.rarity.equal_rates import compute_p_value
-from haul.rarity.incomplete import compute_beta, compute_gamma_tail
-from haul.rarity.occurrence import Occurrence, find_share_high, find_share_low
+from haul.rarity.incomplete import compute_beta, compute_gamma_tail, evaluate
+from haul.rarity import occurrence
+from haul.rarity.occurrence import Occurrence, find_share_high, find_share_low, format_one_in
 from haul.rarity.reference import (
     find_dispersion,
     find_occurrence,
@@ -62,6 +64,15 @@ class Functions(unittest.TestCase):
             self.near(compute_gamma_tail(1.5, x), wanted)
         self.assertEqual(compute_gamma_tail(2, 0), 1)
 
+    def test_fractions_with_a_denominator_of_0(self) -> None:
+        """1 + 1/(1 + 1/(1 + ..)) is the golden ratio. The first denominator is 0 in the first
+        fraction, a later one in the others."""
+        golden = (1 + math.sqrt(5)) / 2
+        rest = [(1.0, 1.0)] * 100
+        self.near(evaluate(iter(rest), 0.0), 1 / golden)
+        self.near(evaluate(iter([(-1.0, 1.0), *rest])), 1 - 1 / golden)
+        self.near(evaluate(iter([(2.0, 1.0), (-1.0, 1.0), *rest])), 1 + 2 / (1 - 1 / golden))
+
     def test_clopper_and_pearson(self) -> None:
         """The ends for 10 of 100 are those in statistical tables. At each end, the tail has 2.5
         %."""
@@ -69,7 +80,7 @@ class Functions(unittest.TestCase):
             (round(find_share_low(10, 100), 4), round(find_share_high(10, 100), 4)),
             (0.0490, 0.1762),
         )
-        for having, soups in ((1, 1), (1, 5), (3, 8), (8, 8), (50, 90)):
+        for having, soups in ((1, 1), (1, 2), (2, 3), (1, 5), (7, 8), (3, 8), (8, 8), (50, 90)):
             self.near(binomial_tail(having, soups, find_share_low(having, soups)), 0.025)
             if having < soups:
                 high = find_share_high(having, soups)
@@ -81,9 +92,26 @@ class Functions(unittest.TestCase):
         self.assertIsNone(Occurrence(0, 1000).one_in())
         self.assertIsNone(Occurrence(0, 1000).one_in_high())
 
+    def test_a_search_that_ends_early(self) -> None:
+        """A search that may take only a few steps returns the value that it has by then."""
+        with patch.object(occurrence, "MOST_STEPS", 2):
+            early = occurrence.find_beta_quantile.__wrapped__(4, 6, 0.025, -1.96)
+        self.assertEqual(round(early, 1), 0.1)
+        self.near(binomial_tail(4, 9, occurrence.find_beta_quantile(4, 6, 0.025, -1.96)), 0.025)
+
+    def test_texts(self) -> None:
+        """A number from 100 on is rounded to an integer."""
+        for one_in, text in ((99.994, "99.99"), (100.0, "100"), (100.6, "101"), (1.1, "1.10")):
+            self.assertEqual(format_one_in(one_in), text)
+
     def test_equal_rates(self) -> None:
         """The p-values are compared with sums of the binomial distribution."""
-        for one, other, soups, others in ((5, 15, 100, 100), (0, 6, 10, 20), (9, 4, 7, 3)):
+        for one, other, soups, others in (
+            (5, 15, 100, 100),
+            (0, 6, 10, 20),
+            (9, 4, 7, 3),
+            (6, 6, 100, 300),
+        ):
             trials, share = one + other, soups / (soups + others)
             at_least = binomial_tail(one, trials, share)
             above = binomial_tail(one + 1, trials, share)
@@ -114,7 +142,7 @@ class TheReference(unittest.TestCase):
         for column in range(5):
             fields = row.split(b"\t")
             fields[column] = fields[column][:-1] + (b"2" if fields[column][-1:] != b"2" else b"3")
-            with self.assertRaises(BadTable):
+            with self.assertRaisesRegex(BadTable, "line 1: .* by its SHA-256"):
                 parse_reference(b"\n".join([heads, b"\t".join(fields), *rows]))
 
     def test_sizes(self) -> None:

@@ -59,7 +59,7 @@ def drawn_rows(draw: random.Random, most: int) -> list[str]:
         "".join("O" if draw.random() < density else "." for _ in range(width))
         for _ in range(height)
     ]
-    # The width and the height of the bounding box.
+    # The first and the last cell make the bounding box as wide and as high as the rows.
     return (
         ["O" + "." * (width - 1), *rows[1:-1], "." * (width - 1) + "O"]
         if height > 1
@@ -360,8 +360,8 @@ class Golly(unittest.TestCase):
             )
 
     def test_patterns_of_golly(self) -> None:
-        """Of the patterns that fit, a third is tested: each is, moved to the corner, what Golly
-        writes of it."""
+        """A third of Golly's patterns is tested, except for those that are too large or refused.
+        What Golly writes after reading a pattern is the same pattern, moved to the corner."""
         tried = 0
         for file in sorted(Path("/usr/share/golly/Patterns").rglob("*.rle"))[::3]:
             text = file.read_bytes()

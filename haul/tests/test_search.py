@@ -376,7 +376,7 @@ class Faults(Searches):
 
     def test_nobody_reads(self) -> None:
         """The batch whose find can't be reported is in the file."""
-        with self.start("--seed=", "--first=23473", "--part", "20") as program:
+        with self.start("--seed=", "--first=23473", "--part=20", "--rarer=10000") as program:
             assert program.stdout
             program.stdout.close()
             program.wait(60)

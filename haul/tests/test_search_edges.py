@@ -19,7 +19,7 @@ from haul.tests.searching import QUICK, Searches
 
 
 class Programs(Searches):
-    """No process that a program has started goes on."""
+    """Tests that no process that a program has started is left running."""
 
     def test_finds_in_another_session(self) -> None:
         program = self.stub("cd ..; setsid -f sleep 77.5 < /dev/null > /dev/null 2>&1", "finder")

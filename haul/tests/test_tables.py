@@ -506,7 +506,8 @@ in A alone: xq4_153 xs8_rr; in B alone: xp15_4r4z4r4
         self.assertEqual([code for code, row in rows.items() if row[6].endswith("*")], [])
 
     def test_stars(self) -> None:
-        """By parts, under Life with the standard profile, a star is a test with the reference."""
+        """By parts, under Life with the standard profile, a star marks a rate that differs, given
+        the dispersion in the reference."""
         Path(self.folder.name, "l").write_text(haul("b3s23", 1000, {"xs4_33": 700, "xp2_7": 20}))
         Path(self.folder.name, "m").write_text(haul("b3s23", 500, {"xs4_33": 700, "xp2_7": 12}))
         lines = self.printed("compare", "--parts", "--intervals", "l", "m").splitlines()
@@ -567,8 +568,8 @@ in A alone: xq4_153 xs8_rr; in B alone: xp15_4r4z4r4
         self.assertIn("as if objects came singly", lines[-1])
 
     def test_all_that_is_printed(self) -> None:
-        """Three hauls in each order, with each option: facts, rates, intervals, ratios and stars,
-        and which haul alone has a code."""
+        """Three hauls in each order, with several options: facts, rates, intervals and ratios, and
+        which haul alone has a code."""
         names = {
             "xs4_33": "block",
             "xp2_7": "blinker",

@@ -79,7 +79,8 @@ class NotPrinted(UntoldFinds):
         self.assertIn(CLOCK, self.told(self.search("--until=700", "--rarer=10000")[1]))
 
     def test_a_call_that_does_not_end(self) -> None:
-        """Its find is reported again, after the finds that it kept waiting."""
+        """The find whose call doesn't end is reported again, and so are the finds that wait for
+        their calls."""
         program = self.stub("sleep 1000", "finder")
         with self.start(*WORDS, "--until=700", "--finds", program) as running:
             assert running.stdout

@@ -88,7 +88,8 @@ class Codes(unittest.TestCase):
         )
 
     def test_none_is_lost(self) -> None:
-        """A column has as many cells as its number has ones in binary."""
+        """Each code has its total and its number of cells. A column of a code has as many cells as
+        its number has ones in binary."""
         for count in (1, 99, 100, 101, 201):
             with self.subTest(count=count):
                 codes = [

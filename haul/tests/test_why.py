@@ -1,4 +1,4 @@
-"""`haul why`: the fates of soups and patterns, according to the definition in docs/HAUL.md."""
+"""`haul why`: the fates of soups and patterns, as defined in docs/HAUL-DETAILS.md."""
 
 from __future__ import annotations
 
@@ -277,7 +277,7 @@ class Told(unittest.TestCase):
                 self.assertEqual(found, told)
 
     def test_it_settles_after_the_limit(self) -> None:
-        """A blocker is two clusters in this phase, and one cluster in another."""
+        """A blocker is one cluster in two of its eight phases, and two clusters in the others."""
         blocker = census("show", "xp8_g3jgz1ut").decode()
         field, texts = Field(LIFE, cells_of_rows(blocker)), set()
         for _ in range(8):
@@ -300,12 +300,10 @@ class Told(unittest.TestCase):
     def test_formats_of_a_pattern(self) -> None:
         gliders = "bo$2bo$3o!", ".O.\n..O\nOOO\n", "1 0\n2 1\n0 2\n1 2\n2 2\n"
         self.assertEqual({why_pattern(text) for text in gliders}, {"settled 0"})
-        # The rule in a header is used, unless another rule is given.
-        header = "x = 1, y = 1, rule = B1/S\no!"
-        self.assertTrue(why_pattern(header, "--limit=9").startswith("still active"))
-        self.assertTrue(
-            why_pattern(header, "--limit=9", "--rule=b3s23").startswith("settles after 9")
-        )
+        # The rule in a header is used, unless another rule is given. A blinker dies without survivals.
+        header = "x = 3, y = 1, rule = B3/S\n3o!"
+        self.assertEqual(why_pattern(header), "settled 101")
+        self.assertEqual(why_pattern(header, "--rule=b3s23"), "settled 0")
 
     def test_soups(self) -> None:
         status, output, errors = why("603", "1", "--limit", "7070")

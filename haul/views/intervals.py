@@ -50,8 +50,8 @@ def find_mean(count: float, chance: float) -> float:
     if count <= MOST_TERMS:
         # mutant: equal because the same value is found between other ends
         return bisect(lambda mean: find_chance(count, mean), chance, 0.0, 2.0 * MOST_TERMS)
-    # Bisects the relative distance from the count rather than the mean itself, since it has more
-    # digits.
+    # Bisects the relative distance from the count rather than the mean itself, since the distance
+    # has more digits.
     most = DEVIATIONS / sqrt(count)
     return count * (1 + bisect(lambda apart: expand(count, apart), chance, -most, most))
 

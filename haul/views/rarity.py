@@ -53,6 +53,31 @@ def describe_part(code: str) -> str:
     )
 
 
+def list_part_words(code: str) -> list[str]:
+    """Returns what the reference says about a part, as texts for a page: `one in N`, the 95 %
+    interval of N, and how many objects it has in how many soups. If it has none, the first two
+    are `none in ..` and `less than one in ..`, and the third is empty. If `census` doesn't count
+    such objects, there is only one text, which says so."""
+    occurrence, entry = find_occurrence_of_counted(code), load_reference().get(code, NONE)
+    if occurrence is None:
+        return [NOT_COUNTED.replace("`", "")]
+    one_in, low, high = list_numbers(occurrence)
+    assert low is not None
+    if one_in is None or high is None:
+        return [f"none in {SOUPS:,}", f"95 %: less than one in {round_down(low):,}", ""]
+    interval = f"95 %: {separate_thousands(low)} to {separate_thousands(high)}"
+    objects = f"{entry.total:,} {pluralize(entry.total, 'object')}"
+    return [
+        f"one in {separate_thousands(one_in)}",
+        interval,
+        f"{objects} in {entry.soups:,} of {SOUPS:,} soups",
+    ]
+
+
+def separate_thousands(one_in: float) -> str:
+    return f"{one_in:,.0f}" if one_in >= 100 else format_one_in(one_in)
+
+
 def round_down(number: float) -> int:
     """Returns a number rounded down to three digits, followed by zeros."""
     unit = int(10 ** (len(str(int(number))) - ROUNDED))

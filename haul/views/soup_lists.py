@@ -25,8 +25,8 @@ class SoupList:
         """Keeps what the list needs of a report."""
 
     def table(self, _job: Job | None, settling: Settling) -> SoupTable:
-        """Returns the table of the added reports, whose job is `job`, or `None` if there are no
-        reports."""
+        """Returns the table of the added reports. The job is that of the reports, or `None` if
+        there are no reports."""
         return SoupTable(
             "bars",
             ["from", "to", "settled"],

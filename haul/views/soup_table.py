@@ -51,7 +51,7 @@ class SoupTable:
     def text(self, job: Job | None, settling: Settling) -> Iterator[str]:
         """Yields the lines for a reader."""
         yield from [describe_job(job)] if job else []
-        yield describe_soups(settling)
+        yield describe_settled_soups(settling)
         yield from [self.title] if self.title else []
         rows = [["-" if cell is None else str(cell) for cell in row] for row in self.rows]
         bars = [[bar] for bar in self.bars()] if self.has_bars else [[]] * len(rows)
@@ -76,7 +76,7 @@ class SoupTable:
         return ["#" * -(-number * LONGEST_BAR // most) if number else "" for number in numbers]
 
     def csv(self, job: Job | None, settling: Settling) -> Iterator[str]:
-        facts = list_csv_facts(job, settling)
+        facts = list_csv_settling(job, settling)
         rows = (["" if cell is None else str(cell) for cell in row] + facts for row in self.rows)
         yield from format_csv([self.heads + FACTS])
         yield from format_csv(rows)
@@ -93,7 +93,7 @@ class SoupTable:
         )
 
 
-def describe_soups(settling: Settling) -> str:
+def describe_settled_soups(settling: Settling) -> str:
     soups = settling.soups()
     line = f"{soups} {pluralize(soups, 'soup')}, {settling.unsettled} unsettled"
     line += f", {settling.for_good} for good"
@@ -110,7 +110,7 @@ def describe_settling(settling: Settling) -> str:
     return f"settled at: {quarters}, mean {format_figure(mean)}"
 
 
-def list_csv_facts(job: Job | None, settling: Settling) -> list[str]:
+def list_csv_settling(job: Job | None, settling: Settling) -> list[str]:
     of_job = [job.seed, job.rule, job.profile.format()] if job else [""] * 3
     numbers = [settling.soups(), settling.unsettled, settling.for_good, settling.unmarked]
     quartiles, mean = settling.quartiles(), settling.mean()

@@ -183,7 +183,8 @@ def list_heads(has_rarity: bool) -> list[str]:
 
 
 def format_table_text(lines: list[TableRow], has_rarity: bool, width: int | None) -> Iterator[str]:
-    """Yields the lines for a reader. Each column except for the last one is a single word."""
+    """Yields the lines for a reader. Each column except for the last one is a single word. Only
+    the samples may be empty, in a haul of apgsearch."""
     heads = list_heads(has_rarity)
     texts = {CODE, *(heads.index(head) for head in AFTER_RARITY)}
     return align_columns([heads] + [line.words() for line in lines], texts, CODE, width)

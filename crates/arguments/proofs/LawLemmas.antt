@@ -51,7 +51,7 @@ module _ (app : App) (arguments : List Text) (is : app ≡ census_app) (other : 
       let same = subst (λ (a : App). is_simple a ≡ true → found ≡ subcommand_of a arguments) is finds (and_parts _ _ census_is_free).0 in
       asked_by-called arguments (sym other) ∙ rw (none, same) refl
 
-  -- a failure that isn't one of memory comes of arguments that ask for nothing
+  -- if a parse fails, and not because memory ran out, its arguments ask for nothing
   pub asked_by-none : (kind : ErrorKind) → (is_simple_and_free app ≡ true → (kind ≡ OutOfMemory) ⊎ IsAmong kind (fault_of app arguments))
       → (kind ≡ OutOfMemory → ⊥) → asked_by arguments ≡ None
   asked_by-none kind fails enough = asked_by-called arguments (sym other) ∙ go (fault_of census_app arguments) _

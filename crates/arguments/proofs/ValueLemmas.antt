@@ -104,7 +104,7 @@ module _ (command : Command) (here : IsIn command commands) where
   abbrev c : List Rule
   c = (leaf command).rules
 
-  -- arguments of one name are one
+  -- two arguments with the same name are the same argument
   same_entry : (e e' : Entry) → IsIn e command.parameters → IsIn e' command.parameters → bytes_eq e'.name e.name ≡ true → e' ≡ e
   same_entry e e' there there' named =
       let named_by = λ (name : Text). find (λ e. bytes_eq e.name name) command.parameters in

@@ -1,4 +1,4 @@
--- How `clap` reads arguments by the table.
+-- How `clap` reads arguments according to the table.
 use Rattle.std.specs.Prelude.{List, [], ◌∷◌, None, Some, true, map, codes, not, is_some, if◌then◌else◌}
 use Rattle.std.specs.Option.{option_map_or}
 use Rattle.clap.specs.Words.{App, Rule, Shape, new_app, new_rule, with_rule, with_subcommand}
@@ -16,7 +16,7 @@ named entry = record (new_rule entry.name) {
   value_names = if entry.is_named then 1 else 0;
 }
 
--- the argument of a row with a value, which may be any text
+-- the argument of a row, as one that takes any text as its value
 abbrev pub placed : Entry → Rule
 placed entry = record (named entry) {
   required = not (is_some entry.default);

@@ -21,13 +21,13 @@ AsksForWhat command asked =
     (program : Text) (uses : List Use) → AreUses command uses → lacks_some command uses ≡ false
     → asked_by (program ∷ command.name ∷ arguments_in uses) ≡ asked uses
 
--- such a call asks for this request
+-- each such call of the command asks for this request
 abbrev pub AsksFor : Command → (List Use → Request) → Type 0
 AsksFor command request = AsksForWhat command (λ uses. Some (request uses))
 
 -- each command asks for its request, with the values that are given and the defaults of the others
 pub record AskForTheirValues : Type 0 where
-  -- sizes with coordinates, and sizes from a generation after the last, are nothing
+  -- a call for sizes with coordinates, or for sizes from a generation after the last, asks for nothing
   pub run : AsksForWhat table.run_command
       (λ uses. option_map (λ form. Run (number_given table.generations uses) form (text_given table.rule uses)) (run_form_given uses))
   pub name : AsksFor table.name_command (λ uses. Name (profile_given uses) (text_given table.rule uses))
@@ -64,8 +64,8 @@ pub record AsksForVersion : Type 0 where
   pub long : (program : Text) → asked_by (program ∷ codes "--version" ∷ []) ≡ Some Version
   pub short : (program : Text) → asked_by (program ∷ codes "-V" ∷ []) ≡ Some Version
 
--- A call asks for nothing if it has no command, if another argument is in the command's place, whatever comes after it,
--- or if it has `--help`.
+-- A call asks for nothing if it has no arguments; if the first argument isn't a command, isn't `help` and doesn't begin
+-- with `-`, whatever comes after it; or if its only argument is `--help`.
 pub record NoCommandAsksForNothing : Type 0 where
   pub no_command : (program : Text) → asked_by (program ∷ []) ≡ None
   pub unknown : (program argument : Text) (arguments : List Text) → starts_with_minus argument ≡ false

@@ -10,12 +10,12 @@ abbrev pub pattern_form : Bool → PatternForm
 pattern_form true = Coordinates
 pattern_form false = Plaintext
 
--- the sizes of the generations from one to the last, if it isn't after the last
+-- the sizes of the generations from `from` to `last`, or `None` if `from` is after `last`
 abbrev pub sizes_up_to : ℕ → ℕ → Option RunForm
 sizes_up_to last from = if nat_le from last then Some (Sizes from) else None
 
--- What `run` prints up to a last generation: a pattern, or sizes, if a first generation is given. Nothing is asked for
--- if coordinates are asked for too.
+-- What `run` prints: the pattern after the last generation, or, if a first generation is given, the sizes from the
+-- first to the last. It is `None` if coordinates are asked for as well, or if the first generation is after the last.
 abbrev pub run_form : PatternForm → ℕ → Option ℕ → Option RunForm
 run_form form last None = Some (Pattern form)
 run_form Plaintext last (Some from) = sizes_up_to last from

@@ -53,7 +53,7 @@ is_required entry = not (may_lack entry.kind) && not (is_some entry.default)
 abbrev pub lacks_some : Command → List Use → Bool
 lacks_some command uses = list_any (λ entry. is_required entry && not (is_used entry.name uses)) command.parameters
 
--- ---- and which it refuses
+-- ---- arguments that a command refuses
 
 -- the text has no sign, and doesn't have the digits of a number in this range
 abbrev pub IsNoNumber : ℕ → ℕ → Text → Type 0
@@ -72,7 +72,7 @@ pub record IsOutOfRange (command : Command) (u : Use) : Type 0 where
   pub stands : Stands u
   pub refused : IsNotOfKind (entry_in u).kind (value_in u)
 
--- `-x`, with whatever follows in the argument: a hyphen, and then a character that isn't one
+-- an argument such as `-x` or `-xyz`: a hyphen, and then a character that isn't a hyphen
 pub record IsShort (argument : Text) : Type 0 where
   pub letters : Text
   pub letter : ℕ

@@ -8,35 +8,35 @@ use Rattle.arguments.specs.declared.options.ValueKind.{ValueKind}
 use Rattle.arguments.specs.declared.options.ValueKind.TheVariants as kind
 use Rattle.arguments.specs.Entries.{Entry}
 
--- an argument in a call: VALUE alone, `--name VALUE`, `--name=VALUE`, or `--name` of a flag
+-- an argument in a call: VALUE by itself, `--name VALUE`, `--name=VALUE`, or `--name` of a flag
 pub data Use : Type 0 where
   alone : Entry → Text → Use
   spaced : Entry → Text → Use
   attached : Entry → Text → Use
   flagged : Entry → Use
 
--- its row in the table
+-- the row of the argument in the table
 abbrev pub entry_in : Use → Entry
 entry_in (alone entry value) = entry
 entry_in (spaced entry value) = entry
 entry_in (attached entry value) = entry
 entry_in (flagged entry) = entry
 
--- its value, which is `true` for a flag
+-- the value of the argument, which is `true` for a flag
 abbrev pub value_in : Use → Text
 value_in (alone entry value) = value
 value_in (spaced entry value) = value
 value_in (attached entry value) = value
 value_in (flagged entry) = codes "true"
 
--- the command-line arguments of which it consists
+-- the one or two command-line arguments in which the argument is given
 abbrev pub arguments_of : Use → List Text
 arguments_of (alone entry value) = value ∷ []
 arguments_of (spaced entry value) = (codes "--" ++ entry.name) ∷ value ∷ []
 arguments_of (attached entry value) = (codes "--" ++ (entry.name ++ (codes "=" ++ value))) ∷ []
 arguments_of (flagged entry) = (codes "--" ++ entry.name) ∷ []
 
--- the command-line arguments of several, in this order
+-- the command-line arguments in which several arguments are given, in this order
 abbrev pub arguments_in : List Use → List Text
 arguments_in uses = flat_map arguments_of uses
 
@@ -49,7 +49,7 @@ abbrev pub is_flag : ValueKind → Bool
 is_flag kind.Flag = true
 is_flag _ = false
 
--- a text that is an argument of its own doesn't begin with `-`
+-- a text that is a command-line argument by itself doesn't begin with `-`
 abbrev pub IsBare : ValueKind → Text → Type 0
 IsBare kind.Text value = starts_with_minus value ≡ false
 IsBare _ value = ⊤

@@ -1,4 +1,4 @@
--- What a request takes of the values that were found for the arguments of a command.
+-- What a request takes from the values that were found for the arguments of a command.
 use Rattle.std.specs.Prelude.{◌≤◌, ◌&&◌, ℕ, Bool, false, List, Option, None, Some, codes, option_and_then, nat_le, if◌then◌else◌}
 use Rattle.std.specs.Option.{option_map_or}
 use Rattle.std.specs.Str.{bytes_eq}

@@ -18,10 +18,8 @@ use crate::options::{Parameter, Place, ValueKind};
 use clap::builder::ValueParser;
 use clap::{Arg, ArgAction, Command};
 use memory::OutOfMemory;
+use requests::version::VERSION;
 use std::alloc::Global;
-
-/// The program's version, as `clap` prints it.
-const VERSION: &str = "0.3.0";
 
 /// What help says about the program.
 const ABOUT: &str = "Runs soups and patterns of Conway's Game of Life and other Life-like rules,\n\

@@ -39,7 +39,7 @@ const CONTRADICTION: &str =
 /// Why arguments give no request.
 #[derive(Debug, Drop)]
 pub enum Unasked {
-    /// They weren't understood, or ask for help. The text ends with a line feed.
+    /// They weren't understood, contradict each other, or ask for help. The text ends with a line feed.
     Usage(String),
     /// Memory ran out while `clap` read them.
     Unread(clap::Error),
@@ -61,7 +61,8 @@ impl<E: Into<OutOfMemory>> From<E> for Unasked {
 ///
 /// # Errors
 ///
-/// - [`Unasked::Usage`] if `clap` finds a fault in the arguments, or they ask for help.
+/// - [`Unasked::Usage`] if `clap` finds a fault in the arguments, if options of `run` contradict each other, or if the
+///   arguments ask for help.
 /// - [`Unasked::Unread`] and [`Unasked::Memory`] if memory runs out.
 pub fn request_of<'a, S: AsStr>(alloc: Global, arguments: &'a [S]) -> Result<Request<'a>, Unasked>
     ensures asked { IfOk result (λ request. asked_by (map S.text arguments.entry.now) ≡ Some request) }
@@ -118,7 +119,8 @@ pub fn asks_version<S: AsStr>(arguments: &[S]) -> bool
     }
 }
 
-/// Returns the request of the command that `clap` found, or `None` if it found no command or a value is missing.
+/// Returns the request of the command that `clap` found, or `None` if it found no command, a value is missing, or
+/// options of `run` contradict each other.
 fn request_in<'a>(matches: &ArgMatches<'a>) -> Option<Request<'a>>
     ensures request { result ≡ option_and_then request_in (subcommand_rows_of matches.now) }
     ensures ranges { IfSome result AreInTheirRanges }
@@ -127,7 +129,8 @@ fn request_in<'a>(matches: &ArgMatches<'a>) -> Option<Request<'a>>
     request_named(name, found)
 }
 
-/// Returns the request of the command with this name, or `None` if there is no such command or a value is missing.
+/// Returns the request of the command with this name, or `None` if there is no such command, a value is missing, or
+/// options of `run` contradict each other.
 fn request_named<'a>(name: &str, found: &ArgMatches<'a>) -> Option<Request<'a>>
     ensures request { result ≡ request_in (name.now, rows_of (found_of found.now)) }
     ensures ranges { IfSome result AreInTheirRanges }
@@ -176,7 +179,7 @@ fn text_of(alloc: Global, error: &clap::Error) -> Result<String, OutOfMemory>
     usage_text(alloc, text.as_str())
 }
 
-/// Returns the text, with a line feed at its end if it lacks one. An empty text is replaced by another.
+/// Returns the text, with a line feed at its end if it lacks one. An empty text is replaced by [`NOT_UNDERSTOOD`].
 fn usage_text(alloc: Global, text: &str) -> Result<String, OutOfMemory>
     ensures { IfOk result (λ text. IsUsageText (string_bytes text)) }
 {
@@ -189,7 +192,7 @@ fn usage_text(alloc: Global, text: &str) -> Result<String, OutOfMemory>
     Ok(told)
 }
 
-/// Returns the text, or another if it is empty.
+/// Returns the text, or [`NOT_UNDERSTOOD`] if the text is empty.
 fn some_text(text: &str) -> &str
     ensures { 0 < length result.now }
 {

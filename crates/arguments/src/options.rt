@@ -1,5 +1,5 @@
-//! The one table of the program's options and positional arguments: a row for each, and a list of rows for each
-//! command.
+//! The one table of the program's options and positional arguments, with a row for each. `commands` has the list of
+//! rows of each command.
 //!
 //! How `clap` reads arguments, what a request takes from them, and the laws about arguments all come from these rows. A
 //! new option is one more row in the lists of the commands that have it.
@@ -22,7 +22,7 @@ pub enum ValueKind {
 pub enum Place {
     /// By itself: the first argument that isn't an option.
     Position,
-    /// After `--` and its name, in the next argument or after `=`. Help shows this word for its value.
+    /// After `--` and its name, in the next argument or after `=`. Help shows this word in place of the value.
     Named(&'static str),
 }
 
@@ -46,10 +46,10 @@ pub struct Parameter {
 /// The most workers, and so the highest number of a worker: as many as a haul may have.
 const MOST_WORKERS: u64 = 16;
 
-/// The highest first number of a range. Soup numbers are below it, so a range that begins there is empty.
+/// The highest first number of a range. Soup numbers are below it, so only an empty range may begin there.
 const MOST_FIRST: u64 = 1 << 40;
 
-/// The heading for options that hardly anybody changes.
+/// The heading of the options that say when a soup has settled, which few users change.
 const SETTLING: Option<&'static str> = Some("When a soup has settled");
 
 /// The number of generations to run.
@@ -73,7 +73,7 @@ pub const COORDINATES: Parameter = Parameter {
          plaintext. The first column and the first row have the number 0",
 };
 
-/// The generation from which on `run` prints sizes.
+/// The first generation whose size `run` prints, if sizes are asked for.
 pub const SIZES: Parameter = Parameter {
     name: "sizes",
     place: Place::Named("FROM"),
@@ -244,7 +244,7 @@ pub const PROGRESS: Parameter = Parameter {
          line is wiped at the end",
 };
 
-/// The generation from which on a checkpoint is late, if late soups are to be reported.
+/// The first generation at which a soup that settles counts as late, if late soups are to be reported.
 pub const REPORT_FROM: Parameter = Parameter {
     name: "report-from",
     place: Place::Named("GENERATION"),

@@ -68,7 +68,7 @@ pub fn plan_in<'a>(found: &ArgMatches<'a>) -> Option<Plan<'a>>
     Some(Plan { set, profile, rule })
 }
 
-/// Returns the request of `run`, or `None` if a value is missing.
+/// Returns the request of `run`, or `None` if a value is missing or the options contradict each other.
 pub(crate) fn run_request<'a>(found: &ArgMatches<'a>) -> Option<Request<'a>>
     ensures request { result ≡ run_request (rows_of (found_of found.now)) }
     ensures ranges { IfSome result AreInTheirRanges }
@@ -83,8 +83,8 @@ pub(crate) fn run_request<'a>(found: &ArgMatches<'a>) -> Option<Request<'a>>
     })
 }
 
-/// Returns what `run` prints up to generation `last`, or `None` if the options contradict each other: sizes from a
-/// generation after the last, or sizes and coordinates.
+/// Returns what `run` prints up to generation `last`, or `None` if the options contradict each other: they ask for
+/// sizes from a generation after `last`, or for both sizes and coordinates.
 fn run_form_in(found: &ArgMatches<'_>, last: u64) -> Option<RunForm>
     ensures form { result ≡ run_form (form_in (rows_of (found_of found.now))) last
         (number_found sizes (rows_of (found_of found.now))) }
@@ -100,7 +100,7 @@ fn run_form_in(found: &ArgMatches<'_>, last: u64) -> Option<RunForm>
     }
 }
 
-/// Returns the sizes from generation `from` to generation `last`, or `None` if `from` comes after `last`.
+/// Returns the form that prints the sizes from generation `from` to `last`, or `None` if `from` is after `last`.
 fn sizes_up_to(last: u64, from: u32) -> Option<RunForm>
     ensures form { result ≡ sizes_up_to last from }
     ensures order { IfSome result (BeginsUpTo last) }
@@ -173,7 +173,7 @@ pub(crate) fn take_request<'a>(found: &ArgMatches<'a>) -> Option<Request<'a>>
     })
 }
 
-/// Returns the generation from which on checkpoints are late, or `None` if it isn't given.
+/// Returns the first generation at which a soup that settles counts as late, or `None` if it isn't given.
 fn report_from_in(found: &ArgMatches<'_>) -> Option<u32>
     ensures generation { result ≡ number_found report_from (rows_of (found_of found.now)) }
     ensures range { IfSome result (IsInRange report_from.kind) }

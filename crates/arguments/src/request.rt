@@ -9,13 +9,13 @@ use requests::plan::{Plan, ProfileNumbers, Text};
 /// options.
 #[derive(Drop)]
 pub enum Request<'a> {
-    /// The pattern of the input after this number of generations, under a rule, or the sizes up to it.
+    /// The pattern of the input after `generations` generations, under a rule, or its sizes up to that generation.
     Run {
         generations: u32,
         form: RunForm,
         rule: Text<'a>,
     },
-    /// What becomes of the input's pattern, under a profile and a rule.
+    /// When the input's pattern settles, and into which objects, under a profile and a rule.
     Name {
         profile: ProfileNumbers,
         rule: Text<'a>,
@@ -25,14 +25,14 @@ pub enum Request<'a> {
         code: Text<'a>,
         form: PatternForm,
     },
-    /// The soup with this number, of a seed.
+    /// The soup of a seed with this number.
     Soup {
         seed: Text<'a>,
         number: u64,
         form: PatternForm,
     },
-    /// The haul of all soups of a plan, taken with this number of workers; whether a progress line is asked for; and the
-    /// generation from which on checkpoints are late, if late soups are to be reported.
+    /// The haul of all soups of a plan, taken with this number of workers; whether a progress line is asked for; and
+    /// the first generation at which a soup that settles counts as late, if late soups are to be reported.
     Take {
         plan: Plan<'a>,
         workers: u8,
@@ -44,7 +44,7 @@ pub enum Request<'a> {
         plan: Plan<'a>,
         worker: u8,
     },
-    /// The haul of report lines from this number of workers, over the soups of a plan.
+    /// The haul of report lines from workers 1 to `workers`, about the soups of a plan.
     Gather {
         plan: Plan<'a>,
         workers: u8,

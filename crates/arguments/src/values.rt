@@ -27,7 +27,7 @@ pub fn number_found(found: &ArgMatches<'_>, row: &Parameter) -> Option<u64>
     }
 }
 
-/// Returns the number that was found for the argument `id`, or `None` if there is none or it is over `most`.
+/// Returns the number that was found for the argument `id`, or `None` if there is none or it is greater than `most`.
 fn number_up_to(found: &ArgMatches<'_>, id: &str, most: u64) -> Option<u64>
     ensures number { result ≡ number_up_to most id.now (rows_of (found_of found.now)) }
     ensures most { IfSome result (λ n. n ≤ most) }

@@ -1,6 +1,6 @@
--- From what the arguments ask for to the headline.
-use Rattle.std.proofs.Common.{◌≡◌, ◌∙◌, ◌<◌, ◌≤◌, ◌^◌, ◌++◌, ℕ, Bool, true, false, List, [], ◌∷◌, Option, None, Some, Result, Ok, Err, IsSomeAnd, ap, length, nat_le, nat_lt, refl, subst, sym}
-use Rattle.std.specs.Prelude.{if◌then◌else◌, position}
+-- The headline follows from what the arguments ask for and what was done.
+use Rattle.std.proofs.Common.{◌≡◌, ◌∙◌, ◌↔◌, suc, arith, ◌^◌, ℕ, Bool, true, false, List, Option, None, Some, Result, Ok, Err, IsSomeAnd, ap, length, nat_le, nat_lt, refl, subst, sym}
+use Rattle.std.specs.Prelude.{IsOkAnd, if◌then◌else◌, position}
 use Rattle.std.specs.Result.{result_map_both}
 use Rattle.std.specs.Io.KnownBytes.{Appends}
 use Rattle.plane_core.specs.declared.plane.cell.Cell.{Cell}
@@ -12,11 +12,12 @@ use Rattle.plane_core.proofs.lemmas.plane.RuleReading.{reads_rule, reads_text}
 use Rattle.survey_core.specs.declared.job.Job.{Job}
 use Rattle.survey_core.specs.declared.seed.SeedFault.{SeedFault}
 use Rattle.survey_core.specs.declared.finding.Finding.{Finding}
+use Rattle.haul_core.specs.Censuses.{IsCensus}
 use Rattle.survey_core.specs.Findings.{IsFinding}
 use Rattle.requests.specs.declared.plan.Plan.{Plan}
 use Rattle.requests.specs.declared.plan.ProfileNumbers.{ProfileNumbers}
 use Rattle.survey_core.specs.Profiles.{Settling}
-use Rattle.survey_core.specs.Seeds.{is_invisible, most_bytes, seed_read, seed_with_fault}
+use Rattle.survey_core.specs.Seeds.{is_invisible, most_bytes, seed_read}
 use Rattle.pattern_commands.specs.declared.ending.complaint.Complaint.{Complaint}
 use Rattle.pattern_commands.specs.declared.ending.complaint.Complaint.TheVariants.{Refused, TooLong}
 use Rattle.pattern_commands.specs.declared.ending.refusal.Refusal.TheVariants.{HorizonBelowPeriod}
@@ -27,17 +28,20 @@ use Rattle.pattern_commands.specs.Name.{TellsFinding, finding_text, name_right}
 use Rattle.pattern_commands.specs.Profiles.{profile_named, settling}
 use Rattle.pattern_commands.specs.Soup.{seed_complaint, seed_named}
 use Rattle.pattern_commands.specs.Streams.{Stream}
+use Rattle.commands.specs.CorrectLines.{HasCorrectLine, IsOfCorrectLines}
+use Rattle.commands.specs.Gathering.{IsHaulOver}
 use Rattle.commands.specs.SoupSets.{job_named}
 use Rattle.commands.specs.Take.{PrintsCensus, take_right}
+use Rattle.commands.proofs.CorrectLineLemmas.{gather_takes_correct_lines}
 use Rattle.commands.proofs.TakeLemmas.{prints_right}
 use Rattle.arguments.specs.declared.request.Request.{Request}
-use Rattle.arguments.specs.declared.request.Request.TheVariants.{Name, Take}
+use Rattle.arguments.specs.declared.request.Request.TheVariants.{Gather, Name, Take}
 use Rattle.arguments.specs.GivenValues.{number_given, number_if_given, plan_given, profile_given, text_given}
 use Rattle.arguments.specs.Requests.{Text, asked_by}
 use Rattle.arguments.specs.Table as table
 use Rattle.arguments.specs.Uses.{Use, is_used}
 use Rattle.arguments.proofs.LawLemmas.{ask_for_their_values}
-use Rattle.census.specs.Headline.{IsCall, IsCensusOfCall, IsFindingOf, IsJobOf, IsRuleOf, NamePrintsItsFinding, PrintsWhatIsAsked, TakePrintsItsCensus}
+use Rattle.census.specs.Headline.{GatherPrintsItsLines, IsCensusOfCall, IsCensusOfLines, IsFindingOf, IsJobOf, IsRuleOf, NamePrintsItsFinding, PrintsWhatIsAsked, TakePrintsItsCensus}
 use Rattle.census.specs.Program.{IsDone}
 use Rattle.census.specs.Requests.{right_for, take_behaviour_from}
 
@@ -189,12 +193,70 @@ name_prints arguments reader before after errors missing done uses call =
     let right = right_of arguments reader before after errors missing request done asked in
     (done.bytes, done.input, finding_of uses done.bytes done.made.text before after right.0 done.written)
 
+-- ---- what was gathered
+
+-- the soups of a haul that may be opened for a call are those of the call
+gathered_of : (uses : List Use) (bytes : List ℕ) (made : Made) (code : ℕ)
+    → (lines : IsOfCorrectLines (plan_given uses) (number_given table.workers uses) bytes made) → (code ≡ 0) ↔ (made.missing ≡ 0)
+    → IsCensusOfLines uses bytes code lines.tells.census
+gathered_of uses bytes made code lines same_end = go (job_named (plan_given uses)) refl lines.opened
+  where
+    go : (named : Result Job Complaint) → job_named (plan_given uses) ≡ named
+        → IsOkAnd named (λ job. IsHaulOver (plan_given uses).set (number_given table.workers uses) job lines.terms)
+        → IsCensusOfLines uses bytes code lines.tells.census
+    go (Err complaint) is over = absurd over
+    go (Ok job) is over = record {
+      job = job;
+      job_is = job_of uses job is;
+      ranges = over.ranges;
+      soups = record { listed = over.named.listed; fit = over.named.fit; spelled = over.named.spelled; all = over.named.all };
+      numbers = lines.tells.numbers;
+      once = lines.tells.once;
+      correct = λ n. (
+        λ taken. let found = (lines.tells.correct n).0 taken in (sym (over.form.same n) ∙ found.0, to n found.1),
+        λ found. (lines.tells.correct n).1 (over.form.same n ∙ found.0, from n found.1),
+      );
+      normal = lines.terms.ranges;
+      form = over.form;
+      counted = subst (λ (j : Job). IsCensus j lines.terms.ranges lines.tells.numbers lines.tells.census) over.job_is lines.tells.counted;
+      complete = (
+        λ zero_is n within. to n (lines.tells.whole.0 (same_end.0 zero_is) n (over.form.same n ∙ within)),
+        λ each. same_end.1 (lines.tells.whole.1 (λ n within. from n (each n (sym (over.form.same n) ∙ within)))),
+      );
+    }
+      where
+        to : (n : ℕ) → HasCorrectLine lines.terms.job lines.terms.workers bytes n → HasCorrectLine job (number_given table.workers uses) bytes n
+        to n h =
+            subst (λ (j : Job). HasCorrectLine j (number_given table.workers uses) bytes n) over.job_is
+            (subst (λ (w : ℕ). HasCorrectLine lines.terms.job w bytes n) over.workers_are h)
+
+        from : (n : ℕ) → HasCorrectLine job (number_given table.workers uses) bytes n → HasCorrectLine lines.terms.job lines.terms.workers bytes n
+        from n h =
+            subst (λ (j : Job). HasCorrectLine j lines.terms.workers bytes n) (sym over.job_is)
+            (subst (λ (w : ℕ). HasCorrectLine job w bytes n) (sym over.workers_are) h)
+
+gather_prints : (arguments : List Text) (reader before after : Option (List ℕ)) (errors : Stream) (missing code : ℕ)
+    → (code ≡ 0) ↔ (missing ≡ 0) → IsDone arguments reader before after errors missing → GatherPrintsItsLines arguments reader before after code
+gather_prints arguments reader before after errors missing code same_end done uses call =
+    let request = Gather (plan_given uses) (number_given table.workers uses) in
+    let asked : asked_by arguments ≡ Some request =
+    ap asked_by call.spelled ∙ ask_for_their_values.gather call.program uses call.permitted call.complete in
+    let right = right_of arguments reader before after errors missing request done asked in
+    let lines = gather_takes_correct_lines (plan_given uses) (number_given table.workers uses) done.bytes done.made right in
+    let both : (code ≡ 0) ↔ (done.made.missing ≡ 0) =
+    subst (λ (n : ℕ). (code ≡ 0) ↔ (n ≡ 0)) done.missing_is same_end in (
+      done.bytes,
+      done.input,
+      (lines.tells.census, gathered_of uses done.bytes done.made code lines both, subst (Appends before after) lines.tells.text_is done.written),
+    )
+
 -- what was done is what the headline says
-pub prints_what_is_asked : (arguments : List Text) (reader before after : Option (List ℕ)) (errors : Stream) (missing : ℕ)
-    → IsDone arguments reader before after errors missing → PrintsWhatIsAsked arguments reader before after
-prints_what_is_asked arguments reader before after errors missing done = record {
-  take = take_prints arguments reader before after errors missing done;
-  name = name_prints arguments reader before after errors missing done;
+pub prints_what_is_asked : (arguments : List Text) (reader before after : Option (List ℕ)) (errors : Stream)
+    → IsDone arguments reader before after errors 0 → PrintsWhatIsAsked arguments reader before after
+prints_what_is_asked arguments reader before after errors done = record {
+  take = take_prints arguments reader before after errors 0 done;
+  name = name_prints arguments reader before after errors 0 done;
+  gather = gather_prints arguments reader before after errors 0 0 (λ zero_is. refl, λ zero_is. refl) done;
 }
 
 -- the same for the writer that the program gives back
@@ -203,4 +265,14 @@ pub prints_if_done : {V : Type 0} (contents : V → Option (List ℕ)) (argument
     → IsSomeAnd back (λ writer. PrintsWhatIsAsked arguments reader (contents given) (contents writer))
 prints_if_done contents arguments reader given None errors done = absurd done
 prints_if_done contents arguments reader given (Some writer) errors done =
-    prints_what_is_asked arguments reader (contents given) (contents writer) errors 0 done
+    prints_what_is_asked arguments reader (contents given) (contents writer) errors done
+
+-- what `gather` has printed if soups are missing
+pub prints_if_incomplete : {V : Type 0} (contents : V → Option (List ℕ)) (arguments : List Text) (reader : Option (List ℕ)) (given : V)
+    (back : Option V) (errors : Stream)
+    → IsSomeAnd back (λ writer. (less : ℕ) × IsDone arguments reader (contents given) (contents writer) errors (suc less))
+    → IsSomeAnd back (λ writer. GatherPrintsItsLines arguments reader (contents given) (contents writer) 6)
+prints_if_incomplete contents arguments reader given None errors done = absurd done
+prints_if_incomplete contents arguments reader given (Some writer) errors (less, done) =
+    gather_prints arguments reader (contents given) (contents writer) errors (suc less) 6
+    (λ zero_is. absurd (omega (arith, zero_is)), λ none. absurd (omega (arith, none))) done

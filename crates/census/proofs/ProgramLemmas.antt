@@ -17,7 +17,7 @@ use Rattle.pattern_commands.specs.Behaviours.{Made}
 use Rattle.pattern_commands.specs.Version.{version_behaviour}
 use Rattle.census.specs.Program.{Complains, IsDone, IsPrefixOf, since}
 use Rattle.census.specs.ProgramEnds.{LeavesAlone}
-use Rattle.census.specs.Requests.{DoesRequest, DoesArguments, right_for, behaviour_of, reads_input, tells_lines}
+use Rattle.census.specs.Requests.{DoesRequest, DoesArguments, right_for, behaviour_of, reads_input, writes_lines}
 use Rattle.census.proofs.RequestLemmas.{does}
 
 -- ---- a code tells the status
@@ -76,7 +76,7 @@ unprinted : (complaint : Complaint) → has_printed (status_of complaint) ≡ fa
 unprinted complaint = search rules
 
 -- only gathering tells of its input
-quiet : (request : Request) (bytes : List ℕ) (made : Made) → tells_lines request ≡ false → right_for request bytes (Ok made) → made.diagnostics ≡ []
+quiet : (request : Request) (bytes : List ℕ) (made : Made) → writes_lines request ≡ false → right_for request bytes (Ok made) → made.diagnostics ≡ []
 quiet request bytes made mute is = search rules
 
 -- the last line, which is none if nothing is missing
@@ -93,7 +93,7 @@ pub record Prints (arguments : List Text) (reader before below : Option (List �
   pub missing : ℕ
   pub status_is : status ≡ status_after (Ok missing)
   pub done : IsDone arguments reader before below errors missing
-  pub silent : missing ≡ 0 → IfSome (asked_by arguments) (λ request. tells_lines request ≡ false → Has errors [])
+  pub silent : missing ≡ 0 → IfSome (asked_by arguments) (λ request. writes_lines request ≡ false → Has errors [])
 
 some_and : {X : Type 0} {P : X → Type 0} (o : Option X) → IsSomeAnd o P → (x : X) × (o ≡ Some x) × P x
 some_and None h = absurd h
@@ -127,7 +127,7 @@ module _ (arguments : List Text) (reader below : Option (List ℕ)) (status : St
               written = whole_sent written.before written.after below reached.made.text reached.text kept;
               diagnostics = record { so_far = so_far.after; whole = diagnostics; last = told_last missing (since so_far errors) last };
             };
-            silent = λ none. subst (λ o. IfSome o (λ request. tells_lines request ≡ false → Has errors [])) (sym asked)
+            silent = λ none. subst (λ o. IfSome o (λ request. writes_lines request ≡ false → Has errors [])) (sym asked)
                 (λ mute. nothing_more errors.before so_far.after errors.after
                 (subst (Appends errors.before so_far.after) (quiet request does.bytes reached.made mute reached.is) diagnostics)
                 (told_none missing (since so_far errors) none last));
@@ -176,7 +176,7 @@ keeps_all (Some xs) = append-nil xs
 -- how the program ends where it prints the version without a buffer
 pub record EndsVersion (arguments : List Text) (reader before after : Option (List ℕ)) (status : Status) (errors : Stream) : Type 0 where
   pub done : status ≡ statuses.Done → IsDone arguments reader before after errors 0
-  pub silent : status ≡ statuses.Done → IfSome (asked_by arguments) (λ request. tells_lines request ≡ false → Has errors [])
+  pub silent : status ≡ statuses.Done → IfSome (asked_by arguments) (λ request. writes_lines request ≡ false → Has errors [])
   pub complains : status ≢ statuses.Done → Complains arguments reader (exit_code status) before after errors
 
 pub ends_version : (arguments : List Text) (reader before after : Option (List ℕ)) (status : Status) (written errors : Stream)

@@ -1,8 +1,10 @@
--- The headline: what the program has printed when it ends with exit code 0, for the person who runs it.
+-- The headline: what the program has printed when it ends with exit code 0. For `gather`, also what it has printed when
+-- soups are missing, which is exit code 6.
 --
 -- A call is the program's name, the name of a command, and uses of its options: each at most once, in any order, with a
 -- permitted value. An option that isn't used has its default.
-use Rattle.std.specs.Prelude.{◌≡◌, ◌++◌, false, ℕ, List, [], ◌∷◌, Option, Ok}
+use Rattle.std.specs.Prelude.{◌≡◌, ◌≤◌, ◌↔◌, ◌++◌, false, true, ℕ, List, [], ◌∷◌, Option, Ok, count_by, nat_eq}
+use Rattle.std.specs.List.{list_any}
 use Rattle.std.specs.Io.KnownBytes.{Appends}
 use Rattle.plane_core.specs.declared.plane.cell.Cell.{Cell}
 use Rattle.plane_core.specs.Plaintext.{pattern}
@@ -12,11 +14,12 @@ use Rattle.survey_core.specs.declared.job.Job.{Job}
 use Rattle.survey_core.specs.Findings.{IsFinding}
 use Rattle.ranges.specs.declared.range.Range.{Range}
 use Rattle.ranges.specs.RangeLists.{FitU64, list_text}
-use Rattle.ranges.specs.Ranges.{IsNormalForm}
+use Rattle.ranges.specs.Ranges.{IsNormalForm, is_in}
 use Rattle.haul_core.specs.declared.book.census.Census.{Census}
 use Rattle.haul_core.specs.Censuses.{IsCensus}
 use Rattle.haul_core.specs.HaulTexts.{haul_text}
 use Rattle.haul_core.specs.Missing.{AreAll}
+use Rattle.commands.specs.CorrectLines.{HasCorrectLine}
 use Rattle.pattern_commands.specs.Answers.{IsInput}
 use Rattle.pattern_commands.specs.Name.{finding_text}
 use Rattle.pattern_commands.specs.Profiles.{settling}
@@ -24,17 +27,17 @@ use Rattle.arguments.specs.Entries.{Command}
 use Rattle.arguments.specs.GivenValues.{number_given, profile_given, text_given}
 use Rattle.arguments.specs.LawfulUses.{AreUses, lacks_some}
 use Rattle.arguments.specs.Requests.{Text}
-use Rattle.arguments.specs.Table.{also, count, first, name_command, rule, seed, take_command}
+use Rattle.arguments.specs.Table.{also, count, first, gather_command, name_command, rule, seed, take_command, workers}
 use Rattle.arguments.specs.Uses.{Use, arguments_in}
 
--- the arguments are a call of the command with these uses, and no required one is missing
+-- the arguments are a call of the command with these uses, and no required option is missing
 pub record IsCall (command : Command) (uses : List Use) (arguments : List Text) : Type 0 where
   pub program : Text
   pub spelled : arguments ≡ program ∷ command.name ∷ arguments_in uses
   pub permitted : AreUses command uses
   pub complete : lacks_some command uses ≡ false
 
--- the rule that is written in this way, such as b3s23
+-- the text is that of the rule, such as b3s23
 pub record IsRuleOf (text : List ℕ) (rule : Numbers) : Type 0 where
   pub complete : IsRule rule
   pub spelled : rule_text rule ≡ text
@@ -52,7 +55,7 @@ pub record AreSoupsOf (uses : List Use) (ranges : List Range) : Type 0 where
   pub spelled : list_text listed ≡ text_given also uses
   pub all : ranges ≡ listed ++ record { first = number_given first uses; count = number_given count uses } ∷ []
 
--- the census of a call: of its job, over each of its soups once
+-- the census of a call: for its job, over all of its soups, each once
 pub record IsCensusOfCall (uses : List Use) (census : Census) : Type 0 where
   pub job : Job
   pub job_is : IsJobOf uses job
@@ -83,7 +86,30 @@ NamePrintsItsFinding arguments reader before after = (uses : List Use) → IsCal
     → (bytes : List ℕ) × IsInput reader bytes
     × ((finding : Finding) × IsFindingOf uses bytes finding × Appends before after (finding_text finding))
 
+-- The census over those soups of a call of `gather` for which the input has a correct line. The exit code is 0 if and
+-- only if every soup of the call has such a line.
+pub record IsCensusOfLines (uses : List Use) (bytes : List ℕ) (code : ℕ) (census : Census) : Type 0 where
+  pub job : Job
+  pub job_is : IsJobOf uses job
+  pub ranges : List Range
+  pub soups : AreSoupsOf uses ranges
+  pub numbers : List ℕ
+  pub once : (n : ℕ) → count_by (nat_eq n) numbers ≤ 1
+  pub correct : (n : ℕ) → (list_any (nat_eq n) numbers ≡ true)
+      ↔ ((is_in ranges n ≡ true) × HasCorrectLine job (number_given workers uses) bytes n)
+  pub normal : List Range
+  pub form : IsNormalForm ranges normal
+  pub counted : IsCensus job normal numbers census
+  pub complete : (code ≡ 0) ↔ ((n : ℕ) → is_in ranges n ≡ true → HasCorrectLine job (number_given workers uses) bytes n)
+
+-- a call of `gather` that ended with this exit code has printed the haul text of the soups with correct lines
+abbrev pub GatherPrintsItsLines : List Text → (reader before after : Option (List ℕ)) → (code : ℕ) → Type 0
+GatherPrintsItsLines arguments reader before after code = (uses : List Use) → IsCall gather_command uses arguments
+    → (bytes : List ℕ) × IsInput reader bytes
+    × ((census : Census) × IsCensusOfLines uses bytes code census × Appends before after (haul_text census))
+
 -- the headline: what was printed by a call that ended with exit code 0
 pub record PrintsWhatIsAsked (arguments : List Text) (reader before after : Option (List ℕ)) : Type 0 where
   pub take : TakePrintsItsCensus arguments before after
   pub name : NamePrintsItsFinding arguments reader before after
+  pub gather : GatherPrintsItsLines arguments reader before after 0

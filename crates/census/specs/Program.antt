@@ -18,7 +18,7 @@ abbrev pub not_text_line : List ℕ
 not_text_line = codes "census: the words are not UTF-8\n"
 
 -- the bytes of a writer after the program; if there was no memory for its buffer, the writer isn't returned and its
--- bytes are those of before
+-- bytes are unchanged
 abbrev pub left_by : {V : Type 0} → (V → Option (List ℕ)) → V → Option V → Option (List ℕ)
 left_by contents old None = contents old
 left_by contents old (Some new) = contents new
@@ -55,7 +55,7 @@ IsPrefixOf (Some xs) (Some ys) = (remainder : List ℕ) × (ys ++ remainder ≡ 
 
 -- after the diagnostics of a command, standard error has the line of a failed write, unless a write to it had failed
 -- before
-pub record TellsOfWrite (diagnostics errors : Stream) : Type 0 where
+pub record HasWriteFailedLine (diagnostics errors : Stream) : Type 0 where
   pub line : diagnostics.failed ≡ false → HasLine (since diagnostics errors) write_failed_line
   pub stays : diagnostics.failed ≡ true → errors.failed ≡ true
 
@@ -64,11 +64,11 @@ pub record TellsOfWrite (diagnostics errors : Stream) : Type 0 where
 abbrev pub EndsBadly : Status → ℕ → Stream → Stream → Type 0
 EndsBadly status number diagnostics errors =
     ((has_printed status ≡ false) × (number ≡ exit_code status) × (errors ≡ diagnostics))
-    ⊎ ((has_printed status ≡ true) × (number ≡ exit_code Failed) × (errors.before ≡ diagnostics.before) × TellsOfWrite diagnostics errors)
+    ⊎ ((has_printed status ≡ true) × (number ≡ exit_code Failed) × (errors.before ≡ diagnostics.before) × HasWriteFailedLine diagnostics errors)
 
 -- The program ends with a complaint. The command that the arguments ask for has ended, or there was no memory to read
--- them. `written` is what it wrote to the buffer, and `diagnostics` what it wrote to standard error. The writer below
--- the buffer has got a prefix of `written`.
+-- the arguments or for a buffer. `written` is what the command wrote to the buffer, and `diagnostics` what it wrote to
+-- standard error. The writer below the buffer has got a prefix of `written`.
 pub record Complains (arguments : List Text) (reader : Option (List ℕ)) (number : ℕ) (before after : Option (List ℕ)) (errors : Stream) : Type 0 where
   pub status : Status
   pub written : Stream

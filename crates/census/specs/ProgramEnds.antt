@@ -3,10 +3,10 @@ use Rattle.std.specs.Prelude.{◌≡◌, ◌≢◌, ℕ, suc, false, true, List,
 use Rattle.pattern_commands.specs.Streams.{Stream, Has}
 use Rattle.arguments.specs.Requests.{Text, asked_by}
 use Rattle.census.specs.Program.{Complains, IsDone, left_by}
-use Rattle.census.specs.Requests.{TellsUsage, is_whole, reads_input, refuses_input, tells_lines}
+use Rattle.census.specs.Requests.{TellsUsage, is_whole, reads_input, refuses_input, writes_lines}
 
 -- What is left unchanged, by the exit code. `input` says that the reader is unchanged, `output` that the writer of
--- standard output is, and `unprinted` that this writer is if it is returned.
+-- standard output is unchanged, and `unprinted` that this writer is unchanged if it is returned.
 pub record LeavesAlone (arguments : List Text) (code : ℕ) (errors : Stream) (input output unprinted : Type 0) : Type 0 where
   -- code 2: the arguments ask for nothing
   pub usage : code ≡ 2 → asked_by arguments ≡ None
@@ -30,7 +30,7 @@ pub record ProgramEnds {V : Type 0} (contents : V → Option (List ℕ)) (argume
   -- code 0: what the arguments ask for was done, and the writer has its whole text
   pub done : code ≡ 0 → IsSomeAnd back (λ writer. IsDone arguments reader (contents given) (contents writer) errors 0)
   -- code 0: only `gather`, and `take` with `--report-from`, write to standard error
-  pub silent : code ≡ 0 → IfSome (asked_by arguments) (λ request. tells_lines request ≡ false → Has errors [])
+  pub silent : code ≡ 0 → IfSome (asked_by arguments) (λ request. writes_lines request ≡ false → Has errors [])
   -- code 6: what the arguments ask for was done, except that soups are missing
   pub incomplete : code ≡ 6 → IsSomeAnd back (λ writer. (less : ℕ) × IsDone arguments reader (contents given) (contents writer) errors (suc less))
   -- any code except 0, 2 and 6: the complaint that ended the command, with its line

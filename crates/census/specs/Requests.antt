@@ -63,10 +63,10 @@ abbrev pub is_whole : Request → Bool
 is_whole request = (behaviour_of request).whole
 
 -- the command writes more than its last line to standard error: diagnostics about lines of its input, or report lines
-abbrev pub tells_lines : Request → Bool
-tells_lines (Gather plan workers) = true
-tells_lines (Take plan workers progress (Some from)) = true
-tells_lines request = false
+abbrev pub writes_lines : Request → Bool
+writes_lines (Gather plan workers) = true
+writes_lines (Take plan workers progress (Some from)) = true
+writes_lines request = false
 
 -- the request is about a set of soups
 abbrev pub is_over_sets : Request → Bool
@@ -89,7 +89,7 @@ pub record Spares (request : Request) (status : Status) (input output : Type 0) 
   pub untouched : status ≡ Refused → output
   pub no_memory : status ≡ Memory → is_whole request ≡ true → output
 
--- the command of a request has ended on an input, by the rule of all commands
+-- the command of a request has ended on an input as its behaviour allows
 pub record DoesRequest (reader : Option (List ℕ)) (status : Status) (output errors : Stream) (request : Request) : Type 0 where
   pub bytes : List ℕ
   pub input : IsInput reader bytes
@@ -102,7 +102,7 @@ pub record LacksMemory (arguments : List Text) (status : Status) (output errors 
   pub nothing : Has output []
   pub line : HasLine errors (complaint_line (complaint.Memory out_of_memory))
 
--- the command that the arguments ask for has ended, or there was no memory to read them
+-- the command that the arguments ask for has ended, or there was no memory to read them or for a buffer
 abbrev pub DoesArguments : List Text → Option (List ℕ) → Status → Stream → Stream → Type 0
 DoesArguments arguments reader status output errors =
     IsSomeAnd (asked_by arguments) (DoesRequest reader status output errors) ⊎ LacksMemory arguments status output errors

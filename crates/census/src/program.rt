@@ -15,7 +15,7 @@ ghost use Rattle.pattern_commands.specs.Status.{exit_code};
 ghost use Rattle.pattern_commands.specs.Ends.{Ends};
 ghost use Rattle.pattern_commands.specs.Streams.{HasLine, Stream, stream};
 ghost use Rattle.pattern_commands.specs.Version.{version_behaviour};
-ghost use Rattle.census.specs.Headline.{PrintsWhatIsAsked};
+ghost use Rattle.census.specs.Headline.{GatherPrintsItsLines, PrintsWhatIsAsked};
 ghost use Rattle.census.specs.Program.{IsDone, not_text_line};
 ghost use Rattle.census.specs.ProgramEnds.{ProgramEnds};
 ghost use Rattle.census.specs.Requests.{TellsUsage};
@@ -64,15 +64,20 @@ pub fn run_program<
 ) -> Ended<W>
     requires { machine.old.errors.failed ≡ false }
 
-    // With code 0 the arguments are texts, what they ask for was done, and the writer has its whole text.
+    // With code 0 the arguments are texts, what they ask for was done, and the writer has received the whole answer.
     ensures done { result.code ≡ 0 → IsOkAnd arguments (λ list. IsSomeAnd result.output (λ writer.
         IsDone (map string_bytes list.items) (R.remaining input.old) (W.contents output) (W.contents writer)
         (stream E.contents machine.old.errors machine.new.errors) 0)) }
 
-    // For a call of a command with permitted options, what was printed is what the options ask for.
+    // After a call of `take`, `name` or `gather` with permitted options, the writer has what the call asks for.
     ensures headline { result.code ≡ 0 → IsOkAnd arguments (λ list. IsSomeAnd result.output (λ writer.
         PrintsWhatIsAsked (map string_bytes list.items) (R.remaining input.old) (W.contents output)
         (W.contents writer))) }
+
+    // The same after a call of `gather` that ends with code 6, because soups are missing.
+    ensures headline_incomplete { result.code ≡ 6 → IsOkAnd arguments (λ list. IsSomeAnd result.output (λ writer.
+        GatherPrintsItsLines (map string_bytes list.items) (R.remaining input.old) (W.contents output)
+        (W.contents writer) 6)) }
 
     // What each code means, if the arguments are texts.
     ensures ends { IfOk arguments (λ list. ProgramEnds W.contents (map string_bytes list.items) (R.remaining input.old)
@@ -99,7 +104,7 @@ pub fn run_program<
             }
         }
         Err(error) => {
-            let status = tell_unread_arguments(&error, &mut machine.errors);
+            let status = end_with_unread_arguments(&error, &mut machine.errors);
             Ended {
                 code: status.exit_code(),
                 output: Some(output),
@@ -109,7 +114,8 @@ pub fn run_program<
 }
 
 /// Does what `arguments` ask for, and writes to `output` through a buffer. Only the version, which takes no memory, is
-/// written without the buffer. Returns the status and `output`, or `None` if there was no memory for the buffer.
+/// written without the buffer. Returns the status, and `output`, or `None` in its place if there was no memory for the
+/// buffer.
 fn do_buffered<T: Threads + Wait + Sync, R: Read, W: Write + Drop, E: Write, P: Write, C: Clock>(
     machine: &mut Machine<'_, T, E, ProgressLine<P, C>>,
     arguments: &[String],
@@ -129,7 +135,10 @@ fn do_buffered<T: Threads + Wait + Sync, R: Read, W: Write + Drop, E: Write, P: 
         Ok(buffered) => buffered,
         Err(error) => {
             let refused = OutOfMemory::of_stream(&error);
-            return (Complaint::Memory(refused).tell(&mut machine.errors), None);
+            return (
+                Complaint::Memory(refused).end_command(&mut machine.errors),
+                None,
+            );
         }
     };
     let mut output = Out::new(buffered);
@@ -154,7 +163,7 @@ fn print_version<W: Write + Drop, E: Write>(output: W, errors: &mut Out<E>) -> (
 }
 
 /// Reports that the arguments aren't text, or that memory ran out while they were read.
-fn tell_unread_arguments<E: Write>(error: &io::Error, errors: &mut Out<E>) -> Status
+fn end_with_unread_arguments<E: Write>(error: &io::Error, errors: &mut Out<E>) -> Status
     requires { errors.old.failed ≡ false }
     ensures not_text { error_kind error.now ≢ ErrorKind.OutOfMemory → (result ≡ Status.Usage)
         × HasLine (stream E.contents errors.old errors.new) not_text_line }
@@ -163,13 +172,15 @@ fn tell_unread_arguments<E: Write>(error: &io::Error, errors: &mut Out<E>) -> St
     ensures tells_usage { result ≡ Status.Usage → TellsUsage (stream E.contents errors.old errors.new) }
 {
     match error.kind() {
-        ErrorKind::OutOfMemory => Complaint::Memory(OutOfMemory::of_stream(error)).tell(errors),
-        _ => tell_not_text(errors),
+        ErrorKind::OutOfMemory => Complaint::Memory(OutOfMemory::of_stream(error)).end_command(
+            errors,
+        ),
+        _ => end_with_not_text(errors),
     }
 }
 
 /// Reports that the arguments aren't text. A failure to write the line is not reported.
-fn tell_not_text<E: Write>(errors: &mut Out<E>) -> Status
+fn end_with_not_text<E: Write>(errors: &mut Out<E>) -> Status
     requires { errors.old.failed ≡ false }
     ensures status { result ≡ Status.Usage }
     ensures line { HasLine (stream E.contents errors.old errors.new) not_text_line }

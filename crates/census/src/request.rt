@@ -42,10 +42,10 @@ use std::sync::Wait;
 use std::thread::Threads;
 use std::time::Clock;
 
-/// Does what `arguments` ask for, and returns how that ended. The first argument is the program's name.
+/// Does what `arguments` ask for, and returns the status. The first argument is the program's name.
 ///
-/// No earlier write to either writer may have failed. Arguments that ask for nothing end with `Usage` and a text on
-/// standard error; then nothing is read or printed. The machine's observer receives the progress.
+/// No earlier write to either writer may have failed. If the arguments ask for nothing, the status is `Usage`, a text
+/// on standard error says why, and nothing is read or printed. The machine's observer receives the progress.
 ///
 /// # Errors
 ///
@@ -74,14 +74,14 @@ pub fn do_arguments<
 {
     match request_of(machine.alloc, arguments) {
         Ok(request) => do_request(machine, &request, input, output),
-        Err(Unasked::Usage(text)) => tell_usage(text.as_bytes(), &mut machine.errors),
-        Err(Unasked::Unread(error)) => tell_unread(&error, &mut machine.errors),
-        Err(Unasked::Memory(error)) => Complaint::Memory(error).tell(&mut machine.errors),
+        Err(Unasked::Usage(text)) => end_with_usage(text.as_bytes(), &mut machine.errors),
+        Err(Unasked::Unread(error)) => end_without_memory(&error, &mut machine.errors),
+        Err(Unasked::Memory(error)) => Complaint::Memory(error).end_command(&mut machine.errors),
     }
 }
 
 /// Writes a usage text. A failure to write it is not reported.
-fn tell_usage<E: Write>(text: &[u8], errors: &mut Out<E>) -> Status
+fn end_with_usage<E: Write>(text: &[u8], errors: &mut Out<E>) -> Status
     requires { errors.old.failed ≡ false }
     ensures status { result ≡ Status.Usage }
     ensures line { HasLine (stream E.contents errors.old errors.new) text.now }
@@ -91,19 +91,19 @@ fn tell_usage<E: Write>(text: &[u8], errors: &mut Out<E>) -> Status
 }
 
 /// Reports that memory ran out while `clap` read the arguments.
-fn tell_unread<E: Write>(error: &clap::Error, errors: &mut Out<E>) -> Status
+fn end_without_memory<E: Write>(error: &clap::Error, errors: &mut Out<E>) -> Status
     requires unread { kind_of error.now ≡ OutOfMemory }
     requires errors { errors.old.failed ≡ false }
     ensures status { result ≡ Status.Memory }
     ensures line { HasLine (stream E.contents errors.old errors.new) (complaint_line (Complaint.Memory out_of_memory)) }
 {
-    // Only the condition needs the error.
+    // Only the precondition needs the error.
     let _why = error;
     let _ = errors.put(b"census: out of memory\n");
     Status::Memory
 }
 
-/// Does what a request asks for, and returns how that ended.
+/// Does what a request asks for, and returns the status.
 ///
 /// Each number of the request has to be in its range, and no earlier write to either writer may have failed. Nothing of
 /// the input is read if the request doesn't need it, or if its rule, profile, seed or set is refused. The machine's
@@ -111,8 +111,8 @@ fn tell_unread<E: Write>(error: &clap::Error, errors: &mut Out<E>) -> Status
 ///
 /// # Errors
 ///
-/// Those of the request's own function: [`do_run`], [`do_name`], [`do_show`], [`do_soup`], [`do_take`], [`do_work`],
-/// [`do_gather`] or [`do_version`].
+/// Those of the request's own function: [`do_run`], [`do_sizes`], [`do_name`], [`do_show`], [`do_soup`], [`do_take`],
+/// [`do_take_reporting`], [`do_work`], [`do_gather`] or [`do_version`].
 fn do_request<T: Threads + Wait + Sync, R: Read, W: Write, E: Write, P: Write, C: Clock>(
     machine: &mut Machine<'_, T, E, ProgressLine<P, C>>,
     request: &Request<'_>,

@@ -337,7 +337,7 @@ tokens_at-Stops_short text start place s = tokens_at-stops s.tokens s.remainder 
 
 pub ruleset shorter = length-Begins
 
--- no token begins the empty text, and no character
+-- the empty text begins with neither a token nor a character
 pub stuck_at_end : (text : List ℕ) → length text ≡ 0 → IsStuck text
 stuck_at_end [] e = tt
 stuck_at_end (b ∷ remainder) e = absurd (omega arith)

@@ -33,7 +33,7 @@ pub record IsImageText (rule : Numbers) (cells : List Cell) (period : ℕ) (t : 
   pub within : phase < period
   pub is : text (turned orientation (after rule cells phase)) ≡ Some t
 
--- the least of some texts: one that none of the others comes before, or `None` if there are no texts
+-- the least of some texts: none of the others comes before it; `None` if there are no texts
 abbrev pub IsLeastOf : (List ℕ → Type 0) → Option (List ℕ) → Type 0
 IsLeastOf IsOne None = (t : List ℕ) → ¬ IsOne t
 IsLeastOf IsOne (Some least) = IsOne least × ((t : List ℕ) → IsOne t → text_cmp least t ≢ Greater)

@@ -11,8 +11,8 @@ use Rattle.code_core.specs.declared.reader.Token.TheVariants.{Column, Gap, NextS
 use Rattle.code_core.specs.Columns.{token_cells, column}
 use Rattle.code_core.specs.Tokens.{Spells, is_character, spelling}
 
--- the tokens of a strip with one more column before them: an empty column is left out if no token follows, lengthens a
--- gap that follows, and otherwise is a new gap
+-- The tokens of a strip after one more column is put before them. If the column is empty, it lengthens a gap that
+-- follows. Otherwise it is a new gap, or is left out if no token follows.
 abbrev pub before : ℕ → List Token → List Token
 before zero [] = []
 before zero (Gap n ∷ tokens) = Gap (n + 1) ∷ tokens

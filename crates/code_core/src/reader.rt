@@ -13,7 +13,7 @@ ghost use Rattle.plane_core.specs.plane.Cells.{cell_at};
 ghost use Rattle.code_core.specs.Columns.{is_lit, lit_cells, cells_from};
 ghost use Rattle.code_core.specs.Tokens.{IsToken, Spells, is_character};
 ghost use Rattle.code_core.specs.Reading.{wechsler_pattern, wechsler_read, character_value, single, Says};
-ghost use Rattle.code_core.specs.ReadingFaults.{IsBadByte, IsShortRun, TextsAreRead};
+ghost use Rattle.code_core.specs.ReadingFaults.{IsBadByte, IsShortRun, TextsAreRead, wechsler_fault_text};
 ghost use Rattle.code_core.specs.ReadingSteps.{Begins, IsStuck, fault_without_token, is_column};
 ghost use Rattle.code_core.specs.declared.reader.Token.{Token};
 ghost use Rattle.code_core.specs.declared.reader.WechslerFault.{WechslerFault};
@@ -46,6 +46,8 @@ pub enum WechslerFault {
 }
 
 impl fmt::Display for WechslerFault {
+    ghost output = { λ fault. Some (wechsler_fault_text fault) };
+
     fn fmt<W: fmt::Write>(&self, f: &mut fmt::Formatter<W>) -> fmt::Result {
         match self {
             WechslerFault::TooLong => f.write_str("text longer than 10000 bytes"),
@@ -293,7 +295,8 @@ fn cell_of(head: Head, i: u32) -> Cell
     }
 }
 
-/// Checks whether the cell in row `i`, 0 to 4, is alive in a column with this value. It counts 2 to the power `i`.
+/// Checks whether the cell in row `i`, 0 to 4, is alive in a column with this value. In the value, this cell counts 2
+/// to the power `i`.
 fn is_lit(value: u8, i: u32) -> bool
     requires { i < 5 }
     ensures { result ≡ is_lit value i }

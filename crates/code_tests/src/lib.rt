@@ -1,9 +1,11 @@
-//! Tests of the public calls of `code_core`. They stand in a crate of their own, so that `code_core` is proved once.
+//! Tests of the public calls of `code_core`. They are in a crate of their own, so that `code_core` is proved once.
 #![tactic(auto)]
 
 #[cfg(test)]
 mod name;
 #[cfg(test)]
 mod reader;
+#[cfg(test)]
+mod recurrence;
 #[cfg(test)]
 mod wechsler;

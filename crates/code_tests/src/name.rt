@@ -1,5 +1,5 @@
-//! Names of objects, against codes from outside.
-ghost use Rattle.std.specs.Prelude.{◌≢◌, ◌≤◌, [], IfOk};
+//! Names of objects, against codes that don't come from the program: they are LifeWiki's, or were worked out by hand.
+ghost use Rattle.std.specs.Prelude.{◌≢◌, [], IfOk};
 
 use code_core::name::name;
 use code_core::recurrence::Recurrence;
@@ -11,8 +11,8 @@ use plane_core::plane::rule::Rule;
 use std::alloc::Global;
 use std::test::Fail;
 
-/// The pattern of some cells, one at least.
-fn placed(alloc: Global, cells: &[Cell]) -> Result<Pattern, FromCellsError>
+/// The pattern of these cells, of which there is at least one.
+pub(crate) fn placed(alloc: Global, cells: &[Cell]) -> Result<Pattern, FromCellsError>
     ensures { IfOk result (λ pattern. pattern ≢ []) }
 {
     let pattern = Pattern::from_cells(alloc, cells)?;
@@ -33,7 +33,7 @@ fn has_name(alloc: Global, pattern: &Pattern, text: &str) -> Result<bool, StepEr
     Ok(copy == code && copy.text() == text)
 }
 
-const GLIDER: [Cell; 5] = [
+pub(crate) const GLIDER: [Cell; 5] = [
     Cell { y: 0, x: 1 },
     Cell { y: 1, x: 2 },
     Cell { y: 2, x: 0 },
@@ -41,20 +41,12 @@ const GLIDER: [Cell; 5] = [
     Cell { y: 2, x: 2 },
 ];
 
-// The code is that of LifeWiki's page on the glider. The other codes of known objects are asked for by cases.
+// The code is that of LifeWiki's page on the glider. The codes of other known objects are tested by the cases in
+// `checks/cases`.
 #[test]
 fn names_a_glider(rt: HostRuntime) -> Result<(), Fail> {
     let glider = placed(rt.alloc(), &GLIDER)?;
     assert!(rt; has_name(rt.alloc(), &glider, "xq4_153")?);
-    Ok(())
-}
-
-#[test]
-fn finds_when_a_glider_comes_back(rt: HostRuntime) -> Result<(), Fail> {
-    let glider = placed(rt.alloc(), &GLIDER)?;
-    let found = Recurrence::find(rt.alloc(), &glider, &Rule::life(), 4)?;
-    let (period, dx, dy) = (4, 1, 1);
-    assert!(rt; found == Some(Recurrence { period, dx, dy }));
     Ok(())
 }
 
@@ -81,8 +73,8 @@ fn push_block(cells: &mut Vec<Cell>, top: u8, left: u8) -> Result<(), OutOfMemor
 
 const STARTS: [u8; 13] = [0, 4, 7, 10, 13, 16, 19, 22, 25, 28, 31, 34, 38];
 
-/// Blocks in 13 rows and 13 columns, which fill 40 by 40 cells: one empty row or column lies between two blocks, and
-/// two lie after the first and before the last.
+/// Blocks in 13 rows and 13 columns, which fill 40 by 40 cells. There is one empty row or column between two blocks,
+/// but there are two after the first block and before the last.
 fn grid_of_blocks(alloc: Global) -> Result<Vec<Cell>, OutOfMemory> {
     let mut cells = Vec::new(alloc);
     for top in STARTS {
@@ -124,14 +116,14 @@ fn names_what_is_as_wide_as_the_plane(rt: HostRuntime) -> Result<(), Fail> {
     Ok(())
 }
 
-/// A vertical blinker beside the bound, which gets to it in one generation.
+/// A vertical blinker next to the edge of the plane, which it reaches in one generation.
 const BLINKER: [Cell; 3] = [
     Cell { y: -1, x: 999_999 },
     Cell { y: 0, x: 999_999 },
     Cell { y: 1, x: 999_999 },
 ];
 
-// No clause says that an edge that is met later isn't told as out of memory.
+// No clause says that an edge that is reached in a later generation isn't reported as out of memory.
 #[test]
 fn stops_a_step_from_the_edge(rt: HostRuntime) -> Result<(), Fail> {
     let blinker = placed(rt.alloc(), &BLINKER)?;

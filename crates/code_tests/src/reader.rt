@@ -1,9 +1,9 @@
-//! Texts in extended Wechsler format read, against patterns and faults from outside.
+//! Texts in extended Wechsler format are read, and compared with patterns and faults that don't come from the program.
 use code_core::reader::read_wechsler;
 use std::test::Fail;
 
-// Texts that say a column or two are cases of `show`. These are 10,000 full columns of the first strip, and one cell in
-// the last of 10,000 strips.
+// Texts of a column or two are tested by cases of `show`. The texts here say 10,000 full columns of the first strip,
+// and one cell in the last of 10,000 strips.
 #[test]
 fn reads_a_wide_text(rt: HostRuntime) -> Result<(), Fail> {
     let wide = read_wechsler(rt.alloc(), std::str::from_utf8(&[b'v'; 10_000])?)?;

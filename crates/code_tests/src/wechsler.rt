@@ -1,4 +1,4 @@
-//! Texts of patterns, against texts from outside.
+//! Texts of patterns, against texts that don't come from the program.
 use code_core::wechsler::wechsler;
 use memory::OutOfMemory;
 use plane_core::plane::cell::Cell;

@@ -1,27 +1,17 @@
 //! Tests of `gather`.
 
-ghost use Rattle.pattern_commands.specs.Profiles.{AreInRange};
-
+use crate::setup::plan_of;
 use crate::streams::{
     FaultyReader, FaultyWriter, Left, quick_writer, reader, reader_by, slow_writer,
 };
 use commands::gather::do_gather;
 use pattern_commands::ending::status::Status;
 use plane_core::output::Out;
-use requests::plan::{Plan, ProfileNumbers, SoupSet, Text};
 use std::alloc::Global;
 use std::io::ErrorKind;
 
-/// Under this profile a soup is settled only if it is a still life at once.
-const SMALL: ProfileNumbers = ProfileNumbers {
-    period: 1,
-    horizon: 1,
-    stride: 1,
-    limit: 0,
-};
-
-/// Lines of version 1 on soups 0 to 3 of the empty seed: none is a still life. The third comes twice, and the last is
-/// cut.
+/// Lines of version 1 about soups 3 and 0 of the empty seed, which aren't still lifes. The third line repeats the
+/// first, and the last is cut.
 const LINES: &[u8] = b"report 1 rule=b3s23 profile=1,1,1,0 seed= worker=1 soup=3 unsettled\n\
     report 1 rule=b3s23 profile=1,1,1,0 seed= worker=2 soup=0 unsettled\n\
     report 1 rule=b3s23 profile=1,1,1,0 seed= worker=1 soup=3 unsettled\n\
@@ -31,40 +21,9 @@ const TOLD: &[u8] = b"line 3: double of 3 by 1\n\
     line 4: bad line at 42\n\
     census: incomplete, 2 missing\n";
 
-/// How many bytes of `TOLD` are on lines that were not taken.
+/// The length of the first two lines of `TOLD`, which are about report lines that weren't taken. The third line is
+/// about missing soups.
 const TOLD_OF_LINES: usize = 48;
-
-const TWO_OF_FOUR: &[u8] = b"@VERSION 2\n\
-    @ROOT seed=\n\
-    @RULE b3s23\n\
-    @SYMMETRY C1\n\
-    @PROFILE 1 1 1 0\n\
-    @RANGE 0 4\n\
-    @NUM_SOUPS 2\n\
-    @NUM_UNSETTLED 2\n\
-    @NUM_FOR_GOOD 0\n\
-    @NUM_OBJECTS 0\n\
-    \n\
-    @CENSUS TABLE\n\
-    \n\
-    @SAMPLE_SOUPIDS\n";
-
-/// So many soups of the empty seed, and those of a list, in Life under a small profile.
-pub(crate) fn plan_of(count: u64, also: &str) -> Plan<'_>
-    ensures { AreInRange result.profile }
-{
-    let set = SoupSet {
-        seed: Text::new(""),
-        first: 0,
-        count,
-        also: Text::new(also),
-    };
-    Plan {
-        set,
-        profile: SMALL,
-        rule: Text::new("b3s23"),
-    }
-}
 
 /// Gathers an input for four soups and two workers.
 fn left_by(
@@ -90,7 +49,7 @@ fn left_by_reads(alloc: Global, bad: usize, kind: ErrorKind) -> Left {
     )
 }
 
-// The third line ends with byte 204, and is told before a later read.
+// The third line ends with byte 204, and its fault is written before the next read.
 #[test]
 fn tells_a_failed_read(rt: HostRuntime) {
     for bad in [1, 2, 69, 204] {
@@ -138,7 +97,7 @@ fn left_by_writes(alloc: Global, errors: FaultyWriter) -> Left {
     )
 }
 
-// A line on a report line that can't be told ends the command; the last line may fail.
+// If a line about a report line can't be written, the command ends. The write of the last line may fail.
 #[test]
 fn ends_if_a_line_is_not_told(rt: HostRuntime) {
     for bad in [1, 26, TOLD_OF_LINES] {
@@ -151,7 +110,7 @@ fn ends_if_a_line_is_not_told(rt: HostRuntime) {
     for bad in [TOLD_OF_LINES + 1, TOLD.len()] {
         let left = left_by_writes(rt.alloc(), slow_writer(rt.alloc(), bad));
         assert!(rt;
-            left.is(Status::Incomplete, TWO_OF_FOUR, &TOLD[..bad - 1]),
+            left.has_printed(rt.alloc(), Status::Incomplete, 4, 2, &TOLD[..bad - 1]),
             "write {bad}"
         );
     }
@@ -160,11 +119,11 @@ fn ends_if_a_line_is_not_told(rt: HostRuntime) {
 #[test]
 fn tells_each_line_in_one_write(rt: HostRuntime) {
     let left = left_by_writes(rt.alloc(), quick_writer(rt.alloc(), 0));
-    assert!(rt; left.is(Status::Incomplete, TWO_OF_FOUR, TOLD));
+    assert!(rt; left.has_printed(rt.alloc(), Status::Incomplete, 4, 2, TOLD));
     assert!(rt; left.errors.writes == 3);
 }
 
-// The writes are of lines 3 and 4, and of the line on missing soups, which may fail.
+// The writes are those of the lines about report lines 3 and 4, and of the line about missing soups, which may fail.
 #[test]
 fn ends_if_a_write_is_interrupted(rt: HostRuntime) {
     for (bad, told) in [(1, 0), (2, 25)] {

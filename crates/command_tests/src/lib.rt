@@ -1,5 +1,5 @@
-//! Tests of the public calls of `commands`. They stand in a crate of their own, so that `commands` is proved once.
-//! What the built program can be asked is asked by the cases.
+//! Tests of the public calls of `commands` and `pattern_commands`. They are in a crate of their own, so that the two
+//! crates are proved once. What can be tested with the built program is tested by the cases in `checks/cases`.
 #![tactic(auto)]
 
 #[cfg(test)]
@@ -10,6 +10,8 @@ mod progress;
 mod reporting;
 #[cfg(test)]
 mod run;
+#[cfg(test)]
+mod setup;
 #[cfg(test)]
 mod streams;
 #[cfg(test)]

@@ -1,4 +1,4 @@
-//! Tests of the line of progress.
+//! Tests of the progress line.
 
 use crate::streams::slow_writer;
 use commands::progress_line::ProgressLine;
@@ -7,14 +7,17 @@ use std::cell::Cell;
 use std::io::{self, Write};
 use std::time::{Clock, Duration};
 
-/// A clock on which 100 milliseconds pass between two readings, and which has so many at the next.
+/// A clock on which `step` milliseconds pass between two readings, and which shows `now` at the next reading.
 #[derive(Drop)]
-pub(crate) struct Ticking(Cell<u64>);
+pub(crate) struct Ticking {
+    now: Cell<u64>,
+    step: u64,
+}
 
 impl Clock for Ticking {
     fn monotonic(&self) -> io::Result<Duration> {
-        let now = self.0.get();
-        self.0.set(now.saturating_add(100));
+        let now = self.now.get();
+        self.now.set(now.saturating_add(self.step));
         Ok(Duration::from_millis(now))
     }
 
@@ -23,21 +26,36 @@ impl Clock for Ticking {
     }
 }
 
-/// A line on this writer, by a clock that begins at 0.
+/// A progress line on this writer, with a clock that begins at 0 and on which 100 milliseconds pass between two
+/// readings.
 pub(crate) fn line_on<W: Write>(
     rt: &impl AllocGlobal,
     writer: W,
     is_shown: bool,
 ) -> ProgressLine<W, Ticking> {
-    ProgressLine::new(rt.alloc(), writer, Ticking(Cell::new(0)), is_shown)
+    line_by(rt, writer, is_shown, 100)
 }
 
-/// Tells the line of twelve soups, of which some are taken in the first 400 milliseconds, by sixteen workers.
+/// Such a line, with a clock on which `step` milliseconds pass between two readings.
+fn line_by<W: Write>(
+    rt: &impl AllocGlobal,
+    writer: W,
+    is_shown: bool,
+    step: u64,
+) -> ProgressLine<W, Ticking> {
+    let clock = Ticking {
+        now: Cell::new(0),
+        step,
+    };
+    ProgressLine::new(rt.alloc(), writer, clock, is_shown)
+}
+
+/// Reports to the line that sixteen workers take three of twelve soups, within four readings of the clock.
 fn tell(line: &mut impl ProgressObserver) {
     tell_by(line, 16);
 }
 
-/// Tells the same, after `started` of sixteen workers were started.
+/// Reports the same to the line, if the system started `started` of the sixteen workers.
 fn tell_by(line: &mut impl ProgressObserver, started: u8) {
     line.begin(12, 16);
     line.started(started);
@@ -63,7 +81,7 @@ fn tells_and_wipes_its_line(rt: HostRuntime) {
     assert!(rt; screen.as_slice() == TOLD);
 }
 
-/// What stands on the screen after a line that is shown anyway, or is asked for.
+/// What is written by a line that is shown anyway if `is_shown`, and is asked for if `is_asked`.
 fn told(rt: &impl AllocGlobal, is_shown: bool, is_asked: bool) -> Vec<u8> {
     let mut screen = Vec::new(rt.alloc());
     let mut line = line_on(rt, &mut screen, is_shown);
@@ -92,6 +110,27 @@ fn tells_how_many_workers_were_started(rt: HostRuntime) {
     let mut line = line_on(&rt, &mut screen, true);
     tell_by(&mut line, 3);
     assert!(rt; screen.as_slice() == TOLD_OF_THREE);
+}
+
+// An hour has 3,600 seconds: 3,599 soups in one hour are less than one a second, 8,000,000 in two hours are 1,111 a
+// second, and 2^24 in three are 1,553.
+const TOLD_BY_HOURS: &[u8] = b"\r0 of 16777216 soups\
+    \r3599 of 16777216 soups, 0 a second\
+    \r8000000 of 16777216 soups, 1111 a second\
+    \r16777216 of 16777216 soups, 1553 a second\
+    \r                                         \r";
+
+#[test]
+fn tells_the_rate_after_hours(rt: HostRuntime) {
+    let mut screen = Vec::new(rt.alloc());
+    let mut line = line_by(&rt, &mut screen, true, 3_600_000);
+    line.begin(1 << 24, 16);
+    line.started(16);
+    for count in [3_599, 8_000_000, 1 << 24] {
+        line.taken(count);
+    }
+    line.end();
+    assert!(rt; screen.as_slice() == TOLD_BY_HOURS);
 }
 
 #[test]

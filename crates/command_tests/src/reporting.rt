@@ -1,9 +1,8 @@
 //! Tests of `take` with report lines.
 
-use crate::gather::plan_of;
 use crate::progress::line_on;
+use crate::setup::{machine_of, plan_of};
 use crate::streams::{FaultyWriter, Left, quick_writer, slow_writer};
-use commands::machine::Machine;
 use commands::reporting::do_take_reporting;
 use crew::progress_observer::{NoObserver, ProgressObserver};
 use pattern_commands::ending::status::Status;
@@ -16,23 +15,8 @@ const LINES: &[u8] = b"report 2 rule=b3s23 profile=1,1,1,0 seed= worker=1 soup=0
     report 2 rule=b3s23 profile=1,1,1,0 seed= worker=1 soup=1 unsettled\n\
     report 2 rule=b3s23 profile=1,1,1,0 seed= worker=1 soup=2 unsettled\n";
 
-/// How many bytes one of these lines has.
+/// The number of bytes of each of these lines.
 const LINE: usize = 68;
-
-const THREE: &[u8] = b"@VERSION 2\n\
-    @ROOT seed=\n\
-    @RULE b3s23\n\
-    @SYMMETRY C1\n\
-    @PROFILE 1 1 1 0\n\
-    @RANGE 0 3\n\
-    @NUM_SOUPS 3\n\
-    @NUM_UNSETTLED 3\n\
-    @NUM_FOR_GOOD 0\n\
-    @NUM_OBJECTS 0\n\
-    \n\
-    @CENSUS TABLE\n\
-    \n\
-    @SAMPLE_SOUPIDS\n";
 
 /// Takes three soups, and those of a list, with a worker, two writers and an observer.
 fn left_by<R: AllocGlobal + Threads + Wait + Sync, H: ProgressObserver + Drop>(
@@ -43,18 +27,13 @@ fn left_by<R: AllocGlobal + Threads + Wait + Sync, H: ProgressObserver + Drop>(
     observer: H,
 ) -> Left {
     let mut output = Out::new(output);
-    let mut machine = Machine {
-        alloc: rt.alloc(),
-        threads: rt,
-        errors: Out::new(errors),
-        observer,
-    };
+    let mut machine = machine_of(rt, errors, observer);
     let plan = plan_of(3, also);
     let status = do_take_reporting(&mut machine, &plan, 1, 100_001, &mut output);
     Left::new(status, output, machine.errors)
 }
 
-/// The same with a fault at a write of standard error.
+/// The same without a list, with this writer of standard error.
 fn left_by_errors<R: AllocGlobal + Threads + Wait + Sync>(rt: &R, errors: FaultyWriter) -> Left {
     left_by(rt, "", slow_writer(rt.alloc(), 0), errors, NoObserver)
 }
@@ -62,7 +41,7 @@ fn left_by_errors<R: AllocGlobal + Threads + Wait + Sync>(rt: &R, errors: Faulty
 #[test]
 fn writes_each_line_in_one_write(rt: HostRuntime) {
     let left = left_by_errors(&rt, quick_writer(rt.alloc(), 0));
-    assert!(rt; left.is(Status::Done, THREE, LINES));
+    assert!(rt; left.has_printed(rt.alloc(), Status::Done, 3, 3, LINES));
     assert!(rt; left.errors.writes == 3);
 }
 
@@ -78,7 +57,7 @@ fn refuses_before_a_line(rt: HostRuntime) {
     assert!(rt; left.is(Status::Refused, b"", b"census: ranges overlap\n"));
 }
 
-// Each write is of a line, and nothing follows the one that failed.
+// Each write has one line, and nothing is written after a failed write.
 #[test]
 fn ends_if_a_line_is_not_written(rt: HostRuntime) {
     for bad in 1..4 {
@@ -112,7 +91,7 @@ fn tells_that_the_haul_is_cut_after_all_lines(rt: HostRuntime) {
         NoObserver,
     );
     assert!(rt; left.status == Status::Failed);
-    assert!(rt; left.output.taken.as_slice() == &THREE[..11]);
+    assert!(rt; left.output.taken.as_slice() == b"@VERSION 2\n".as_slice());
     assert!(rt; left.errors.taken.as_slice().starts_with(LINES));
     assert!(rt;
         left.errors
@@ -122,8 +101,8 @@ fn tells_that_the_haul_is_cut_after_all_lines(rt: HostRuntime) {
     );
 }
 
-// The clock ticks at the beginning, and before each of the five tellings of the progress: at 0, 100, 200 milliseconds
-// and so on. A line that was wiped is drawn as it was.
+// The clock is read at the beginning, and at each of the five reports of the progress: at 0, 100, 200 milliseconds and
+// so on. A line that was wiped is drawn again as it was.
 #[test]
 fn wipes_the_line_of_progress(rt: HostRuntime) {
     let mut screen = Vec::new(rt.alloc());
@@ -135,7 +114,7 @@ fn wipes_the_line_of_progress(rt: HostRuntime) {
         slow_writer(rt.alloc(), 0),
         line,
     );
-    assert!(rt; left.is(Status::Done, THREE, LINES));
+    assert!(rt; left.has_printed(rt.alloc(), Status::Done, 3, 3, LINES));
     let told = b"\r0 of 3 soups\r            \r\r0 of 3 soups\
         \r1 of 3 soups, 5 a second\r                        \r\r1 of 3 soups, 5 a second\
         \r                        \r\r1 of 3 soups, 5 a second\

@@ -94,7 +94,7 @@ fn left_by_writes(alloc: Global, output: FaultyWriter) -> Left {
     )
 }
 
-// Four bytes, and the read that finds the end. There is none after that.
+// There are four reads of one byte each, and the read that finds the end. No read follows.
 #[test]
 fn tells_each_failed_read(rt: HostRuntime) {
     for bad in 1..6 {
@@ -169,7 +169,7 @@ fn tells_an_interrupted_write(rt: HostRuntime) {
     }
 }
 
-// These lines are made of two pieces and of four.
+// The texts of these lines are made of several pieces, and yet each line is one write.
 #[test]
 fn tells_a_refusal_in_one_write(rt: HostRuntime) {
     let alloc = rt.alloc();

@@ -14,7 +14,7 @@ pub(crate) struct FaultyReader<'a> {
     kind: ErrorKind,
 }
 
-/// A reader that gives a byte in a read, with a fault at one of its reads, which are counted from 1.
+/// A reader that returns one byte per read, with a fault at read number `bad`, counted from 1.
 pub(crate) fn reader(text: &[u8], bad: usize, kind: ErrorKind) -> FaultyReader<'_> {
     reader_by(text, 1, bad, kind)
 }
@@ -54,7 +54,7 @@ pub(crate) struct FaultyWriter {
     kind: ErrorKind,
 }
 
-/// A writer that takes a byte in a write, with a fault at one of its writes, which are counted from 1.
+/// A writer that takes one byte per write, with a fault at write number `bad`, counted from 1.
 pub(crate) fn slow_writer(alloc: Global, bad: usize) -> FaultyWriter {
     FaultyWriter {
         taken: Vec::new(alloc),
@@ -65,7 +65,7 @@ pub(crate) fn slow_writer(alloc: Global, bad: usize) -> FaultyWriter {
     }
 }
 
-/// A writer that takes all that it is given, and is interrupted at one of its writes.
+/// A writer that takes all that it is given, and is interrupted at write number `bad`.
 pub(crate) fn quick_writer(alloc: Global, bad: usize) -> FaultyWriter {
     FaultyWriter {
         taken: Vec::new(alloc),

@@ -2,10 +2,9 @@
 
 ghost use Rattle.haul_core.specs.Reports.{IsWorker};
 
-use crate::gather::plan_of;
 use crate::progress::line_on;
+use crate::setup::{machine_of, plan_of};
 use crate::streams::{Left, slow_writer};
-use commands::machine::Machine;
 use commands::take::do_take_with;
 use crew::gate::{Gate, OpenGate, Stop};
 use crew::progress_observer::{NoObserver, ProgressObserver};
@@ -14,37 +13,6 @@ use plane_core::output::Out;
 use std::sync::Wait;
 use std::sync::atomic::{AtomicU64, Ordering};
 use std::thread::Threads;
-
-// A live cell of each of the soups 0 to 3 of the empty seed dies in the first generation, so none is a still life.
-const FOUR: &[u8] = b"@VERSION 2\n\
-    @ROOT seed=\n\
-    @RULE b3s23\n\
-    @SYMMETRY C1\n\
-    @PROFILE 1 1 1 0\n\
-    @RANGE 0 4\n\
-    @NUM_SOUPS 4\n\
-    @NUM_UNSETTLED 4\n\
-    @NUM_FOR_GOOD 0\n\
-    @NUM_OBJECTS 0\n\
-    \n\
-    @CENSUS TABLE\n\
-    \n\
-    @SAMPLE_SOUPIDS\n";
-
-const THREE_OF_EIGHT: &[u8] = b"@VERSION 2\n\
-    @ROOT seed=\n\
-    @RULE b3s23\n\
-    @SYMMETRY C1\n\
-    @PROFILE 1 1 1 0\n\
-    @RANGE 0 8\n\
-    @NUM_SOUPS 3\n\
-    @NUM_UNSETTLED 3\n\
-    @NUM_FOR_GOOD 0\n\
-    @NUM_OBJECTS 0\n\
-    \n\
-    @CENSUS TABLE\n\
-    \n\
-    @SAMPLE_SOUPIDS\n";
 
 /// Takes `count` soups with `workers` workers, a gate and an observer.
 fn left_by<G: Gate + Sync, R: AllocGlobal + Threads + Wait + Sync, H: ProgressObserver + Drop>(
@@ -57,25 +25,20 @@ fn left_by<G: Gate + Sync, R: AllocGlobal + Threads + Wait + Sync, H: ProgressOb
     requires { IsWorker workers }
 {
     let mut output = Out::new(slow_writer(rt.alloc(), 0));
-    let mut machine = Machine {
-        alloc: rt.alloc(),
-        threads: rt,
-        errors: Out::new(slow_writer(rt.alloc(), 0)),
-        observer,
-    };
+    let mut machine = machine_of(rt, slow_writer(rt.alloc(), 0), observer);
     let plan = plan_of(count, "");
     let status = do_take_with(&mut machine, &plan, workers, gate, &mut output);
     Left::new(status, output, machine.errors)
 }
 
-// The lines are due at 0, 200, 400 and 600 milliseconds. The line is told before each of the five notes, and at the
-// end.
+// The lines are due at 0, 200, 400 and 600 milliseconds. The progress is reported before each of the five notes, and at
+// the end.
 #[test]
 fn takes_soups_under_a_line_of_progress(rt: HostRuntime) {
     let mut screen = Vec::new(rt.alloc());
     let line = line_on(&rt, &mut screen, true);
     let left = left_by(&rt, 4, 1, &OpenGate, line);
-    assert!(rt; left.is(Status::Done, FOUR, b""));
+    assert!(rt; left.has_printed(rt.alloc(), Status::Done, 4, 4, b""));
     let told =
         b"\r0 of 4 soups\r1 of 4 soups, 5 a second\r3 of 4 soups, 7 a second\r4 of 4 soups, 6 a second\
         \r                        \r";
@@ -117,9 +80,11 @@ fn prints_what_was_taken_before_a_stop(rt: HostRuntime) {
     };
     let left = left_by(&rt, 8, 3, &gate, NoObserver);
     assert!(rt;
-        left.is(
+        left.has_printed(
+            rt.alloc(),
             Status::Incomplete,
-            THREE_OF_EIGHT,
+            8,
+            3,
             b"census: incomplete, 5 missing\n"
         )
     );

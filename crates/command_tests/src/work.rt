@@ -1,6 +1,6 @@
 //! Tests of `work`.
 
-use crate::gather::plan_of;
+use crate::setup::plan_of;
 use commands::work::do_work;
 use pattern_commands::ending::status::Status;
 use plane_core::output::Out;
@@ -10,7 +10,8 @@ use std::io::{self, ErrorKind, Write};
 /// The length of `report 2 rule=b3s23 profile=1,1,1,0 seed= worker=2 soup=0 unsettled` with its line feed.
 const LINE: usize = 68;
 
-/// Counts bytes, flushes, and the lines that begin before the last one was flushed. It fails at a flush, or never.
+/// A writer that counts bytes, flushes, and the lines that begin before the previous line was flushed. After `most`
+/// flushes, each further one fails.
 #[derive(Drop)]
 struct Counting {
     written: usize,
@@ -42,7 +43,7 @@ impl Write for Counting {
     }
 }
 
-/// Works on soups with a writer that flushes so often at most.
+/// Works on soups with a writer that flushes at most `most` times.
 fn left_by(alloc: Global, count: u64, also: &str, most: u64) -> (Status, Counting) {
     let mut output = Out::new(Counting {
         written: 0,
@@ -58,7 +59,7 @@ fn left_by(alloc: Global, count: u64, also: &str, most: u64) -> (Status, Countin
     (status, output.into_inner())
 }
 
-// A line that is whole is sent on before the next is begun.
+// A complete line is flushed before the next line is begun.
 #[test]
 fn tells_a_failed_flush_of_a_line(rt: HostRuntime) {
     for most in 0..2 {
@@ -71,10 +72,10 @@ fn tells_a_failed_flush_of_a_line(rt: HostRuntime) {
     assert!(rt; status == Status::Done && counted.sent == 2 * LINE);
 }
 
-// So it is for each of many soups, of whatever number.
+// This also holds for many soups, and for those with the highest numbers.
 #[test]
 fn sends_each_of_many_lines_on(rt: HostRuntime) {
-    let (status, counted) = left_by(rt.alloc(), 2000, "1099511627774+2", u64::MAX);
+    let (status, counted) = left_by(rt.alloc(), 12_000, "1099511627774+2", u64::MAX);
     assert!(rt; status == Status::Done);
-    assert!(rt; counted.flushes == 2002 && counted.late == 0);
+    assert!(rt; counted.flushes == 12_002 && counted.late == 0);
 }

@@ -117,7 +117,7 @@ is_gathered terms held closed census n reader left errors all same kept took clo
       missing_is = many ∙ ap (λ (t : Terms). length (missing_of t.ranges held.taken)) same;
     }
 
--- no complaint is right for a haul that is open, but that its input is too long
+-- once a haul is open, the only complaint that can be right is that the input is too long
 long_hides : (terms : Terms) (bytes : List ℕ) → NeedsMemoryAlone (gathered_right terms bytes)
 long_hides terms bytes (Refused refusal) is = absurd is
 long_hides terms bytes (Memory error) is = absurd is
@@ -150,7 +150,7 @@ gathers_on terms bytes reader left TooLong output errors long ends nothing = (
   record { reads = refl; begun = record { terms = terms; opened = refl; begun = (left, ends.0) }; nothing = nothing; fine = ends.1 },
 )
 gathers_on terms bytes reader left (WriteFailed error) output errors long ends nothing =
-    inr (record { told = ends; nothing = nothing })
+    inr (record { cut = ends; nothing = nothing })
 
 -- and there are some: where the input is too long, longer ones than may be read
 pub gathers_lines : (terms : Terms) (reader left : Option (List ℕ)) (complaint : Complaint) (output errors : Stream)
@@ -214,11 +214,11 @@ gathers_haul terms held closed reader left outcome output errors all same kept t
 -- a haul that was opened is one over the set
 pub is_over : (job : Job) (set : SoupSet) (workers : ℕ) (held : Held) → IsOpened job set workers held → IsHaulOver set workers job held.terms
 is_over job set workers held open_ = record {
-  ranges = open_.ranges;
-  named = open_.named;
-  small = open_.small;
-  apart = open_.apart;
-  form = open_.form;
+  ranges = open_.over.ranges;
+  named = open_.over.named;
+  small = open_.over.small;
+  apart = open_.over.apart;
+  form = open_.over.form;
   job_is = open_.job_is;
   workers_are = open_.workers_are;
 }
@@ -281,7 +281,7 @@ gathers_over plan workers bytes reader job terms outcome output errors named ove
     go (Err (WriteFailed error)) (inl is) =
         let (made, gathered, prefix, diagnostics) = is.left in
         inl (record { left = (made, right made gathered, prefix, diagnostics); cut = is.cut; fine = is.fine })
-    go (Err (WriteFailed error)) (inr is) = inr (record { told = ((terms, opens terms refl), is.told); nothing = is.nothing })
+    go (Err (WriteFailed error)) (inr is) = inr (record { cut = ((terms, opens terms refl), is.cut); nothing = is.nothing })
 
 -- ---- how far the input was read
 

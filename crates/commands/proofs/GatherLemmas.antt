@@ -1,5 +1,5 @@
 -- From the steps of `gather` to what became of each line.
-use Rattle.std.proofs.Common.{◌≡◌, ◌≢◌, ◌+◌, ◌∙◌, ◌++◌, ◌<◌, ◌≤◌, ◌^◌, ℕ, suc, inl, inr, false, length-append, length-take, List, [], ◌∷◌, Option, None, Some, Result, Ok, Err, IfOk, IfSome, ap, ap₂, append-nil, arith, flat_map, length, refl, subst, sym, take, take-take, take_all}
+use Rattle.std.proofs.Common.{◌≡◌, ◌≢◌, ◌+◌, ◌∙◌, ◌++◌, ◌<◌, ◌≤◌, ◌^◌, ℕ, suc, inl, inr, false, length-append, length-take, List, [], ◌∷◌, Option, None, Some, Result, Ok, Err, IfOk, ap, ap₂, append-nil, arith, flat_map, length, refl, subst, sym, take, take-take, take_all}
 use Rattle.survey_core.specs.FindingLaws.{FindingsAreDetermined}
 use Rattle.survey_core.specs.Soups.{soup}
 use Rattle.survey_core.specs.declared.finding.Finding.{Finding}
@@ -28,7 +28,6 @@ use Rattle.pattern_commands.specs.declared.ending.complaint.Complaint.TheVariant
 use Rattle.commands.specs.declared.lines.LineEnd.{LineEnd}
 use Rattle.commands.specs.declared.lines.LineEnd.TheVariants.{Feed, Input}
 use Rattle.commands.specs.declared.lines.LineRead.{LineRead}
-use Rattle.pattern_commands.specs.Answers.{IsInput}
 use Rattle.pattern_commands.specs.Inputs.{HasReadAtMost, input_complaint}
 use Rattle.pattern_commands.specs.Streams.{Stream, Has, stream}
 use Rattle.pattern_commands.specs.declared.input.InputError.{InputError}
@@ -37,9 +36,9 @@ use Rattle.commands.specs.GatherSteps.{EndsLine, EndsLines, EndsNext, HasGathere
 use Rattle.commands.specs.LinesSoFar.{AreAllEnded, HasBegunUpTo, HasCome, HasComeBy, most_ahead}
 use Rattle.commands.specs.Lines.{HasReadLine, HasReadPart, IsLongerThan, IsOneLine, MayEnd, input_lines, piece_end, with_end}
 use Rattle.commands.proofs.LineLemmas.{after_read, all_lines, all_read, bare_part, ended_more, first_lines, lines_and, lines_bare, lines_ended, long_read, part_lines, with_ahead}
-use Rattle.commands.specs.GatheredLines.{Faulty, Front, Gathered, IsChecked, IsPrefixFault, IsLookedAt, IsWrong, ComesOf, Next, Offered, Start, Whole, offer_fault, told_fault}
+use Rattle.commands.specs.GatheredLines.{Faulty, Front, Gathered, IsChecked, IsPrefixFault, IsLookedAt, IsWrong, ComesOf, Next, Offered, Start, Whole, offer_fault, fault_lines}
 
--- nothing arrives by a line with a fault
+-- nothing arrives by a line that gives no report: a bad one, or one of another job, or one that disagrees
 pub faulty : {terms : Terms} {line : List ℕ} {fault : LineFault} {held : Held} (arrivals : List Arrival) → IsLookedAt terms.job line (Err fault)
     → StandsFor arrivals held → (arrived : List Arrival) × ComesOf terms arrivals line arrived (Some fault) × StandsFor (arrivals ++ arrived) held
 faulty {fault} {held} arrivals is stands =
@@ -85,14 +84,14 @@ pub come_more : (lines : List (List ℕ)) (line diagnostics : List ℕ) (old new
     → before ≡ length lines → (come : HasCome lines old diagnostics) → new.terms ≡ old.terms
     → (arrived : List Arrival) × ComesOf old.terms come.arrivals line arrived fault
     × StandsFor (come.arrivals ++ arrived) new
-    → HasCome (lines ++ line ∷ []) new (diagnostics ++ told_fault (before + 1) fault)
+    → HasCome (lines ++ line ∷ []) new (diagnostics ++ fault_lines (before + 1) fault)
 come_more lines line diagnostics old new before fault count come same step = record {
   arrivals = come.arrivals ++ step.0;
   gathered =
       let P : ℕ → Type 0 = λ n. Gathered new.terms (lines ++ line ∷ []) (come.arrivals ++ step.0)
-      (diagnostics ++ told_fault n fault) in
+      (diagnostics ++ fault_lines n fault) in
       let Q : Terms → Type 0 = λ t. Gathered t (lines ++ line ∷ []) (come.arrivals ++ step.0)
-      (diagnostics ++ told_fault (suc (length lines)) fault) in
+      (diagnostics ++ fault_lines (suc (length lines)) fault) in
       let number : before + 1 ≡ suc (length lines) = omega (arith, count) in
       subst P (sym number) (subst Q (sym same) (Next lines come.arrivals diagnostics line step.0 fault come.gathered step.1));
   stands = step.2;

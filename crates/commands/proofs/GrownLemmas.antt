@@ -1,10 +1,12 @@
 -- What a crew does to a haul.
-use Rattle.std.proofs.Common.{ℕ, List, map}
+use Rattle.std.proofs.Common.{◌≡◌, ◌∙◌, ◌++◌, ℕ, All, List, [], ap, map, subst, sym}
+use Rattle.std.proofs.lemmas.List.Elements.{All-map}
 use Rattle.haul_core.specs.Books.{Held, entry}
 use Rattle.haul_core.specs.Reports.{Reported}
 use Rattle.crew.specs.Crews.{HasAdded}
 use Rattle.crew.specs.Takes.{HasTaken}
-use Rattle.commands.specs.TakeSteps.{HasTakenMore}
+use Rattle.commands.specs.Stopped.{IsLetIn}
+use Rattle.commands.specs.TakeSteps.{HasLetIn, HasTakenMore}
 
 -- it has taken more than it had
 pub grown_by_added : {offers : List Reported} (old new : Held) → HasAdded offers old new → HasTakenMore old new
@@ -17,3 +19,18 @@ grown_by_added {offers} old new added = record {
 
 pub grown_by : {lets : ℕ → ℕ → Type 0} {workers : ℕ} (old new : Held) → HasTaken lets workers old new → HasTakenMore old new
 grown_by old new h = grown_by_added old new h.added
+
+-- what it has taken more is of workers that the gate let survey it
+pub let_in_by : {lets : ℕ → ℕ → Type 0} {workers : ℕ} (old new : Held) → HasTaken lets workers old new → HasLetIn lets workers old new
+let_in_by {lets} {workers} old new h = record {
+  more = map entry h.offers;
+  taken = h.added.taken;
+  let_in = All-map (IsLetIn lets workers) entry h.offers (λ k d low.
+      let by = h.by_workers k d low in record { least = by.0; most = by.1; let_in = h.let_in k d low });
+}
+
+-- a haul that had taken nothing has nothing else
+pub let_in_all : {lets : ℕ → ℕ → Type 0} {workers : ℕ} (old new : Held) → old.taken ≡ [] → HasLetIn lets workers old new
+    → All (IsLetIn lets workers) new.taken
+let_in_all {lets} {workers} old new none h =
+    subst (All (IsLetIn lets workers)) (sym (h.taken ∙ ap (λ (l : List (ℕ × ℕ)). l ++ h.more) none)) h.let_in

@@ -38,16 +38,16 @@ entry_numbers (r ∷ rs) = ap (λ (l : List ℕ). r.number ∷ l) (entry_numbers
 
 module _ {lets : ℕ → ℕ → Type 0} {V : Type 0} {contents : V → Option (List ℕ)} {plan : Plan} {workers from : ℕ} {opened held : Held} {old new : Output V}
     (is : IsOpenedFor plan workers opened) (h : HasHeardCrew lets workers opened held (PutsReports contents from old new)) where
-  pub reports_within : All (λ (r : Reported). is_in is.opened.ranges r.number ≡ true) h.reports
-  reports_within k d lt = in_set is.opened.ranges opened.terms.ranges opened.taken _ is.opened.form (h.missing k d lt)
+  pub reports_within : All (λ (r : Reported). is_in is.opened.over.ranges r.number ≡ true) h.reports
+  reports_within k d lt = in_set is.opened.over.ranges opened.terms.ranges opened.taken _ is.opened.over.form (h.missing k d lt)
 
   -- the reports are right for the plan
   abbrev pub reports_of_plan : AreReportsOf plan workers h.reports
   reports_of_plan = record {
     job = is.job;
     job_is = is.named;
-    ranges = is.opened.ranges;
-    named = is.opened.named;
+    ranges = is.opened.over.ranges;
+    named = is.opened.over.named;
     right = h.heard.right;
     of_job = subst (λ (j : Job). All (λ (r : Reported). r.job ≡ j) h.reports) is.opened.job_is h.job;
     by_workers = h.by_workers;
@@ -56,30 +56,30 @@ module _ {lets : ℕ → ℕ → Type 0} {V : Type 0} {contents : V → Option (
   }
 
   -- if the haul is complete, they are on all soups
-  pub reports_on_all : AreAll held.terms.ranges (numbers_in held.taken) → AreAll is.opened.ranges (map (λ r. r.number) h.reports)
-  reports_on_all all n = go (is_in is.opened.ranges n) refl
+  pub reports_on_all : AreAll held.terms.ranges (numbers_in held.taken) → AreAll is.opened.over.ranges (map (λ r. r.number) h.reports)
+  reports_on_all all n = go (is_in is.opened.over.ranges n) refl
     where
-      in_all : is_in held.terms.ranges n ≡ is_in is.opened.ranges n
-      in_all = ap (λ (t : Terms). is_in t.ranges n) h.added.terms ∙ is.opened.form.same n
+      in_all : is_in held.terms.ranges n ≡ is_in is.opened.over.ranges n
+      in_all = ap (λ (t : Terms). is_in t.ranges n) h.added.terms ∙ is.opened.over.form.same n
 
       numbers : numbers_in held.taken ≡ map (λ r. r.number) h.offers
       numbers =
           ap numbers_in (h.added.taken ∙ ap (λ (l : List (ℕ × ℕ)). l ++ map entry h.offers) is.opened.stands.taken) ∙ entry_numbers h.offers
 
-      offered : times_reported n h.offers ≡ cond {A = ℕ} (is_in is.opened.ranges n) 1 0
+      offered : times_reported n h.offers ≡ cond {A = ℕ} (is_in is.opened.over.ranges n) 1 0
       offered = sym (ap (count_by (nat_eq n)) numbers) ∙ all n ∙ ap (λ (b : Bool). cond {A = ℕ} b 1 0) in_all
 
       few : times_reported n h.offers ≤ times_reported n h.reports
       few = times_part n h.offers h.reports h.some
 
-      go : (b : Bool) → is_in is.opened.ranges n ≡ b → times_reported n h.reports ≡ cond {A = ℕ} (is_in is.opened.ranges n) 1 0
+      go : (b : Bool) → is_in is.opened.over.ranges n ≡ b → times_reported n h.reports ≡ cond {A = ℕ} (is_in is.opened.over.ranges n) 1 0
       go true inside =
-          let one : cond {A = ℕ} (is_in is.opened.ranges n) 1 0 ≡ 1 = ap (λ (b : Bool). cond {A = ℕ} b 1 0) inside in
+          let one : cond {A = ℕ} (is_in is.opened.over.ranges n) 1 0 ≡ 1 = ap (λ (b : Bool). cond {A = ℕ} b 1 0) inside in
           let once = h.once n in
           omega (arith, one, once, offered, few)
       go false outside =
-          let none : cond {A = ℕ} (is_in is.opened.ranges n) 1 0 ≡ 0 = ap (λ (b : Bool). cond {A = ℕ} b 1 0) outside in
+          let none : cond {A = ℕ} (is_in is.opened.over.ranges n) 1 0 ≡ 0 = ap (λ (b : Bool). cond {A = ℕ} b 1 0) outside in
           elim (dec_le 1 (times_reported n h.reports)) [
-            | yes some ↦ absurd (true≢false (sym (of_reported (λ m. is_in is.opened.ranges m ≡ true) n h.reports reports_within some) ∙ outside))
+            | yes some ↦ absurd (true≢false (sym (of_reported (λ m. is_in is.opened.over.ranges m ≡ true) n h.reports reports_within some) ∙ outside))
             | no nothing ↦ omega (arith, none, nothing)
           ]

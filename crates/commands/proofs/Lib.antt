@@ -1,4 +1,5 @@
 pub mod AheadLemmas
+pub mod CorrectLineLemmas
 pub mod EndLemmas
 pub mod GatherLemmas
 mod GrownLemmas
@@ -9,4 +10,5 @@ pub mod PieceLemmas
 pub mod ReportingLemmas
 pub mod StillLemmas
 pub mod TakeLemmas
+pub mod TakenLemmas
 pub mod WorkLemmas

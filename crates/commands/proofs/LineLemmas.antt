@@ -1,21 +1,19 @@
 -- Inputs, line by line.
 use Rattle.std.proofs.Common.{◌≡◌, ◌≢◌, ◌<◌, ◌≤◌, ◌+◌, ◌-◌, ◌^◌, ◌∙◌, ◌++◌, ℕ, zero, suc, ne_eqb}
-use Rattle.std.proofs.Common.{List, [], ◌∷◌, All, Option, None, Some, Result, Ok, Err, IfOk, IfSome, ap, ap₂, append-nil, append_assoc, arith, cond, drop, drop_of_length-le, flat_map, length, length-append, length-take, length-take-le, refl, subst, sym, take, take-append-drop, take_all}
+use Rattle.std.proofs.Common.{List, [], ◌∷◌, All, Option, None, Some, IfSome, ap, ap₂, append-nil, append_assoc, arith, cond, drop, drop_of_length-le, flat_map, length, length-append, length-take, length-take-le, refl, subst, sym, take, take-append-drop}
 use Rattle.std.proofs.lemmas.Grind.{flat_map-append}
-use Rattle.std.proofs.lemmas.List.Elements.{All-append, All-head, All-nil, All-push, All-tail}
-use Rattle.std.proofs.KnownBytes.{Consumes-kept, Consumes-nil, Consumes-trans, prepend_known-read}
+use Rattle.std.proofs.lemmas.List.Elements.{All-append, All-head, All-push, All-tail}
+use Rattle.std.proofs.KnownBytes.{Consumes-kept, Consumes-trans, prepend_known-read}
 use Rattle.std.specs.Io.KnownBytes.{Consumes, IsAtEnd, Keeps, prepend_known}
 use Rattle.pattern_commands.specs.Answers.{IsInput}
 use Rattle.pattern_commands.specs.declared.ending.complaint.Complaint.{Complaint}
 use Rattle.pattern_commands.specs.declared.ending.complaint.Complaint.TheVariants.{Refused, Memory, ReadFailed, TooLong, WriteFailed}
-use Rattle.std.specs.Prelude.{IfErr, OnErr}
-use Rattle.pattern_commands.specs.declared.input.InputError.{InputError}
-use Rattle.pattern_commands.specs.Inputs.{HasReadAtMost, input_complaint}
+use Rattle.pattern_commands.specs.Inputs.{HasReadAtMost}
 use Rattle.commands.specs.declared.lines.LineEnd.{LineEnd}
 use Rattle.commands.specs.declared.lines.LineEnd.TheVariants.{Feed, Input}
 use Rattle.commands.specs.declared.lines.LineRead.{LineRead}
 use Rattle.commands.specs.declared.lines.Piece.{Piece}
-use Rattle.commands.specs.LinesSoFar.{AreEnded, most_ahead}
+use Rattle.commands.specs.LinesSoFar.{AreEnded}
 use Rattle.commands.specs.Lines.{HasPiece, HasReadLine, HasReadPart, IsLongerThan, IsOneLine, IsPieceOf, MayEnd, IsSpent, begun_with, input_lines, piece_end, with_end}
 
 abbrev IsNotFeed : ℕ → Type 0
@@ -112,7 +110,7 @@ pub lines_ended : (read : List ℕ) (lines : List (List ℕ)) → AreEnded read 
 lines_ended read lines ended =
     ap (λ l. input_lines (l ++ [])) ended.spelled ∙ ended_lines lines [] ended.whole ∙ append-nil lines
 
--- and if a line stands there
+-- the lines of all that was read, if a line without a line feed stands after the last line feed
 pub lines_bare : (read : List ℕ) (lines : List (List ℕ)) (line : List ℕ) → AreEnded read lines → IsOneLine line → 0 < length line
     → input_lines (read ++ line) ≡ lines ++ line ∷ []
 lines_bare read lines [] ended one some = absurd (omega (arith, some))
@@ -150,7 +148,7 @@ pub all_lines : (reader : Option (List ℕ)) (read : List ℕ) → IsInput reade
 all_lines None read input = tt
 all_lines (Some bytes) read input = ([], ap input_lines (sym input) ∙ sym (append-nil (input_lines read)))
 
--- what was read of one line has one line at most
+-- bytes without a line feed are one line, or none if there are no bytes
 pub bare_part : (line : List ℕ) → IsOneLine line → length (input_lines line) ≤ 1
 bare_part [] one = omega arith
 bare_part (x ∷ xs) one = let is = ap length (bare_line x xs one) in omega (arith, is)
@@ -190,11 +188,6 @@ pub part_of_line : (room : ℕ) (old new : Option (List ℕ)) (kept : List ℕ) 
     → MayEnd complaint (Some read.end) → HasReadPart old new complaint
 part_of_line room old new kept read complaint is cut =
     record { line = is.line; end = Some read.end; one = is.one; consumed = is.consumed; cut = cut }
-
--- what holds anyway holds after an error
-pub on_err : {A E P : Type 0} (r : Result A E) → P → OnErr r P
-on_err (Ok x) holds = tt
-on_err (Err e) holds = holds
 
 -- ---- what is at hand, and what a reader has left
 

@@ -72,7 +72,7 @@ module _ {V : Type 0} {contents : V → Option (List ℕ)} {plan : Plan} {worker
   reporting_gives_up reader bytes (Memory error) output fine nothing = lacks reader bytes output nothing fine
   reporting_gives_up reader bytes (WriteFailed error) output stops nothing =
       inr (record {
-        told = record { reports = h.heard.reports; are = reports_of_plan is h.heard; written = h.heard.heard.prefix };
+        cut = record { reports = h.heard.reports; are = reports_of_plan is h.heard; written = h.heard.heard.prefix };
         nothing = nothing;
       })
   reporting_gives_up reader bytes (Refused refusal) output stops nothing = absurd stops
@@ -160,7 +160,7 @@ pub fine_if_done : (plan : Plan) (workers from : ℕ) (outcome : Outcome) (outpu
 fine_if_done plan workers from (Ok missing) output errors is = is.fine
 fine_if_done plan workers from (Err complaint) output errors is = tt
 
--- what stops the crew is no refusal
+-- what stops the crew isn't a refusal
 pub not_refused : (failed : Bool) (taken : Result (Unit {0}) Complaint) → IfErr taken (StopsReporting failed)
     → IfErr taken (λ complaint. status_of complaint ≢ statuses.Refused)
 not_refused failed (Ok u) stops = tt
@@ -170,7 +170,7 @@ not_refused failed (Err (Refused refusal)) stops = absurd stops
 not_refused failed (Err (ReadFailed error)) stops = absurd stops
 not_refused failed (Err TooLong) stops = absurd stops
 
--- what is said of the reports that were handed over may be said in another way
+-- what is said of the reports that were handed over may be replaced by what follows from it
 pub heard_as : {lets : ℕ → ℕ → Type 0} {workers : ℕ} {old new : Held} (hears others : List Reported → Type 0)
     → ((reports : List Reported) → hears reports → others reports) → HasHeardCrew lets workers old new hears
     → HasHeardCrew lets workers old new others

@@ -1,5 +1,5 @@
 -- From the steps of `take` to a right answer.
-use Rattle.std.proofs.Common.{◌≡◌, ◌∙◌, ◌≤◌, ◌⊎◌, ◌↔◌, ℕ, zero, suc, Bool, true, false, cond, inl, inr, nat_eq, nat_le, not, length}
+use Rattle.std.proofs.Common.{◌≡◌, ◌≢◌, ◌∙◌, ◌≤◌, ◌⊎◌, ◌↔◌, ℕ, zero, suc, Bool, true, false, cond, inl, inr, nat_eq, nat_le, not, length}
 use Rattle.std.proofs.Common.{List, [], Option, Result, Ok, Err, All, ap, sym, subst, refl, arith}
 use Rattle.std.specs.Prelude.{Contains, IfErr, IfOk}
 use Rattle.std.specs.Io.KnownBytes.{Appends}
@@ -48,12 +48,13 @@ use Rattle.pattern_commands.specs.Inputs.{rule_complaint, rule_named, list_compl
 use Rattle.pattern_commands.specs.Profiles.{profile_named, settling}
 use Rattle.pattern_commands.specs.Soup.{seed_complaint, seed_named}
 use Rattle.commands.specs.SoupSets.{AreRangesOf, IsRefused, job_named, IsRightForSet, Bad_list, Overlapping, Too_large}
-use Rattle.commands.specs.Stopped.{MayStop, TellsTaken, gated_behaviour, right_if, stopped_right, taken_right}
+use Rattle.commands.specs.Stopped.{IsLetIn, MayStop, TellsTaken, gated_behaviour, right_if, stopped_right, taken_right}
 use Rattle.pattern_commands.specs.Streams.{Stream, Has, IsUntouched}
 use Rattle.commands.specs.Take.{PrintsCensus, TellsAll, take_right, take_behaviour}
-use Rattle.commands.specs.TakeSteps.{EndsCrew, HasTakenMore, IsOpened, IsOpenedFor, IsTaken, Stops, StopsOpening, StopsSet}
+use Rattle.commands.specs.TakeSteps.{EndsCrew, HasLetIn, HasTakenMore, IsOpened, IsOpenedFor, IsTaken, Stops, StopsOpening, StopsSet}
 use Rattle.pattern_commands.specs.Behaviours.{Made, Behaviour, alone}
 use Rattle.pattern_commands.specs.TextSteps.{ReachesText}
+use Rattle.commands.proofs.GrownLemmas.{let_in_all}
 use Rattle.commands.proofs.NumberLemmas.{numbers_within}
 
 -- ---- refusals
@@ -202,7 +203,7 @@ listed set ranges of = record { ranges = of.listed; fit = of.fit; spelled = of.s
 pub Stops_memory : {workers : ℕ} (plan : Plan) (held : Held)
     → IsOpenedFor plan workers held → Stops (take_right plan) (Memory out_of_memory)
 Stops_memory plan held is =
-    Stops_given plan TellsAll is.job (Memory out_of_memory) is.named (listed plan.set is.opened.ranges is.opened.named)
+    Stops_given plan TellsAll is.job (Memory out_of_memory) is.named (listed plan.set is.opened.over.ranges is.opened.over.named)
 
 -- ---- a haul that was opened
 
@@ -243,16 +244,16 @@ pub complete_right : {workers : ℕ} (job : Job) (set : SoupSet) (opened held : 
     → HasTakenMore opened held → AreAll held.terms.ranges (numbers_in held.taken)
     → IsCensus held.terms.job held.terms.ranges (numbers_in held.taken) census → IsRightForSet set (TellsAll job) (Ok (haul_text census))
 complete_right job set opened held census open_ h all is = record {
-  ranges = open_.ranges;
-  named = open_.named;
-  small = open_.small;
-  apart = open_.apart;
+  ranges = open_.over.ranges;
+  named = open_.over.named;
+  small = open_.over.small;
+  apart = open_.over.apart;
   is_text = record {
     numbers = numbers_in held.taken;
     all = λ n. all n ∙ ap (λ (b : Bool). cond {A = ℕ} b 1 0)
-        (ap (λ (t : Terms). is_in t.ranges n) h.terms ∙ open_.form.same n);
+        (ap (λ (t : Terms). is_in t.ranges n) h.terms ∙ open_.over.form.same n);
     normal = opened.terms.ranges;
-    form = open_.form;
+    form = open_.over.form;
     census = census;
     counted = counted_by job set opened held census open_ h is;
     text_is = refl;
@@ -260,30 +261,31 @@ complete_right job set opened held census open_ h all is = record {
 }
 
 -- what the text says of the ranges of a set if some numbers are missing
-abbrev stopped_text : (ℕ → ℕ → Type 0) → ℕ → Job → List Range → List ℕ → Type 0
-stopped_text may_stop missing job ranges text = MayStop may_stop ranges × TellsTaken job ranges missing text
+abbrev stopped_text : (may_stop lets : ℕ → ℕ → Type 0) → (workers missing : ℕ) → Job → List Range → List ℕ → Type 0
+stopped_text may_stop lets workers missing job ranges text = MayStop may_stop ranges × TellsTaken lets workers job ranges missing text
 
 -- some numbers are missing
-pub stopped_told : {workers : ℕ} (may_stop : ℕ → ℕ → Type 0) (job : Job) (set : SoupSet) (opened held : Held) (census : Census) (missing : ℕ)
+pub stopped_told : (may_stop lets : ℕ → ℕ → Type 0) (workers : ℕ) (job : Job) (set : SoupSet) (opened held : Held) (census : Census) (missing : ℕ)
     → IsOpened job set workers opened → HasTakenMore opened held → All (λ t. is_in held.terms.ranges t.1 ≡ true) held.taken
-    → IsDistinct nat_eq (numbers_in held.taken) → missing ≡ length (missing_of held.terms.ranges held.taken)
+    → IsDistinct nat_eq (numbers_in held.taken) → All (IsLetIn lets workers) held.taken → missing ≡ length (missing_of held.terms.ranges held.taken)
     → ¬ IsComplete held.terms.ranges held.taken → ((worker : ℕ) × StopsAt may_stop (was_missing opened) worker)
     → IsCensus held.terms.job held.terms.ranges (numbers_in held.taken) census
-    → IsRightForSet set (stopped_text may_stop missing job) (Ok (haul_text census))
-stopped_told may_stop job set opened held census missing open_ h within once many incomplete stops is = record {
-  ranges = open_.ranges;
-  named = open_.named;
-  small = open_.small;
-  apart = open_.apart;
+    → IsRightForSet set (stopped_text may_stop lets workers missing job) (Ok (haul_text census))
+stopped_told may_stop lets workers job set opened held census missing open_ h within once let_in many incomplete stops is = record {
+  ranges = open_.over.ranges;
+  named = open_.over.named;
+  small = open_.over.small;
+  apart = open_.over.apart;
   is_text = (
-    (stops.0, stops.1.0, in_set open_.ranges opened.terms.ranges opened.taken stops.1.0 open_.form stops.1.1, stops.1.2),
+    (stops.0, stops.1.0, in_set open_.over.ranges opened.terms.ranges opened.taken stops.1.0 open_.over.form stops.1.1, stops.1.2),
     record {
       normal = opened.terms.ranges;
-      form = open_.form;
+      form = open_.over.form;
       taken = held.taken;
-      within = All-weaker (λ (t : ℕ × ℕ). is_in held.terms.ranges t.1 ≡ true) (λ (t : ℕ × ℕ). is_in open_.ranges t.1 ≡ true)
-          (λ t at. sym (ap (λ (ts : Terms). is_in ts.ranges t.1) h.terms ∙ open_.form.same t.1) ∙ at) held.taken within;
+      within = All-weaker (λ (t : ℕ × ℕ). is_in held.terms.ranges t.1 ≡ true) (λ (t : ℕ × ℕ). is_in open_.over.ranges t.1 ≡ true)
+          (λ t at. sym (ap (λ (ts : Terms). is_in ts.ranges t.1) h.terms ∙ open_.over.form.same t.1) ∙ at) held.taken within;
       once = once;
+      let_in = let_in;
       incomplete = subst (λ (t : Terms). ¬ IsComplete t.ranges held.taken) h.terms incomplete;
       missing_is = many ∙ ap (λ (t : Terms). length (missing_of t.ranges held.taken)) h.terms;
       census = census;
@@ -294,116 +296,131 @@ stopped_told may_stop job set opened held census missing open_ h within once man
 }
 
 -- what was taken of a haul that was opened, with how many are missing
-taken_told : {workers : ℕ} (may_stop : ℕ → ℕ → Type 0) (plan : Plan) (held : Held) (census : Census)
-    (missing : ℕ) → IsTaken may_stop plan workers held → missing ≡ length (missing_of held.terms.ranges held.taken)
+taken_told : (may_stop lets : ℕ → ℕ → Type 0) (workers : ℕ) (plan : Plan) (held : Held) (census : Census)
+    (missing : ℕ) → IsTaken may_stop lets plan workers held → missing ≡ length (missing_of held.terms.ranges held.taken)
     → (missing ≡ 0) ↔ IsComplete held.terms.ranges held.taken → IsCensusOf held census
-    → right_if (take_right plan) (stopped_right may_stop plan) missing (Ok (haul_text census))
-taken_told may_stop plan held census missing h many none is = go missing many none h.ends
+    → right_if (take_right plan) (stopped_right may_stop lets plan workers) missing (Ok (haul_text census))
+taken_told may_stop lets workers plan held census missing h many none is = go missing many none h.ends
   where
     go : (n : ℕ) → n ≡ length (missing_of held.terms.ranges held.taken) → (n ≡ 0) ↔ IsComplete held.terms.ranges held.taken
         → EndsCrew may_stop h.opened held
-        → right_if (take_right plan) (stopped_right may_stop plan) n (Ok (haul_text census))
+        → right_if (take_right plan) (stopped_right may_stop lets plan workers) n (Ok (haul_text census))
     go zero many none (inl whole) =
         right_given plan (λ j. IsRightForSet plan.set (TellsAll j)) h.is.job (haul_text census) h.is.named
         (complete_right h.is.job plan.set h.opened held census h.is.opened h.grown whole.1 is)
     go zero many none (inr less) = absurd (less.0 (none.0 refl))
     go (suc n) many none (inl whole) = let bad = none.1 whole.0 in cc
     go (suc n) many none (inr less) =
-        right_given plan (λ j. IsRightForSet plan.set (stopped_text may_stop (suc n) j)) h.is.job (haul_text census) h.is.named
-        (stopped_told may_stop h.is.job plan.set h.opened held census (suc n) h.is.opened h.grown h.within h.once many less.0 (less.1, less.2) is)
+        right_given plan (λ j. IsRightForSet plan.set (stopped_text may_stop lets workers (suc n) j)) h.is.job (haul_text census) h.is.named
+        (stopped_told may_stop lets workers h.is.job plan.set h.opened held census (suc n) h.is.opened h.grown h.within h.once h.let_in many less.0 (less.1, less.2) is)
 
 -- ---- how `take` ends
 
 -- a complaint that stops the command is what it ends with, with nothing on the output
-pub take_stops : (may_stop : ℕ → ℕ → Type 0) (plan : Plan) (reader : Option (List ℕ)) (bytes : List ℕ)
+pub take_stops : (may_stop lets : ℕ → ℕ → Type 0) (workers : ℕ) (plan : Plan) (reader : Option (List ℕ)) (bytes : List ℕ)
     (complaint : Complaint) (output errors : Stream) → Stops (take_right plan) complaint → Has output [] → IsUntouched errors
-    → Reaches (gated_behaviour may_stop plan) reader bytes (Err complaint) output errors
-take_stops may_stop plan reader bytes (Refused refusal) output errors stops nothing still =
+    → Reaches (gated_behaviour may_stop lets plan workers) reader bytes (Err complaint) output errors
+take_stops may_stop lets workers plan reader bytes (Refused refusal) output errors stops nothing still =
     (stops, record { nothing = nothing; silent = still.0; fine = still.1 })
-take_stops may_stop plan reader bytes (Memory error) output errors stops nothing still =
+take_stops may_stop lets workers plan reader bytes (Memory error) output errors stops nothing still =
     record { hides = λ unread complaint is. stops complaint is; left = nothing; diagnostics = inl still.0; fine = still.1 }
-take_stops may_stop plan reader bytes (ReadFailed error) output errors stops nothing still = absurd stops
-take_stops may_stop plan reader bytes TooLong output errors stops nothing still = absurd stops
-take_stops may_stop plan reader bytes (WriteFailed error) output errors stops nothing still = absurd stops
+take_stops may_stop lets workers plan reader bytes (ReadFailed error) output errors stops nothing still = absurd stops
+take_stops may_stop lets workers plan reader bytes TooLong output errors stops nothing still = absurd stops
+take_stops may_stop lets workers plan reader bytes (WriteFailed error) output errors stops nothing still = absurd stops
 
 -- the haul that was taken, finished
-take_finishes : {workers : ℕ} (may_stop : ℕ → ℕ → Type 0) (plan : Plan) (reader : Option (List ℕ))
-    (bytes : List ℕ) (held : Held) (outcome : Outcome) (output errors : Stream) → IsTaken may_stop plan workers held
+take_finishes : (may_stop lets : ℕ → ℕ → Type 0) (workers : ℕ) (plan : Plan) (reader : Option (List ℕ))
+    (bytes : List ℕ) (held : Held) (outcome : Outcome) (output errors : Stream) → IsTaken may_stop lets plan workers held
     → (length (missing_of held.terms.ranges held.taken) ≡ 0) ↔ IsComplete held.terms.ranges held.taken → Finishes held outcome output → IsUntouched errors
-    → Reaches (gated_behaviour may_stop plan) reader bytes outcome output errors
-take_finishes may_stop plan reader bytes held (Ok missing) output errors h none finished still =
+    → Reaches (gated_behaviour may_stop lets plan workers) reader bytes outcome output errors
+take_finishes may_stop lets workers plan reader bytes held (Ok missing) output errors h none finished still =
     let zero_if : (missing ≡ 0) ↔ IsComplete held.terms.ranges held.taken =
     subst (λ (n : ℕ). (n ≡ 0) ↔ IsComplete held.terms.ranges held.taken) (sym finished.missing_is) none in
     record {
       made = record { text = haul_text finished.census; diagnostics = []; missing = missing };
-      is = (taken_told may_stop plan held finished.census missing h finished.missing_is zero_if finished.counted, refl);
+      is = (taken_told may_stop lets workers plan held finished.census missing h finished.missing_is zero_if finished.counted, refl);
       missing_is = refl;
       text = finished.text;
       written = finished.fine;
       diagnostics = still.0;
       fine = still.1;
     }
-take_finishes may_stop plan reader bytes held (Err (Memory error)) output errors h none nothing still =
-    take_stops may_stop plan reader bytes (Memory error) output errors (Stops_memory plan h.opened h.is)
+take_finishes may_stop lets workers plan reader bytes held (Err (Memory error)) output errors h none nothing still =
+    take_stops may_stop lets workers plan reader bytes (Memory error) output errors (Stops_memory plan h.opened h.is)
     nothing still
-take_finishes may_stop plan reader bytes held (Err (WriteFailed error)) output errors h none half still =
+take_finishes may_stop lets workers plan reader bytes held (Err (WriteFailed error)) output errors h none half still =
     let many : ℕ = length (missing_of held.terms.ranges held.taken) in
     inl (record {
       left = (
         record { text = haul_text half.census; diagnostics = []; missing = many },
-        (taken_told may_stop plan held half.census many h refl none half.counted, refl),
+        (taken_told may_stop lets workers plan held half.census many h refl none half.counted, refl),
         half.prefix,
         still.0,
       );
       cut = half.cut;
       fine = still.1;
     })
-take_finishes may_stop plan reader bytes held (Err (ReadFailed error)) output errors h none not still = absurd not
-take_finishes may_stop plan reader bytes held (Err TooLong) output errors h none not still = absurd not
-take_finishes may_stop plan reader bytes held (Err (Refused refusal)) output errors h none not still = absurd not
+take_finishes may_stop lets workers plan reader bytes held (Err (ReadFailed error)) output errors h none not still = absurd not
+take_finishes may_stop lets workers plan reader bytes held (Err TooLong) output errors h none not still = absurd not
+take_finishes may_stop lets workers plan reader bytes held (Err (Refused refusal)) output errors h none not still = absurd not
 
 -- the same, or memory ran out before the haul was complete
-pub take_ends : {workers : ℕ} {E : Type 0} (may_stop : ℕ → ℕ → Type 0) (plan : Plan)
-    (reader : Option (List ℕ)) (bytes : List ℕ) (opened held : Held) (taken : Result (Unit {0}) E) (outcome : Outcome) (output errors : Stream)
+pub take_ends : (may_stop lets : ℕ → ℕ → Type 0) (workers : ℕ) (plan : Plan)
+    (reader : Option (List ℕ)) (bytes : List ℕ) (opened held : Held) (taken : Result (Unit {0}) Complaint) (outcome : Outcome) (output errors : Stream)
     → IsOpenedFor plan workers opened → HasTakenMore opened held → All (λ t. is_in held.terms.ranges t.1 ≡ true) held.taken
-    → IsDistinct nat_eq (numbers_in held.taken) → IfOk taken (λ _. EndsCrew may_stop opened held)
+    → IsDistinct nat_eq (numbers_in held.taken) → HasLetIn lets workers opened held → IfOk taken (λ _. EndsCrew may_stop opened held)
+    → IfErr taken (λ complaint. complaint ≡ Memory out_of_memory)
     → IfOk taken (λ _. Finishes held outcome output)
     → IfOk taken (λ _. (length (missing_of held.terms.ranges held.taken) ≡ 0) ↔ IsComplete held.terms.ranges held.taken)
-    → IfErr taken (λ _. (outcome ≡ Err (Memory out_of_memory)) × Has output []) → IsUntouched errors
-    → Reaches (gated_behaviour may_stop plan) reader bytes outcome output errors
-take_ends may_stop plan reader bytes opened held (Ok u) outcome output errors is grown within once ends finishes none gives_up still =
-    take_finishes may_stop plan reader bytes held outcome output errors
-    (record { opened = opened; is = is; grown = grown; within = within; once = once; ends = ends }) none finishes still
-take_ends may_stop plan reader bytes opened held (Err e) outcome output errors is grown within once ends finishes none gives_up still =
-    subst (λ (o : Outcome). Reaches (gated_behaviour may_stop plan) reader bytes o output errors) (sym gives_up.0)
-    (take_stops may_stop plan reader bytes (Memory out_of_memory) output errors (Stops_memory plan opened is) gives_up.1 still)
+    → IfErr taken (λ complaint. (outcome ≡ Err complaint) × Has output []) → IsUntouched errors
+    → Reaches (gated_behaviour may_stop lets plan workers) reader bytes outcome output errors
+take_ends may_stop lets workers plan reader bytes opened held (Ok u) outcome output errors is grown within once let_in ends memory finishes none gives_up still =
+    take_finishes may_stop lets workers plan reader bytes held outcome output errors
+    (record {
+      opened = opened;
+      is = is;
+      grown = grown;
+      within = within;
+      once = once;
+      let_in = let_in_all opened held is.opened.stands.taken let_in;
+      ends = ends;
+    }) none finishes still
+take_ends may_stop lets workers plan reader bytes opened held (Err complaint) outcome output errors is grown within once let_in ends memory finishes none gives_up still =
+    subst (λ (o : Outcome). Reaches (gated_behaviour may_stop lets plan workers) reader bytes o output errors) (sym (gives_up.0 ∙ ap Err memory))
+    (take_stops may_stop lets workers plan reader bytes (Memory out_of_memory) output errors (Stops_memory plan opened is) gives_up.1 still)
+
+-- out of memory isn't a refusal
+pub memory_accepted : (taken : Result (Unit {0}) Complaint) → IfErr taken (λ complaint. complaint ≡ Memory out_of_memory)
+    → IfErr taken (λ complaint. status_of complaint ≢ statuses.Refused)
+memory_accepted (Ok u) memory = tt
+memory_accepted (Err complaint) memory = λ refused. let bad : statuses.Memory ≡ statuses.Refused = sym (ap status_of memory) ∙ refused in cc
 
 -- a gate that stops nobody stops no haul
-never_right : (may_stop : ℕ → ℕ → Type 0) (plan : Plan) (missing : ℕ) (text : List ℕ)
-    → ((worker n : ℕ) → may_stop worker n → ⊥) → stopped_right may_stop plan missing (Ok text) → ⊥
-never_right may_stop plan missing text never = go (job_named plan)
+never_right : (may_stop lets : ℕ → ℕ → Type 0) (workers : ℕ) (plan : Plan) (missing : ℕ) (text : List ℕ)
+    → ((worker n : ℕ) → may_stop worker n → ⊥) → stopped_right may_stop lets plan workers missing (Ok text) → ⊥
+never_right may_stop lets workers plan missing text never = go (job_named plan)
   where
     go : (r : Result Job Complaint)
-        → IsRightGiven r (λ job. IsRightForSet plan.set (stopped_text may_stop missing job)) (Ok text) → ⊥
+        → IsRightGiven r (λ job. IsRightForSet plan.set (stopped_text may_stop lets workers missing job)) (Ok text) → ⊥
     go (Ok job) diagnostics = let stops = diagnostics.is_text.0 in never stops.0 stops.1 stops.3
     go (Err complaint) is = cc
 
 -- so what it makes is a text alone
-never_less : (may_stop : ℕ → ℕ → Type 0) (plan : Plan) (made : Made)
-    → ((worker n : ℕ) → may_stop worker n → ⊥) → taken_right may_stop plan (Ok made) → alone (take_right plan) (Ok made)
-never_less may_stop plan made never is = go made.missing refl is.0
+never_less : (may_stop lets : ℕ → ℕ → Type 0) (workers : ℕ) (plan : Plan) (made : Made)
+    → ((worker n : ℕ) → may_stop worker n → ⊥) → taken_right may_stop lets plan workers (Ok made) → alone (take_right plan) (Ok made)
+never_less may_stop lets workers plan made never is = go made.missing refl is.0
   where
     go : (n : ℕ) → made.missing ≡ n
-        → right_if (take_right plan) (stopped_right may_stop plan) n (Ok made.text)
+        → right_if (take_right plan) (stopped_right may_stop lets plan workers) n (Ok made.text)
         → alone (take_right plan) (Ok made)
     go zero none right = (right, is.1, none)
-    go (suc n) some right = absurd (never_right may_stop plan (suc n) made.text never right)
+    go (suc n) some right = absurd (never_right may_stop lets workers plan (suc n) made.text never right)
 
-pub never_stopped : (may_stop : ℕ → ℕ → Type 0) (plan : Plan) (reader : Option (List ℕ)) (bytes : List ℕ)
+pub never_stopped : (may_stop lets : ℕ → ℕ → Type 0) (workers : ℕ) (plan : Plan) (reader : Option (List ℕ)) (bytes : List ℕ)
     (status : Status) (output errors : Stream) → ((worker n : ℕ) → may_stop worker n → ⊥)
-    → Ends (gated_behaviour may_stop plan) reader bytes status output errors
+    → Ends (gated_behaviour may_stop lets plan workers) reader bytes status output errors
     → Ends (take_behaviour plan) reader bytes status output errors
-never_stopped may_stop plan reader bytes status output errors never ends = record {
+never_stopped may_stop lets workers plan reader bytes status output errors never ends = record {
   outcome = ends.outcome;
   so_far = ends.so_far;
   from = ends.from;
@@ -414,7 +431,7 @@ never_stopped may_stop plan reader bytes status output errors never ends = recor
 }
   where
     gated : Behaviour
-    gated = gated_behaviour may_stop plan
+    gated = gated_behaviour may_stop lets plan workers
 
     whole : Behaviour
     whole = take_behaviour plan
@@ -422,7 +439,7 @@ never_stopped may_stop plan reader bytes status output errors never ends = recor
     go : (outcome : Outcome) → Reaches gated reader bytes outcome output ends.so_far → Reaches whole reader bytes outcome output ends.so_far
     go (Ok missing) is = record {
       made = is.made;
-      is = never_less may_stop plan is.made never is.is;
+      is = never_less may_stop lets workers plan is.made never is.is;
       missing_is = is.missing_is;
       text = is.text;
       written = is.written;
@@ -435,8 +452,8 @@ never_stopped may_stop plan reader bytes status output errors never ends = recor
     go (Err TooLong) (right, is) = (right, record { reads = is.reads; begun = is.begun; nothing = is.nothing; fine = is.fine })
     go (Err (WriteFailed error)) (inl is) =
         let (made, right, prefix, diagnostics) = is.left in
-        inl (record { left = (made, never_less may_stop plan made never right, prefix, diagnostics); cut = is.cut; fine = is.fine })
-    go (Err (WriteFailed error)) (inr is) = absurd is.told
+        inl (record { left = (made, never_less may_stop lets workers plan made never right, prefix, diagnostics); cut = is.cut; fine = is.fine })
+    go (Err (WriteFailed error)) (inr is) = absurd is.cut
 
 -- ---- the same without a behaviour of commands
 

@@ -14,7 +14,6 @@ use Rattle.survey_core.specs.FindingLaws.{FindingsAreDetermined}
 use Rattle.survey_core.specs.Findings.{IsFinding}
 use Rattle.survey_core.specs.Soups.{soup}
 use Rattle.ranges.specs.declared.range.Range.{Range}
-use Rattle.haul_core.specs.Books.{Held}
 use Rattle.ranges.specs.Ranges.{AreSmall, OneNormalForm, Overlap, is_in}
 use Rattle.haul_core.specs.ReportLines.{report_text}
 use Rattle.haul_core.specs.Reports.{Reported}
@@ -23,10 +22,10 @@ use Rattle.pattern_commands.specs.declared.ending.complaint.Complaint.TheVariant
 use Rattle.requests.specs.declared.plan.Plan.{Plan}
 use Rattle.requests.specs.declared.plan.SoupSet.{SoupSet}
 use Rattle.pattern_commands.specs.Answers.{Answer, Right, output_text}
-use Rattle.commands.specs.SoupSets.{Bad_list, Overlapping, Too_large, IsRightForSet}
+use Rattle.commands.specs.SoupSets.{Bad_list, Overlapping, Too_large, IsRightForSet, job_named}
 use Rattle.pattern_commands.specs.Streams.{Stream, Has, HasPrefix}
 use Rattle.haul_core.specs.Missing.{numbers_of_range, numbers_of}
-use Rattle.commands.specs.TakeSteps.{IsOpened, IsOpenedFor}
+use Rattle.commands.specs.TakeSteps.{AreNormalRanges}
 use Rattle.pattern_commands.specs.TextSteps.{ReachesText, TextOutcome}
 use Rattle.commands.specs.Work.{AreReportsOn, IsReportOn, TellsReports, work_right}
 use Rattle.commands.specs.WorkSteps.{EndsAtLine, IsBegun, Puts, reports_on}
@@ -226,38 +225,38 @@ first_reports determined job worker (n ∷ done) more (r ∷ rs) (s ∷ all) eac
     let after = first_reports determined job worker done more rs all each.1 every.1 in
     (after.0, ap₂ (λ (t : Reported) (ts : List Reported). t ∷ ts) (same_report determined job worker n s r every.0 each.0) after.1)
 
--- each right answer over a set that was opened tells reports on its numbers
-record Tells (job : Job) (worker : ℕ) (numbers : List ℕ) (answer : Answer) : Type 0 where
+-- a right answer is the lines of the reports on these numbers
+record AreLines (job : Job) (worker : ℕ) (numbers : List ℕ) (answer : Answer) : Type 0 where
   pub reports : List Reported
   pub each : AreReportsOn job worker numbers reports
   pub diagnostics : answer ≡ Ok (flat_map report_text reports)
 
-only_text : {workers : ℕ} → OneNormalForm → (job : Job) (worker : ℕ) (set : SoupSet) (held : Held) → IsOpened job set workers held → (answer : Answer)
-    → IsRightForSet set (TellsReports job worker) answer → Tells job worker (numbers_of held.terms.ranges) answer
-only_text one_form job worker set held opened (Ok text) is =
-    let same : is.ranges ≡ opened.ranges = opened.only is.ranges is.named in
+only_text : OneNormalForm → (job : Job) (worker : ℕ) (set : SoupSet) (normal : List Range) → AreNormalRanges set normal → (answer : Answer)
+    → IsRightForSet set (TellsReports job worker) answer → AreLines job worker (numbers_of normal) answer
+only_text one_form job worker set normal over (Ok text) is =
+    let same : is.ranges ≡ over.ranges = over.only is.ranges is.named in
     let tells = is.is_text in
-    let forms : tells.normal ≡ held.terms.ranges =
-    one_form tells.normal held.terms.ranges tells.form.normal_form opened.form.normal_form
-    (λ n. tells.form.same n ∙ ap (λ (rs : List Range). is_in rs n) same ∙ sym (opened.form.same n)) in
+    let forms : tells.normal ≡ normal =
+    one_form tells.normal normal tells.form.normal_form over.form.normal_form
+    (λ n. tells.form.same n ∙ ap (λ (rs : List Range). is_in rs n) same ∙ sym (over.form.same n)) in
     record {
       reports = tells.reports;
       each = subst (λ (rs : List Range). AreReportsOn job worker (numbers_of rs) tells.reports) forms tells.each;
       diagnostics = ap Ok tells.text_is;
     }
-only_text one_form job worker set held opened (Err (Refused refusal)) (Bad_list not_list place fault diagnostics) = absurd (not_list
-    (listed set opened.ranges opened.named))
-only_text one_form job worker set held opened (Err (Refused refusal)) (Too_large ranges named large diagnostics) =
-    absurd (large (subst AreSmall (sym (opened.only ranges named)) opened.small))
-only_text one_form job worker set held opened (Err (Refused refusal)) (Overlapping ranges named small overlap diagnostics) =
-    absurd (opened.apart (subst Overlap (opened.only ranges named) overlap))
-only_text one_form job worker set held opened (Err (Memory error)) is = absurd is
-only_text one_form job worker set held opened (Err (ReadFailed error)) is = absurd is
-only_text one_form job worker set held opened (Err TooLong) is = absurd is
-only_text one_form job worker set held opened (Err (WriteFailed error)) is = absurd is
+only_text one_form job worker set normal over (Err (Refused refusal)) (Bad_list not_list place fault diagnostics) = absurd (not_list
+    (listed set over.ranges over.named))
+only_text one_form job worker set normal over (Err (Refused refusal)) (Too_large ranges named large diagnostics) =
+    absurd (large (subst AreSmall (sym (over.only ranges named)) over.small))
+only_text one_form job worker set normal over (Err (Refused refusal)) (Overlapping ranges named small overlap diagnostics) =
+    absurd (over.apart (subst Overlap (over.only ranges named) overlap))
+only_text one_form job worker set normal over (Err (Memory error)) is = absurd is
+only_text one_form job worker set normal over (Err (ReadFailed error)) is = absurd is
+only_text one_form job worker set normal over (Err TooLong) is = absurd is
+only_text one_form job worker set normal over (Err (WriteFailed error)) is = absurd is
 
 -- the lines of the first reports are a prefix of each right text
-prefix_of : FindingsAreDetermined → (job : Job) (worker : ℕ) (numbers : List ℕ) (answer : Answer) (output : Stream) → Tells job worker numbers answer
+prefix_of : FindingsAreDetermined → (job : Job) (worker : ℕ) (numbers : List ℕ) (answer : Answer) (output : Stream) → AreLines job worker numbers answer
     → IsBegun (reports_on job worker numbers) (HasPrefix output) → HasPrefix output (output_text answer)
 prefix_of determined job worker numbers answer output tells begun =
     let every = subst (λ (ns : List ℕ). AreReportsOn job worker ns tells.reports) begun.parts tells.each in
@@ -281,70 +280,65 @@ begun_whole job worker numbers output begun = record {
   is_written = (flat_map report_text begun.reports, [], sym (append-nil (flat_map report_text begun.reports)), begun.is_written);
 }
 
--- what became of the reports on a set that was opened is a right end of the command
-pub reaches_work : {workers : ℕ} → FindingsAreDetermined → OneNormalForm → (plan : Plan) (worker : ℕ)
-    (held : Held) (outcome : TextOutcome) (output : Stream) → IsOpenedFor plan workers held
-    → Puts (reports_on held.terms.job worker (numbers_of held.terms.ranges)) outcome output
+-- what became of the reports on the soups of a plan is a right end of the command
+pub reaches_work : FindingsAreDetermined → OneNormalForm → (plan : Plan) (worker : ℕ) (job : Job) (normal : List Range)
+    (outcome : TextOutcome) (output : Stream) → job_named plan ≡ Ok job → AreNormalRanges plan.set normal
+    → Puts (reports_on job worker (numbers_of normal)) outcome output
     → ReachesText false false (work_right plan worker) outcome output
-reaches_work determined one_form plan worker held outcome output is puts =
-    go outcome (subst (λ (j : Job). Puts (reports_on j worker (numbers_of held.terms.ranges)) outcome output)
-    is.opened.job_is puts)
+reaches_work determined one_form plan worker job normal outcome output named over puts = go outcome puts
   where
-    job : Job
-    job = is.job
-
     right : Right
     right = work_right plan worker
 
-    tells : (answer : Answer) → right answer → Tells job worker (numbers_of held.terms.ranges) answer
-    tells answer right_is = only_text one_form job worker plan.set held is.opened answer (rw is.named at right_is)
+    tells : (answer : Answer) → right answer → AreLines job worker (numbers_of normal) answer
+    tells answer right_is = only_text one_form job worker plan.set normal over answer (rw named at right_is)
 
     never : (complaint : Complaint) → right (Err complaint) → ⊥
     never complaint is =
         let diagnostics = (tells (Err complaint) is).diagnostics in
         cc
 
-    go : (o : TextOutcome) → Puts (reports_on job worker (numbers_of held.terms.ranges)) o output
+    go : (o : TextOutcome) → Puts (reports_on job worker (numbers_of normal)) o output
         → ReachesText false false right o output
     go (Ok u) put =
         let text : List ℕ = flat_map report_text put.reports in
         let diagnostics : IsRightForSet plan.set (TellsReports job worker) (Ok text) = record {
-          ranges = is.opened.ranges;
-          named = is.opened.named;
-          small = is.opened.small;
-          apart = is.opened.apart;
-          is_text = record { normal = held.terms.ranges; form = is.opened.form; reports = put.reports; each = put.each; text_is = refl };
+          ranges = over.ranges;
+          named = over.named;
+          small = over.small;
+          apart = over.apart;
+          is_text = record { normal = normal; form = over.form; reports = put.reports; each = put.each; text_is = refl };
         } in
-        ((text, rw is.named diagnostics, put.is_written), put.fine)
+        ((text, rw named diagnostics, put.is_written), put.fine)
     go (Err (Memory error)) begun = (
       λ unread complaint is. absurd (never complaint is),
-      λ answer is. prefix_of determined job worker (numbers_of held.terms.ranges) answer output (tells answer is)
-          (begun_whole job worker (numbers_of held.terms.ranges) output begun),
+      λ answer is. prefix_of determined job worker (numbers_of normal) answer output (tells answer is)
+          (begun_whole job worker (numbers_of normal) output begun),
     )
     go (Err (WriteFailed error)) (begun, diagnostics) = (
-      (never, λ text is. prefix_of determined job worker (numbers_of held.terms.ranges) (Ok text) output (tells (Ok text) is) begun),
+      (never, λ text is. prefix_of determined job worker (numbers_of normal) (Ok text) output (tells (Ok text) is) begun),
       diagnostics,
     )
     go (Err (ReadFailed error)) put = absurd put
     go (Err TooLong) put = absurd put
     go (Err (Refused refusal)) put = absurd put
 
--- if memory ran out over a set that was opened, whole lines were written
-pub whole_lines : {workers : ℕ} (plan : Plan) (worker : ℕ) (held : Held) (outcome : TextOutcome) (output : Stream)
-    → IsOpenedFor plan workers held
-    → Puts (reports_on held.terms.job worker (numbers_of held.terms.ranges)) outcome output
+-- if memory ran out over the soups of a plan, whole lines were written
+pub whole_lines : (plan : Plan) (worker : ℕ) (job : Job) (normal : List Range) (outcome : TextOutcome) (output : Stream)
+    → job_named plan ≡ Ok job → AreNormalRanges plan.set normal
+    → Puts (reports_on job worker (numbers_of normal)) outcome output
     → IfErr outcome (λ complaint. complaint ≡ Memory out_of_memory → EndsAtLine plan worker output)
-whole_lines plan worker held (Ok u) output is puts = tt
-whole_lines plan worker held (Err (Memory error)) output is begun = λ _. inr (record {
-  job = is.job;
-  job_is = is.named;
-  ranges = is.opened.ranges;
-  named = is.opened.named;
-  normal = held.terms.ranges;
-  form = is.opened.form;
-  begun = subst (λ (j : Job). IsBegun (reports_on j worker (numbers_of held.terms.ranges)) (Has output)) is.opened.job_is begun;
+whole_lines plan worker job normal (Ok u) output named over puts = tt
+whole_lines plan worker job normal (Err (Memory error)) output named over begun = λ _. inr (record {
+  job = job;
+  job_is = named;
+  ranges = over.ranges;
+  named = over.named;
+  normal = normal;
+  form = over.form;
+  begun = begun;
 })
-whole_lines plan worker held (Err (WriteFailed error)) output is puts = λ bad. cc
-whole_lines plan worker held (Err (ReadFailed error)) output is puts = absurd puts
-whole_lines plan worker held (Err TooLong) output is puts = absurd puts
-whole_lines plan worker held (Err (Refused refusal)) output is puts = absurd puts
+whole_lines plan worker job normal (Err (WriteFailed error)) output named over puts = λ bad. cc
+whole_lines plan worker job normal (Err (ReadFailed error)) output named over puts = absurd puts
+whole_lines plan worker job normal (Err TooLong) output named over puts = absurd puts
+whole_lines plan worker job normal (Err (Refused refusal)) output named over puts = absurd puts

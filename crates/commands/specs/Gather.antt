@@ -37,7 +37,7 @@ gather_behaviour plan workers = record {
 abbrev pub IsSame : Terms → Terms → Type 0
 IsSame terms others = others ≡ terms
 
--- the same once a haul with these terms is open
+-- the behaviour of `gather` once a haul with these terms is open
 abbrev pub haul_behaviour : Terms → Behaviour
 haul_behaviour terms = record {
   right = gathered_right terms;

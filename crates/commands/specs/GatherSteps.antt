@@ -61,8 +61,8 @@ pub record HasGatheredShort (reader left : Option (List ℕ)) (errors : Stream) 
 abbrev pub IsTooLong : Option (List ℕ) → Type 0
 IsTooLong reader = IsLongerThan (2 ^ 32) reader
 
--- What holds if a complaint ends the lines, and this is left of the input: standard error has the diagnostics about all
--- lines before, or a write to it failed.
+-- What holds if a complaint ends gathering and `left` is what is left of the input: standard error has the diagnostics
+-- about all lines before, or a write to it failed.
 abbrev pub EndsLines : Terms → (reader left : Option (List ℕ)) → Stream → Complaint → Type 0
 EndsLines terms reader left errors (Memory error) =
     HasBegunUpTo terms reader left errors.before errors.after × (errors.failed ≡ false)
@@ -73,7 +73,7 @@ EndsLines terms reader left errors TooLong =
 EndsLines terms reader left errors (WriteFailed error) = errors.failed ≡ true
 EndsLines terms reader left errors (Refused refusal) = ⊥
 
--- the same for a reader that has already provided more bytes
+-- the same if the first bytes of what is left have already been read
 pub record EndsLinesAt (terms : Terms) (reader left : Option (List ℕ)) (errors : Stream) (complaint : Complaint) : Type 0 where
   pub ahead : List ℕ
   pub few : length ahead ≤ most_ahead complaint
@@ -87,8 +87,8 @@ EndsLine old new TooLong = ⊥
 EndsLine old new (WriteFailed error) = new.failed ≡ true
 EndsLine old new (Refused refusal) = ⊥
 
--- what holds after a complaint about the next line: the same, or a read failed, or the input has more bytes left than
--- there is room for
+-- what holds after a complaint about the next line: what `EndsLine` says, or a read failed, or the input has more bytes
+-- left than there is room for
 abbrev pub EndsNext : {V : Type 0} → ℕ → Option (List ℕ) → Output V → Output V → Complaint → Type 0
 EndsNext room left old new (ReadFailed error) = new ≡ old
 EndsNext room left old new TooLong = (new ≡ old) × IsLongerThan room left

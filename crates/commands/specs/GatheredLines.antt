@@ -17,7 +17,7 @@ use Rattle.haul_core.specs.Reports.{Reported}
 use Rattle.commands.specs.declared.line_fault.LineFault.{LineFault}
 use Rattle.commands.specs.declared.line_fault.LineFault.TheVariants.{BadLine, OtherJob, Disagrees, UnknownWorker, OutOfRange, Double}
 
--- the line of this lawful claim
+-- the line is the text of this claim, which is lawful
 pub record Claims (line : List ℕ) (claim : Claimed) : Type 0 where
   pub lawful : IsClaim claim
   pub spelled : claim_line claim ≡ line
@@ -35,12 +35,12 @@ IsChecked job line (Err OtherJob) = (claim : Claimed) × Claims line claim × (s
 IsChecked job line (Err Disagrees) = (claim : Claimed) × Claims line claim × (same_job claim.job job ≡ true) × IsWrong claim
 IsChecked job line (Err _) = ⊥
 
--- A line that is longer than this prefix is bad at the first fault of the prefix, or after its 2^24 bytes if they are a
--- claim's line.
+-- A line that is longer than this prefix is bad at the first fault of the prefix, or at 2^24 if the prefix is a claim's
+-- line.
 abbrev pub IsPrefixFault : List ℕ → ℕ → Type 0
 IsPrefixFault prefix place = IsFirstFaultOf prefix place ⊎ ((claim : Claimed) × Claims prefix claim × (place ≡ 2 ^ 24))
 
--- A line of up to 2^24 bytes is read completely. A longer one is bad, and only its first 2^24 bytes are read.
+-- A line of up to 2^24 bytes is examined completely. A longer one is bad, and only its first 2^24 bytes are examined.
 pub data IsLookedAt (job : Job) (line : List ℕ) : Result Reported LineFault → Type 0 where
   Whole : {outcome : Result Reported LineFault} → length line ≤ 2 ^ 24 → IsChecked job line outcome → IsLookedAt job line outcome
   Front : (place : ℕ) → 2 ^ 24 < length line → IsPrefixFault (take (2 ^ 24) line) place → IsLookedAt job line (Err (BadLine place))
@@ -60,26 +60,26 @@ pub data ComesOf (terms : Terms) (before : List Arrival) (line : List ℕ) : Lis
       → ComesOf terms before line (Offer report ∷ []) (offer_fault report (refusal_of terms before report))
 
 -- the text of a fault
-abbrev pub fault_text : LineFault → List ℕ
-fault_text (BadLine place) = codes "bad line at " ++ decimal place
-fault_text OtherJob = codes "other job"
-fault_text Disagrees = codes "disagrees"
-fault_text (UnknownWorker worker) = codes "unknown worker " ++ decimal worker
-fault_text (OutOfRange number) = codes "out of range " ++ decimal number
-fault_text (Double number worker) = codes "double of " ++ decimal number ++ (codes " by " ++ decimal worker)
+abbrev pub line_fault_text : LineFault → List ℕ
+line_fault_text (BadLine place) = codes "bad line at " ++ decimal place
+line_fault_text OtherJob = codes "other job"
+line_fault_text Disagrees = codes "disagrees"
+line_fault_text (UnknownWorker worker) = codes "unknown worker " ++ decimal worker
+line_fault_text (OutOfRange number) = codes "out of range " ++ decimal number
+line_fault_text (Double number worker) = codes "double of " ++ decimal number ++ (codes " by " ++ decimal worker)
 
 -- the diagnostic about line `number`, counted from 1
 abbrev pub fault_line : ℕ → LineFault → List ℕ
-fault_line number fault = codes "line " ++ decimal number ++ (codes ": " ++ (fault_text fault ++ codes "\n"))
+fault_line number fault = codes "line " ++ decimal number ++ (codes ": " ++ (line_fault_text fault ++ codes "\n"))
 
 -- the diagnostic about a line, if it has a fault
-abbrev pub told_fault : ℕ → Option LineFault → List ℕ
-told_fault number None = []
-told_fault number (Some fault) = fault_line number fault
+abbrev pub fault_lines : ℕ → Option LineFault → List ℕ
+fault_lines number None = []
+fault_lines number (Some fault) = fault_line number fault
 
--- Lines one after another, at an empty haul: the arrivals that they cause, and the diagnostics about them.
+-- The arrivals that lines cause one after another in a haul that is empty at first, and the diagnostics about them.
 pub data Gathered (terms : Terms) : List (List ℕ) → List Arrival → List ℕ → Type 0 where
   Start : Gathered terms [] [] []
   Next : (lines : List (List ℕ)) (before : List Arrival) (diagnostics : List ℕ) (line : List ℕ) (arrived : List Arrival) (fault : Option LineFault)
       → Gathered terms lines before diagnostics → ComesOf terms before line arrived fault
-      → Gathered terms (lines ++ line ∷ []) (before ++ arrived) (diagnostics ++ told_fault (suc (length lines)) fault)
+      → Gathered terms (lines ++ line ∷ []) (before ++ arrived) (diagnostics ++ fault_lines (suc (length lines)) fault)

@@ -33,7 +33,7 @@ pub record IsHaulOver (set : SoupSet) (workers : ℕ) (job : Job) (terms : Terms
 abbrev pub Hauls : Type 1
 Hauls = Terms → Type 0
 
--- the hauls that may be opened for a set
+-- the hauls that may be opened for a plan and this number of workers
 abbrev pub gather_opens : Plan → ℕ → Hauls
 gather_opens plan workers terms = IsOkAnd (job_named plan) (λ job. IsHaulOver plan.set workers job terms)
 
@@ -56,7 +56,7 @@ pub record IsGathering (opens : Hauls) (bytes : List ℕ) (gathering : Made) : T
   pub opened : opens terms
   pub is : IsGathered terms bytes gathering
 
--- which gathering, or which complaint, is right for a set; first the parts of its job are checked
+-- which gathering, or which complaint, is right for a plan; first the parts of its job are checked
 abbrev pub gather_right : Plan → ℕ → List ℕ → Makes
 gather_right plan workers bytes (Ok gathering) = IsGathering (gather_opens plan workers) bytes gathering
 gather_right plan workers bytes (Err (Refused refusal)) =

@@ -1,4 +1,4 @@
--- The lines of late reports: of soups that are unsettled, or whose checkpoint is a given generation or later.
+-- The lines of late reports. A soup is late if it is unsettled, or its checkpoint is a given generation or later.
 use Rattle.std.specs.Prelude.{◌≡◌, ℕ, All, Bool, List, [], Option, false, flat_map, if◌then◌else◌, nat_le, true}
 use Rattle.std.specs.Io.KnownBytes.{Appends}
 use Rattle.plane_core.specs.Outputs.{AppendsPrefix, Output}
@@ -20,8 +20,8 @@ late_line from report = if is_late from report.finding then report_text report e
 abbrev pub late_lines : ℕ → List Reported → List ℕ
 late_lines from reports = flat_map (late_line from) reports
 
--- Of these reports, each of which is right, the lines of the late ones were written to a writer: all of them if no write
--- failed, and otherwise a prefix. Nothing is written after a failed write.
+-- These reports are right, and the lines of the late ones among them were written to a writer: all of these lines if no
+-- write failed, and otherwise a prefix of them. Nothing is written after a failed write.
 pub record PutsReports {V : Type 0} (contents : V → Option (List ℕ)) (from : ℕ) (old new : Output V) (reports : List Reported) : Type 0 where
   pub right : All IsReport reports
   pub whole : new.failed ≡ false → (old.failed ≡ false) × Appends (contents old.writer) (contents new.writer) (late_lines from reports)

@@ -1,3 +1,4 @@
+pub mod CorrectLines
 pub mod Finish
 pub mod Gather
 pub mod GatherSteps
@@ -6,6 +7,7 @@ pub mod Gathering
 pub mod LateReports
 pub mod Lines
 pub mod LinesSoFar
+pub mod Progress
 pub mod PutLaws
 pub mod ReportSteps
 pub mod Reporting

@@ -73,7 +73,7 @@ pub record HasPiece (old new : Option (List ℕ)) (piece : List ℕ) (read : Pie
   pub last : read.end ≡ Some Input → IsSpent old new
   pub some : read.end ≡ None → 0 < read.size
 
--- a failed read ends no line
+-- how the part of a line that was read before a complaint may end: if a read failed, it has no line end
 abbrev pub MayEnd : Complaint → Option LineEnd → Type 0
 MayEnd (ReadFailed error) end = end ≡ None
 MayEnd _ end = Unit {0}

@@ -29,8 +29,8 @@ pub record HasCome (lines : List (List ℕ)) (held : Held) (diagnostics : List �
   pub gathered : Gathered held.terms lines arrivals diagnostics
   pub stands : StandsFor arrivals held
 
--- The lines were gathered in the haul. `diagnostics` are the diagnostics before, and the others were added to standard
--- error.
+-- The lines were gathered in the haul. `diagnostics` are those from before, and the diagnostics after them were added
+-- to standard error.
 pub record HasComeBy (lines : List (List ℕ)) (held : Held) (diagnostics : List ℕ) (errors : Stream) : Type 0 where
   pub more : List ℕ
   pub come : HasCome lines held (diagnostics ++ more)
@@ -51,11 +51,11 @@ pub record HasBegunUpTo (terms : Terms) (reader left before after : Option (List
   pub gathered : Gathered terms lines arrivals diagnostics
   pub written : Appends before after diagnostics
 
--- the same, wherever it ended
+-- the same for some place up to which the input was read
 abbrev pub HasBegun : Terms → (reader before after : Option (List ℕ)) → Type 0
 HasBegun terms reader before after = (left : Option (List ℕ)) × HasBegunUpTo terms reader left before after
 
--- the most bytes that were read beyond the place where a complaint ends the lines: none after a failed read
+-- the most bytes that were read beyond the place where a complaint ends gathering: none if a read failed
 abbrev pub most_ahead : Complaint → ℕ
 most_ahead (ReadFailed error) = 0
 most_ahead _ = 2 ^ 16

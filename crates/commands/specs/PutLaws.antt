@@ -1,4 +1,4 @@
--- The two laws of `PutsReports`, for the observer that writes the lines: nothing, and one after another.
+-- Two laws of `PutsReports`: it holds for no reports, and if it holds for some and then for others, it holds for all.
 use Rattle.std.proofs.Common.{◌≡◌, ◌++◌, ◌∙◌, ℕ, Bool, List, [], Option, ap, false, refl, subst, sym, true}
 use Rattle.std.proofs.KnownBytes.{Appends-nil}
 use Rattle.std.proofs.lemmas.Grind.{flat_map-append}

@@ -9,7 +9,7 @@ use Rattle.pattern_commands.specs.declared.ending.complaint.Complaint.{Complaint
 use Rattle.pattern_commands.specs.declared.ending.complaint.Complaint.TheVariants.{Refused, Memory, ReadFailed, TooLong, WriteFailed}
 use Rattle.commands.specs.LateReports.{PutsReports}
 
--- why a haul isn't printed, given whether a write of a line has failed: memory ran out, and none has, or one may have
+-- why a haul isn't printed: memory ran out and no write of a line has failed, or the complaint is about a failed write
 abbrev pub StopsReporting : Bool → Complaint → Type 0
 StopsReporting failed (Memory error) = failed ≡ false
 StopsReporting failed (WriteFailed error) = Unit {0}

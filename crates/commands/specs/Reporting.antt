@@ -26,7 +26,8 @@ pub record AreReportsOf (plan : Plan) (workers : ℕ) (reports : List Reported) 
   pub within : All (λ r. is_in ranges r.number ≡ true) reports
   pub once : (n : ℕ) → times_reported n reports ≤ 1
 
--- a text with the lines of exactly the late soups of a plan, in the order of the reports, which are on all its soups
+-- there is a report on each soup of a plan, and the text has the lines of the late ones of these reports, in their
+-- order
 pub record TellsAllLate (plan : Plan) (workers from : ℕ) (text : List ℕ) : Type 0 where
   pub reports : List Reported
   pub are : AreReportsOf plan workers reports
@@ -52,7 +53,7 @@ reporting_right plan workers from (Ok made) =
     take_right plan (Ok made.text) × TellsAllLate plan workers from made.diagnostics × (made.missing ≡ 0)
 reporting_right plan workers from (Err complaint) = take_right plan (Err complaint)
 
--- the behaviour of `take` for a plan, with the lines of soups that are late from this generation on
+-- the behaviour of `take` with the lines of late soups: those unsettled, or with a checkpoint of `from` or later
 abbrev pub reporting_behaviour : Plan → (workers from : ℕ) → Behaviour
 reporting_behaviour plan workers from = record {
   right = λ bytes. reporting_right plan workers from;

@@ -26,7 +26,7 @@ job_named plan =
 abbrev pub own_range : SoupSet → Range
 own_range set = record { first = set.first; count = set.count }
 
--- the ranges of a set: those of its list, and the one of its first number and its count
+-- the ranges of a set: those of its list, and the range of its first number and its count
 pub record AreRangesOf (set : SoupSet) (ranges : List Range) : Type 0 where
   pub listed : List Range
   pub fit : FitU64 listed

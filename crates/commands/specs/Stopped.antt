@@ -1,5 +1,5 @@
 -- The behaviour of `take` if a gate may stop its workers before the haul is complete.
-use Rattle.std.specs.Prelude.{◌≡◌, ℕ, zero, suc, true, false, All, List, [], Ok, Err, length, nat_eq}
+use Rattle.std.specs.Prelude.{◌≡◌, ◌≤◌, ℕ, zero, suc, true, false, All, List, [], Ok, Err, length, nat_eq}
 use Rattle.std.specs.List.{IsDistinct}
 use Rattle.survey_core.specs.declared.job.Job.{Job}
 use Rattle.haul_core.specs.declared.book.census.Census.{Census}
@@ -19,13 +19,21 @@ use Rattle.pattern_commands.specs.Behaviours.{Makes, Behaviour, silent_behaviour
 abbrev pub MayStop : (ℕ → ℕ → Type 0) → List Range → Type 0
 MayStop may_stop ranges = (worker : ℕ) × (n : ℕ) × (is_in ranges n ≡ true) × may_stop worker n
 
--- a text with the census of a job over the soups of a set that were taken, each once, if this many numbers are missing
-pub record TellsTaken (job : Job) (ranges : List Range) (missing : ℕ) (text : List ℕ) : Type 0 where
+-- a worker and the number of a soup that was taken from it: the gate let the worker survey it
+pub record IsLetIn (lets : ℕ → ℕ → Type 0) (workers : ℕ) (entry : ℕ × ℕ) : Type 0 where
+  pub least : 1 ≤ entry.0
+  pub most : entry.0 ≤ workers
+  pub let_in : lets entry.0 entry.1
+
+-- A text with the census of a job over the soups of a set that were taken, if this many numbers are missing. Each soup
+-- was taken once, from one of the workers, which the gate had let survey it.
+pub record TellsTaken (lets : ℕ → ℕ → Type 0) (workers : ℕ) (job : Job) (ranges : List Range) (missing : ℕ) (text : List ℕ) : Type 0 where
   pub normal : List Range
   pub form : IsNormalForm ranges normal
   pub taken : List (ℕ × ℕ)
   pub within : All (λ t. is_in ranges t.1 ≡ true) taken
   pub once : IsDistinct nat_eq (numbers_in taken)
+  pub let_in : All (IsLetIn lets workers) taken
   pub incomplete : ¬ IsComplete normal taken
   pub missing_is : missing ≡ length (missing_of normal taken)
   pub census : Census
@@ -34,22 +42,22 @@ pub record TellsTaken (job : Job) (ranges : List Range) (missing : ℕ) (text : 
 
 -- What is right if the gate may have stopped a worker: the census of a haul with this many numbers missing. First the
 -- parts of its job are checked.
-abbrev pub stopped_right : (ℕ → ℕ → Type 0) → Plan → ℕ → Right
-stopped_right may_stop plan missing =
+abbrev pub stopped_right : (may_stop lets : ℕ → ℕ → Type 0) → Plan → (workers missing : ℕ) → Right
+stopped_right may_stop lets plan workers missing =
     IsRightGiven (job_named plan) (λ job. IsRightForSet plan.set (λ ranges text.
-    MayStop may_stop ranges × TellsTaken job ranges missing text))
+    MayStop may_stop ranges × TellsTaken lets workers job ranges missing text))
 
--- what is right if all was taken, or if this many numbers are missing
+-- `whole` if no numbers are missing, and otherwise `stopped` for the number of missing ones
 abbrev pub right_if : Right → (ℕ → Right) → ℕ → Right
 right_if whole stopped zero = whole
 right_if whole stopped (suc n) = stopped (suc n)
 
 -- what is right for `take` with a gate: the haul text of all soups, or of some if the gate may have stopped a worker
-abbrev pub taken_right : (ℕ → ℕ → Type 0) → Plan → Makes
-taken_right may_stop plan (Ok made) =
-    right_if (take_right plan) (stopped_right may_stop plan) made.missing (Ok made.text) × (made.diagnostics ≡ [])
-taken_right may_stop plan (Err complaint) = take_right plan (Err complaint)
+abbrev pub taken_right : (may_stop lets : ℕ → ℕ → Type 0) → Plan → (workers : ℕ) → Makes
+taken_right may_stop lets plan workers (Ok made) =
+    right_if (take_right plan) (stopped_right may_stop lets plan workers) made.missing (Ok made.text) × (made.diagnostics ≡ [])
+taken_right may_stop lets plan workers (Err complaint) = take_right plan (Err complaint)
 
--- the behaviour of `take` with a gate
-abbrev pub gated_behaviour : (ℕ → ℕ → Type 0) → Plan → Behaviour
-gated_behaviour may_stop plan = silent_behaviour false true (λ bytes. taken_right may_stop plan)
+-- the behaviour of `take` with a gate and this many workers
+abbrev pub gated_behaviour : (may_stop lets : ℕ → ℕ → Type 0) → Plan → (workers : ℕ) → Behaviour
+gated_behaviour may_stop lets plan workers = silent_behaviour false true (λ bytes. taken_right may_stop lets plan workers)

@@ -16,9 +16,10 @@ use Rattle.requests.specs.declared.plan.Plan.{Plan}
 use Rattle.requests.specs.declared.plan.SoupSet.{SoupSet}
 use Rattle.pattern_commands.specs.Answers.{NeedsMemory, Right}
 use Rattle.commands.specs.SoupSets.{AreRangesOf, IsRefused, job_named}
+use Rattle.commands.specs.Stopped.{IsLetIn}
 
--- a complaint that may end a command before it writes: a refusal that is right, or out of memory, which hides no
--- complaint except those that need memory
+-- a complaint that may end a command before it writes: a refusal that is right; or out of memory, if no complaint is
+-- right except those that need memory
 abbrev pub Stops : Right → Complaint → Type 0
 Stops right (Refused refusal) = right (Err (Refused refusal))
 Stops right (Memory error) = (complaint : Complaint) → right (Err complaint) → NeedsMemory complaint
@@ -35,14 +36,18 @@ StopsSet set (ReadFailed error) = ⊥
 StopsSet set TooLong = ⊥
 StopsSet set (WriteFailed error) = ⊥
 
--- an empty haul of a job over the ranges of a set, for this many workers
-pub record IsOpened (job : Job) (set : SoupSet) (workers : ℕ) (held : Held) : Type 0 where
+-- the normal form of the ranges of a set, which are small enough for a haul and share no number
+pub record AreNormalRanges (set : SoupSet) (normal : List Range) : Type 0 where
   pub ranges : List Range
   pub named : AreRangesOf set ranges
   pub only : (others : List Range) → AreRangesOf set others → others ≡ ranges
   pub small : AreSmall ranges
   pub apart : ¬ Overlap ranges
-  pub form : IsNormalForm ranges held.terms.ranges
+  pub form : IsNormalForm ranges normal
+
+-- an empty haul of a job over the ranges of a set, for this many workers
+pub record IsOpened (job : Job) (set : SoupSet) (workers : ℕ) (held : Held) : Type 0 where
+  pub over : AreNormalRanges set held.terms.ranges
   pub job_is : held.terms.job ≡ job
   pub workers_are : held.terms.workers ≡ workers
   pub stands : StandsFor [] held
@@ -65,18 +70,26 @@ abbrev pub EndsCrew : (ℕ → ℕ → Type 0) → Held → Held → Type 0
 EndsCrew may_stop old new = (IsComplete new.terms.ranges new.taken × AreAll new.terms.ranges (numbers_in new.taken))
     ⊎ ((¬ IsComplete new.terms.ranges new.taken) × (worker : ℕ) × StopsAt may_stop (was_missing old) worker)
 
--- a haul has taken what it had taken before, and perhaps more after that
+-- a haul still has what it had taken before, and perhaps more after it
 pub record HasTakenMore (old new : Held) : Type 0 where
   pub terms : new.terms ≡ old.terms
   pub closed : new.closed ≡ old.closed
   pub more : List (ℕ × ℕ)
   pub taken : new.taken ≡ old.taken ++ more
 
--- a crew has taken what it could of a haul that was opened over a set: numbers of the set, and none twice
-pub record IsTaken (may_stop : ℕ → ℕ → Type 0) (plan : Plan) (workers : ℕ) (held : Held) : Type 0 where
+-- each soup that the haul has taken since comes from a worker that the gate let survey it
+pub record HasLetIn (lets : ℕ → ℕ → Type 0) (workers : ℕ) (old new : Held) : Type 0 where
+  pub more : List (ℕ × ℕ)
+  pub taken : new.taken ≡ old.taken ++ more
+  pub let_in : All (IsLetIn lets workers) more
+
+-- A crew has taken what it could of a haul that was opened over a set: numbers of the set, none twice, and from workers
+-- that the gate let survey them.
+pub record IsTaken (may_stop lets : ℕ → ℕ → Type 0) (plan : Plan) (workers : ℕ) (held : Held) : Type 0 where
   pub opened : Held
   pub is : IsOpenedFor plan workers opened
   pub grown : HasTakenMore opened held
   pub within : All (λ t. is_in held.terms.ranges t.1 ≡ true) held.taken
   pub once : IsDistinct nat_eq (numbers_in held.taken)
+  pub let_in : All (IsLetIn lets workers) held.taken
   pub ends : EndsCrew may_stop opened held

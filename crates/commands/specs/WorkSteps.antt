@@ -23,7 +23,7 @@ pub record WantedReports : Type 0 where
 abbrev pub reports_on : Job → ℕ → List ℕ → WantedReports
 reports_on job worker numbers = record { job = job; worker = worker; numbers = numbers }
 
--- the first of the wanted reports were made, and this was done with their lines
+-- the first of the wanted reports were made, and `written` holds for the text of their lines
 pub record IsBegun (wanted : WantedReports) (written : List ℕ → Type 0) : Type 0 where
   pub done : List ℕ
   pub more : List ℕ

@@ -6,8 +6,8 @@
 //!             start      end
 //! ```
 //!
-//! This replaces std's `BufReader`, because contracts don't say what becomes of a reader that was lent to one. Here the
-//! reader is lent only for a read.
+//! This replaces std's `BufReader`, because contracts don't say what becomes of a reader that was lent to a
+//! `BufReader`. Here the reader is lent only for a read.
 
 ghost use Rattle.std.specs.Prelude.{◌≡◌, ◌≢◌, ◌≤◌, ◌^◌, [], Err, IfOk, OnErr, OnOk, drop, length};
 ghost use Rattle.std.specs.Io.KnownBytes.{IsAtEnd, Keeps, prepend_known};
@@ -57,11 +57,11 @@ impl Ahead {
         &self.buffer.as_slice()[self.start..self.end]
     }
 
-    /// Reads once if there are no unused bytes. After that, no bytes mean that the input is at its end.
+    /// Reads once if there are no unused bytes. If there are still none afterwards, the input is at its end.
     ///
     /// # Errors
     ///
-    /// `Unreadable` if the read fails, for whatever reason, and `Memory` if it fails because memory ran out.
+    /// `Memory` if the read fails because memory ran out, and `Unreadable` if it fails for any other reason.
     pub(crate) fn fill<R: Read>(&mut self, input: &mut R) -> Result<(), InputError>
         ensures bytes { Keeps (prepend_known self.old (R.remaining input.old))
             (prepend_known self.new (R.remaining input.new)) }

@@ -1,6 +1,6 @@
 //! Finishes a haul: closes, counts and prints it.
 
-ghost use Rattle.std.specs.Prelude.{◌≡◌, ◌≢◌, ◌↔◌, ◌++◌, ◌∷◌, [], IfErr, List, false, length};
+ghost use Rattle.std.specs.Prelude.{◌≡◌, ◌≢◌, ◌↔◌, ◌++◌, ◌∷◌, [], Err, IfErr, IfOk, List, false, length};
 ghost use Rattle.memory.specs.Witness.{out_of_memory};
 ghost use Rattle.haul_core.specs.Books.{StandsFor};
 ghost use Rattle.haul_core.specs.Missing.{IsComplete, missing_of};
@@ -8,7 +8,7 @@ ghost use Rattle.haul_core.specs.declared.book.arrival.Arrival.{Arrival};
 ghost use Rattle.haul_core.specs.declared.book.arrival.Arrival.TheVariants as arrival;
 ghost use Rattle.pattern_commands.specs.Complaints.{status_of};
 ghost use Rattle.commands.specs.Finish.{Finishes};
-ghost use Rattle.pattern_commands.specs.Streams.{stream};
+ghost use Rattle.pattern_commands.specs.Streams.{Has, stream};
 
 use haul_core::book::haul::Haul;
 use haul_core::book::haul_text::write_haul;
@@ -35,7 +35,33 @@ pub(crate) fn finish<W: Write>(haul: &mut Haul, output: &mut Out<W>) -> Result<u
     let _ = haul.close();
     let census = haul.census()?;
     write_haul(&census, output)?;
-    // Flushed before the line about missing soups is written, so that this line implies that the text was printed.
+    // Flushed before the line about missing soups is written, so that a reader of that line knows that the text was
+    // printed.
     output.flush()?;
     Ok(missing)
+}
+
+/// Finishes a haul if `taken` is `Ok`. Otherwise returns the complaint in `taken`, which must not be a refusal, and
+/// prints nothing. This is a function of its own because the end of a function that owns the haul is expensive to
+/// prove.
+pub(crate) fn finish_unless<W: Write>(
+    taken: Result<(), Complaint>,
+    haul: &mut Haul,
+    output: &mut Out<W>,
+) -> Result<u64, Complaint>
+    requires output { output.old.failed ≡ false }
+    requires stops { IfErr taken (λ complaint. status_of complaint ≢ Status.Refused) }
+    ensures finishes { IfOk taken (λ _. Finishes haul.old result (stream W.contents output.old output.new)) }
+    ensures none { IfOk taken (λ _. (length (missing_of haul.old.terms.ranges haul.old.taken) ≡ 0)
+        ↔ IsComplete haul.old.terms.ranges haul.old.taken) }
+    ensures gives_up { IfErr taken (λ complaint. (result ≡ Err complaint)
+        × Has (stream W.contents output.old output.new) []) }
+    ensures accepted { IfErr result (λ complaint. status_of complaint ≢ Status.Refused) }
+    ensures no_memory { IfErr result (λ complaint. complaint ≡ Complaint.Memory out_of_memory
+        → output.new ≡ output.old) }
+{
+    match taken {
+        Ok(()) => finish(haul, output),
+        Err(complaint) => Err(complaint),
+    }
 }

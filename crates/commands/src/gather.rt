@@ -42,8 +42,8 @@ use haul_core::report::claim::check::CheckError;
 use haul_core::report::claim::read_line::LineError;
 use memory::OutOfMemory;
 use pattern_commands::ending::complaint::Complaint;
+use pattern_commands::ending::end_command;
 use pattern_commands::ending::status::Status;
-use pattern_commands::ending::tell_end;
 use plane_core::output::Out;
 use requests::plan::Plan;
 use std::alloc::Global;
@@ -56,7 +56,7 @@ use survey_core::surveyor::Surveyor;
 /// taken.
 ///
 /// A line ends with a line feed, which the last line may lack. If a line isn't taken, its number, counted from 1, and
-/// its fault are written to `errors`, and reading continues. Only the first 2^24 bytes of a line are read: a longer
+/// its fault are written to `errors`, and reading continues. Only the first 2^24 bytes of a line are examined: a longer
 /// line is bad at the first fault in these bytes, or at 2^24. Each number of the profile has to be in its range,
 /// `workers` is from 1 to 16, and no earlier write to either writer may have failed. Refusals are tested in the order
 /// of [`do_take`](crate::take::do_take), before anything is read. Only the haul, one line, a buffer and a surveyor are
@@ -64,14 +64,15 @@ use survey_core::surveyor::Surveyor;
 ///
 /// # Errors
 ///
-/// The status is `Incomplete` if soups are missing. Then the haul was written, and a line on `errors` says how many. It
-/// is `Refused` as for `do_take`; `Memory` if memory runs out; and `Failed` if the input can't be read or has more than
-/// 2^32 bytes, or if the output or a line on `errors` can't be written. With `Refused` and `Memory`, and after a failed
-/// read, nothing was written to the output. A failure to write the last line on `errors` is not reported.
+/// The status is `Incomplete` if soups are missing. Then the haul was written, and a line on `errors` says how many are
+/// missing. The status is `Refused` as for `do_take`; `Memory` if memory runs out; and `Failed` if the input can't be
+/// read or has more than 2^32 bytes, or if the output or a line on `errors` can't be written. With `Refused` and
+/// `Memory`, and after a failed read, nothing was written to the output. A failure to write the last line on `errors`
+/// is not reported.
 ///
-/// If it ends because memory runs out, a read fails or the input is too long, all lines before some place of the input
-/// were processed, except perhaps the last. At most 2^16 bytes were read beyond that place, and none after a failed
-/// read.
+/// If the call ends because memory runs out, a read fails or the input is too long, all lines before some place of the
+/// input were processed, except perhaps the last. At most 2^16 bytes were read beyond that place, and none if a read
+/// failed.
 pub fn do_gather<R: Read, W: Write, E: Write>(
     alloc: Global,
     plan: &Plan<'_>,
@@ -93,12 +94,12 @@ pub fn do_gather<R: Read, W: Write, E: Write>(
     ensures untouched { result ≡ Status.Refused → (input.new ≡ input.old) × (output.new ≡ output.old) }
     ensures no_memory { result ≡ Status.Memory → output.new ≡ output.old }
 {
-    let outcome = gather(alloc, plan, workers, input, output, errors);
-    tell_end(outcome, errors)
+    let outcome = open_and_gather(alloc, plan, workers, input, output, errors);
+    end_command(outcome, errors)
 }
 
 /// Opens the haul, gathers the lines, writes the haul text, and returns how many soups are missing.
-fn gather<R: Read, W: Write, E: Write>(
+fn open_and_gather<R: Read, W: Write, E: Write>(
     alloc: Global,
     plan: &Plan<'_>,
     workers: u8,
@@ -129,7 +130,7 @@ fn gather<R: Read, W: Write, E: Write>(
         haul,
         surveyor: Surveyor::new(alloc),
     };
-    gatherer.gather(input, output, errors)
+    gatherer.gather_and_finish(input, output, errors)
 }
 
 /// Gathers lines in a haul.
@@ -142,7 +143,7 @@ struct Gatherer {
 
 impl Gatherer {
     /// Gathers the lines in an empty haul, writes the haul text, and returns how many soups are missing.
-    fn gather<R: Read, W: Write, E: Write>(
+    fn gather_and_finish<R: Read, W: Write, E: Write>(
         &mut self,
         input: &mut R,
         output: &mut Out<W>,
@@ -166,8 +167,8 @@ impl Gatherer {
         finish(&mut self.haul, output)
     }
 
-    /// Reads the input line by line, checks each line, and offers its report to an empty haul. The fault of a line is
-    /// written to `errors`.
+    /// Reads the input line by line, checks each line, and offers its report to the haul, which is empty at first. The
+    /// fault of a line is written to `errors`.
     fn gather_lines<R: Read, E: Write>(
         &mut self,
         input: &mut R,
@@ -186,7 +187,7 @@ impl Gatherer {
         let mut lines = Lines::new(self.alloc)?;
         let mut size = 0u64;
         for before in 0..GATHER_LIMIT + 1 {
-            let read = self.next_line(input, &mut lines, GATHER_LIMIT - size, before, errors)?;
+            let read = self.gather_next(input, &mut lines, GATHER_LIMIT - size, before, errors)?;
             size += read.size;
             if let LineEnd::Input = read.end {
                 return Ok(());
@@ -195,8 +196,8 @@ impl Gatherer {
         Err(Complaint::TooLong)
     }
 
-    /// Reads the next line, number `before` + 1, of at most `room` bytes, and gathers it. Returns what it read.
-    fn next_line<R: Read, E: Write>(
+    /// Reads the next line, number `before` + 1, of at most `room` bytes, and gathers it. Returns what was read.
+    fn gather_next<R: Read, E: Write>(
         &mut self,
         input: &mut R,
         lines: &mut Lines,
@@ -241,8 +242,8 @@ impl Gatherer {
         Ok(read)
     }
 
-    /// Offers the report of the next line, number `before` + 1, and writes the line's fault to `errors`. `kept` has the
-    /// first 2^24 + 1 bytes of the line.
+    /// Offers the report of the next line, number `before` + 1. Writes the line's fault, if there is one, to `errors`.
+    /// `kept` has the first 2^24 + 1 bytes of the line.
     fn gather_line<E: Write>(
         &mut self,
         kept: &[u8],
@@ -333,7 +334,8 @@ fn checked_report(
         Ok(report) => Ok(Ok(report)),
         Err((_, CheckError::OtherJob)) => Ok(Err(LineFault::OtherJob)),
         Err((_, CheckError::Disagrees { .. })) => {
-            // For the prover: a claim that one finding of its soup contradicts agrees with no other.
+            // For the prover: a soup has only one finding, so a claim that disagrees with it agrees with no finding of
+            // the soup.
             findings_are_determined();
             Ok(Err(LineFault::Disagrees))
         }

@@ -1,4 +1,4 @@
-//! The commands over sets of soups: `take`, `work` and `gather`.
+//! The commands for sets of soups: `take`, `work` and `gather`.
 //!
 //! Each command is a function of plain values, such as [`do_take`](take::do_take). The program reads the values from
 //! its arguments, and lends the streams of the process. `pattern_commands` has the other commands, and defines how a

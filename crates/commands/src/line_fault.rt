@@ -2,7 +2,7 @@
 
 ghost use Rattle.std.specs.Prelude.{◌≡◌, ◌++◌, codes, decimal, false};
 ghost use Rattle.plane_core.specs.Outputs.{Writes};
-ghost use Rattle.commands.specs.GatheredLines.{fault_line, fault_text};
+ghost use Rattle.commands.specs.GatheredLines.{fault_line, line_fault_text};
 
 use code_core::decimal::put_number;
 use pattern_commands::output::LineBuffer;
@@ -61,7 +61,7 @@ impl LineFault {
     /// Writes the words for the fault.
     fn put_text<E: Write>(self, errors: &mut Out<E>) -> Result<(), WriteError>
         requires { errors.old.failed ≡ false }
-        ensures { Writes E.contents errors.old errors.new result (fault_text self) }
+        ensures { Writes E.contents errors.old errors.new result (line_fault_text self) }
     {
         match self {
             LineFault::BadLine { place } => put_number(errors, b"bad line at ", place),

@@ -27,7 +27,7 @@ use std::io::Read;
 /// The most bytes of a line that are examined: 2^24, far more than a report line of a census has.
 pub(crate) const LINE_LIMIT: usize = 16_777_216;
 
-/// The most bytes of report lines that are read, and so the most bytes of a line: 2^32.
+/// The most bytes of report lines that are gathered, and so the most bytes of a line: 2^32.
 pub(crate) const GATHER_LIMIT: u64 = 4_294_967_296;
 
 /// What ends a line.
@@ -91,8 +91,8 @@ impl Lines {
     ///
     /// # Errors
     ///
-    /// `Unreadable` if a read fails, for whatever reason; `TooLong` if more than `room` bytes come before the line's
-    /// end; and `Memory` if memory runs out.
+    /// `TooLong` if more than `room` bytes come before the line's end; `Memory` if memory runs out; and `Unreadable` if
+    /// a read fails for any other reason.
     pub(crate) fn next<R: Read>(&mut self, input: &mut R, room: u64) -> Result<LineRead, InputError>
         requires { room ≤ 2 ^ 32 }
         ensures read { IfOk result (HasReadLine room (prepend_known self.old.ahead (R.remaining input.old))
@@ -120,8 +120,8 @@ impl Lines {
     }
 }
 
-/// Appends the available part of a line to `line`, which keeps at most 2^24 + 1 bytes. If nothing is available, it
-/// reads once.
+/// Appends the available part of a line to `line`, which keeps at most 2^24 + 1 bytes. If nothing is available, reads
+/// once first.
 fn read_piece<R: Read>(
     input: &mut R,
     ahead: &mut Ahead,

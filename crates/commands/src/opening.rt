@@ -1,15 +1,15 @@
-//! Opens a haul over the soups of a plan.
+//! Reads the job and the soups of a plan, and opens a haul over them.
 //!
 //! ```text
 //! plan ──┬─ seed, profile, rule ── job ──┬─ haul
-//!        └─ set ── ranges ───────────────┘
+//!        └─ set ── ranges ───────────────┴─ soups, for `work`
 //! ```
 
-ghost use Rattle.std.specs.Prelude.{◌≡◌, ◌++◌, ◌∷◌, [], List, IfErr, IfOk, OnOk};
+ghost use Rattle.std.specs.Prelude.{◌≡◌, ◌++◌, ◌∷◌, [], List, IfErr, IfOk, Ok, OnOk};
 ghost use Rattle.haul_core.specs.Reports.{IsWorker};
 ghost use Rattle.pattern_commands.specs.Profiles.{AreInRange};
 ghost use Rattle.commands.specs.SoupSets.{AreRangesOf, job_named};
-ghost use Rattle.commands.specs.TakeSteps.{IsOpened, IsOpenedFor, StopsOpening, StopsSet};
+ghost use Rattle.commands.specs.TakeSteps.{AreNormalRanges, IsOpened, IsOpenedFor, StopsOpening, StopsSet};
 
 use haul_core::book::haul::{Haul, OpenError};
 use memory::OutOfMemory;
@@ -17,11 +17,18 @@ use pattern_commands::ending::complaint::Complaint;
 use pattern_commands::ending::refusal::Refusal;
 use pattern_commands::profile::profile_named;
 use plane_core::plane::rule::Rule;
-use ranges::range::Range;
+use ranges::range::{Range, Ranges, overlap, small_size};
 use requests::plan::{Plan, SoupSet};
 use std::alloc::Global;
 use survey_core::job::Job;
 use survey_core::seed::Seed;
+
+/// The job of a plan and its soups.
+#[derive(Drop)]
+pub(crate) struct Soups {
+    pub(crate) job: Job,
+    pub(crate) ranges: Ranges,
+}
 
 /// Opens a haul over the soups of a plan, for `workers` workers, 1 to 16. The parts of the job are checked first: the
 /// seed, then the profile, then the rule.
@@ -33,6 +40,18 @@ pub(crate) fn open_haul(alloc: Global, plan: &Plan<'_>, workers: u8) -> Result<H
 {
     let job = job(plan)?;
     haul_for(alloc, job, &plan.set, workers)
+}
+
+/// Returns the job and the soups of a plan. Refuses what [`open_haul`] refuses, in the same order.
+pub(crate) fn soups_of(alloc: Global, plan: &Plan<'_>) -> Result<Soups, Complaint>
+    requires { AreInRange plan.now.profile }
+    ensures job { IfOk result (λ soups. job_named plan.now ≡ Ok soups.job) }
+    ensures ranges { IfOk result (λ soups. AreNormalRanges plan.now.set soups.ranges) }
+    ensures stops { IfErr result (StopsOpening plan.now) }
+{
+    let job = job(plan)?;
+    let ranges = normal_ranges(alloc, &plan.set)?;
+    Ok(Soups { job, ranges })
 }
 
 /// Returns the job of a plan.
@@ -64,6 +83,24 @@ fn haul_for(alloc: Global, job: Job, set: &SoupSet<'_>, workers: u8) -> Result<H
         Err(OpenError::Overlap) => Err(Complaint::Refused(Refusal::RangesOverlap)),
         Err(OpenError::Memory(error)) => Err(Complaint::Memory(error)),
     }
+}
+
+/// Returns the normal form of the ranges of a set, which have to be small enough for a haul.
+fn normal_ranges(alloc: Global, set: &SoupSet<'_>) -> Result<Ranges, Complaint>
+    ensures normal { IfOk result (AreNormalRanges set.now) }
+    ensures stops { IfErr result (StopsSet set.now) }
+{
+    let ranges = ranges_of(alloc, set)?;
+    let ranges = ranges.as_slice();
+    let Some(_) = small_size(ranges) else {
+        return Err(Complaint::Refused(Refusal::RangeTooLarge));
+    };
+    let shared = overlap(ranges);
+    if shared {
+        return Err(Complaint::Refused(Refusal::RangesOverlap));
+    }
+    let normal = Ranges::normal_form(alloc, ranges)?;
+    Ok(normal)
 }
 
 /// Returns the ranges of a set.

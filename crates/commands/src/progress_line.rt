@@ -2,11 +2,13 @@
 //!
 //! ```text
 //! begin     \r0 of 40 soups
-//! taken     \r12 of 40 soups, 4100 a second      over the line before, five times a second at most
+//! taken     \r12 of 40 soups, 4100 a second      replaces the line before, five times a second at most
 //! end       \r                              \r   wiped
 //! ```
 
-ghost use Rattle.std.specs.Prelude.{◌≡◌, None, false};
+ghost use Rattle.std.specs.Prelude.{◌≡◌, None, Some, false};
+ghost use Rattle.std.specs.declared.time.Instant.{Instant as Moment};
+ghost use Rattle.commands.specs.Progress.{milliseconds_from, per_second};
 
 use crew::progress_observer::ProgressObserver;
 use haul_core::report::Report;
@@ -20,11 +22,11 @@ use std::time::{Clock, Instant};
 const PAUSE: u128 = 200;
 
 /// A line on a terminal that shows how many soups of a haul have been taken and how many are taken per second. If the
-/// system started fewer workers than were asked for, it also shows how many there are.
+/// system started fewer workers than were asked for, the line also shows how many there are.
 ///
-/// The line is written when the haul is begun, and then from time to time, each time over the line before. At the end
-/// it is wiped. If memory runs out for a line, that line is left out. After a failed write, or if the clock can't be
-/// read at the beginning, nothing is written.
+/// The line is written when the haul is begun, and then from time to time, each time in place of the previous line. At
+/// the end it is wiped. If there is no memory for a line, that line is left out. After a failed write, or if the clock
+/// can't be read at the beginning, nothing is written.
 #[derive(Drop)]
 pub struct ProgressLine<W: Write, C: Clock> {
     alloc: Global,
@@ -68,7 +70,7 @@ impl<W: Write, C: Clock> ProgressLine<W, C> {
         self.is_shown |= is_asked;
     }
 
-    /// Writes the line for `count` soups over the line before.
+    /// Writes the line for `count` soups in place of the previous line.
     fn show(&mut self, count: u64, now: Instant) {
         self.latest = Some(now);
         self.count = count;
@@ -78,7 +80,7 @@ impl<W: Write, C: Clock> ProgressLine<W, C> {
         }
     }
 
-    /// Writes `line` from the left edge of the screen, blanks over the rest of the line before, and then `after`.
+    /// Writes `line` from the left edge of the screen, blanks over what is left of earlier lines, and then `after`.
     fn put(&mut self, line: &str, after: &str) {
         let width = self.width;
         let Ok(text) = format!(in self.alloc; "\r{line:<width$}{after}") else {
@@ -111,11 +113,23 @@ impl<W: Write, C: Clock> ProgressLine<W, C> {
         Ok(crew)
     }
 
-    /// Returns how many soups were taken per second, or `None` in the first millisecond.
-    fn rate(&self, count: u64, now: Instant) -> Option<u128> {
-        let passed = now.duration_since(self.started?).as_millis();
-        u128::from(count).saturating_mul(1000).checked_div(passed)
+    /// Returns how many soups were taken per second since the census began, or `None` if it hasn't begun or began less
+    /// than a millisecond ago.
+    fn rate(&self, count: u64, now: Instant) -> Option<u128>
+        ensures unbegun { self.now.started ≡ None → result ≡ None }
+        ensures rate { (started : Moment) → self.now.started ≡ Some started
+            → result ≡ per_second count (milliseconds_from started now) }
+    {
+        per_second(count, now.duration_since(self.started?).as_millis())
     }
+}
+
+/// Returns the number of soups per second, rounded down, if `count` soups were taken in `milliseconds` milliseconds.
+/// Returns `None` if `milliseconds` is 0.
+fn per_second(count: u64, milliseconds: u128) -> Option<u128>
+    ensures { result ≡ per_second count milliseconds }
+{
+    (u128::from(count) * 1000).checked_div(milliseconds)
 }
 
 impl<W: Write, C: Clock> ProgressObserver for ProgressLine<W, C> {

@@ -3,7 +3,7 @@
 //! ```text
 //! collector ── report ──> late? ── no ───> nothing
 //!                           └── yes ─> progress wiped ── line ── progress drawn again
-//!                                                         └── failed: no gate lets a worker begin
+//!                                                         └── failed: the gate stops every worker
 //! ```
 
 ghost use Rattle.std.proofs.Common.{◌∙◌, subst};
@@ -50,7 +50,7 @@ impl<'a> Gate for FaultGate<'a> {
 /// An observer that writes the line of each late report, and passes the progress on.
 #[derive(Drop)]
 pub(crate) struct ReportSink<'a, 's, E: Write, H> {
-    /// The generation from which a checkpoint is late.
+    /// The first generation at which a soup that settles counts as late.
     pub(crate) from: u32,
     /// Where the lines are written.
     pub(crate) errors: &'a mut Out<E>,
@@ -77,10 +77,7 @@ impl<'a, 's, E: Write, H: ProgressObserver> ProgressObserver for ReportSink<'a, 
 
     fn report(&mut self, report: &Report) {
         let is_late = is_late(report, self.from);
-        if !is_late {
-            return;
-        }
-        if self.errors.failed() {
+        if !is_late || self.errors.failed() {
             return;
         }
         self.progress.pause();

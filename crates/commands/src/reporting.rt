@@ -17,12 +17,11 @@ ghost use Rattle.pattern_commands.specs.Ends.{Ends};
 ghost use Rattle.pattern_commands.specs.Profiles.{AreInRange};
 ghost use Rattle.pattern_commands.specs.Reached.{Reaches};
 ghost use Rattle.pattern_commands.specs.Streams.{Has, stream};
-ghost use Rattle.commands.specs.Finish.{Finishes};
 ghost use Rattle.commands.specs.ReportSteps.{HasPutBy, HasReportedBy, StopsReporting};
 ghost use Rattle.commands.specs.Reporting.{reporting_behaviour};
 ghost use Rattle.commands.specs.Take.{PrintsCensus};
 
-use crate::finish::finish;
+use crate::finish::finish_unless;
 use crate::machine::Machine;
 use crate::opening::open_haul;
 use crate::report_sink::{FaultGate, ReportSink};
@@ -30,8 +29,8 @@ use crew::progress_observer::ProgressObserver;
 use crew::take::{CrewError, take};
 use haul_core::book::haul::Haul;
 use pattern_commands::ending::complaint::Complaint;
+use pattern_commands::ending::end_command;
 use pattern_commands::ending::status::Status;
-use pattern_commands::ending::tell_end;
 use plane_core::output::{Out, WriteError};
 use requests::plan::Plan;
 use std::io::{self, Write};
@@ -42,13 +41,13 @@ use std::thread::Threads;
 /// Does what [`do_take`](crate::take::do_take) does, and also reports late soups: the report line of each soup that is
 /// unsettled, or whose checkpoint is `from` or later, is written to standard error while the census runs.
 ///
-/// Each line is written once, whole, and in one write if it has at most 4,096 bytes. The lines are in the order in which
-/// the reports arrive from the workers. The machine's observer is paused while a line is written.
+/// Each line is written once, whole, and in one write if it has at most 4,096 bytes. The lines are in the order in
+/// which the reports arrive from the workers. The machine's observer is paused while a line is written.
 ///
 /// # Errors
 ///
-/// As for `do_take`, and `Failed` if a line can't be written. Then nothing is written to standard output, and each worker
-/// surveys at most one more soup. If memory runs out, the lines so far are whole.
+/// As for `do_take`, and `Failed` if a line can't be written. Then nothing is written to standard output, and each
+/// worker surveys at most one more soup. If memory runs out, the lines so far are whole.
 pub fn do_take_reporting<W: Write, E: Write, T: Threads + Wait + Sync, H: ProgressObserver>(
     machine: &mut Machine<'_, T, E, H>,
     plan: &Plan<'_>,
@@ -69,7 +68,7 @@ pub fn do_take_reporting<W: Write, E: Write, T: Threads + Wait + Sync, H: Progre
     ensures no_memory { result ≡ Status.Memory → output.new ≡ output.old }
 {
     let outcome = print_reporting(machine, plan, workers, from, output);
-    tell_end(outcome, &mut machine.errors)
+    end_command(outcome, &mut machine.errors)
 }
 
 /// Opens a haul, completes it while late soups are reported, and prints it.
@@ -93,11 +92,11 @@ fn print_reporting<W: Write, E: Write, T: Threads + Wait + Sync, H: ProgressObse
 {
     let haul = open_haul(machine.alloc, plan, workers)?;
     let (mut haul, taken) = report_by_crew(machine, haul, workers, from);
-    print_reported(&mut haul, taken, output)
+    finish_unless(taken, &mut haul, output)
 }
 
-/// Lets a crew take what is missing in an open haul, and writes the lines of late reports. Returns the haul, and why it
-/// isn't to be printed, if it isn't.
+/// Lets a crew take what is missing in an open haul, and writes the lines of late reports. Returns the haul, and `Ok`
+/// if it is to be printed, or why it isn't.
 fn report_by_crew<E: Write, T: Threads + Wait + Sync, H: ProgressObserver>(
     machine: &mut Machine<'_, T, E, H>,
     haul: Haul,
@@ -118,8 +117,8 @@ fn report_by_crew<E: Write, T: Threads + Wait + Sync, H: ProgressObserver>(
     }
 }
 
-/// Lets a crew take what is missing in an open haul, and writes the lines of late reports. Returns what `take` does, and
-/// the witness of a write that failed. `has_failed` is set once a write has failed.
+/// Lets a crew take what is missing in an open haul, and writes the lines of late reports. Returns what `take` returns,
+/// and the witness of the write that failed, if one failed. `has_failed` is set once a write has failed.
 fn take_reporting<E: Write, T: Threads + Wait + Sync, H: ProgressObserver>(
     machine: &mut Machine<'_, T, E, H>,
     haul: Haul,
@@ -155,7 +154,8 @@ fn take_reporting<E: Write, T: Threads + Wait + Sync, H: ProgressObserver>(
     (taken, sink.fault)
 }
 
-/// Returns why a haul isn't to be printed, if it isn't: a write has failed, or otherwise the crew didn't complete it.
+/// Returns `Ok` if the haul is to be printed, and otherwise why it isn't: a write has failed, or no write has failed
+/// and the crew didn't complete the haul.
 fn end_of_crew(
     has_failed: bool,
     fault: Option<WriteError>,
@@ -201,36 +201,12 @@ impl Write for NoRoom {
     }
 }
 
-/// Returns the error of a write to a writer without room. It stands in for the error of the line that wasn't written,
-/// which the sink keeps although no contract says so.
+/// Returns the error of a write to a writer without room. It stands in for the error of the line that wasn't written.
+/// The sink keeps that error, but no contract says so.
 fn no_room() -> WriteError {
     let mut output = Out::new(NoRoom);
     match output.put(b"\n") {
         Ok(()) => unreachable!(),
         Err(error) => error,
-    }
-}
-
-/// Finishes a haul, unless it isn't to be printed. This is a function of its own because the end of a function that owns
-/// the haul is expensive to prove.
-fn print_reported<W: Write>(
-    haul: &mut Haul,
-    taken: Result<(), Complaint>,
-    output: &mut Out<W>,
-) -> Result<u64, Complaint>
-    requires output { output.old.failed ≡ false }
-    requires stops { IfErr taken (λ complaint. status_of complaint ≢ Status.Refused) }
-    ensures finishes { IfOk taken (λ _. Finishes haul.old result (stream W.contents output.old output.new)) }
-    ensures none { IfOk taken (λ _. (length (missing_of haul.old.terms.ranges haul.old.taken) ≡ 0)
-        ↔ IsComplete haul.old.terms.ranges haul.old.taken) }
-    ensures gives_up { IfErr taken (λ complaint. (result ≡ Err complaint)
-        × Has (stream W.contents output.old output.new) []) }
-    ensures accepted { IfErr result (λ complaint. status_of complaint ≢ Status.Refused) }
-    ensures no_memory { IfErr result (λ complaint. complaint ≡ Complaint.Memory out_of_memory
-        → output.new ≡ output.old) }
-{
-    match taken {
-        Ok(()) => finish(haul, output),
-        Err(complaint) => Err(complaint),
     }
 }

@@ -1,9 +1,9 @@
 //! `work`: the report lines of a set of soups, from one worker.
 //!
 //! ```text
-//! plan ── open_haul ── ranges ── soup by soup: report ── line ── sent on
-//!             │                                  │         │
-//!          refused                         out of memory   write failed
+//! plan ── soups_of ── ranges ── soup by soup: report ── line ── sent on
+//!            │                                  │         │
+//!         refused                         out of memory   write failed
 //! ```
 
 ghost use Rattle.std.specs.Prelude.{◌≡◌, ◌<◌, ◌≤◌, ◌∷◌, [], ℕ, List, Option, IfErr, false};
@@ -21,15 +21,14 @@ ghost use Rattle.pattern_commands.specs.TextSteps.{ReachesText};
 ghost use Rattle.commands.specs.Work.{work_right, work_behaviour};
 ghost use Rattle.commands.specs.WorkSteps.{EndsAtLine, Puts, reports_on};
 
-use crate::opening::open_haul;
-use haul_core::book::haul::Haul;
+use crate::opening::soups_of;
 use haul_core::report::write::write_report_line;
 use haul_core::report::{Report, ReportError};
 use pattern_commands::ending::complaint::Complaint;
+use pattern_commands::ending::end_text_command;
 use pattern_commands::ending::status::Status;
-use pattern_commands::ending::tell_end_of_text;
 use plane_core::output::{Out, WriteError};
-use ranges::range::{Range, one_normal_form};
+use ranges::range::{Range, Ranges, one_normal_form};
 use requests::plan::Plan;
 use std::alloc::Global;
 use std::io::Write;
@@ -46,7 +45,7 @@ use survey_core::surveyor::Surveyor;
 ///
 /// # Errors
 ///
-/// The status is `Refused` as for `do_take`; `Memory` if memory runs out, and then the lines so far were written
+/// The status is `Refused` as for `do_take`; `Memory` if memory runs out, and then each line that was begun was written
 /// completely; and `Failed` if the output can't be written. In these cases, a line is written to `errors`. A failure to
 /// write that line is not reported.
 pub fn do_work<W: Write, E: Write>(
@@ -68,10 +67,10 @@ pub fn do_work<W: Write, E: Write>(
         → EndsAtLine plan.now worker (stream W.contents output.old output.new) }
 {
     let outcome = work(alloc, plan, worker, output);
-    tell_end_of_text(outcome, errors)
+    end_text_command(outcome, errors)
 }
 
-/// Opens a haul over the soups, and writes the reports on all of them.
+/// Reads the plan, and writes the reports on all of its soups.
 fn work<W: Write>(
     alloc: Global,
     plan: &Plan<'_>,
@@ -87,35 +86,28 @@ fn work<W: Write>(
     ensures whole_lines { IfErr result (λ complaint. complaint ≡ Complaint.Memory out_of_memory
         → EndsAtLine plan.now worker (stream W.contents output.old output.new)) }
 {
-    // No report is offered to this haul. It only provides the ranges in normal form.
-    let haul = open_haul(alloc, plan, worker)?;
+    let soups = soups_of(alloc, plan)?;
     // For the prover: there is one right text, and each line that is written is one of its lines.
     findings_are_determined();
     one_normal_form();
-    put_all(alloc, worker, &haul, output)
+    put_all(alloc, &soups.job, worker, &soups.ranges, output)
 }
 
-/// Writes the reports on all soups of a haul's set.
+/// Writes the reports on all soups of a set.
 fn put_all<W: Write>(
     alloc: Global,
+    job: &Job,
     worker: u8,
-    haul: &Haul,
+    ranges: &Ranges,
     output: &mut Out<W>,
 ) -> Result<(), Complaint>
     requires worker { IsWorker worker }
     requires output { output.old.failed ≡ false }
-    ensures { Puts (reports_on haul.now.terms.job worker (numbers_of haul.now.terms.ranges)) result
+    ensures { Puts (reports_on job.now worker (numbers_of ranges.now)) result
         (stream W.contents output.old output.new) }
 {
     let mut surveyor = Surveyor::new(alloc);
-    put_reports(
-        alloc,
-        &haul.job(),
-        worker,
-        haul.ranges(),
-        &mut surveyor,
-        output,
-    )
+    put_reports(alloc, job, worker, ranges.as_slice(), &mut surveyor, output)
 }
 
 /// Writes the reports on the soups of these ranges.
@@ -160,7 +152,7 @@ fn put_range<W: Write>(
     Ok(())
 }
 
-/// Surveys a soup and writes the report.
+/// Surveys a soup and writes its report line.
 fn put_report<W: Write>(
     alloc: Global,
     job: &Job,

@@ -1,5 +1,6 @@
 pub mod CompleteLemmas
 pub mod CrewLemmas
+pub mod EndLemmas
 pub mod ListLemmas
 pub mod OnceLemmas
 pub mod SenderSums

@@ -109,6 +109,7 @@ module _ {may_stop lets : ℕ → ℕ → Type 0} (shared : Shared) (worker : �
     all = λ drained. ap (λ (p : Drawn). p.numbers) is;
     heard = λ drained. ap (λ (p : Drawn). p.heard_none) is;
     stops = λ stopped. absurd (let bad : false ≡ true = ap was_stopped stopped in cc);
+    lacks = λ error lacking. absurd (let bad : false ≡ true = ap lacks_memory lacking in cc);
   }
 
   -- it has drawn a number that it doesn't report: its gate stopped it, or there was no memory
@@ -123,10 +124,12 @@ module _ {may_stop lets : ℕ → ℕ → Type 0} (shared : Shared) (worker : �
     all = λ drained. absurd (let bad : true ≡ false = ap was_stopped drained in cc);
     heard = λ drained. absurd (let bad : true ≡ false = ap was_stopped drained in cc);
     stops = λ stopped. stops;
+    lacks = λ error lacking. absurd (let bad : false ≡ true = ap lacks_memory lacking in cc);
   }
 
-  pub worked_lacking : (n : ℕ) (error : OutOfMemory) → new ≡ with_drawn n old → HasWorked may_stop lets shared worker (Memory error) new sender
-  worked_lacking n error is = record {
+  pub worked_lacking : (n : ℕ) (error : OutOfMemory) → new ≡ with_drawn n old → n < length shared.missing.items
+      → lets worker (slice_index shared.missing.items n) → HasWorked may_stop lets shared worker (Memory error) new sender
+  worked_lacking n error is low let_in = record {
     number = number;
     series = ap (λ (p : Drawn). p.series) is ∙ series;
     places = old.numbers;
@@ -135,6 +138,7 @@ module _ {may_stop lets : ℕ → ℕ → Type 0} (shared : Shared) (worker : �
     all = λ drained. absurd (let bad : true ≡ false = ap lacks_memory drained in cc);
     heard = λ drained. absurd (let bad : true ≡ false = ap lacks_memory drained in cc);
     stops = λ stopped. absurd (let bad : false ≡ true = ap was_stopped stopped in cc);
+    lacks = λ _ lacking. record { place = n; drawn = ap (λ (p : Drawn). p.numbers) is; below = low; let_in = let_in };
   }
 
 -- ---- what a shift leaves
@@ -161,6 +165,7 @@ module _ {may_stop lets : ℕ → ℕ → Type 0} (shared : Shared) where
         all = λ drained. ap (λ (p : Drawn). p.numbers) unused;
         heard = λ drained. absurd (let bad : false ≡ true = ap has_begun drained in cc);
         stops = λ stopped. absurd (let bad : false ≡ true = ap has_begun stopped in cc);
+        lacks = λ error lacking. absurd (let bad : false ≡ true = ap has_begun lacking in cc);
       };
       done = λ begun. absurd (let bad : false ≡ true = begun in cc);
       silent_if = λ off. ap (λ (s : Presented Note). s.notes) still;
@@ -186,6 +191,7 @@ module _ {may_stop lets : ℕ → ℕ → Type 0} (shared : Shared) where
             all = h.all;
             heard = h.heard;
             stops = h.stops;
+            lacks = h.lacks;
           };
           done = λ _. (sender.notes, none, refl);
           silent_if = λ off. absurd (let bad : true ≡ false = sym begun ∙ ap has_begun off in cc);
@@ -208,6 +214,7 @@ module _ {may_stop lets : ℕ → ℕ → Type 0} (shared : Shared) where
           all = λ drained. absurd (let bad : false ≡ true = ap has_begun drained in cc);
           heard = λ drained. absurd (let bad : false ≡ true = ap has_begun drained in cc);
           stops = λ stopped. absurd (let bad : false ≡ true = ap has_begun stopped in cc);
+          lacks = λ _ lacking. absurd (let bad : false ≡ true = ap has_begun lacking in cc);
         };
         done = λ begun. absurd (let bad : false ≡ true = begun in cc);
         silent_if = λ off. absurd (let bad : false ≡ true = ap was_started off in cc);

@@ -33,15 +33,15 @@ dones got = count_by (λ m. is_done m.1) got
 abbrev pub EndsDone : List (ℕ × Note) → Type 0
 EndsDone got = (got ≡ []) ⊎ ((prefix : List (ℕ × Note)) × (sender : ℕ) × (worker : ℕ) × (got ≡ prefix ++ (sender, Done worker) ∷ []))
 
--- A haul has taken these reports, in this order. If some arrivals led to the old state, then they and offers of these
--- reports lead to the new one.
+-- A haul has taken these reports, in this order. Any arrivals that lead to the old state, followed by offers of these
+-- reports, lead to the new state.
 pub record HasAdded (reports : List Reported) (old new : Held) : Type 0 where
   pub terms : new.terms ≡ old.terms
   pub closed : new.closed ≡ old.closed
   pub taken : new.taken ≡ old.taken ++ map entry reports
   pub stands : (arrivals : List Arrival) → StandsFor arrivals old → StandsFor (arrivals ++ map Offer reports) new
 
--- If some arrivals led to the old state, then they and offers of all these reports lead to the new one.
+-- Any arrivals that lead to the old state, followed by offers of all these reports, lead to the new state.
 abbrev pub HasComeAll : List Reported → Held → Held → Type 0
 HasComeAll reports old new = (arrivals : List Arrival) → StandsFor arrivals old → StandsFor (arrivals ++ map Offer reports) new
 
@@ -69,9 +69,10 @@ pub record Collector : Type 0 where
 abbrev pub collector_with : ℕ → Received Note → Held → Collector
 collector_with awaited receiver haul = record { awaited = awaited; receiver = receiver; haul = haul }
 
--- Notes were received from the workers, and each note "done" reduces the number of awaited workers by one. If none is
--- awaited any more, the last note was such a note. The haul has taken some of the reports among the notes: if
--- `answered`, all that the book takes, so that it has their soups; otherwise one was lost.
+-- Notes were received from the workers, and each note "done" reduces the number of awaited workers by one. If no worker
+-- is awaited any more, the last of these notes is such a note, unless there are none. The haul has taken some of the
+-- reports among the notes: if `answered`, all that the book takes, so that the haul has their soups; otherwise a report
+-- was lost.
 pub record Collected (before after : Collector) (answered : Bool) : Type 0 where
   pub notes : List (ℕ × Note)
   pub belt : after.receiver.belt ≡ before.receiver.belt
@@ -86,8 +87,7 @@ pub record Collected (before after : Collector) (answered : Bool) : Type 0 where
   pub soups : answered ≡ true → All (HasSoupOf after.haul) (reports_in notes)
   pub lost : answered ≡ false → HasLost (reports_in notes) part before.haul
 
--- Notes were received, and an observer was handed the reports among them, in order: `hears` is what is said of the
--- reports that it was handed.
+-- Notes were received, and an observer was handed the reports among them, in order: `hears` holds for these reports.
 pub record HasHeard (old new : Received Note) (hears : List Reported → Type 0) : Type 0 where
   pub notes : List (ℕ × Note)
   pub got : new.got ≡ old.got ++ notes

@@ -1,12 +1,17 @@
 -- What a crew takes for a haul.
-use Rattle.std.specs.Prelude.{◌≡◌, ◌<◌, ◌≤◌, ℕ, All, AllPairs, Contains, List, count_by, filter, map, nat_eq}
-use Rattle.std.specs.List.{IsDistinct}
+use Rattle.std.specs.Prelude.{◌≡◌, ◌<◌, ◌≤◌, ℕ, All, AllPairs, Bool, Contains, IfNone, IfSome, List, Option, count_by, false, filter, map}
+use Rattle.std.specs.Prelude.{nat_eq, option_map, true}
+use Rattle.std.specs.List.{IsDistinct, find, range_with_len}
+use Rattle.memory.specs.Witness.{out_of_memory}
 use Rattle.haul_core.specs.Books.{Held, entry}
 use Rattle.haul_core.specs.Keeping.{numbers_in}
 use Rattle.haul_core.specs.Missing.{missing_of}
 use Rattle.haul_core.specs.Reports.{Reported}
 use Rattle.haul_core.specs.Subsequences.{IsSubsequence}
 use Rattle.crew.specs.Crews.{HasAdded}
+use Rattle.crew.specs.Workers.{StopsAt}
+use Rattle.crew.specs.declared.take.CrewError.{CrewError}
+use Rattle.crew.specs.declared.take.CrewError.TheVariants.{Memory, Stopped}
 
 -- the numbers that were missing when the crew began
 abbrev pub was_missing : Held → List ℕ
@@ -33,9 +38,8 @@ pub record HasTaken (lets : ℕ → ℕ → Type 0) (workers : ℕ) (old new : H
 abbrev pub times_reported : ℕ → List Reported → ℕ
 times_reported n reports = count_by (nat_eq n) (map (λ r. r.number) reports)
 
--- An observer was handed reports of the crew's workers for the haul's job: `hears` is what is said of them. They are on
--- missing numbers that the gate let these workers survey, no number twice. The haul has taken some of them, in this
--- order.
+-- An observer was handed reports of the crew's workers for the haul's job, for which `hears` holds. They are on missing
+-- numbers that the gate let these workers survey, no number twice. The haul has taken some of them, in this order.
 pub record HasHeardCrew (lets : ℕ → ℕ → Type 0) (workers : ℕ) (old new : Held) (hears : List Reported → Type 0) : Type 0 where
   pub reports : List Reported
   pub heard : hears reports
@@ -47,3 +51,38 @@ pub record HasHeardCrew (lets : ℕ → ℕ → Type 0) (workers : ℕ) (old new
   pub offers : List Reported
   pub some : IsSubsequence offers reports
   pub added : HasAdded offers old new
+
+-- how a worker of a crew ended: no number was left, the gate stopped it, memory ran out in a survey, or it never began
+pub data WorkerEnd : Type 0 where
+  NoneLeft : WorkerEnd
+  StoppedByGate : WorkerEnd
+  LackedMemory : WorkerEnd
+  NeverBegan : WorkerEnd
+
+-- how a worker may end: the gate may stop it at a missing number, and memory may run out in the survey of a missing
+-- number that the gate let it survey
+abbrev pub IsPossibleEnd : (may_stop lets : ℕ → ℕ → Type 0) → List ℕ → ℕ × WorkerEnd → Type 0
+IsPossibleEnd may_stop lets missing (worker, NoneLeft) = Unit {0}
+IsPossibleEnd may_stop lets missing (worker, StoppedByGate) = StopsAt may_stop missing worker
+IsPossibleEnd may_stop lets missing (worker, LackedMemory) = StopsAt lets missing worker
+IsPossibleEnd may_stop lets missing (worker, NeverBegan) = Unit {0}
+
+-- the gate stopped the worker
+abbrev pub is_stopped : ℕ × WorkerEnd → Bool
+is_stopped (worker, StoppedByGate) = true
+is_stopped (worker, NoneLeft) = false
+is_stopped (worker, LackedMemory) = false
+is_stopped (worker, NeverBegan) = false
+
+-- the lowest number of a worker that the gate stopped
+abbrev pub lowest_stopped : List (ℕ × WorkerEnd) → Option ℕ
+lowest_stopped ends = option_map (λ e. e.0) (find is_stopped ends)
+
+-- The workers 1 to `workers` have ended, each once, and how they ended determines the error: if the gate stopped
+-- workers, the error names the lowest of them, and otherwise it says that memory ran out.
+pub record EndsWith (may_stop lets : ℕ → ℕ → Type 0) (missing : List ℕ) (workers : ℕ) (error : CrewError) : Type 0 where
+  pub ends : List (ℕ × WorkerEnd)
+  pub each : map (λ e. e.0) ends ≡ range_with_len 1 workers
+  pub may : All (IsPossibleEnd may_stop lets missing) ends
+  pub stopped : IfSome (lowest_stopped ends) (λ worker. error ≡ Stopped worker)
+  pub memory : IfNone (lowest_stopped ends) (error ≡ Memory out_of_memory)

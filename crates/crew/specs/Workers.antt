@@ -2,6 +2,7 @@
 use Rattle.std.specs.Prelude.{◌≡◌, ◌<◌, ◌++◌, ◌∷◌, ◌⊎◌, [], ℕ, All, AllPairs, Bool, Contains, List, Option, count_by}
 use Rattle.std.specs.Prelude.{false, flat_map, length, map, option_map, slice_index, true}
 use Rattle.std.specs.List.{find}
+use Rattle.memory.specs.declared.OutOfMemory.{OutOfMemory}
 use Rattle.survey_core.specs.declared.job.Job.{Job}
 use Rattle.haul_core.specs.Reports.{Reported}
 use Rattle.handover.specs.Belts.{Presented}
@@ -50,8 +51,16 @@ StopsAt may_stop missing worker = (n : ℕ) × Contains missing n × may_stop wo
 abbrev pub AreAllButLast : List ℕ → List ℕ → Type 0
 AreAllButLast places drawn = (drawn ≡ places) ⊎ ((n : ℕ) × (drawn ≡ places ++ n ∷ []))
 
+-- after these places, the worker drew one more, and the gate let it survey the missing number there
+pub record WasLetLast (lets : ℕ → ℕ → Type 0) (shared : Shared) (worker : ℕ) (places : List ℕ) (pass : Drawn) : Type 0 where
+  pub place : ℕ
+  pub drawn : pass.numbers ≡ places ++ place ∷ []
+  pub below : place < length shared.missing.items
+  pub let_in : lets worker (slice_index shared.missing.items place)
+
 -- What the worker with this number has done when its surveys end in this way. It has reported at each place that it
--- drew, except perhaps the last one, and at each if no number was left.
+-- drew, except perhaps the last one. If no number was left, it has reported at the last place, too. If memory ran out,
+-- it ran out in the survey at the last place.
 pub record HasWorked (may_stop lets : ℕ → ℕ → Type 0) (shared : Shared) (worker : ℕ) (ended : End) (pass : Drawn) (sender : Presented Note)
     : Type 0 where
   pub number : sender.number ≡ worker
@@ -62,6 +71,7 @@ pub record HasWorked (may_stop lets : ℕ → ℕ → Type 0) (shared : Shared) 
   pub all : ended ≡ Drained → pass.numbers ≡ places
   pub heard : ended ≡ Drained → pass.heard_none ≡ true
   pub stops : ended ≡ Stopped → StopsAt may_stop shared.missing.items worker
+  pub lacks : (error : OutOfMemory) → ended ≡ Memory error → WasLetLast lets shared worker places pass
 
 -- the worker has begun to work
 abbrev pub has_begun : End → Bool

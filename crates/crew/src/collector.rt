@@ -20,8 +20,8 @@ use memory::OutOfMemory;
 use std::sync::Wait;
 
 /// Receives notes until `started` workers are done, and offers each report to the haul. A report that the haul refuses
-/// is dropped. Before each note and at the end, the observer receives the number of soups that the haul has taken, and it
-/// receives each report before the haul does.
+/// is dropped. Before each note and at the end, the observer receives the number of soups that the haul has taken, and
+/// it receives each report before the haul does.
 ///
 /// # Errors
 ///

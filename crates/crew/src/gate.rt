@@ -24,7 +24,7 @@ pub trait Gate {
         ensures stops { OnErr result (may_stop self.now worker number) };
 }
 
-/// A gate that stops nobody.
+/// A gate that stops no worker.
 #[derive(Clone, Copy)]
 pub struct OpenGate;
 

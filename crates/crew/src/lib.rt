@@ -5,7 +5,7 @@
 pub mod collector;
 /// Gates, which may stop a worker.
 pub mod gate;
-/// What a worker says to the collector.
+/// The messages from workers to the collector.
 pub mod note;
 /// The endpoints of workers: passes and senders.
 mod endpoints;

@@ -6,8 +6,8 @@ use haul_core::report::Report;
 
 /// Callbacks that receive the progress of a haul, and the workers' reports.
 ///
-/// Contracts hold for any observer, so it can't change what a call promises to return or to write to its output. What an
-/// observer does with reports is its own promise, [`hears`], and `take` says which reports it has received.
+/// Contracts hold for any observer, so it can't change what a call promises to return or to write to its output. What
+/// an observer does with reports is its own promise, [`hears`], and `take` says which reports it has received.
 pub trait ProgressObserver {
     /// From one state to another, an observer has received these reports, in this order.
     ghost hears: { Self → List Reported → Self → Type 0 } = { λ _ _ _. ⊤ };
@@ -33,7 +33,7 @@ pub trait ProgressObserver {
     /// Called before something else is written where the progress is shown.
     fn pause(&mut self) {}
 
-    /// Called after that.
+    /// Called after something else was written where the progress is shown.
     fn resume(&mut self) {}
 
     /// Called at the end: no more soups will be taken.

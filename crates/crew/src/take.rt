@@ -9,7 +9,7 @@
 //!                                            worker 2 is back
 //!                                          worker 3 is back
 //! ```
-ghost use Rattle.std.specs.Prelude.{◌≡◌, ◌≢◌, ◌<◌, ◌≤◌, ◌↔◌, ℕ, All, Err, IfErr, IfOk, MatchResult, None, Some};
+ghost use Rattle.std.specs.Prelude.{◌≡◌, ◌≢◌, ◌<◌, ◌≤◌, ◌↔◌, ℕ, All, Err, IfErr, IfOk, IfSome, MatchResult, None, Some};
 ghost use Rattle.std.specs.Prelude.{count_by, false, is_ok, is_some, length, nat_eq, not, true, vec_capacity};
 ghost use Rattle.std.specs.List.{IsDistinct};
 ghost use Rattle.haul_core.specs.Keeping.{numbers_in};
@@ -19,7 +19,7 @@ ghost use Rattle.handover.specs.Belts.{IsWhole, silent};
 ghost use Rattle.crew.specs.CrewSteps.{HasAddedEndpoint, HasRunAll, MayRun, cause_of, collector_of, stopped_with};
 ghost use Rattle.crew.specs.Crews.{Collected, HasHeard};
 ghost use Rattle.crew.specs.Workers.{Leaves, Returns, StopsAt, lacks_memory, was_started};
-ghost use Rattle.crew.specs.Takes.{HasHeardCrew, HasTaken, was_missing};
+ghost use Rattle.crew.specs.Takes.{EndsWith, HasHeardCrew, HasTaken, was_missing};
 ghost use Rattle.handover.specs.Tickets.{AreAllBelow, drawn_by_all, fresh, how_many_heard};
 ghost use Rattle.crew.specs.declared.take.CrewError.TheVariants as CrewError;
 
@@ -49,7 +49,7 @@ pub enum CrewError {
     Closed,
     /// The gate stopped a worker. If it stopped several, this is the one with the lowest number.
     Stopped { worker: u8 },
-    /// Memory ran out, or there was none for a thread.
+    /// Memory ran out, or a thread could not be started.
     Memory(OutOfMemory),
 }
 
@@ -74,19 +74,18 @@ impl fmt::Debug for CrewError {
 /// offered to the haul.
 ///
 /// `workers` is from 1 to the haul's number of workers. A worker asks the gate before each survey, and surveys nothing
-/// more once the gate stops it. The haul stays open. The observer is called in the thread that called `take`. It receives
-/// the number of soups that the haul has taken, and each report before the haul does.
+/// more once the gate stops it. The haul stays open. The observer is called in the thread that called `take`. It
+/// receives the number of soups that the haul has taken, and each report before the haul does.
 ///
 /// # Errors
 ///
 /// The haul, with what was taken, and the first of these that holds. There is no other case:
 ///
-/// - [`CrewError::Closed`] if the haul is closed. It comes back unchanged.
+/// - [`CrewError::Closed`] if the haul is closed. The haul is returned unchanged.
 /// - [`CrewError::Stopped`] if the gate stopped a worker and the haul isn't complete.
 /// - [`CrewError::Memory`] if memory ran out, or a thread could not be started, and the haul isn't complete.
 ///
-/// Another call continues with what is missing. It is proved that `Stopped` names a worker that the gate may stop. That
-/// this is the lowest one, and that `Stopped` comes before `Memory`, follows from private contracts, and is tested.
+/// Another call continues with what is missing.
 ///
 /// # Examples
 ///
@@ -115,6 +114,8 @@ pub fn take<G: Gate + Sync, R: Threads + Wait + Sync, H: ProgressObserver>(
         → IfErr result (λ back. back.1 ≡ CrewError.Stopped worker → (1 ≤ worker) × (worker ≤ workers)) }
     ensures incomplete { IfErr result
         (λ back. back.1 ≢ CrewError.Closed → ¬ IsComplete back.0.terms.ranges back.0.taken) }
+    ensures ends { IfErr result (λ back. back.1 ≢ CrewError.Closed
+        → EndsWith (G.may_stop gate.now) (G.lets gate.now) (was_missing haul) workers back.1) }
     ensures heard { haul.closed ≡ false → MatchResult result
         (λ done. HasHeardCrew (G.lets gate.now) workers haul done
         (λ reports. H.hears observer.old reports observer.new))
@@ -155,6 +156,7 @@ fn complete_haul<G: Gate + Sync, R: Threads + Wait + Sync, H: ProgressObserver>(
     ensures within { (worker : ℕ)
         → result.1 ≡ Some (CrewError.Stopped worker) → (1 ≤ worker) × (worker ≤ workers) }
     ensures open { result.1 ≢ Some CrewError.Closed }
+    ensures ends { IfSome result.1 (EndsWith (G.may_stop gate.now) (G.lets gate.now) (was_missing haul) workers) }
     ensures heard { HasHeardCrew (G.lets gate.now) workers haul result.0
         (λ reports. H.hears observer.old reports observer.new) }
 {
@@ -270,7 +272,8 @@ struct Duty<'s, G> {
 }
 
 impl<'s, G: Gate> Promise<WorkerResult> for Duty<'s, G> {
-    ghost kept_by = { λ d worker_result. Returns (G.may_stop d.gate.now) (G.lets d.gate.now) d.shared.now d.worker worker_result };
+    ghost kept_by = { λ d worker_result.
+        Returns (G.may_stop d.gate.now) (G.lets d.gate.now) d.shared.now d.worker worker_result };
 }
 
 /// The state of a crew while it runs.
@@ -285,7 +288,7 @@ struct Crew {
     back: Endpoints,
     /// The number of workers that were started and haven't come back.
     away: u8,
-    /// The lowest number of a worker that came back stopped.
+    /// The lowest number of a worker that has come back and was stopped.
     stopped: Option<u8>,
     /// The witness that memory was refused, for a thread, a survey or a report.
     lacking: Option<OutOfMemory>,
@@ -439,7 +442,7 @@ fn note_result(crew: &mut Crew, worker_result: WorkerResult)
     crew.back.add(pass, sender);
 }
 
-/// Returns the first worker that was stopped, after this one is back too.
+/// Returns the first stopped worker among those that came back before and this one.
 fn first_stopped(stopped: Option<u8>, worker: u8, end: End) -> Option<u8>
     ensures { result ≡ stopped_with stopped worker end }
 {
@@ -449,7 +452,7 @@ fn first_stopped(stopped: Option<u8>, worker: u8, end: End) -> Option<u8>
     }
 }
 
-/// Returns the witness that memory was refused, if it was, after this worker has ended too.
+/// Returns the witness that memory was refused, to this worker or before, or `None` if it wasn't.
 fn any_lack(lacking: Option<OutOfMemory>, end: End) -> Option<OutOfMemory>
     ensures before { result ≡ None → lacking ≡ None }
     ensures here { result ≡ None → lacks_memory end ≡ false }

@@ -1,4 +1,4 @@
-//! A haul that two threads fill over a belt.
+//! A haul that two threads fill through a belt.
 ghost use Rattle.std.specs.Prelude.{◌≡◌, ◌<◌};
 
 use crate::small::{haul_of, small_job};
@@ -16,7 +16,7 @@ use std::test::Fail;
 use std::thread::{Threads, join};
 use survey_core::job::Job;
 
-/// Presents a worker's reports of a hundred soups, from this one on, and then that it is done.
+/// Presents a worker's reports on a hundred soups, from soup `first` on, and then the note that the worker is done.
 fn present_hundred<R: Wait>(
     alloc: Global,
     rt: &R,

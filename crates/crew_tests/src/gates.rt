@@ -1,10 +1,12 @@
 //! Crews under gates that stop workers, or hold them until others have come.
-ghost use Rattle.std.specs.Prelude.{◌<◌, ◌⊎◌};
+ghost use Rattle.std.specs.Prelude.{◌≡◌, ◌<◌, ◌≤◌, ◌⊎◌};
 
-use crate::left::{Left, left_by};
-use crate::small::small_job;
+use crate::left::{Left, go_on, left_by};
+use crate::small::{haul_of, small_job};
 use crew::gate::{Gate, OpenGate, Stop};
+use crew::progress_observer::NoObserver;
 use crew::take::CrewError;
+use haul_core::book::haul::Haul;
 use plane_core::plane::cell::Cell;
 use plane_core::plane::pattern::{FromCellsError, Pattern};
 use plane_core::plane::rule::Rule;
@@ -17,10 +19,10 @@ use std::thread::Threads;
 /// How often a gate looks for other workers before it gives up.
 const TURNS: u32 = 1_000_000;
 
-/// Counts workers that have come, and lets others wait for them. A block is stepped at each turn, so that a turn takes
-/// some time.
+/// Counts workers that have come, and lets others wait for them. At each turn a block is advanced by one generation, so
+/// that a turn takes some time.
 #[derive(Drop)]
-struct Patience {
+pub(crate) struct Patience {
     alloc: Global,
     block: Pattern,
     come: AtomicU64,
@@ -34,7 +36,7 @@ const BLOCK: [Cell; 4] = [
 ];
 
 impl Patience {
-    fn new(alloc: Global) -> Result<Patience, FromCellsError> {
+    pub(crate) fn new(alloc: Global) -> Result<Patience, FromCellsError> {
         let block = Pattern::from_cells(alloc, &BLOCK)?;
         Ok(Patience {
             alloc,
@@ -47,7 +49,7 @@ impl Patience {
         self.come.fetch_add(1, Ordering::SeqCst);
     }
 
-    /// Waits until so many have come, but not for too many turns.
+    /// Waits until `number` workers have come, for at most `TURNS` turns.
     fn wait_for(&self, number: u64) -> Result<(), Stop> {
         for _ in 0..TURNS {
             if self.come.load(Ordering::SeqCst) >= number {
@@ -70,7 +72,8 @@ impl Gate for Lockstep {
 
     ghost lets = { λ _ worker number. Unit {0} };
 
-    // Nobody draws a number of the next sixteen before all have come with these.
+    // Numbers come in blocks of sixteen. A worker goes on only when sixteen workers have come with the numbers of its
+    // block.
     fn before(&self, _worker: u8, number: u64) -> Result<(), Stop> {
         self.patience.come();
         let rounds = (number / 16).saturating_add(1);
@@ -92,12 +95,13 @@ fn works_in_sixteen_threads(rt: HostRuntime) -> Result<(), Fail> {
     Ok(())
 }
 
-/// A gate that stops the workers from one to another, and lets the others go on only after all these were stopped.
+/// A gate that stops the workers from `first` to `last`, and lets the others go on only after all of these were
+/// stopped.
 #[derive(Drop)]
-struct StopsSome {
-    first: u8,
-    last: u8,
-    patience: Patience,
+pub(crate) struct StopsSome {
+    pub(crate) first: u8,
+    pub(crate) last: u8,
+    pub(crate) patience: Patience,
 }
 
 impl Gate for StopsSome {
@@ -115,7 +119,7 @@ impl Gate for StopsSome {
     }
 }
 
-/// What sixteen workers leave of forty soups if these of them are stopped.
+/// The result of sixteen workers on forty soups, if the workers from `first` to `last` are stopped.
 fn left_by_stops<R: AllocGlobal + Threads + Wait + Sync>(
     rt: &R,
     first: u8,
@@ -147,7 +151,7 @@ fn tells_each_of_sixteen_that_is_stopped(rt: HostRuntime) -> Result<(), Fail> {
     Ok(())
 }
 
-// Of several that were stopped the least is told.
+// If several workers were stopped, the one with the lowest number is reported.
 #[test]
 fn tells_the_least_that_is_stopped(rt: HostRuntime) -> Result<(), Fail> {
     for worker in 1..17 {
@@ -161,11 +165,20 @@ fn tells_the_least_that_is_stopped(rt: HostRuntime) -> Result<(), Fail> {
     Ok(())
 }
 
-/// A gate that stops everybody after so many calls of all workers.
+/// A gate that stops every worker after `calls` calls of all workers together.
 #[derive(Drop)]
-struct Shutter {
+pub(crate) struct Shutter {
     calls: u64,
     called: AtomicU64,
+}
+
+impl Shutter {
+    pub(crate) fn after(calls: u64) -> Shutter {
+        Shutter {
+            calls,
+            called: AtomicU64::new(0),
+        }
+    }
 }
 
 impl Gate for Shutter {
@@ -182,21 +195,63 @@ impl Gate for Shutter {
     }
 }
 
-// What the gate let through is taken, and the next call goes on with the rest.
+/// Lets workers go on with a haul under a gate that stops every worker after `calls` soups. Returns the haul, and
+/// whether `calls` soups were taken, or all if fewer were missing. If `calls` is 0, worker 1 also has to be reported as
+/// stopped.
+fn goes_on_for<R: AllocGlobal + Threads + Wait + Sync>(
+    rt: &R,
+    haul: Haul,
+    workers: u8,
+    calls: u64,
+) -> (Haul, bool)
+    requires some { 1 ≤ workers }
+    requires few { workers ≤ haul.terms.workers }
+    ensures { result.0.terms ≡ haul.terms }
+{
+    let before = haul.missing_count();
+    let (haul, fault) = go_on(rt, haul, workers, &Shutter::after(calls), &mut NoObserver);
+    let right = haul.missing_count() == before.saturating_sub(calls);
+    // If each worker is stopped at its first call, worker 1 is reported, which has the lowest number.
+    let is_first = fault == Some(CrewError::Stopped { worker: 1 });
+    (haul, right && (calls > 0 || is_first))
+}
+
+/// Whether workers take `calls` of `soups` soups before a gate stops every worker, then `calls` more before another
+/// such gate does, and then the rest.
+fn goes_on_after<R: AllocGlobal + Threads + Wait + Sync>(
+    rt: &R,
+    soups: u64,
+    workers: u8,
+    calls: u64,
+) -> Result<bool, Fail> {
+    if workers < 1 || 16 < workers {
+        return Err(Fail::new("there are 1 to 16 workers"));
+    }
+    let haul = haul_of(rt.alloc(), small_job()?, soups, 16)?;
+    let (haul, is_right) = goes_on_for(rt, haul, workers, calls);
+    let (haul, is_right_again) = goes_on_for(rt, haul, workers, calls);
+    let (haul, fault) = go_on(rt, haul, workers, &OpenGate, &mut NoObserver);
+    let is_complete = haul.is_complete();
+    drop(haul);
+    Ok(is_right && is_right_again && is_complete && fault.is_none())
+}
+
+/// Numbers of soups near multiples of eight, because the collector is woken with every eighth note, and near 64,
+/// because the belt has room for 64 notes.
+const CALLS: [u64; 19] = [
+    0, 1, 2, 3, 4, 5, 6, 7, 8, 9, 15, 16, 17, 63, 64, 65, 127, 128, 129,
+];
+
 #[test]
 fn goes_on_after_any_number_of_soups(rt: HostRuntime) -> Result<(), Fail> {
-    for workers in 1..4 {
-        for calls in 0..8 {
-            let gate = Shutter {
-                calls,
-                called: AtomicU64::new(0),
-            };
-            let left = left_by(&rt, small_job()?, 8, workers, &gate)?;
-            assert!(rt;
-                left.missing.saturating_add(calls) == 8,
-                "{workers} workers, {calls} soups"
-            );
-            assert!(rt; left.completed, "{workers} workers, {calls} soups");
+    for soups in [8, 300] {
+        for workers in [1, 2, 3, 7] {
+            for calls in CALLS {
+                assert!(rt;
+                    goes_on_after(&rt, soups, workers, calls)?,
+                    "{calls} of {soups} soups, {workers} workers"
+                );
+            }
         }
     }
     Ok(())

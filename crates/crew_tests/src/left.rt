@@ -1,4 +1,5 @@
-//! What a crew leaves in a haul, in plain numbers: a test that owns a haul pays for its drop at each of its ends.
+//! What a crew leaves in a haul, in plain numbers. A test that owned the haul would be expensive to prove, because the
+//! haul would be dropped at each exit.
 ghost use Rattle.std.specs.Prelude.{◌≡◌, ◌≤◌};
 
 use crate::small::haul_of;
@@ -11,20 +12,20 @@ use std::test::Fail;
 use std::thread::Threads;
 use survey_core::job::Job;
 
-/// What a crew left when it came back.
+/// The result of a crew's run.
 #[derive(Clone, Copy)]
 pub(crate) struct Left {
     /// Why the haul was not complete.
     pub(crate) fault: Option<CrewError>,
     pub(crate) missing: u64,
-    /// How many soups the haul had taken of each worker, by the worker's number.
+    /// The number of soups that the haul had taken from each worker. The index is the worker's number.
     pub(crate) counts: [u64; 17],
     /// Whether another call, under a gate that stops nobody, completed the haul.
     pub(crate) completed: bool,
 }
 
 impl Left {
-    /// How many soups the haul had taken of a worker.
+    /// The number of soups that the haul had taken from a worker.
     pub(crate) fn count_of(&self, worker: u8) -> u64 {
         match self.counts.get(usize::from(worker)) {
             Some(count) => *count,
@@ -43,7 +44,7 @@ fn counts_in(taken: &[(u8, u64)]) -> [u64; 17] {
     counts
 }
 
-/// Lets workers go on with a haul, and returns it with why it is not complete.
+/// Lets workers go on with a haul, and returns the haul, and why it isn't complete, or `None` if it is.
 pub(crate) fn go_on<G: Gate + Sync, R: AllocGlobal + Threads + Wait + Sync, H: ProgressObserver>(
     rt: &R,
     haul: Haul,

@@ -1,7 +1,9 @@
-//! Tests of the public calls of `crew` and `handover`. They stand in a crate of their own, so that these are proved
-//! once.
+//! Tests of the public calls of `crew` and `handover`. They are in a crate of their own, so that `crew` and `handover`
+//! are proved once.
 #![tactic(auto)]
 
+#[cfg(test)]
+mod asked;
 #[cfg(test)]
 mod belt;
 #[cfg(test)]
@@ -10,6 +12,8 @@ mod gates;
 mod left;
 #[cfg(test)]
 mod progress_observer;
+#[cfg(test)]
+mod resume;
 #[cfg(test)]
 mod shortage;
 #[cfg(test)]

@@ -1,4 +1,4 @@
-//! What a watch hears.
+//! Which calls an observer receives.
 ghost use Rattle.std.specs.Prelude.{◌≤◌};
 
 use crate::left::go_on;
@@ -10,16 +10,19 @@ use std::sync::Wait;
 use std::test::Fail;
 use std::thread::Threads;
 
-/// Notes how many workers were asked for, and how many were started.
+/// Notes how many workers were asked for, how many were started, and how often the observer was begun and ended.
 #[derive(Clone, Copy)]
 struct Roll {
     asked: u8,
     started: u8,
+    begun: u8,
+    ended: u8,
 }
 
 impl ProgressObserver for Roll {
     fn begin(&mut self, _whole: u64, workers: u8) {
         self.asked = workers;
+        self.begun = self.begun.saturating_add(1);
     }
 
     fn started(&mut self, workers: u8) {
@@ -30,12 +33,16 @@ impl ProgressObserver for Roll {
 
     fn taken(&mut self, _count: u64) {}
 
+    fn end(&mut self) {
+        self.ended = self.ended.saturating_add(1);
+    }
+
     ghost hears_none = { λ _. tt };
 
     ghost hears_more = { λ _ _ _ _ _ _ _. tt };
 }
 
-/// Returns what an observer is told while `workers` workers take soups. It is told of none if the haul isn't complete.
+/// Returns what an observer has noted while `workers` workers took soups. `asked` is 0 if the haul isn't complete.
 fn heard_by<R: AllocGlobal + Threads + Wait + Sync>(rt: &R, workers: u8) -> Result<Roll, Fail>
     requires some { 1 ≤ workers }
     requires few { workers ≤ 16 }
@@ -43,6 +50,8 @@ fn heard_by<R: AllocGlobal + Threads + Wait + Sync>(rt: &R, workers: u8) -> Resu
     let mut roll = Roll {
         asked: 0,
         started: 0,
+        begun: 0,
+        ended: 0,
     };
     let haul = haul_of(rt.alloc(), small_job()?, 20, 16)?;
     let (_, fault) = go_on(rt, haul, workers, &OpenGate, &mut roll);
@@ -53,13 +62,14 @@ fn heard_by<R: AllocGlobal + Threads + Wait + Sync>(rt: &R, workers: u8) -> Resu
 }
 
 #[test]
-fn tells_the_watch_how_many_were_started(rt: HostRuntime) -> Result<(), Fail> {
+fn tells_the_observer_how_many_were_started(rt: HostRuntime) -> Result<(), Fail> {
     for workers in 1..17 {
         let roll = heard_by(&rt, workers)?;
         assert!(rt;
             roll.asked == workers && roll.started == workers,
             "{workers} workers"
         );
+        assert!(rt; roll.begun == 1 && roll.ended == 1, "{workers} workers");
     }
     Ok(())
 }

@@ -1,5 +1,5 @@
-//! Each of these tests passes, or fails because memory ran out alone, whichever allocation is refused. `checks/program/memory`
-//! refuses each in turn.
+//! Whichever allocation is refused, each of these tests passes, or fails only because memory ran out.
+//! `checks/program/memory` refuses each in turn.
 ghost use Rattle.std.specs.Prelude.{◌≡◌, ◌≢◌, ◌≤◌};
 
 use crate::left::left_by;
@@ -39,9 +39,9 @@ fn without_memory_two_workers_leave_the_haul_open(rt: HostRuntime) -> Result<(),
     assert_taken(&rt, small_job()?, 4, 2)
 }
 
-// A worker whose thread can't be started has to leave alone what the others survey: the belt has room for 64 notes, and
-// nobody receives any before all threads are started. By this rule all cells die at once, so a soup takes few
-// allocations.
+// A worker whose thread can't be started must not survey soups in the thread that starts the crew: the belt has room
+// for 64 notes, and nobody receives any before all threads are started. Under this rule all cells die at once, so a
+// soup takes few allocations.
 #[test]
 fn without_memory_two_hundred_soups_are_taken(rt: HostRuntime) -> Result<(), Fail> {
     let job = Job {
@@ -71,7 +71,7 @@ impl Gate for StopsSecond {
     }
 }
 
-// Where a worker was stopped and another one had no memory, the stop is told.
+// If one worker was stopped and another had no memory, the stop is reported.
 #[test]
 fn without_memory_a_stop_is_told(rt: HostRuntime) -> Result<(), Fail> {
     let gate = StopsSecond {

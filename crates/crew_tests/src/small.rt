@@ -10,12 +10,20 @@ use survey_core::job::Job;
 use survey_core::profile::Profile;
 use survey_core::seed::Seed;
 
-/// The soups of the empty seed, under a profile that is soon done.
+/// The job of the empty seed, in Life, under a profile with which a survey is quick.
 pub(crate) fn small_job() -> Result<Job, Fail> {
     Ok(Job {
         seed: Seed::new("")?,
         profile: Profile::new(1, 1, 1, 0)?,
         rule: Rule::life(),
+    })
+}
+
+/// The job of the empty seed, in Life, under the standard profile.
+pub(crate) fn standard_job() -> Result<Job, Fail> {
+    Ok(Job {
+        profile: Profile::standard(),
+        ..small_job()?
     })
 }
 

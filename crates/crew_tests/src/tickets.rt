@@ -2,14 +2,14 @@
 ghost use Rattle.std.specs.Prelude.{◌≡◌, All};
 ghost use Rattle.std.specs.Thread.{IsSync};
 
-use handover::tickets::{Pass, Tickets};
+use handover::tickets::{Pass, Tickets, TicketsError};
 use std::alloc::Global;
 use std::sync::atomic::{AtomicU64, Ordering};
 use std::test::Fail;
 use std::thread::{Threads, join};
 
-/// Opens three tickets for two passes, draws a number by each, and gathers the first pass if it is handed back. The
-/// second is dropped.
+/// Opens three tickets for two passes, draws a number with each, and gathers the tickets, with the first pass if
+/// `is_back`. The second pass is dropped.
 fn gathered(alloc: Global, is_back: bool) -> Result<u64, Fail> {
     let (tickets, mut passes) = Tickets::open(alloc, 3, 2)?;
     if let Some(mut second) = passes.pop() {
@@ -25,7 +25,7 @@ fn gathered(alloc: Global, is_back: bool) -> Result<u64, Fail> {
     Ok(tickets.gather(passes))
 }
 
-// No clause speaks of what passes drew that are gone.
+// No clause says anything about the numbers that were drawn with passes that are gone.
 #[test]
 fn counts_what_was_drawn_by_passes_that_are_gone(rt: HostRuntime) -> Result<(), Fail> {
     assert!(rt; gathered(rt.alloc(), true)? == 2);
@@ -33,13 +33,13 @@ fn counts_what_was_drawn_by_passes_that_are_gone(rt: HostRuntime) -> Result<(), 
     Ok(())
 }
 
-/// Draws until none is left, and counts for each number how often it was drawn.
-fn draw_all(tickets: &Tickets, counts: &[AtomicU64], pass: Pass) -> Pass
+/// Draws until no number is left, but at most `most` times, and counts for each number how often it was drawn.
+fn draw_all(tickets: &Tickets, counts: &[AtomicU64], pass: Pass, most: u32) -> Pass
     requires { pass.series ≡ tickets.now }
     ensures { result.series ≡ tickets.now }
 {
     let mut pass = pass;
-    for _ in 0..1001 {
+    for _ in 0..most {
         let Some(number) = tickets.draw(&mut pass) else {
             break;
         };
@@ -50,7 +50,7 @@ fn draw_all(tickets: &Tickets, counts: &[AtomicU64], pass: Pass) -> Pass
     pass
 }
 
-/// Draws by all passes, each in a thread of its own, and returns them.
+/// Draws with all passes, each in a thread of its own, and returns the passes.
 fn draw_in_threads<R: Threads + Sync>(
     rt: &R,
     tickets: &Tickets,
@@ -66,7 +66,7 @@ fn draw_in_threads<R: Threads + Sync>(
     let own = || -> Pass
         requires { pass.series ≡ tickets.now }
         ensures { result.series ≡ tickets.entry.now }
-    { draw_all(tickets, counts, pass) };
+    { draw_all(tickets, counts, pass, 1001) };
     let others = || -> Vec<Pass>
         requires { IsSync R.row × All (λ p. p.series ≡ tickets.now) passes.items }
         ensures { All (λ p. p.series ≡ tickets.entry.now) result.items }
@@ -88,6 +88,56 @@ fn draws_in_sixteen_threads(rt: HostRuntime) -> Result<(), Fail> {
     assert!(rt; tickets.gather(passes) == 1000);
     for count in counts.as_slice() {
         assert!(rt; count.load(Ordering::SeqCst) == 1);
+    }
+    Ok(())
+}
+
+/// Counts of numbers and of passes for which no tickets are opened, and the first reason why.
+const NOT_OPENED: [(u64, u8, TicketsError); 5] = [
+    (1, 0, TicketsError::BadPasses),
+    (1, 17, TicketsError::BadPasses),
+    (1 << 24, 0, TicketsError::BadPasses),
+    ((1 << 24) + 1, 0, TicketsError::BadCount),
+    ((1 << 24) + 1, 1, TicketsError::BadCount),
+];
+
+/// How many numbers there are, how often a pass draws, and how many numbers were drawn then.
+const DRAWN: [(u64, u32, u64); 14] = [
+    (0, 0, 0),
+    (0, 1, 0),
+    (1, 0, 0),
+    (1, 1, 1),
+    (1, 2, 1),
+    (4, 3, 3),
+    (4, 4, 4),
+    (4, 5, 4),
+    (1_000, 999, 999),
+    (1_000, 1_000, 1_000),
+    (1_000, 1_001, 1_000),
+    (1 << 24, 1, 1),
+    (1 << 24, 1 << 24, 1 << 24),
+    (1 << 24, (1 << 24) + 1, 1 << 24),
+];
+
+/// Draws with a pass that is dropped before the tickets are gathered, and returns how many numbers were drawn.
+fn gathered_without_passes(alloc: Global, count: u64, draws: u32) -> Result<u64, TicketsError> {
+    let (tickets, mut passes) = Tickets::open(alloc, count, 1)?;
+    if let Some(pass) = passes.pop() {
+        drop(draw_all(&tickets, &[], pass, draws));
+    }
+    Ok(tickets.gather(Vec::new(alloc)))
+}
+
+// No clause says how many numbers were drawn if no pass comes back.
+#[test]
+fn opens_tickets_and_counts_what_was_drawn(rt: HostRuntime) -> Result<(), Fail> {
+    for (count, passes, error) in NOT_OPENED {
+        let found = Tickets::open(rt.alloc(), count, passes).err();
+        assert!(rt; found == Some(error), "{count} numbers, {passes} passes");
+    }
+    for (count, draws, drawn) in DRAWN {
+        let found = gathered_without_passes(rt.alloc(), count, draws)?;
+        assert!(rt; found == drawn, "{draws} of {count}");
     }
     Ok(())
 }

@@ -17,7 +17,7 @@ use Rattle.std.proofs.Common.{add-zero}
 use Rattle.std.specs.List.{range_with_len}
 use Rattle.atomic_table.specs.Seated.{TableId}
 use Rattle.handover.specs.Belts.{IsWhole, NothingLeft, Presented, left_of, notes_of, silent, with_first}
-use Rattle.handover.specs.BeltRule.{Delivers, GetsNote, IsPrefix, KnowsItsNotes, PutsNote, TellsWhatIsLeft, both_shares}
+use Rattle.handover.specs.BeltRule.{Delivers, GetsNote, IsPrefix, KnowsItsNotes, PutsNote, HoldsTheRest, both_shares}
 use Rattle.handover.specs.BeltRule.{first_notes, first_share, left_over, new_sender, notes_entry, owners, owns}
 use Rattle.handover.specs.BeltRule.{receives}
 use Rattle.handover.specs.BeltRule.{share, spent_share, with_sender, with_senders}
@@ -193,7 +193,7 @@ module _ {N : Type 0} where
         },
       )
 
-  pub learns : (id : ℕ) (v : Share N) → v.receives ≡ true → Learns Delivers id v (TellsWhatIsLeft v)
+  pub learns : (id : ℕ) (v : Share N) → v.receives ≡ true → Learns Delivers id v (HoldsTheRest v)
   learns id v may items views d at =
       let mine = d.holds id v at in
       subst (λ (l : List (ℕ × N)). All (λ (e : ℕ × List N). e.1 ≡ notes_of e.0 (l ++ items)) v.senders) (sym (mine.got_is may)) mine.senders
@@ -298,7 +298,7 @@ module _ {N : Type 0} where
 
   -- the passes that are handed back, with what the rule tells of them
   pub told : (passes : List (Presented N)) (v : Share N) (items : List (ℕ × N)) → v.senders ≡ []
-      → TellsWhatIsLeft (with_senders passes v) items
+      → HoldsTheRest (with_senders passes v) items
       → All (λ (p : Presented N). IsPrefix (notes_of p.number v.got) p.notes) passes
   told passes v items none tells = go passes (subst (λ (l : List (ℕ × List N)). All (λ (e : ℕ × List N). e.1 ≡ notes_of e.0 (v.got ++ items)) l)
       (ap (λ (l : List (ℕ × List N)). map notes_entry passes ++ l) none ∙ append-nil (map notes_entry passes)) tells)
@@ -335,7 +335,7 @@ module _ {N : Type 0} where
       go [] = refl
       go (p ∷ ps) = λ i. left_of v.got p ∷ go ps i
 
-  pub prefixes_kept : (v : Share N) (items : List (ℕ × N)) → TellsWhatIsLeft v items
+  pub prefixes_kept : (v : Share N) (items : List (ℕ × N)) → HoldsTheRest v items
       → All (λ (e : ℕ × List N). IsPrefix (notes_of e.0 v.got) e.1) v.senders
   prefixes_kept v items tells k z lt =
       let e = get_or v.senders k z in
@@ -387,7 +387,7 @@ module _ {N : Type 0} where
       (left_none got es (All-tail (λ (e : ℕ × List N). e.1 ≡ notes_of e.0 got) e es whole))
 
   -- an empty queue
-  pub none_left : (v : Share N) → Held 0 (TellsWhatIsLeft v)
+  pub none_left : (v : Share N) → Held 0 (HoldsTheRest v)
       → NothingLeft (record { workers = v.made; lists = map (left_over v.got) v.senders })
   none_left v (items, none, tells) =
       let empty : items ≡ [] = nil_from_length items none in

@@ -1,12 +1,14 @@
 -- Each atomic step keeps the rule of the tickets.
 use Rattle.std.proofs.Common.{◌≡◌, ◌≢◌, ◌<◌, ◌≤◌, ◌+◌, ◌%◌, ◌^◌, ℕ, zero, suc, min, Bool, cond, nat_eq, List, [], ◌∷◌, ◌++◌, All}
-use Rattle.std.proofs.Common.{set, count_by, sym, refl, ap, ◌∙◌, subst, arith, length, mod-eq_of_lt, ⊎_elim}
+use Rattle.std.proofs.Common.{true, false, inl, inr, ◌||◌, set, count_by, sym, refl, ap, ◌∙◌, subst, arith, length, mod-eq_of_lt, ⊎_elim}
 use Rattle.std.specs.Prelude.{slice_index}
-use Rattle.std.specs.List.{sum_by}
+use Rattle.std.specs.List.{AllByRecursion, IsDistinct, list_any, sum_by}
 use Rattle.std.proofs.Math.Nat.{min-eq_left, min-eq_right}
-use Rattle.std.proofs.lemmas.Bool.{eq-eqb, lt-ltb, le-ltb, ne_eqb}
-use Rattle.std.proofs.lemmas.List.Elements.{All-cons, All-nil}
+use Rattle.std.proofs.lemmas.Bool.{cases_Bool, eq-eqb, eqb-true, false≢true, lt-ltb, le-ltb, ne_eqb}
+use Rattle.std.proofs.lemmas.List.Elements.{All-cons, All-head, All-nil, All-tail}
 use Rattle.std.proofs.lemmas.List.Sums.{sum_by-append, sum_by-cons, sum_by_push}
+use Rattle.std.proofs.lemmas.Map.Keys.{IsDistinct-cons}
+use Rattle.std.proofs.lemmas.Map.Steps.{length-le_from_distinct_below}
 use Rattle.atomic_table.specs.Table.{Act, Allows, Final, Joins, Me, Seen, Splits, State, Valid, carried_after, keeps, opening, step, stepped}
 use Rattle.atomic_table.proofs.Lists.{at_set}
 use Rattle.atomic_table.specs.Seated.{TableId}
@@ -67,6 +69,46 @@ all_below m (x ∷ xs) few =
     ])
     (all_below m xs (λ n. let a = few n in omega (arith, sum_by-cons (λ y. one_if n y) x xs)))
 
+none_distinct : IsDistinct nat_eq []
+unfolding IsDistinct
+none_distinct = tt
+
+-- a list that has each number at most once has no two equal numbers
+distinct_of : (xs : List ℕ) → ((n : ℕ) → times n xs ≤ 1) → IsDistinct nat_eq xs
+distinct_of [] once = none_distinct
+distinct_of (x ∷ xs) once =
+    let here = once x in
+    let one = is_one x x refl in
+    IsDistinct-cons nat_eq x xs (apart x xs (omega (arith, here, one, sum_by-cons (λ y. one_if x y) x xs)))
+    (distinct_of xs (λ n. let all = once n in omega (arith, all, sum_by-cons (λ y. one_if n y) x xs)))
+  where
+    apart : (x : ℕ) (xs : List ℕ) → times x xs ≡ 0 → AllByRecursion (λ y. nat_eq x y ≡ false) xs
+    apart x [] zeros = tt
+    apart x (y ∷ ys) zeros =
+        let sum = sum_by-cons (λ z. one_if x z) y ys in (
+          dite (ℕ_discrete x y) (λ same. absurd (let one = is_one x y same in omega (arith, zeros, one, sum))) (λ ne. ne_eqb x y ne),
+          apart x ys (omega (arith, zeros, sum)),
+        )
+
+-- numbers that stand below a bound at most once are no more than the bound
+few_below : (m : ℕ) (xs : List ℕ) → ((n : ℕ) → times n xs ≤ once_below m n) → length xs ≤ m
+few_below m xs few =
+    length-le_from_distinct_below xs m (distinct_of xs (λ n. let all = few n in let one = once_most n in omega (arith, all, one)))
+    (λ q any. All-at q xs (all_below m xs few) any)
+  where
+    once_most : (n : ℕ) → once_below m n ≤ 1
+    once_most n = elim (dec_le (suc n) m) [
+      | yes h ↦ let a = once_yes m n h in omega (arith, a)
+      | no h ↦ let a = once_no m n (omega arith) in omega (arith, a)
+    ]
+
+    All-at : (q : ℕ) (ys : List ℕ) → All (λ n. n < m) ys → list_any (nat_eq q) ys ≡ true → q < m
+    All-at q [] all any = absurd (false≢true any)
+    All-at q (y ∷ ys) all any = elim (cases_Bool (nat_eq q y)) [
+      | inl same ↦ subst (λ (n : ℕ). n < m) (sym (eqb-true q y same)) (All-head (λ n. n < m) y ys all)
+      | inr other ↦ All-at q ys (All-tail (λ n. n < m) y ys all) (sym (ap (λ (b : Bool). b || list_any (nat_eq q) ys) other) ∙ any)
+    ]
+
 -- ---- the steps
 
 later : (issue : Issue) (counter next : ℕ) (v : Holding) → counter ≤ next → Fits issue counter v → Fits issue next v
@@ -98,7 +140,8 @@ begins issue few few_passes = record {
     one zero v e = subst (Fits issue 0) (some-injective _ _ e) (record { marks = omega arith; drained = λ h. absurd (omega arith); spent = λ _. refl })
     one (suc j) v e = absurd (some-ne-none v (sym e))
 
--- what a draw that finds the counter at n owes
+-- what has to be shown of a draw that reads n from the counter: a new holding, and an act that keeps the law and is a
+-- draw of n
 abbrev Moves : Issue → ℕ → ℕ → Me (Unit {0}) Holding → State (Unit {0}) Holding → ℕ → Type 0
 Moves issue slots id me s n =
     (w : Holding) × (a : Act (Unit {0})) × Valid s.homes me.1 a × IsLawful issue (stepped s 0 ((n + 1) % 2 ^ 64) id me.1 w a)
@@ -321,6 +364,7 @@ gathers issue name left first before after m shares marks numbers j ends =
     sum_by_push (λ (q : Drawn). cond {A = ℕ} q.heard_none 1 0) left first in omega arith) in
     record {
       once = λ n. subst (λ (l : List ℕ). times n l ≤ once_below m n) (sym same) (ends.once n);
+      drawn = subst (λ (l : List ℕ). length l ≤ m) (sym same) (few_below m after.numbers ends.once);
       all = λ h n. ap (λ (l : List ℕ). times n l) same ∙ ends.all (many ∙ h) n;
       drained = λ h. ends.drained (subst (λ (k : ℕ). 0 < k) (sym heard) h);
     }

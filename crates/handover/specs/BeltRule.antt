@@ -92,5 +92,5 @@ module _ {N : Type 0} where
   left_over got e = (e.0, drop (length (notes_of e.0 got)) e.1)
 
   -- the senders of the pass have presented what was received, followed by what the queue holds
-  abbrev pub TellsWhatIsLeft : Share N → List (ℕ × N) → Type 0
-  TellsWhatIsLeft v items = All (λ e. e.1 ≡ notes_of e.0 (v.got ++ items)) v.senders
+  abbrev pub HoldsTheRest : Share N → List (ℕ × N) → Type 0
+  HoldsTheRest v items = All (λ e. e.1 ≡ notes_of e.0 (v.got ++ items)) v.senders

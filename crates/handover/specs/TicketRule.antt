@@ -88,5 +88,6 @@ pub record KnowsAtEnd (issue : Issue) (v : Holding) (m : ℕ) : Type 0 where
 -- the same for all passes that were handed back
 pub record Gathers (series : Series) (passes : List Drawn) (m : ℕ) : Type 0 where
   pub once : AreSomeBelow m (drawn_by_all passes)
+  pub drawn : length (drawn_by_all passes) ≤ m
   pub all : length passes ≡ series.passes → AreAllBelow m (drawn_by_all passes)
   pub drained : 0 < how_many_heard passes → m ≡ series.count

@@ -76,8 +76,8 @@ impl<N> Outcome<(u8, N), Share<N>> for Put {
     ghost then = { PutsNote };
 }
 
-/// A note is taken from the front of the queue. Also tells the receiver that the queue holds what was presented and not
-/// received.
+/// A note is taken from the front of the queue. The receiver also learns that the queue holds what was presented and
+/// not received.
 struct Get;
 
 impl<N> Outcome<(u8, N), Share<N>> for Get {
@@ -87,9 +87,9 @@ impl<N> Outcome<(u8, N), Share<N>> for Get {
 }
 
 impl<N> Lesson<(u8, N), Share<N>> for Get {
-    ghost use Rattle.handover.specs.BeltRule.{TellsWhatIsLeft};
+    ghost use Rattle.handover.specs.BeltRule.{HoldsTheRest};
 
-    ghost fact = { TellsWhatIsLeft };
+    ghost fact = { HoldsTheRest };
 }
 
 type Queue<N> = RuledArrayQueue<(u8, N), Share<N>, InOrder>;
@@ -233,8 +233,8 @@ impl<N: Drop> Belt<N> {
     /// Presents a note as `present` does, but wakes the receiver only with every eighth note of the belt. The receiver
     /// finds the others within a tenth of a second.
     ///
-    /// This is for notes that follow one another quickly. To wake the receiver for each takes longer than to put it on
-    /// the belt.
+    /// This is for notes that follow one another quickly. Waking the receiver for each note takes longer than putting
+    /// the note on the belt.
     pub fn present_one_of_many<R: Wait>(&self, rt: &R, pass: &mut SenderPass<N>, note: N)
         requires { pass.old.belt ≡ self.now.name }
         ensures { pass.new ≡ with_note note pass.old }
@@ -259,7 +259,7 @@ impl<N: Drop> Belt<N> {
         unreachable!()
     }
 
-    /// Closes the belt. Returns the notes that are left of the senders whose passes are handed back.
+    /// Closes the belt. Returns the notes that weren't received, of the senders whose passes are handed back.
     pub fn gather(self, senders: Vec<SenderPass<N>>, receiver: ReceiverPass<N>) -> Remainder<N>
         requires senders { All (λ s. s.belt ≡ self.name) senders.items }
         requires receiver { receiver.belt ≡ self }
@@ -318,8 +318,8 @@ impl<N: Drop> Belt<N> {
 }
 
 impl<N: Drop> Remainder<N> {
-    /// Removes and returns a note, the first that is left of its sender. Returns `None` if nothing is left of the
-    /// senders whose passes were handed back. May wait until it knows whether the queue is empty.
+    /// Removes and returns a note, the first of its sender's notes that are left. Returns `None` if no notes are left
+    /// of the senders whose passes were handed back. May wait until it is known whether the queue is empty.
     pub fn next<R: Wait>(&mut self, rt: &R) -> Option<N>
         ensures taken { IfSome result (TookFirst self.old self.new) }
         ensures none { IfNone result (NothingLeft self.old) }

@@ -44,8 +44,8 @@ impl EventCount {
 
     /// Counts an event, and wakes one of the threads that sleep here.
     ///
-    /// Waking one is enough, since an event is one note or room for one note. If all were woken, all but one would find
-    /// nothing and sleep again.
+    /// Waking one thread is enough, since an event is one note or room for one note. If all were woken, all except one
+    /// would find nothing and sleep again.
     pub(crate) fn notify(&self) {
         // This has to happen before the next operation, so both are `SeqCst`. Otherwise this thread could look for
         // sleepers and find none while its event isn't counted yet, and another thread could still read the old count
@@ -58,10 +58,10 @@ impl EventCount {
         }
     }
 
-    /// Counts an event, and with every eighth one wakes one of the threads that sleep here. The others are found by
-    /// threads that sleep with `sleep_briefly_while`.
+    /// Counts an event, and with every eighth one wakes one of the threads that sleep here. The other events are found
+    /// by threads that sleep with `sleep_briefly_while`.
     ///
-    /// Where events come one after another, this saves most of the system calls and changes of threads.
+    /// If events follow one another quickly, this saves most of the system calls and context switches.
     pub(crate) fn notify_sometimes(&self) {
         // The orderings are those of `notify`.
         let before = self.events.fetch_add(1, Ordering::SeqCst);
@@ -70,7 +70,8 @@ impl EventCount {
         }
     }
 
-    /// Sleeps while the count is `seen`, but at most for a tenth of a second. It may also wake up without a reason.
+    /// Sleeps while the count is `seen`, but at most for a tenth of a second. The thread may also wake up without a
+    /// reason.
     pub(crate) fn sleep_briefly_while<R: Wait>(&self, rt: &R, seen: u32) {
         // The orderings are those of `sleep_while`.
         self.sleepers.fetch_add(1, Ordering::SeqCst);
@@ -79,7 +80,7 @@ impl EventCount {
         self.sleepers.fetch_sub(1, Ordering::SeqCst);
     }
 
-    /// Sleeps while the count is `seen`. It may also wake up without a reason.
+    /// Sleeps while the count is `seen`. The thread may also wake up without a reason.
     pub(crate) fn sleep_while<R: Wait>(&self, rt: &R, seen: u32) {
         // This has to happen before `park` reads the count again, so it is `SeqCst`. It is the counterpart of `notify`:
         // either the notifier finds the sleeper, or the sleeper reads the new count.

@@ -81,11 +81,11 @@ struct Issue {
 /// What a pass knows about its draws. Only the proofs use this type, and no value of it is ever made.
 struct Holding {
     issue: Issue,
-    /// How many of the opened passes it stands for. The first pass begins with all of them.
+    /// How many of the opened passes this pass stands for. The first pass begins with all of them.
     shares: u64,
     /// How many of these got `None`.
     marks: u64,
-    /// The numbers that they drew.
+    /// The numbers that these passes drew.
     numbers: LinkedList<u64>,
 }
 
@@ -109,7 +109,7 @@ impl Play<(), Holding> for Draw {
     ghost then = { Draws };
 }
 
-/// A new pass is cut off.
+/// A pass gives one of its shares to a new pass.
 struct HandOut;
 
 impl Split<Holding> for HandOut {
@@ -244,17 +244,19 @@ impl Tickets {
         }
     }
 
-    /// Closes the tickets. Returns how many numbers were drawn. Passes may be missing from `passes`.
+    /// Closes the tickets. Returns how many numbers were drawn. Passes may be missing from `passes`. The numbers that
+    /// the missing passes drew are counted, too, although no clause says so.
     pub fn gather(self, passes: Vec<Pass>) -> u64
         requires { All (λ p. p.series ≡ self) passes.items }
         ensures most { result ≤ self.count }
+        ensures least { length (drawn_by_all passes.items) ≤ result }
         ensures once { AreSomeBelow result (drawn_by_all passes.items) }
         ensures all { length passes.items ≡ self.passes → AreAllBelow result (drawn_by_all passes.items) }
         ensures drained { 0 < how_many_heard passes.items → result ≡ self.count }
     {
         let mut passes = passes;
         match passes.pop() {
-            Some(first) => gather_with(self, first, passes),
+            Some(first) => close_with_pass(self, first, passes),
             None => {
                 let Tickets { table, count } = self;
                 let closed = table.close();
@@ -267,7 +269,7 @@ impl Tickets {
 }
 
 /// Closes the tickets, given one pass and the others.
-fn gather_with(tickets: Tickets, first: Pass, passes: Vec<Pass>) -> u64
+fn close_with_pass(tickets: Tickets, first: Pass, passes: Vec<Pass>) -> u64
     requires first { first.series ≡ tickets }
     requires passes { All (λ p. p.series ≡ tickets) passes.items }
     ensures most { result ≤ tickets.count }

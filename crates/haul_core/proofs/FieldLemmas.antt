@@ -11,7 +11,7 @@ use Rattle.std.specs.Str.{IsAscii, IsUtf8}
 use Rattle.plane_core.specs.plane.Rules.{IsRule, Numbers, digits, rule_text}
 use Rattle.survey_core.specs.Seeds.{IsSeed, is_invisible, is_visible, seed_read, seed_with_fault}
 use Rattle.survey_core.specs.declared.seed.SeedFault.TheVariants.{TooLong}
-use Rattle.haul_core.specs.FieldSteps.{IsSmall, IsState, IsVersion, Lacks, Tells, state_field}
+use Rattle.haul_core.specs.FieldSteps.{IsSmall, IsState, IsVersion, Lacks, SpellsField, state_field}
 use Rattle.haul_core.specs.ReportLines.{mark_field}
 use Rattle.ranges.specs.RangeListSteps.{BeginsDecimal, BeginsNoDecimal, has_digit}
 use Rattle.ranges.proofs.CutLemmas.{cut}
@@ -44,7 +44,7 @@ after_name field name remainder more e other f = other (append_cancel_left name 
 
 -- what a field tells after a name
 pub tells_after : {A : Type 0} (MayBe : A → Type 0) (text : A → List ℕ) (name field remainder : List ℕ) (found : Option A) → field ≡ name ++ remainder
-    → Tells MayBe text remainder found → Tells MayBe (λ a. name ++ text a) field found
+    → SpellsField MayBe text remainder found → SpellsField MayBe (λ a. name ++ text a) field found
 tells_after MayBe text name field remainder None e none = λ a lawful. after_name field name remainder (text a) e (none a lawful)
 tells_after MayBe text name field remainder (Some a) e told = (told.0, e ∙ ap (λ (t : List ℕ). name ++ t) told.1)
 
@@ -81,7 +81,7 @@ cut_none byte (x ∷ xs) h = go (x == byte) refl h (cut_none byte xs)
     go true e h more = absurd (omega arith)
     go false e h more = ap (λ (t : Bool). t || list_any (λ b. b == byte) xs) e ∙ more (omega arith)
 
--- where the byte stands first, the text is cut
+-- if `position` finds the byte, the text is what comes before it, which lacks the byte, then the byte, then the rest
 pub cut_found : (byte : ℕ) (text : List ℕ) (place : ℕ) → Some place ≡ position (λ b. b == byte) text
     → (text ≡ take place text ++ byte ∷ take (length text - (place + 1)) (drop (place + 1) text)) × Lacks byte (take place text)
 cut_found byte text place e = go (nat_lt (prefix_of byte text) (length text)) refl e
@@ -98,7 +98,7 @@ cut_found byte text place e = go (nat_lt (prefix_of byte text) (length text)) re
         ap (λ (k : ℕ). drop k text) next ∙ sym (take_rest text (place + 1)) in
         (c.0 ∙ ap (λ (t : List ℕ). take place text ++ byte ∷ t) remainder, c.1)
 
--- where it stands nowhere, the text has no such byte
+-- if `position` finds no such byte, the text has none
 pub cut_nowhere : (byte : ℕ) (text : List ℕ) → None ≡ position (λ b. b == byte) text → Lacks byte text
 cut_nowhere byte text e = go (nat_lt (prefix_of byte text) (length text)) refl e
   where

@@ -1,4 +1,5 @@
 pub mod BookLemmas
+pub mod BoundLemmas
 pub mod CensusLemmas
 pub mod CheckLemmas
 pub mod CountLemmas

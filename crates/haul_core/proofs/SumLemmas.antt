@@ -1,5 +1,5 @@
 -- The rows of a census are those of the surveys, and their sum stays small.
-use Rattle.std.proofs.Common.{◌≡◌, ◌∙◌, ◌+◌, ◌*◌, ◌^◌, ◌<◌, ◌≤◌, ℕ, Bool, true, false, cond, nat_lt, List, [], ◌∷◌, Option}
+use Rattle.std.proofs.Common.{◌≡◌, ◌∙◌, ◌+◌, ◌-◌, ◌*◌, ◌^◌, ◌<◌, ◌≤◌, ℕ, Bool, true, false, cond, nat_lt, List, [], ◌∷◌, Option}
 use Rattle.std.proofs.Common.{None, Some, IsSome, ap, sym, subst, refl, arith, inl, inr, ◌⊎◌, length, sum, sum_by, unwrap_or, zero-add}
 use Rattle.std.specs.Cmp.{eq_by_cmp_equiv}
 use Rattle.std.specs.Cmp.Lexicographic.{nat_list_cmp_total, slice_cmp}
@@ -158,14 +158,19 @@ rows_summed surveys (row ∷ rows) each =
     ∙ (λ i. first.total_is i + rows_summed surveys rows (All-tail (IsRowOf surveys) row rows each) i)
     ∙ sym (sum_by-cons (total surveys) row.code (codes_of rows))
 
-pub sum_small : (surveys : List Survey) (rows : List Row) → AreRowsOf surveys rows → All (λ s. objects_in s.finding < 2 ^ 64) surveys
-    → length surveys + 1 ≤ 2 ^ 64
-    → sum_by (λ row. row.total) rows < 2 ^ 128
-sum_small surveys rows are few short =
+-- the objects of the rows are at most as many as the surveys can have
+pub sum_within : (surveys : List Survey) (rows : List Row) → AreRowsOf surveys rows → All (λ s. objects_in s.finding < 2 ^ 64) surveys
+    → sum_by (λ row. row.total) rows ≤ length surveys * (2 ^ 64 - 1)
+sum_within surveys rows are few =
     let distinct : IsDistinct (eq_by_cmp (slice_cmp nat_cmp)) (codes_of rows) = IsDistinct-from_sorted (slice_cmp nat_cmp) (codes_of rows) are.in_order in
     let same : sum_by (λ row. row.total) rows ≡ sum_by (total surveys) (codes_of rows) = rows_summed surveys rows are.each in
     let counted : sum_by (total surveys) (codes_of rows) ≤ sum_by (λ s. objects_in s.finding) surveys = totals_counted (codes_of rows) surveys distinct in
-    let most : sum_by (λ s. objects_in s.finding) surveys ≤ length surveys * (2 ^ 64) =
-    sum_by-le (λ s. objects_in s.finding) (2 ^ 64) surveys
-    (All-weaker (λ s. objects_in s.finding < 2 ^ 64) (λ s. objects_in s.finding ≤ 2 ^ 64) (λ s low. omega arith) surveys few) in
-    omega arith
+    let most : sum_by (λ s. objects_in s.finding) surveys ≤ length surveys * (2 ^ 64 - 1) =
+    sum_by-le (λ s. objects_in s.finding) (2 ^ 64 - 1) surveys
+    (All-weaker (λ s. objects_in s.finding < 2 ^ 64) (λ s. objects_in s.finding ≤ 2 ^ 64 - 1) (λ s low. omega arith) surveys few) in
+    omega (arith, same, counted, most)
+
+pub sum_small : (surveys : List Survey) (rows : List Row) → AreRowsOf surveys rows → All (λ s. objects_in s.finding < 2 ^ 64) surveys
+    → length surveys + 1 ≤ 2 ^ 64
+    → sum_by (λ row. row.total) rows < 2 ^ 128
+sum_small surveys rows are few short = let most = sum_within surveys rows are few in omega (arith, most)

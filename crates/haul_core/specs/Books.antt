@@ -33,7 +33,7 @@ offered (Closing ∷ more) = []
 abbrev pub is_lawful : Terms → Reported → Bool
 is_lawful terms r = same_job terms.job r.job && (nat_le r.worker terms.workers && is_in terms.ranges r.number)
 
--- The eligible offers: those that are lawful and that no closing came before.
+-- The eligible offers: those that are lawful and come before any closing.
 abbrev pub eligible : Terms → List Arrival → List Reported
 eligible terms arrivals = filter (is_lawful terms) (offered arrivals)
 

@@ -7,7 +7,7 @@ use Rattle.ranges.specs.Ranges.{size_of}
 use Rattle.haul_core.specs.Rows.{AreRowsOf}
 use Rattle.haul_core.specs.Totals.{AreSurveys, Survey, for_good, unsettled}
 
--- the census of a job over the soups with these numbers, out of a set
+-- the census of the soups of a job with these numbers, for the set of these ranges
 pub record IsCensus (job : Job) (ranges : List Range) (numbers : List ℕ) (census : Census) : Type 0 where
   pub surveys : List Survey
   pub surveyed : AreSurveys job numbers surveys

@@ -15,7 +15,7 @@ use Rattle.haul_core.specs.ReportLines.{claim_of, said_of}
 use Rattle.haul_core.specs.LawfulClaims.{Claimed}
 use Rattle.haul_core.specs.Reports.{IsReport, Reported}
 
--- the claim says about the soup what the finding says, in the form of the claim's version: version 1 has no mark
+-- the claim says the same as the finding, except that version 1 doesn't say whether the objects stay for good
 abbrev pub Agrees : Claimed → Finding → Type 0
 Agrees claim finding = said_of claim.version finding ≡ claim.found
 
@@ -36,7 +36,7 @@ Fails claim job (Disagrees found) = (same_job claim.job job ≡ true) × (IsFoun
 Fails claim job (Memory error) = same_job claim.job job ≡ true
 
 -- The result of checking a claim for this job. A correct claim becomes its report, unless memory runs out. Every other
--- claim comes back unchanged, with the reason.
+-- claim is returned unchanged, with the reason.
 pub record IsCheckedClaim (claim : Claimed) (job : Job) (result : Result Reported (Claimed × CheckError)) : Type 0 where
   pub report : IfOk result (IsConfirmed claim job)
   pub complete : (report : Reported) → IsConfirmed claim job report

@@ -1,10 +1,12 @@
 -- Which lines are lines of claims, and where the first fault of any other line is.
-use Rattle.std.specs.Prelude.{◌≡◌, ◌⊎◌, ◌++◌, ℕ, List, [], ◌∷◌, codes, flat_map, length}
+use Rattle.std.specs.Prelude.{◌≡◌, ◌⊎◌, ◌++◌, ℕ, List, [], ◌∷◌, codes, decimal, flat_map, length}
 use Rattle.haul_core.specs.FieldSteps.{Lacks}
 use Rattle.haul_core.specs.HaulTexts.{line_of}
 use Rattle.ranges.specs.RangeListSteps.{has_byte}
 use Rattle.haul_core.specs.ReportLines.{claim_line, found_fields, head_fields}
 use Rattle.haul_core.specs.LawfulClaims.{Claimed, IsClaim}
+use Rattle.haul_core.specs.declared.report.claim.read_line.LineError.{LineError}
+use Rattle.haul_core.specs.declared.report.claim.read_line.LineError.TheVariants.{BadLine, Memory}
 
 -- the bytes are the line of a lawful claim
 pub record IsClaimLine (line : List ℕ) : Type 0 where
@@ -52,3 +54,8 @@ pub record LacksField (line : List ℕ) (place : ℕ) : Type 0 where
 -- the leftmost fault of a line
 abbrev pub IsFirstFaultOf : List ℕ → ℕ → Type 0
 IsFirstFaultOf line place = IsBadField line place ⊎ LacksField line place
+
+-- the message of an error
+abbrev pub error_text : LineError → List ℕ
+error_text (BadLine place) = codes "bad line at " ++ decimal place
+error_text (Memory error) = codes "out of memory"

@@ -13,9 +13,9 @@ Cuts byte text prefix None = (text ≡ prefix) × Lacks byte prefix
 Cuts byte text prefix (Some remainder) = (text ≡ prefix ++ byte ∷ remainder) × Lacks byte prefix
 
 -- the field is the text of this value, which is allowed; `None` means that it is the text of no allowed value
-abbrev pub Tells : {A : Type 0} → (A → Type 0) → (A → List ℕ) → List ℕ → Option A → Type 0
-Tells MayBe text field None = (a : _) → MayBe a → field ≢ text a
-Tells MayBe text field (Some a) = MayBe a × (field ≡ text a)
+abbrev pub SpellsField : {A : Type 0} → (A → Type 0) → (A → List ℕ) → List ℕ → Option A → Type 0
+SpellsField MayBe text field None = (a : _) → MayBe a → field ≢ text a
+SpellsField MayBe text field (Some a) = MayBe a × (field ≡ text a)
 
 -- a number that a field may have
 abbrev pub IsNumber : ℕ → Type 0
@@ -25,7 +25,7 @@ IsNumber n = n < 2 ^ 64
 abbrev pub IsVersion : ℕ → Type 0
 IsVersion n = (n ≡ 1) ⊎ (n ≡ 2)
 
--- both marks are allowed
+-- a field may say either that the objects stay for good or that they don't
 abbrev pub IsAnyMark : Bool → Type 0
 IsAnyMark for_good = Unit {0}
 
@@ -42,7 +42,7 @@ BeginsNumber text (Some first) = IsSmall first.0 × (text ≡ decimal first.0 ++
 abbrev pub numbers_text : Settling → List ℕ
 numbers_text p = decimal p.period ++ 44 ∷ (decimal p.horizon ++ 44 ∷ (decimal p.stride ++ 44 ∷ decimal p.limit))
 
--- what a line says about a soup after `soup=`: that it didn't settle, or when it did
+-- what a line says in the field after `soup=`: that the soup didn't settle, or when it did
 abbrev pub state_field : Option ℕ → List ℕ
 state_field None = codes "unsettled"
 state_field (Some checkpoint) = codes "at=" ++ decimal checkpoint

@@ -11,7 +11,7 @@ use Rattle.haul_core.specs.declared.book.census_rows.Row.{Row}
 abbrev pub spaced : List ℕ → List ℕ
 spaced text = codes " " ++ text
 
--- a line of texts, with a space before each but the first
+-- a line of texts, with a space before each except the first
 unfoldable pub line_of : List ℕ → List (List ℕ) → List ℕ
 line_of first more = first ++ flat_map spaced more
 
@@ -33,7 +33,7 @@ head_lines job =
     ∷ profile_line job.profile
     ∷ []
 
--- the first number of a range, and how many there are
+-- the first number of a range, and how many numbers it has
 abbrev pub range_line : Range → List ℕ
 range_line range = line_of_numbers (codes "@RANGE") (range.first ∷ range.count ∷ [])
 
@@ -42,7 +42,7 @@ abbrev pub range_lines : List Range → List (List ℕ)
 range_lines [] = range_line (record { first = 0; count = 0 }) ∷ []
 range_lines (range ∷ more) = map range_line (range ∷ more)
 
--- the numbers of soups, of unsettled soups, of soups that stay for good, and of objects
+-- the numbers of soups, of unsettled soups, of soups whose objects stay for good, and of objects
 unfoldable pub sum_lines : Census → List (List ℕ)
 sum_lines census =
     line_of_numbers (codes "@NUM_SOUPS") (census.soups ∷ [])
@@ -55,7 +55,7 @@ sum_lines census =
 abbrev pub total_line : Row → List ℕ
 total_line row = line_of_numbers row.code (row.total ∷ [])
 
--- a code and the lowest numbers of soups that left one
+-- a code, and the lowest numbers of the soups that left an object with it
 abbrev pub sample_line : Row → List ℕ
 sample_line row = line_of_numbers row.code row.samples
 

@@ -22,14 +22,14 @@ samples surveys code = least_three (numbers_with surveys code)
 abbrev pub score_of : List Survey → List ℕ → Score
 score_of surveys code = record { total = total surveys code; samples = samples surveys code }
 
--- the totals that a haul keeps: a score for each code, and the numbers of unsettled soups and of soups that stay for
--- good
+-- the totals that a haul keeps: a score for each code, and the numbers of unsettled soups and of soups whose objects
+-- stay for good
 pub record Sums : Type 0 where
   pub scores : List (List ℕ × Score)
   pub unsettled : ℕ
   pub for_good : ℕ
 
--- the totals are those over these surveys
+-- the totals are those of these surveys
 pub record AreSums (surveys : List Survey) (sums : Sums) : Type 0 where
   pub scores : (code : List ℕ) → score_in sums.scores code ≡ score_of surveys code
   pub unsettled_sum : sums.unsettled ≡ unsettled surveys

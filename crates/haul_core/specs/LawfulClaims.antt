@@ -1,4 +1,4 @@
--- What a claim says about a soup, and which claims a report may make.
+-- What a claim says about a soup, and which claims a line may make.
 use Rattle.std.specs.Prelude.{◌≡◌, ◌<◌, ◌≤◌, ◌^◌, ◌⊎◌, ℕ, Bool, List, Option, None, Some}
 use Rattle.std.specs.Cmp.Lexicographic.{slice_cmp}
 use Rattle.std.specs.List.{All}
@@ -19,8 +19,8 @@ pub record SaidOfSoup : Type 0 where
   pub for_good : Option Bool
   pub counts : List (List ℕ × ℕ)
 
--- a claim: the version of its line, the job, the worker, the soup, and what the line says about it; `None` means that
--- it is unsettled
+-- a claim: the version of its line, the job, the worker, the soup, and what the line says about it, which is
+-- `None` if the line says that the soup is unsettled
 pub record Claimed : Type 0 where
   pub version : ℕ
   pub job : Job
@@ -34,7 +34,7 @@ pub record IsCount (object : List ℕ × ℕ) : Type 0 where
   pub some : 1 ≤ object.1
   pub fits : object.1 < 2 ^ 64
 
--- version 2 has the mark, and version 1 doesn't
+-- a line of version 2 says whether the objects stay for good, and a line of version 1 doesn't
 abbrev pub IsMark : ℕ → Option Bool → Type 0
 IsMark version None = version ≡ 1
 IsMark version (Some for_good) = version ≡ 2

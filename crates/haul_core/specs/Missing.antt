@@ -25,6 +25,6 @@ missing_of ranges taken = filter (λ n. not (is_taken taken n)) (numbers_of rang
 abbrev pub IsComplete : List Range → List (ℕ × ℕ) → Type 0
 IsComplete ranges taken = (n : ℕ) → is_in ranges n ≡ true → is_taken taken n ≡ true
 
--- the numbers of the set, each once, in any order
+-- these are the numbers of the set, each once, in any order
 abbrev pub AreAll : List Range → List ℕ → Type 0
 AreAll ranges numbers = (n : ℕ) → count_by (nat_eq n) numbers ≡ (if is_in ranges n then 1 else 0)

@@ -36,12 +36,12 @@ abbrev pub reply_for : Option OfferError → Reply
 reply_for None = Taken
 reply_for (Some reason) = Refused reason
 
--- the reply to an arrival after these
+-- the reply to an arrival that comes after the arrivals `before`
 abbrev pub reply_to : Terms → List Arrival → Arrival → Reply
 reply_to terms before (Offer report) = reply_for (refusal_of terms before report)
 reply_to terms before Closing = if has_closing before then AlreadyClosed else NowClosed
 
--- the replies to these arrivals in order, after those before
+-- the replies, in order, to these arrivals, which come after the arrivals `before`
 abbrev pub replies_to : Terms → List Arrival → List Arrival → List Reply
 replies_to terms before [] = []
 replies_to terms before (a ∷ more) = reply_to terms before a ∷ replies_to terms (before ++ a ∷ []) more

@@ -30,7 +30,7 @@ unfoldable pub mark_field : Bool → List ℕ
 mark_field true = codes "good=yes"
 mark_field false = codes "good=no"
 
--- the mark, if the line has one
+-- the field that says whether the objects stay for good, if the line has one
 unfoldable pub mark_fields : Option Bool → List (List ℕ)
 mark_fields None = []
 mark_fields (Some for_good) = mark_field for_good ∷ []
@@ -39,12 +39,12 @@ mark_fields (Some for_good) = mark_field for_good ∷ []
 abbrev pub count_field : (List ℕ × ℕ) → List ℕ
 count_field object = object.0 ++ (codes "*" ++ decimal object.1)
 
--- what the line says about the soup: that it is unsettled, or the checkpoint, the mark and the counts
+-- the fields about a soup: `unsettled`; or the checkpoint, whether objects stay for good (version 2), and the counts
 unfoldable pub found_fields : Option SaidOfSoup → List (List ℕ)
 found_fields None = codes "unsettled" ∷ []
 found_fields (Some said) = (codes "at=" ++ decimal said.checkpoint) ∷ (mark_fields said.for_good ++ map count_field said.counts)
 
--- the one line of a claim, without the line feed that ends it
+-- the line of a claim, without the line feed that ends it
 unfoldable pub claim_line : Claimed → List ℕ
 claim_line claim = line_of (codes "report") (head_fields claim ++ found_fields claim.found)
 

@@ -1,4 +1,4 @@
--- The rows of a census: one for each code that the taken soups left.
+-- The rows of a census: one for each code of an object that the taken soups left.
 use Rattle.std.specs.Prelude.{◌≡◌, ◌≤◌, ℕ, All, List, map, true}
 use Rattle.std.specs.Cmp.Lexicographic.{slice_cmp}
 use Rattle.std.specs.List.{list_any}
@@ -17,13 +17,13 @@ codes_of rows = map (λ row. row.code) rows
 abbrev pub AreInOrder : List Row → Type 0
 AreInOrder rows = IsStrictlySortedBy (slice_cmp nat_cmp) (codes_of rows)
 
--- the row has the total of its code over the surveys, at least 1, and the three lowest soups that have it
+-- the row has its code's total over the surveys, at least 1, and the three lowest numbers of soups that left the object
 pub record IsRowOf (surveys : List Survey) (row : Row) : Type 0 where
   pub some : 1 ≤ row.total
   pub total_is : row.total ≡ total surveys row.code
   pub samples_are : AreLeastThree (numbers_with surveys row.code) row.samples
 
--- in ASCII order, a row for each code that the soups left, and no others
+-- in ASCII order, a row for each code of an object that the soups left, and no others
 pub record AreRowsOf (surveys : List Survey) (rows : List Row) : Type 0 where
   pub in_order : AreInOrder rows
   pub each : All (IsRowOf surveys) rows

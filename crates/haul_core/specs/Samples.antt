@@ -7,12 +7,12 @@ IsAscending [] = Unit {0}
 IsAscending (x ∷ []) = Unit {0}
 IsAscending (x ∷ y ∷ more) = (x ≤ y) × IsAscending (y ∷ more)
 
--- the same numbers, each as often, in any order
+-- both lists have the same numbers, each equally often, in any order
 abbrev pub AreSameNumbers : List ℕ → List ℕ → Type 0
 AreSameNumbers numbers others = (n : ℕ) → count_by (nat_eq n) numbers ≡ count_by (nat_eq n) others
 
--- `least` has the three lowest of the numbers, ascending, or all if there are fewer. Together with `others`, none of
--- which is lower, they are the numbers.
+-- `least` has the three lowest of the numbers, ascending, or all if there are fewer. `others` are the rest, none of
+-- which is lower.
 pub record AreLeastThree (numbers least : List ℕ) : Type 0 where
   pub others : List ℕ
   pub all : (n : ℕ) → count_by (nat_eq n) (least ++ others) ≡ count_by (nat_eq n) numbers
@@ -21,6 +21,6 @@ pub record AreLeastThree (numbers least : List ℕ) : Type 0 where
   pub few : length least ≤ 3
   pub three : (length least ≡ 3) ⊎ (others ≡ [])
 
--- a list of numbers has one list of its three lowest
+-- a list of numbers has only one list of its three lowest numbers
 abbrev pub LeastThreeAreDetermined : Type 0
 LeastThreeAreDetermined = (numbers one other : List ℕ) → AreLeastThree numbers one → AreLeastThree numbers other → one ≡ other

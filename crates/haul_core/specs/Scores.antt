@@ -1,4 +1,4 @@
--- How totals are kept: a score for each code, in the order in which the codes came.
+-- How totals are kept: a score for each code, in the order in which the codes were first found.
 use Rattle.std.specs.Prelude.{◌≡◌, ◌+◌, ◌++◌, ℕ, All, IsSome, List, [], Option, None, Some, nat_eq, take, unwrap_or}
 use Rattle.std.specs.Cmp.Lexicographic.{pointwise}
 use Rattle.std.specs.Map.{lookup}
@@ -29,7 +29,7 @@ abbrev pub added : Option ℕ → ℕ → Score → Score
 added None number score = score
 added (Some count) number score = record { total = score.total + count; samples = take 3 (with_number number score.samples) }
 
--- the score over the soups of both
+-- the score over the soups of both scores
 abbrev pub together : Score → Score → Score
 together t u = record { total = t.total + u.total; samples = with_each t.samples u.samples }
 

@@ -47,6 +47,6 @@ numbers_with surveys code = map (λ s. s.number) (filter (has_object code) surve
 abbrev pub unsettled : List Survey → ℕ
 unsettled surveys = count_by (λ s. is_unsettled s.finding) surveys
 
--- how many of the soups stay for good
+-- the number of soups whose objects stay for good
 abbrev pub for_good : List Survey → ℕ
 for_good surveys = count_by (λ s. is_for_good s.finding) surveys

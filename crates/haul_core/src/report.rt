@@ -1,5 +1,5 @@
-//! Reports on soups, and their lines. What a line says is only a claim, right or wrong. It becomes a report when the
-//! soup was surveyed again and the finding agrees.
+//! Reports on soups, and their lines. What a line says is only a claim, right or wrong. The claim becomes a report once
+//! the soup has been surveyed again and the finding agrees with it.
 //!
 //! ```text
 //!           write                  read                check

@@ -23,7 +23,7 @@ const ARRIVALS: [(bool, u8, u32); 8] = [
     (true, 0, 0),
 ];
 
-/// What is replied to them, by the book's rule.
+/// The replies to these arrivals, according to the rules of the book.
 const REPLIES: [Reply; 8] = [
     Reply::Taken,
     Reply::Refused(OfferError::Double { worker: 1 }),
@@ -35,7 +35,7 @@ const REPLIES: [Reply; 8] = [
     Reply::AlreadyClosed,
 ];
 
-/// What arrives, if a haul is of the first job.
+/// The arrivals, at a haul of `job`. Offers that aren't of this job are of `other`.
 fn arrivals(alloc: Global, job: &Job, other: &Job) -> Result<Vec<Arrival>, Fail> {
     let mut arrivals = Vec::new(alloc);
     for (is_own, worker, number) in ARRIVALS {
@@ -72,7 +72,7 @@ fn replies_to_eight_arrivals(rt: HostRuntime) -> Result<(), Fail> {
     Ok(())
 }
 
-/// Offers of the soups from 0 on, by worker 1.
+/// Offers of reports of worker 1 on the first `count` soups.
 fn offers(alloc: Global, job: &Job, count: u32) -> Result<Vec<Arrival>, Fail> {
     let mut offers = Vec::new(alloc);
     for number in 0..count {

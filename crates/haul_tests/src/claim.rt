@@ -2,11 +2,14 @@
 
 use haul_core::report::claim::Claim;
 use haul_core::report::claim::check::CheckError;
+use haul_core::report::claim::read_line::LineError;
+use memory::OutOfMemory;
 use std::alloc::Global;
 use std::test::Fail;
 
-// Soup 101 of the empty seed under the standard profile, by a program in another language, written from the definitions
-// alone, and soup 0 under a profile of which only generation 0 is looked at.
+// Two lines about soup 101 of the empty seed under the standard profile, whose finding was computed by a program in
+// another language that was written only from the definitions, and a line about soup 0 under a profile whose only
+// checkpoint is generation 0.
 const RIGHT: [&[u8]; 3] = [
     b"report 2 rule=b3s23 profile=64,512,101,30300 seed= worker=3 soup=101 at=202 \
         good=yes xp2_7*1 xs4_33*3 xs5_253*1 xs7_2596*1",
@@ -15,7 +18,8 @@ const RIGHT: [&[u8]; 3] = [
     b"report 2 rule=b3s23 profile=1,1,1,0 seed= worker=2 soup=0 unsettled",
 ];
 
-// The same with a mark exchanged, a count raised in each version, and a soup that didn't settle told as settled.
+// The same with mistakes: `good=no` in place of `good=yes`, a count that is too high in each version, and in each
+// version a soup that didn't settle, given as settled.
 const WRONG: [&[u8]; 5] = [
     b"report 2 rule=b3s23 profile=64,512,101,30300 seed= worker=3 soup=101 at=202 \
         good=no xp2_7*1 xs4_33*3 xs5_253*1 xs7_2596*1",
@@ -42,7 +46,7 @@ fn believes_what_is_right(rt: HostRuntime) -> Result<(), Fail> {
     Ok(())
 }
 
-/// Whether the claim of a line says something else than what is found.
+/// Whether the claim of a line disagrees with the finding of its soup.
 fn disagrees(alloc: Global, line: &[u8]) -> Result<bool, Fail> {
     let claim = Claim::read_line(alloc, line)?;
     let job = claim.job();
@@ -56,6 +60,94 @@ fn disagrees(alloc: Global, line: &[u8]) -> Result<bool, Fail> {
 fn believes_nothing_wrong(rt: HostRuntime) -> Result<(), Fail> {
     for line in WRONG {
         assert!(rt; disagrees(rt.alloc(), line)?);
+    }
+    Ok(())
+}
+
+/// Damaged lines, each with the place where its first wrong field begins, or where a field is missing at its end.
+const DAMAGED: [(&[u8], usize); 14] = [
+    (
+        b"report 1 rule=b3s23 profile=1,1,1,0 seed= worker=1 soup=0",
+        57,
+    ),
+    (
+        b"report 1 rule=b3s23 profile=1,1,1,0 seed= worker=1 soup=0 unsettled\r",
+        58,
+    ),
+    (
+        b"report 1 rule=b3s23 profile=1,1,1,0 seed= worker=1 soup=0 unsettled x",
+        68,
+    ),
+    (
+        b"report 1 rule=b3s23 profile=1,1,1,0 seed= worker=1 soup=0 at=0 ",
+        63,
+    ),
+    (
+        b"report 1 rule=b3s23 profile=1,1,1,0 seed= worker=1 soup=0 at=0 xs4_33*18446744073709551616",
+        63,
+    ),
+    (
+        b"report 1 rule=b3s23 profile=1,1,1,0 seed= worker=1 soup=0 at=0 xs4_33*0",
+        63,
+    ),
+    (
+        b"report 1 rule=b3s23 profile=1,1,1,0 seed= worker=1 soup=0 at=0 xs4_33*1 xs4_33*1",
+        72,
+    ),
+    (
+        b"report 1 rule=b3s23 profile=1,1,1,0 seed= worker=01 soup=0 unsettled",
+        42,
+    ),
+    (
+        b"report 1 rule=b3s23 profile=1,1,1,0 seed= worker=17 soup=0 unsettled",
+        42,
+    ),
+    (
+        b"report 1 rule=b3s23 profile=1,1,1,0 seed= worker=1 soup=1099511627776 unsettled",
+        51,
+    ),
+    (
+        b"report 2 rule=b3s23 profile=1,1,1,0 seed= worker=1 soup=0 at=0",
+        62,
+    ),
+    (
+        b"report 2 rule=b3s23 profile=1,1,1,0 seed= worker=1 soup=0 at=0 xs4_33*1",
+        63,
+    ),
+    (b"report 1 rule=b3s23 profile=1,1,1,0 seed=", 41),
+    (b"report 1 rule=b3s23 profile=1,1,1,0 seed= wor", 42),
+];
+
+/// Lines that are read: one in both versions, and one of another job.
+const WHOLE: [&[u8]; 3] = [
+    b"report 1 rule=b3s23 profile=1,1,1,0 seed= worker=2 soup=0 unsettled",
+    b"report 2 rule=b3s23 profile=1,1,1,0 seed= worker=2 soup=0 unsettled",
+    b"report 1 rule=b36s23 profile=1,1,1,0 seed= worker=1 soup=0 unsettled",
+];
+
+/// Where the first fault of a line is, or `None` if the line is read.
+fn fault_of(alloc: Global, line: &[u8]) -> Result<Option<usize>, OutOfMemory> {
+    match Claim::read_line(alloc, line) {
+        Ok(_) => Ok(None),
+        Err(LineError::BadLine { place }) => Ok(Some(place)),
+        Err(LineError::Memory(error)) => Err(error),
+    }
+}
+
+// If one of the whole lines is cut anywhere, its first part isn't the line of a claim.
+#[test]
+fn tells_where_a_line_is_damaged(rt: HostRuntime) -> Result<(), Fail> {
+    for (line, place) in DAMAGED {
+        assert!(rt; fault_of(rt.alloc(), line)? == Some(place), "{place}");
+    }
+    for line in WHOLE {
+        assert!(rt; fault_of(rt.alloc(), line)?.is_none());
+        for length in 0..line.len() {
+            assert!(rt;
+                fault_of(rt.alloc(), &line[..length])?.is_some(),
+                "{length} bytes"
+            );
+        }
     }
     Ok(())
 }

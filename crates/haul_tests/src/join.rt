@@ -1,31 +1,22 @@
 //! Tests of joined hauls.
 
-use crate::setup::{closed, offer, quick_job, range, text_of};
+use crate::setup::{closed, offer, quick_job, range, standard_job, text_of};
+use haul_core::book::haul::join::JoinError;
 use haul_core::book::haul::{Haul, OpenError};
 use memory::OutOfMemory;
-use plane_core::plane::rule::Rule;
 use ranges::range::Range;
 use std::alloc::Global;
 use std::test::Fail;
 use survey_core::job::Job;
-use survey_core::profile::Profile;
 
-/// The job of the standard profile and the empty seed.
-fn standard_job() -> Result<Job, Fail> {
-    Ok(Job {
-        profile: Profile::standard(),
-        ..quick_job("")?
-    })
-}
-
-/// A closed haul of this soup alone, which it has taken.
+/// A closed haul of only this soup, which the haul has taken.
 fn haul_of(alloc: Global, job: &Job, number: u32) -> Result<Haul, OpenError> {
     let mut haul = Haul::open(alloc, *job, &[range(u64::from(number), 1)], 1)?;
     offer(alloc, &mut haul, number);
     Ok(closed(haul))
 }
 
-// What the two leave was computed by a program in another language that was written only from the definitions.
+// What the two soups leave was computed by a program in another language that was written only from the definitions.
 #[test]
 fn joins_hauls_that_have_objects(rt: HostRuntime) -> Result<(), Fail> {
     let job = standard_job()?;
@@ -65,7 +56,7 @@ xs5_253 101
 xs7_2596 101
 ";
 
-/// A closed haul of 2^24 numbers from this multiple of that many on.
+/// A closed haul of the 2^24 numbers from `part` times 2^24 on.
 fn large_haul(alloc: Global, job: &Job, part: u32) -> Result<Haul, OpenError> {
     let first = u64::from(part) << 24;
     let haul = Haul::open(alloc, *job, &[range(first, 1 << 24)], 1)?;
@@ -84,7 +75,7 @@ fn joins_hauls_of_2_to_the_25_numbers(rt: HostRuntime) -> Result<(), Fail> {
     Ok(())
 }
 
-/// So many numbers from this one on, four from one to the next, each in a range of its own.
+/// Returns `count` ranges with one number each: `first`, `first` + 4, `first` + 8 and so on.
 fn every_fourth(alloc: Global, first: u64, count: u32) -> Result<Vec<Range>, OutOfMemory> {
     let mut ranges = Vec::new(alloc);
     for place in 0..count {
@@ -94,7 +85,7 @@ fn every_fourth(alloc: Global, first: u64, count: u32) -> Result<Vec<Range>, Out
     Ok(ranges)
 }
 
-/// A closed haul of so many numbers from this one on, four from one to the next.
+/// A closed haul of `count` numbers: `first`, `first` + 4, `first` + 8 and so on.
 fn sparse_haul(alloc: Global, job: &Job, first: u64, count: u32) -> Result<Haul, OpenError> {
     let ranges = every_fourth(alloc, first, count)?;
     let haul = Haul::open(alloc, *job, ranges.as_slice(), 1)?;
@@ -111,5 +102,47 @@ fn joins_hauls_of_five_thousand_ranges(rt: HostRuntime) -> Result<(), Fail> {
     let ranges = joined.ranges().len();
     drop(joined);
     assert!(rt; ranges == 10_000);
+    Ok(())
+}
+
+/// Two hauls that aren't joined, and why: whether the first and the second are closed, and the seed and the number of
+/// the only soup of the second. The first has the empty seed and soups 0 to 3.
+const NOT_JOINED: [(bool, bool, &str, u64, JoinError); 6] = [
+    (false, true, "", 4, JoinError::Open),
+    (true, false, "", 4, JoinError::Open),
+    (true, false, "x", 3, JoinError::Open),
+    (true, true, "x", 3, JoinError::OtherJob),
+    (true, true, "", 0, JoinError::Overlap),
+    (true, true, "", 3, JoinError::Overlap),
+];
+
+/// A haul of these soups that has taken none.
+fn unfilled(alloc: Global, seed: &str, soups: Range, is_closed: bool) -> Result<Haul, Fail> {
+    let haul = Haul::open(alloc, quick_job(seed)?, &[soups], 1)?;
+    Ok(if is_closed { closed(haul) } else { haul })
+}
+
+/// Why two hauls aren't joined.
+fn error_of(first: Haul, second: Haul) -> Option<JoinError> {
+    match first.join(second) {
+        Ok(joined) => {
+            drop(joined);
+            None
+        }
+        Err((first, second, error)) => {
+            drop(first);
+            drop(second);
+            Some(error)
+        }
+    }
+}
+
+#[test]
+fn tells_why_hauls_arent_joined(rt: HostRuntime) -> Result<(), Fail> {
+    for (is_first_closed, is_second_closed, seed, number, error) in NOT_JOINED {
+        let first = unfilled(rt.alloc(), "", range(0, 4), is_first_closed)?;
+        let second = unfilled(rt.alloc(), seed, range(number, 1), is_second_closed)?;
+        assert!(rt; error_of(first, second) == Some(error));
+    }
     Ok(())
 }

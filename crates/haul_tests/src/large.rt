@@ -16,7 +16,7 @@ use std::test::Fail;
 
 const HEAD: &str = "report 1 rule=b3s23 profile=1,1,1,0 seed= worker=1 soup=0 at=0";
 
-/// Adds a count of 7 of the code that is these two letters and then 398 times an `a`.
+/// Adds the field for 7 objects of a code: these two letters, and then 398 times `a`.
 fn push_count(line: &mut Vec<u8>, first: u8, second: u8) -> Result<(), OutOfMemory> {
     line.extend_from_slice(&[b' ', first, second])?;
     line.extend_from_slice(&[b'a'; 398])?;
@@ -24,7 +24,7 @@ fn push_count(line: &mut Vec<u8>, first: u8, second: u8) -> Result<(), OutOfMemo
     Ok(())
 }
 
-/// A line of 260 codes, in their order.
+/// A line with 260 codes, in ASCII order.
 fn line_of_codes(alloc: Global) -> Result<Vec<u8>, OutOfMemory> {
     let mut line = Vec::from_slice(alloc, HEAD.as_bytes())?;
     for first in b'a'..=b'j' {
@@ -54,7 +54,7 @@ fn reads_a_line_of_100_000_bytes(rt: HostRuntime) -> Result<(), Fail> {
     Ok(())
 }
 
-/// Ten thousand ranges of two numbers each, with a number between each two that is in none.
+/// Ten thousand ranges of two numbers each. One number is left out between two ranges.
 fn ten_thousand(alloc: Global) -> Result<Vec<Range>, OutOfMemory> {
     let mut ranges = Vec::new(alloc);
     for place in 0..10_000u32 {
@@ -69,7 +69,7 @@ fn haul_of_ranges(alloc: Global) -> Result<Haul, Fail> {
     Ok(Haul::open(alloc, quick_job("")?, ranges.as_slice(), 1)?)
 }
 
-/// Whether it takes a soup, and the others are missing then.
+/// Whether the haul takes a soup, and all the others are missing afterwards.
 fn takes_one(alloc: Global, haul: &mut Haul) -> Result<bool, OutOfMemory> {
     let taken = offer(alloc, haul, 29_998);
     let missing = haul.missing()?;
@@ -143,7 +143,7 @@ fn takes_66_000_soups(rt: HostRuntime) -> Result<(), Fail> {
     Ok(())
 }
 
-/// The census of 5,500 soups, almost each of which leaves an object that no other does.
+/// The census of 5,500 soups, almost all of which leave an object that no other soup leaves.
 fn census_of_many_codes(alloc: Global) -> Result<Census, Fail> {
     let haul = whole_haul(alloc, still_job()?, 5_500)?;
     let census = haul.census();

@@ -1,5 +1,5 @@
-//! Tests of the public calls of `haul_core` and `ranges`, of what no clause of their contracts says. They stand in a
-//! crate of their own, so that these are proved once.
+//! Tests of the public calls of `haul_core` and `ranges`, for what no clause of their contracts says. They are in a
+//! crate of their own, so that `haul_core` and `ranges` are proved once.
 #![tactic(auto)]
 
 #[cfg(test)]
@@ -14,6 +14,8 @@ mod large;
 mod nothing;
 #[cfg(test)]
 mod range_list;
+#[cfg(test)]
+mod refusals;
 #[cfg(test)]
 mod setup;
 #[cfg(test)]

@@ -1,4 +1,4 @@
-//! Each call that allocates on nothing, once: no soup, no arrival and no range.
+//! Each call that allocates, once with nothing: no soups, no arrivals and no ranges.
 
 use crate::setup::{closed, quick_job, range, text_of};
 use haul_core::book::haul::{Haul, OpenError};

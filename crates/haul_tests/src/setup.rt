@@ -14,12 +14,21 @@ use survey_core::job::Job;
 use survey_core::profile::Profile;
 use survey_core::seed::Seed;
 
-/// A job of Life. Under its profile a soup is settled only if it is a still life at once, which no soup is.
+/// A job of Life. Under its profile a soup is settled only if it is a still life at once, which none of the soups in
+/// these tests is.
 pub(crate) fn quick_job(seed: &str) -> Result<Job, Fail> {
     Ok(Job {
         seed: Seed::new(seed)?,
         profile: Profile::new(1, 1, 1, 0)?,
         rule: Rule::life(),
+    })
+}
+
+/// The job of Life, the standard profile and the empty seed.
+pub(crate) fn standard_job() -> Result<Job, Fail> {
+    Ok(Job {
+        profile: Profile::standard(),
+        ..quick_job("")?
     })
 }
 
@@ -35,7 +44,7 @@ pub(crate) fn range(first: u64, count: u64) -> Range {
     Range { first, count }
 }
 
-/// Offers a report of the soup with this number by worker 1, and returns whether it is taken.
+/// Offers worker 1's report on the soup with this number, and returns whether it is taken.
 pub(crate) fn offer(alloc: Global, haul: &mut Haul, number: u32) -> bool {
     match Report::make(alloc, &haul.job(), 1, u64::from(number)) {
         Ok(report) => haul.offer(report).is_ok(),
@@ -50,7 +59,7 @@ pub(crate) fn closed(haul: Haul) -> Haul {
     haul
 }
 
-/// The haul text of what is taken.
+/// The haul text of what a haul has taken.
 pub(crate) fn text_of(alloc: Global, haul: &Haul) -> Result<Vec<u8>, Fail> {
     let census = haul.census()?;
     written(alloc, &census)

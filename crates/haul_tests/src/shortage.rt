@@ -1,5 +1,5 @@
-//! Each of these tests passes, or fails because memory ran out alone, whichever allocation is refused. `checks/program/memory`
-//! refuses each in turn.
+//! Whichever allocation is refused, each of these tests passes, or fails only because memory ran out.
+//! `checks/program/memory` refuses each in turn.
 
 use crate::setup::{quick_job, range, still_job, text_of};
 use haul_core::book::haul::Haul;
@@ -29,13 +29,13 @@ fn haul_of_one(alloc: Global) -> Result<Haul, Fail> {
     Ok(haul)
 }
 
-/// Whether the haul has taken soup 1 alone, and its text is as before.
+/// Whether the haul has taken only soup 1, and its text is as before.
 fn is_as_before(alloc: Global, haul: &Haul, before: &[u8]) -> Result<bool, Fail> {
     let text = text_of(alloc, haul)?;
     Ok(haul.taken() == [(1, 1)].as_slice() && text.as_slice() == before)
 }
 
-/// Whether it is soup 0, because memory ran out.
+/// Whether the report on soup 0 was refused because memory ran out.
 fn lacks_memory(refused: &Refused) -> bool {
     matches!(refused.reason, OfferError::Memory(_)) && refused.report.number() == 0
 }
@@ -59,7 +59,7 @@ fn without_memory_an_offer_changes_nothing(rt: HostRuntime) -> Result<(), Fail> 
     Ok(())
 }
 
-/// Whether a haul is the same after a census and a list of what is missing.
+/// Whether a census and a list of the missing numbers can be made, or the haul is unchanged.
 fn stays(alloc: Global, haul: &Haul) -> Result<bool, Fail> {
     let before = text_of(alloc, haul)?;
     if haul.census().is_ok() && haul.missing().is_ok() {
@@ -84,7 +84,7 @@ fn is_claim(claim: &Claim) -> bool {
     claim.version() == 2 && claim.worker() == 2 && claim.number() == 3 && claim.settled().is_none()
 }
 
-/// Whether a claim becomes its report, or comes back as it was because memory ran out.
+/// Whether a claim becomes its report, or is returned as it was because memory ran out.
 fn is_checked_or_kept(alloc: Global) -> Result<bool, Fail> {
     let claim = Claim::read_line(alloc, LINE)?;
     let job = quick_job("")?;

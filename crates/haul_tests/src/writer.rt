@@ -36,7 +36,7 @@ impl Write for Short {
     }
 }
 
-/// An `Out` over such a writer.
+/// An `Out` around such a writer.
 fn out_with_room(alloc: Global, room: usize) -> Out<Short>
     ensures { result.failed ≡ false }
 {

@@ -137,7 +137,8 @@ unfolding turned
 turned-after o rule S n order =
     corner-after rule (image o S) n (in_order-image o S) ∙ ap at_corner (after-image o rule S n order)
 
--- from a phase that looks like a phase of a pattern that recurs, the pattern itself is some generations away
+-- if a phase of a pattern looks like a phase of another one that recurs, it looks like the other pattern itself after the
+-- generations that complete the other's period
 reached : (o p : Orientation) (rule : Numbers) (cells others : List Cell) (g h n period : ℕ) (dx dy : _) → InOrder cells → InOrder others → h + n ≡ period
     → after rule others period ≡ shifted dx dy others → turned o (after rule cells g) ≡ turned p (after rule others h)
     → turned o (after rule cells (g + n)) ≡ turned p others

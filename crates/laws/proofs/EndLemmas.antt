@@ -1,5 +1,5 @@
 -- How `gather` ends, from what it makes.
-use Rattle.std.proofs.Common.{◌≡◌, ◌∙◌, ap, sym, refl, subst, ℕ, zero, suc, ◌≤◌, ◌^◌, true, List, Result, Ok, Err, arith, length}
+use Rattle.std.proofs.Common.{◌≡◌, ◌∙◌, sym, subst, ℕ, zero, suc, ◌≤◌, ◌^◌, true, List, Ok, Err, arith, length}
 use Rattle.requests.specs.declared.plan.Plan.{Plan}
 use Rattle.survey_core.specs.declared.job.Job.{Job}
 use Rattle.pattern_commands.specs.Ends.{Outcome, Reaches, status_after}
@@ -7,11 +7,10 @@ use Rattle.pattern_commands.specs.Status.{has_printed}
 use Rattle.pattern_commands.specs.Streams.{Stream}
 use Rattle.pattern_commands.specs.declared.ending.complaint.Complaint.TheVariants as complaint
 use Rattle.pattern_commands.specs.declared.ending.status.Status.{Status}
-use Rattle.pattern_commands.specs.declared.ending.status.Status.TheVariants.{Done}
 use Rattle.commands.specs.Gather.{gather_behaviour}
 use Rattle.laws.specs.Gathering.{GatherPrintsCorrectLines, PrintsCorrectLines}
 use Rattle.laws.specs.SplitWork.{HasWholeText, IsAccepted, IsInSet, IsWorkedOn, SplitWorkEnds}
-use Rattle.laws.proofs.GatherLemmas.{gather_tells_correct_lines}
+use Rattle.commands.proofs.CorrectLineLemmas.{gather_takes_correct_lines}
 use Rattle.laws.proofs.SplitLemmas.{split_work_is_whole}
 use Rattle.std.specs.Prelude.{Option}
 
@@ -19,10 +18,10 @@ prints : (plan : Plan) (workers : ℕ) (reader : Option (List ℕ)) (bytes : Lis
     → status ≡ status_after outcome → Reaches (gather_behaviour plan workers) reader bytes outcome output so_far → has_printed status ≡ true
     → PrintsCorrectLines plan workers bytes status output
 prints plan workers reader bytes status output so_far (Ok zero) is reached printed =
-    let correct = gather_tells_correct_lines plan workers bytes reached.made reached.is in
+    let correct = gather_takes_correct_lines plan workers bytes reached.made reached.is in
     record { made = reached.made; is = correct; text = reached.text; done = (λ h. correct.tells.whole.0 (sym reached.missing_is), λ each. is) }
 prints plan workers reader bytes status output so_far (Ok (suc n)) is reached printed =
-    let correct = gather_tells_correct_lines plan workers bytes reached.made reached.is in
+    let correct = gather_takes_correct_lines plan workers bytes reached.made reached.is in
     record {
       made = reached.made;
       is = correct;

@@ -5,14 +5,12 @@ mod CountLemmas
 mod EndLemmas
 mod FaultPlaces
 mod ForGoodLemmas
-mod GatherLemmas
 mod HaulTextLemmas
 mod ImageLemmas
 mod JoinedSums
 mod LaterCodes
 mod LimitLemmas
 mod LineLemmas
-mod MarkLemmas
 mod NameLemmas
 mod OnePlace
 mod PartLemmas

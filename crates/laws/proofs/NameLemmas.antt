@@ -9,6 +9,7 @@ use Rattle.plane_core.specs.plane.Generations.{after}
 use Rattle.code_core.specs.Apgcodes.{HasCodeShape}
 use Rattle.survey_core.specs.declared.finding.Finding.TheVariants.{Settled, Unsettled}
 use Rattle.survey_core.specs.Findings.{IsSettled}
+use Rattle.survey_core.proofs.lemmas.shapes.MarkLemmas.{settled_mark}
 use Rattle.haul_core.specs.FieldSteps.{Lacks}
 use Rattle.haul_core.proofs.SpaceLemmas.{cut_once}
 use Rattle.pattern_commands.specs.Name.{object_line}
@@ -83,5 +84,7 @@ name_texts_are_faithful rule profile cells others (Settled t objects good) (Sett
     let same : objects ≡ more = objects_once objects more (short_objects objects one.shape one.few) (short_objects more other.shape other.few) cut.1 in
     let mine : IsSettled rule profile (after rule cells t) more good =
     subst (λ (list : List (List ℕ × ℕ)). IsSettled rule profile (after rule cells t) list good) same h.2 in
-    let mark : good ≡ fine = both_true good fine (λ b. k.2.good.1 (mine.good.0 b)) (λ b. mine.good.1 (k.2.good.0 b)) in
+    let one_mark = settled_mark rule profile (after rule cells t) more good valid.period mine in
+    let other_mark = settled_mark rule profile (after rule others u) more fine valid.period k.2 in
+    let mark : good ≡ fine = both_true good fine (λ b. other_mark.1 (one_mark.0 b)) (λ b. one_mark.1 (other_mark.0 b)) in
     λ i. Settled (checkpoint i) (same i) (mark i)

@@ -1,12 +1,13 @@
 -- A pattern that is moved, turned or mirrored keeps its finding.
-use Rattle.std.proofs.Common.{◌≡◌, ◌∙◌, ap, sym, refl, subst, ℕ, ℤ, neg_ℤ, ◌+ℤ◌, pos, zero, suc, Bool, true, false, List, []}
+use Rattle.std.proofs.Common.{◌≡◌, ◌∙◌, ◌↔◌, ap, sym, refl, subst, ℕ, ℤ, neg_ℤ, ◌+ℤ◌, pos, zero, suc, Bool, true, false, List, []}
 use Rattle.std.proofs.Common.{◌∷◌, All, map, get_or, count_by, cond, arith}
 use Rattle.std.specs.List.{AllZip}
 use Rattle.std.specs.List.Sorted.{IsPermutation}
 use Rattle.std.specs.Ordering.{is_lt}
 use Rattle.std.proofs.lemmas.Int.{ints}
 use Rattle.std.proofs.lemmas.List.Elements.{All-map}
-use Rattle.std.proofs.lemmas.List.Sorted.{All-permutation, IsPermutation-map, sum_by-IsPermutation}
+use Rattle.std.proofs.lemmas.List.{get_or-map, length-map}
+use Rattle.std.proofs.lemmas.List.Sorted.{All-permutation, IsPermutation-map, IsPermutation-sym, sum_by-IsPermutation}
 use Rattle.plane_core.specs.declared.plane.cell.Cell.{Cell}
 use Rattle.plane_core.specs.declared.plane.orientation.Orientation.{Orientation}
 use Rattle.plane_core.specs.plane.Bounds.{at_corner, box_of, grown, shifted}
@@ -20,14 +21,18 @@ use Rattle.plane_core.proofs.lemmas.plane.CommuteLemmas.{IsRigid, set_of-in_orde
 use Rattle.plane_core.proofs.lemmas.plane.OrientationLemmas.{image-shifted, product-cell, turning_back}
 use Rattle.plane_core.proofs.lemmas.plane.TransformLemmas.{in_order-shifted}
 use Rattle.plane_core.proofs.lemmas.plane.SetLemmas.{in_order-set_of}
+use Rattle.code_core.specs.declared.recurrence.Recurrence.{Recurrence}
 use Rattle.code_core.specs.Names.{IsCode}
+use Rattle.code_core.specs.Recurrences.{Recurs}
 use Rattle.code_core.proofs.MovedCodes.{codes_moved, in_order-after, shifted-back, shifted-swap}
 use Rattle.laws.proofs.TurnedCodes.{codes_turned}
 use Rattle.survey_core.specs.declared.finding.Finding.{Finding}
 use Rattle.survey_core.specs.declared.finding.Finding.TheVariants.{Settled, Unsettled}
 use Rattle.laws.specs.Findings.{FindingsMoved, FindingsOfImages, FindingsTurned}
 use Rattle.survey_core.specs.Findings.{IsFinding, IsSettled}
-use Rattle.survey_core.specs.shapes.Objects.{is_code}
+use Rattle.survey_core.specs.shapes.ForGood.{ClustersStayForGood, IsCommonPeriod, RecursInPlace}
+use Rattle.survey_core.specs.shapes.Objects.{IsMultiple, is_code}
+use Rattle.survey_core.proofs.lemmas.rest.ForGoodLemmas.{shifted-none}
 use Rattle.survey_core.specs.Profiles.{Settling}
 use Rattle.survey_core.specs.rest.Rest.{IsAtRest, KeepApart, RestsAs}
 use Rattle.survey_core.specs.shapes.RecurringShapes.{RecursWithin}
@@ -113,24 +118,96 @@ sorted_codes R xs ys all = (
 -- ---- the image of a pattern at rest
 
 module _ (f g : Cell → Cell) (rigid : IsRigid f g) (there : KeepsObjects f) (home : KeepsObjects g) (rule : Numbers) where
-  -- what recurs does so in the image
+  -- what recurs does so in the image, wherever the image is then
+  recurs-image : (limit : ℕ) (cells : List Cell) → InOrder cells → (r : Recurrence) → Recurs rule cells limit r → (ex ey : ℤ)
+      → image_by f (shifted r.dx r.dy cells) ≡ shifted ex ey (image_by f cells)
+      → Recurs rule (image_by f cells) limit (record { period = r.period; dx = ex; dy = ey })
+  recurs-image limit cells order r back ex ey moved = record {
+    some = back.some;
+    within = back.within;
+    back = after-image f g rigid rule cells r.period order ∙ ap (image_by f) back.back ∙ moved;
+    least = λ p dx dy some less is.
+        let other = home.moves dx dy (image_by f cells) (in_order-set_of (map f cells)) in
+        back.least p other.0 other.1 some less
+        (sym (image-back f g rigid (after rule cells p) (in_order-after rule cells p order))
+        ∙ ap (image_by g) (sym (after-image f g rigid rule cells p order) ∙ is)
+        ∙ other.2 ∙ ap (shifted other.0 other.1) (image-back f g rigid cells order));
+  }
+
   back-image : (limit : ℕ) (cells : List Cell) → InOrder cells → RecursWithin rule limit cells → RecursWithin rule limit (image_by f cells)
   back-image limit cells order (r, back) =
-      let move = there.moves r.dx r.dy cells order in (
-        record { period = r.period; dx = move.0; dy = move.1 },
-        record {
-          some = back.some;
-          within = back.within;
-          back = after-image f g rigid rule cells r.period order ∙ ap (image_by f) back.back ∙ move.2;
-          least = λ p ex ey some less is.
-              let other = home.moves ex ey (image_by f cells) (in_order-set_of (map f cells)) in
-              back.least p other.0 other.1 some less
-              (sym (image-back f g rigid (after rule cells p) (in_order-after rule cells p order))
-              ∙ ap (image_by g) (sym (after-image f g rigid rule cells p order) ∙ is)
-              ∙ other.2 ∙ ap (shifted other.0 other.1) (image-back f g rigid cells order));
-        },
-      )
+      let move = there.moves r.dx r.dy cells order in
+      (record { period = r.period; dx = move.0; dy = move.1 }, recurs-image limit cells order r back move.0 move.1 move.2)
 
+  in_place-image : (limit : ℕ) (cells : List Cell) (period : ℕ) → InOrder cells → RecursInPlace rule limit cells period
+      → RecursInPlace rule limit (image_by f cells) period
+  in_place-image limit cells period order back =
+      recurs-image limit cells order (record { period = period; dx = pos 0; dy = pos 0 }) back (pos 0) (pos 0)
+      (ap (image_by f) (shifted-none cells) ∙ sym (shifted-none (image_by f cells)))
+
+-- ---- what stays for good
+
+-- the image recurs in its place if and only if the pattern does
+in_place-home : (f g : Cell → Cell) (rigid : IsRigid f g) → KeepsObjects f → KeepsObjects g → (rule : Numbers) (limit : ℕ) (cells : List Cell)
+    (period : ℕ) → InOrder cells → RecursInPlace rule limit (image_by f cells) period → RecursInPlace rule limit cells period
+in_place-home f g rigid there home rule limit cells period order back =
+    subst (λ (part : List Cell). RecursInPlace rule limit part period) (image-back f g rigid cells order)
+    (in_place-image g f (inverse f g rigid) home there rule limit (image_by f cells) period (in_order-set_of (map f cells)) back)
+
+-- clusters stay for good if and only if their images do, in whatever order
+module _ (f g : Cell → Cell) (rigid : IsRigid f g) (there : KeepsObjects f) (home : KeepsObjects g) (rule : Numbers) (limit horizon : ℕ)
+    (clusters others : List (List Cell)) (orders : All InOrder clusters) (permuted : IsPermutation (map (image_by f) clusters) others) where
+  all-there : (P Q : List Cell → Type 0) → ((part : List Cell) → InOrder part → P part → Q (image_by f part)) → All P clusters → All Q others
+  all-there P Q step all =
+      All-permutation Q (map (image_by f) clusters) others permuted
+      (All-map Q (image_by f) clusters (λ k d low. step (get_or clusters k d) (orders k d low) (all k d low)))
+
+  all-home : (P Q : List Cell → Type 0) → ((part : List Cell) → InOrder part → Q (image_by f part) → P part) → All Q others → All P clusters
+  all-home P Q step all k d low =
+      let back = All-permutation Q others (map (image_by f) clusters) (IsPermutation-sym (map (image_by f) clusters) others permuted) all in
+      let long = length-map clusters (image_by f) in
+      step (get_or clusters k d) (orders k d low)
+      (subst Q (get_or-map (image_by f) clusters k d d low) (back k d (omega (arith, low, long))))
+
+  common-there : (m : ℕ) → IsCommonPeriod rule limit clusters m → IsCommonPeriod rule limit others m
+  common-there m common = record {
+    some = common.some;
+    each = all-there (λ part. (period : ℕ) → RecursInPlace rule limit part period → IsMultiple m period)
+        (λ part. (period : ℕ) → RecursInPlace rule limit part period → IsMultiple m period)
+        (λ part order each period back. each period (in_place-home f g rigid there home rule limit part period order back)) common.each;
+  }
+
+  common-home : (m : ℕ) → IsCommonPeriod rule limit others m → IsCommonPeriod rule limit clusters m
+  common-home m common = record {
+    some = common.some;
+    each = all-home (λ part. (period : ℕ) → RecursInPlace rule limit part period → IsMultiple m period)
+        (λ part. (period : ℕ) → RecursInPlace rule limit part period → IsMultiple m period)
+        (λ part order each period back. each period (in_place-image f g rigid there home rule limit part period order back)) common.each;
+  }
+
+  stay-image : ClustersStayForGood rule limit horizon clusters ↔ ClustersStayForGood rule limit horizon others
+  stay-image = (
+    λ good. record {
+      in_place = all-there (λ part. (period : ℕ) × RecursInPlace rule limit part period) (λ part. (period : ℕ) × RecursInPlace rule limit part period)
+          (λ part order (period, back). (period, in_place-image f g rigid there home rule limit part period order back)) good.in_place;
+      multiple = good.multiple;
+      common = common-there good.multiple good.common;
+      least = λ m common. good.least m (common-home m common);
+      within = good.within;
+    },
+    λ good. record {
+      in_place = all-home (λ part. (period : ℕ) × RecursInPlace rule limit part period) (λ part. (period : ℕ) × RecursInPlace rule limit part period)
+          (λ part order (period, back). (period, in_place-home f g rigid there home rule limit part period order back)) good.in_place;
+      multiple = good.multiple;
+      common = common-home good.multiple good.common;
+      least = λ m common. good.least m (common-there m common);
+      within = good.within;
+    },
+  )
+
+-- ---- the clusters of an image
+
+module _ (f g : Cell → Cell) (rigid : IsRigid f g) (there : KeepsObjects f) (home : KeepsObjects g) (rule : Numbers) where
   module _ (profile : Settling) (cells : List Cell) (order : InOrder cells) where
     -- the clusters of the image keep apart for as long as those of the pattern
     apart-image : (clusters : List (List Cell)) (are : AreClusters cells clusters) (n : ℕ) → KeepApart rule cells clusters n
@@ -162,7 +239,7 @@ module _ (f g : Cell → Cell) (rigid : IsRigid f g) (there : KeepsObjects f) (h
       back = All-permutation (RecursWithin rule profile.period) (map (image_by f) clusters) (images f g rigid cells order clusters rest.parts)
           (images-permute f g rigid cells order clusters rest.parts)
           (All-map (RecursWithin rule profile.period) (image_by f) clusters
-          (λ k d low. back-image profile.period (get_or clusters k d) (rest.parts.each k d low).in_order (rest.back k d low)));
+          (λ k d low. back-image f g rigid there home rule profile.period (get_or clusters k d) (rest.parts.each k d low).in_order (rest.back k d low)));
       apart = λ n low. apart-image clusters rest.parts n (rest.apart n low);
     }
 
@@ -181,9 +258,18 @@ module _ (f g : Cell → Cell) (rigid : IsRigid f g) (there : KeepsObjects f) (h
         named = moved.1;
         counts = λ code. is.counted.counts code ∙ sym (moved.2 (is_code code));
       };
-      good = is.good;
+      good = (
+        λ e. stay.0 (is.good.0 e),
+        λ good. is.good.1 (stay.1 good),
+      );
     }
       where
+        stay : ClustersStayForGood rule profile.period profile.horizon is.clusters
+            ↔ ClustersStayForGood rule profile.period profile.horizon (images f g rigid cells order is.clusters is.rest.parts)
+        stay = stay-image f g rigid there home rule profile.period profile.horizon is.clusters
+            (images f g rigid cells order is.clusters is.rest.parts) (λ k d low. (is.rest.parts.each k d low).in_order)
+            (images-permute f g rigid cells order is.clusters is.rest.parts)
+
         named : (parts : List (List Cell)) (codes : List (List ℕ)) → All InOrder parts
             → AllZip (λ cluster code. IsCode rule cluster profile.period code) parts codes
             → AllZip (λ cluster code. IsCode rule cluster profile.period code) (map (image_by f) parts) codes
@@ -199,7 +285,7 @@ module _ (f g : Cell → Cell) (rigid : IsRigid f g) (there : KeepsObjects f) (h
         moved = sorted_codes (λ cluster code. IsCode rule cluster profile.period code) (map (image_by f) is.clusters) is.counted.codes
             (named is.clusters is.counted.codes (λ k d low. (is.rest.parts.each k d low).in_order) is.counted.named)
 
--- where the image is at rest, so is the pattern
+-- if the image is at rest, so is the pattern
 rest-home : (f g : Cell → Cell) → IsRigid f g → KeepsObjects f → KeepsObjects g → (rule : Numbers) (profile : Settling) (cells : List Cell) (n : ℕ)
     → InOrder cells → IsAtRest rule profile (after rule (image_by f cells) n) → IsAtRest rule profile (after rule cells n)
 rest-home f g rigid there home rule profile cells n order rest =

@@ -26,7 +26,7 @@ use Rattle.survey_core.proofs.lemmas.SoupLemmas.{soup_is_small}
 use Rattle.survey_core.proofs.lemmas.rest.RestLemmas.{clusters_near, clusters_some}
 use Rattle.haul_core.specs.ClaimChecks.{HaveShape}
 use Rattle.laws.proofs.CountLemmas.{counts_add_up}
-use Rattle.laws.proofs.MarkLemmas.{of_objects}
+use Rattle.survey_core.proofs.lemmas.shapes.MarkLemmas.{of_objects}
 
 -- the rank of a cell within 101,000 columns and rows of the origin, row by row
 rank : Cell → ℕ

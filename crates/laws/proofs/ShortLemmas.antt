@@ -25,7 +25,7 @@ use Rattle.haul_core.proofs.MissingLemmas.{missing_counted}
 use Rattle.haul_core.proofs.NumberLemmas.{any_counted}
 use Rattle.haul_core.proofs.SumLemmas.{sum_small}
 use Rattle.laws.specs.HaulTexts.{AreTakenOf, HaulCensusesAreShort, IsJob, IsWrittenWhole}
-use Rattle.laws.proofs.MarkLemmas.{listed_code}
+use Rattle.survey_core.proofs.lemmas.shapes.MarkLemmas.{listed_code}
 use Rattle.laws.proofs.ShapeLemmas.{IsSmallFinding, small_finding, soup_close}
 
 -- ---- surveys

@@ -1,5 +1,5 @@
 -- If each soup of a set is worked on, `gather` makes what `take` prints for the set.
-use Rattle.std.proofs.Common.{◌≡◌, ◌∙◌, ap, sym, refl, subst, ℕ, suc, ◌+◌, ◌<◌, ◌≤◌, ◌^◌, ◌≢◌, Bool, true, false, cond, nat_eq, nat_le, List, [], ◌∷◌, ◌++◌}
+use Rattle.std.proofs.Common.{◌≡◌, ◌∙◌, ap, sym, refl, subst, ℕ, suc, ◌<◌, ◌≤◌, ◌^◌, Bool, true, false, cond, nat_eq, nat_le, List, [], ◌∷◌, ◌++◌}
 use Rattle.std.proofs.Common.{◌||◌, inl, inr, Result, Ok, Err, Option, None, Some, nat_lt, arith, count_by, flat_map, length, map}
 use Rattle.std.specs.List.{AllByRecursion, Contains, list_any, position}
 use Rattle.std.specs.Result.{result_map_both}
@@ -49,11 +49,11 @@ use Rattle.commands.specs.Lines.{IsOneLine, input_lines}
 use Rattle.commands.specs.SoupSets.{AreRangesOf, Bad_list, IsRefused, IsRightForSet, IsTextOf, Overlapping, Too_large, job_named}
 use Rattle.commands.specs.Take.{TellsAll, take_right}
 use Rattle.commands.specs.Work.{AreReportsOn, IsReportOn, TellsReports}
-use Rattle.laws.specs.Gathering.{HasCorrectLine, IsOfCorrectLines, TellsCorrectLines}
+use Rattle.commands.specs.CorrectLines.{HasCorrectLine, IsOfCorrectLines, TakesCorrectLines}
 use Rattle.laws.specs.SplitWork.{IsAccepted, IsWorkedOn, OneRightText, SplitWorkIsWhole}
 use Rattle.laws.specs.HaulTexts.{IsJob}
 use Rattle.laws.proofs.CensusLemmas.{complete_hauls}
-use Rattle.laws.proofs.GatherLemmas.{gather_tells_correct_lines}
+use Rattle.commands.proofs.CorrectLineLemmas.{gather_takes_correct_lines}
 use Rattle.laws.proofs.LineLemmas.{claim_one_line, lines_of_text}
 use Rattle.laws.proofs.ShapeLemmas.{small_finding, soup_close}
 
@@ -189,7 +189,7 @@ contains_line reports report (k, low, is) =
 
 -- a soup that is worked on has a correct line
 worked_line : (plan : Plan) (job : Job) (workers : ℕ) (bytes : List ℕ) (n : ℕ) (terms : Terms) → IsJob job → terms.job ≡ job → terms.workers ≡ workers
-    → IsWorkedOn job workers bytes n → HasCorrectLine terms bytes n
+    → IsWorkedOn job workers bytes n → HasCorrectLine terms.job terms.workers bytes n
 unfolding line_in
 worked_line plan job workers bytes n terms valid job_is workers_are w = (
   there.0,
@@ -286,18 +286,18 @@ split_work_is_whole plan job workers bytes (Ok made) accepted short each right =
 )
   where
     correct : IsOfCorrectLines plan workers bytes made
-    correct = gather_tells_correct_lines plan workers bytes made right
+    correct = gather_takes_correct_lines plan workers bytes made right
 
     terms : Terms
     terms = correct.terms
 
-    tells : TellsCorrectLines correct.terms bytes made
+    tells : TakesCorrectLines correct.terms bytes made
     tells = correct.tells
 
     over : IsHaulOver plan.set workers job correct.terms
     over = subst (λ (named : Result Job Complaint). IsOkAnd named (λ job. IsHaulOver plan.set workers job correct.terms)) accepted.job_is correct.opened
 
-    every : (n : ℕ) → is_in correct.terms.ranges n ≡ true → HasCorrectLine correct.terms bytes n
+    every : (n : ℕ) → is_in correct.terms.ranges n ≡ true → HasCorrectLine correct.terms.job correct.terms.workers bytes n
     every n within =
         worked_line plan job workers bytes n correct.terms (job_valid plan job accepted.profile accepted.job_is) over.job_is over.workers_are
         (each n (record { ranges = over.ranges; named = over.named; within = sym (over.form.same n) ∙ within }))

@@ -24,7 +24,7 @@ pub record IsTakenOf (terms : Terms) (arrivals : List Arrival) (worker : ℕ) : 
 abbrev pub WorkersAreTakenInOrder : Type 0
 WorkersAreTakenInOrder = (terms : Terms) (arrivals : List Arrival) (worker : ℕ) → IsTakenOf terms arrivals worker
 
--- a number is taken if and only if some eligible offer has it, and the worker of the first one is credited
+-- a number is taken if and only if some eligible offer has it, and then from the worker of the first such offer
 pub record IsTakenByFirst (terms : Terms) (arrivals : List Arrival) (n : ℕ) : Type 0 where
   pub taken : is_taken (taken_of terms arrivals) n ≡ list_any (has_number n) (eligible terms arrivals)
   pub worker : worker_in n (taken_of terms arrivals) ≡ first_worker n (eligible terms arrivals)

@@ -36,7 +36,7 @@ total_in rows code = unwrap_or (option_map (λ row. row.total) (find (λ row. is
 abbrev pub samples_in : List Row → List ℕ → List ℕ
 samples_in rows code = unwrap_or (option_map (λ row. row.samples) (find (λ row. is_code code row.code) rows)) []
 
--- each number of a census is the sum of those of two others, and its samples are the three lowest of theirs
+-- each number of a census is the sum of those of two others, and each code's samples are the three lowest of theirs
 pub record AddUp (one other both : Census) : Type 0 where
   pub soups : both.soups ≡ one.soups + other.soups
   pub unsettled : both.unsettled ≡ one.unsettled + other.unsettled
@@ -45,7 +45,7 @@ pub record AddUp (one other both : Census) : Type 0 where
   pub totals : (code : List ℕ) → total_in both.rows code ≡ total_in one.rows code + total_in other.rows code
   pub samples : (code : List ℕ) → AreLeastThree (samples_in one.rows code ++ samples_in other.rows code) (samples_in both.rows code)
 
--- the census of a joined haul, over the soups of two hauls of one job, has their sums
+-- the census of a joined haul, over the soups of two hauls of one job, is the sum of the censuses of the two hauls
 abbrev pub JoinedHaulsAddUp : Type 0
 JoinedHaulsAddUp = (job : Job) (ranges others all : List Range) (numbers more : List ℕ) (one other both : Census)
     → IsCensus job ranges numbers one → IsCensus job others more other → IsCensus job all (numbers ++ more) both → AddUp one other both

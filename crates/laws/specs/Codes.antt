@@ -19,7 +19,7 @@ abbrev pub CodesLater : Type 0
 CodesLater = (g : ℕ) (rule : Numbers) (cells : List Cell) (limit : ℕ) (code : List ℕ)
     → InOrder cells → IsCode rule cells limit code → IsCode rule (after rule cells g) limit code
 
--- two patterns are one object: a generation of the one, in some orientation, is the other, moved
+-- two patterns are one object: a generation of the first, turned or mirrored in some way, is the second, moved
 pub record IsOneObject (rule : Numbers) (cells others : List Cell) : Type 0 where
   pub generation : ℕ
   pub orientation : Orientation

@@ -22,7 +22,7 @@ abbrev pub FindingsOfImages : Type 0
 FindingsOfImages = (o : Orientation) (rule : Numbers) (profile : Settling) (cells : List Cell) (finding : Finding)
     → InOrder cells → IsFinding rule profile cells finding → IsFinding rule profile (image o cells) finding
 
--- and so does one that is then moved so that its bounding box begins at the origin
+-- a pattern that is turned or mirrored, and then moved so that its bounding box begins at the origin, keeps its finding
 abbrev pub FindingsTurned : Type 0
 FindingsTurned = (o : Orientation) (rule : Numbers) (profile : Settling) (cells : List Cell) (finding : Finding)
     → InOrder cells → IsFinding rule profile cells finding → IsFinding rule profile (turned o cells) finding

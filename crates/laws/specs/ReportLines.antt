@@ -12,6 +12,6 @@ LinesHaveOneClaim = (one other : Claimed) → IsClaim one → IsClaim other → 
 abbrev pub FaultyLinesHaveNoClaim : Type 0
 FaultyLinesHaveNoClaim = (line : List ℕ) (place : ℕ) → IsFirstFaultOf line place → ¬ IsClaimLine line
 
--- a line has its first fault at one place
+-- a line has its first fault at one place only
 abbrev pub LinesHaveOneFault : Type 0
 LinesHaveOneFault = (line : List ℕ) (one other : ℕ) → IsFirstFaultOf line one → IsFirstFaultOf line other → one ≡ other

@@ -66,7 +66,7 @@ HasWholeText plan Memory output = Unit {0}
 HasWholeText plan Failed output = Unit {0}
 HasWholeText plan _ output = ⊥
 
--- so `gather` ends with the text of `take`, unless memory runs out or a stream fails
+-- in this case, `gather` ends with the text of `take`, unless memory runs out or a stream fails
 abbrev pub SplitWorkEnds : Type 0
 SplitWorkEnds = (plan : Plan) (job : Job) (workers : ℕ) (reader : Option (List ℕ)) (bytes : List ℕ) (status : Status) (output errors : Stream)
     → IsAccepted plan job → length bytes ≤ 2 ^ 32 → ((n : ℕ) → IsInSet plan.set n → IsWorkedOn job workers bytes n)

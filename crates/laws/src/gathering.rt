@@ -1,13 +1,15 @@
 //! Laws of what `gather` and `take` print.
 
-ghost use Rattle.laws.specs.Gathering.{GatherPrintsCorrectLines, GatherTellsCorrectLines};
+ghost use Rattle.commands.specs.CorrectLines.{GatherTakesCorrectLines};
+ghost use Rattle.laws.specs.Gathering.{GatherPrintsCorrectLines};
 ghost use Rattle.laws.specs.SplitWork.{OneRightText, SplitWorkEnds, SplitWorkIsWhole};
 
-/// The laws that `gather` prints the haul text over the numbers of its set for which some line of the input is correct,
-/// each once, whatever the other lines are, and that it ends with status 0 if and only if each number has one, unless
-/// memory runs out or a stream fails.
-pub fn gather_tells_correct_lines()
-    ensures tells { GatherTellsCorrectLines }
+/// The laws of what `gather` prints. If it prints a haul text, this is over the numbers of its set that have a correct
+/// line, each once, whatever the other lines are. It then ends with status 0 if each number of the set has a correct
+/// line, and otherwise with `Incomplete`. It prints no whole text if the plan is refused, the input is too long, memory
+/// runs out or a stream fails.
+pub fn gather_takes_correct_lines()
+    ensures tells { GatherTakesCorrectLines }
     ensures prints { GatherPrintsCorrectLines }
 {}
 

@@ -2,7 +2,7 @@
 
 ghost use Rattle.laws.specs.Findings.{CountsAddUp, FindingsMoved, FindingsOfImages, FindingsTurned};
 ghost use Rattle.laws.specs.ForGood.{AtRestForGood, EmptyIsAtRest, FindingsForGood, ForGoodComesBack};
-ghost use Rattle.laws.specs.ForGood.{MarksAreOfClusters, MarksTellRecurrences};
+ghost use Rattle.laws.specs.ForGood.{MarksAreInCodes, MarksMatchRecurrences};
 ghost use Rattle.laws.specs.Limits.{SettledStaySettled, UnsettledSettleLater};
 ghost use Rattle.laws.specs.Soups.{SoupsAreFaithful};
 
@@ -30,7 +30,7 @@ pub fn higher_limits_settle_no_less()
     ensures unsettled { UnsettledSettleLater }
 {}
 
-/// The laws of patterns at rest: the empty pattern is at rest, and a pattern whose objects stay for good keeps them
+/// The laws of patterns at rest: the empty pattern is at rest, and a pattern whose clusters stay for good keeps them
 /// apart in every later generation, and recurs after the least common multiple of their periods.
 pub fn at_rest_for_good()
     ensures empty { EmptyIsAtRest }
@@ -43,15 +43,15 @@ pub fn findings_for_good()
     ensures { FindingsForGood }
 {}
 
-/// The law that a pattern whose objects stay for good is the same pattern, at rest with the same objects, after each
-/// further multiple of the least common multiple of their periods.
+/// The law that a pattern that is at rest for good at generation t is the same pattern, at rest with the same objects,
+/// at t + k * L for every k, where L is the least common multiple of the periods.
 pub fn for_good_comes_back()
     ensures { ForGoodComesBack }
 {}
 
-/// The laws of the mark *for good*: what the kinds and numbers in the codes say is what the recurrences of the clusters
-/// say, and the mark of a finding says it too.
-pub fn marks_tell_recurrences()
-    ensures codes { MarksTellRecurrences }
-    ensures mark { MarksAreOfClusters }
+/// The laws of the mark *for good*, which is defined by the recurrences of the clusters: the kinds and numbers in the
+/// codes say the same, so a reader of a finding can tell its mark from the codes.
+pub fn marks_match_recurrences()
+    ensures codes { MarksMatchRecurrences }
+    ensures mark { MarksAreInCodes }
 {}

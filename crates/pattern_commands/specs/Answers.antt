@@ -14,12 +14,12 @@ Answer = Result (List ℕ) Complaint
 abbrev pub output_text : Answer → List ℕ
 output_text answer = result_unwrap_or answer []
 
--- the next step takes the value of the step before, and a complaint ends both
+-- the next step takes the value of the step before; if that step ended with a complaint, the complaint is the result
 abbrev pub given : {A B : Type 0} → Result A Complaint → (A → Result B Complaint) → Result B Complaint
 given (Ok x) next = next x
 given (Err complaint) next = Err complaint
 
--- the bytes are those that the reader has left, if these are known; otherwise they may be any
+-- the bytes are what the reader has left, if that is known; otherwise they may be any bytes
 abbrev pub IsInput : Option (List ℕ) → List ℕ → Type 0
 IsInput reader bytes = IfSome reader (λ left. bytes ≡ left)
 
@@ -27,7 +27,7 @@ IsInput reader bytes = IfSome reader (λ left. bytes ≡ left)
 abbrev pub Right : Type 1
 Right = Answer → Type 0
 
--- the one right answer
+-- only this answer is right
 abbrev pub only : Answer → Right
 only answer other = answer ≡ other
 

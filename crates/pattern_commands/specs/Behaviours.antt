@@ -21,7 +21,7 @@ abbrev pub text_made : Result Made Complaint → List ℕ
 text_made (Ok made) = made.text
 text_made (Err complaint) = []
 
--- a command that ends with out of memory has hidden no complaint, except those that need memory
+-- only complaints that need memory are right, so a command that ends with out of memory hides no other complaint
 abbrev pub NeedsMemoryAlone : Makes → Type 0
 NeedsMemoryAlone right = (complaint : Complaint) → right (Err complaint) → NeedsMemory complaint
 
@@ -35,12 +35,12 @@ pub record Behaviour : Type 1 where
   pub refuses : Bool
   -- the text is complete before its first byte is written
   pub whole : Bool
-  -- what the command may have added to standard error after a beginning of its input
+  -- what the command may have added to standard error before it ended early
   pub begins : (reader before after : Option (List ℕ)) → Type 0
   -- what may have become of standard error if the diagnostics were not written completely
   pub breaks_off : Stream → Type 0
 
--- a text without diagnostics is right, if it is a right answer
+-- what is right for a command that makes only a text: a right answer, without diagnostics and without missing soups
 abbrev pub alone : Right → Makes
 alone right (Ok made) = right (Ok made.text) × (made.diagnostics ≡ []) × (made.missing ≡ 0)
 alone right (Err complaint) = right (Err complaint)

@@ -4,7 +4,7 @@ use Rattle.pattern_commands.specs.declared.ending.complaint.Complaint.{Complaint
 use Rattle.pattern_commands.specs.declared.ending.complaint.Complaint.TheVariants.{Refused, Memory, ReadFailed, TooLong, WriteFailed}
 use Rattle.pattern_commands.specs.declared.ending.error_line.ErrorText.{ErrorText}
 use Rattle.pattern_commands.specs.declared.ending.error_line.ErrorText.TheVariants.{Missing}
-use Rattle.pattern_commands.specs.declared.ending.error_line.ErrorText.TheVariants as told
+use Rattle.pattern_commands.specs.declared.ending.error_line.ErrorText.TheVariants as text
 use Rattle.pattern_commands.specs.declared.ending.refusal.Refusal.{Refusal}
 use Rattle.pattern_commands.specs.declared.ending.refusal.Refusal.TheVariants.{BadByte, PatternTooLarge, BadRule, BirthZero, NotACode, CodeTooLong, CodeBadByte}
 use Rattle.pattern_commands.specs.declared.ending.refusal.Refusal.TheVariants.{CodeShortRun, CodeEmpty, SeedTooLong, SeedBadByte, HorizonBelowPeriod}
@@ -50,14 +50,14 @@ complaint_line complaint = error_line (complaint_text complaint)
 abbrev pub write_failed_line : List ℕ
 write_failed_line = error_line (codes "write failed")
 
--- the text of a line
-abbrev pub text_told : ErrorText → List ℕ
-text_told (told.Complaint complaint) = complaint_text complaint
-text_told (Missing missing) = codes "incomplete, " ++ decimal missing ++ codes " missing"
+-- the text of a last line on standard error
+abbrev pub text_of_error : ErrorText → List ℕ
+text_of_error (text.Complaint complaint) = complaint_text complaint
+text_of_error (Missing missing) = codes "incomplete, " ++ decimal missing ++ codes " missing"
 
 -- the line about the number of missing soups
 abbrev pub missing_line : ℕ → List ℕ
-missing_line missing = error_line (text_told (Missing missing))
+missing_line missing = error_line (text_of_error (Missing missing))
 
 -- the status of a command that ends with a complaint
 abbrev pub status_of : Complaint → Status

@@ -25,8 +25,8 @@ pub record IsSilent (output errors : Stream) : Type 0 where
   pub silent : Has errors []
   pub fine : errors.failed ≡ false
 
--- The input ended early: nothing was written to standard output, and standard error has the diagnostics about its
--- beginning.
+-- The input wasn't read to its end: nothing was written to standard output, and standard error has the diagnostics
+-- about the beginning of the input.
 pub record IsCutOff (behaviour : Behaviour) (reader : Option (List ℕ)) (output errors : Stream) : Type 0 where
   pub reads : behaviour.reads ≡ true
   pub begun : behaviour.begins reader errors.before errors.after
@@ -46,8 +46,9 @@ pub record HasRunOutOfMemory (behaviour : Behaviour) (reader : Option (List ℕ)
   pub diagnostics : Has errors [] ⊎ behaviour.begins reader errors.before errors.after
   pub fine : errors.failed ≡ false
 
--- What was written if a write of the text failed. If the text was complete before: a prefix of it, and all diagnostics.
--- If it is written while it is made: a prefix of each right text, no diagnostics, and no complaint is right.
+-- What was written if a write of the text failed. If the text is made completely before it is written: a prefix of it,
+-- and all diagnostics. If it is written while it is made: a prefix of each right text, and no diagnostics; then no
+-- complaint is right.
 abbrev pub WritesBeginning : Bool → Makes → Stream → Stream → Type 0
 WritesBeginning true right output errors = (made : Made) × right (Ok made) × HasPrefix output made.text × Has errors made.diagnostics
 WritesBeginning false right output errors = ((complaint : Complaint) → right (Err complaint) → ⊥)
@@ -60,8 +61,8 @@ pub record IsCutShort (behaviour : Behaviour) (bytes : List ℕ) (output errors 
   pub fine : errors.failed ≡ false
 
 -- the diagnostics were not written completely
-pub record IsUntold (behaviour : Behaviour) (output errors : Stream) : Type 0 where
-  pub told : behaviour.breaks_off errors
+pub record LacksDiagnostics (behaviour : Behaviour) (output errors : Stream) : Type 0 where
+  pub cut : behaviour.breaks_off errors
   pub nothing : Has output []
 
 -- What the streams have before the last line of standard error, for each outcome. A refusal has to be right, and so
@@ -72,4 +73,4 @@ Reaches behaviour reader bytes (Err (Refused refusal)) output errors = behaviour
 Reaches behaviour reader bytes (Err (Memory error)) output errors = HasRunOutOfMemory behaviour reader bytes output errors
 Reaches behaviour reader bytes (Err (ReadFailed error)) output errors = IsCutOff behaviour reader output errors
 Reaches behaviour reader bytes (Err TooLong) output errors = behaviour.right bytes (Err TooLong) × IsCutOff behaviour reader output errors
-Reaches behaviour reader bytes (Err (WriteFailed error)) output errors = IsCutShort behaviour bytes output errors ⊎ IsUntold behaviour output errors
+Reaches behaviour reader bytes (Err (WriteFailed error)) output errors = IsCutShort behaviour bytes output errors ⊎ LacksDiagnostics behaviour output errors

@@ -61,7 +61,7 @@ wechsler_complaint (fault.BadByte place) = Refused (CodeBadByte place)
 wechsler_complaint (fault.ShortRun place) = Refused (CodeShortRun place)
 wechsler_complaint fault.Empty = Refused CodeEmpty
 
--- the complaint about a call that reads such a text
+-- the complaint about a call that reads a text in extended Wechsler format
 abbrev pub reader_complaint : WechslerError → Complaint
 reader_complaint (error.Fault why) = wechsler_complaint why
 reader_complaint (error.Memory refused) = Memory refused

@@ -25,11 +25,11 @@ unfoldable pub later_sizes : Numbers → List Cell → ℕ → ℕ → List ℕ
 later_sizes rule cells g zero = []
 later_sizes rule cells g (suc n) = later_sizes rule cells g n ++ size_line (g + suc n) (after rule cells (suc n))
 
--- the rows from place i of the list on are more than `far` below those before it
+-- the cells from place i of the list on are more than `far` rows below all cells before it
 abbrev pub IsGap : ℕ → List Cell → ℕ → Type 0
 IsGap far cells i = (c d : Cell) → has (take i cells) c ≡ true → has (drop i cells) d ≡ true → (c.y +ℤ pos far) <ℤ d.y
 
--- the cells of all parts after g generations, each of which runs as if it were alone
+-- the cells of all parts after g generations, where each part runs by itself
 abbrev pub parts_after : ℕ → List Running → List Cell
 parts_after g parts = flat_map (λ part. after part.rule part.cells g) parts
 
@@ -41,8 +41,8 @@ RunApart rule cells n parts = (g : ℕ) → g ≤ n → after rule cells g ≡ p
 abbrev pub advanced : Running → Running
 advanced part = record { rule = part.rule; cells = after part.rule part.cells 1 }
 
--- What became of a text: `done` of it was written. Or memory ran out or a write failed, and a prefix of the whole text
--- was written.
+-- What became of a text: the part that `done` gives for the result was written. Or memory ran out or a write failed,
+-- and a prefix of the whole text was written.
 abbrev pub PutsLines : {A : Type 0} → (A → List ℕ) → List ℕ → Result A Complaint → Stream → Type 0
 PutsLines done whole (Ok x) output = Has output (done x) × (output.failed ≡ false)
 PutsLines done whole (Err (Memory error)) output = HasPrefix output whole

@@ -23,7 +23,7 @@ HasRight right output = (text : List ℕ) × right (Ok text) × Has output text
 abbrev pub HasPrefixOfRight : Right → Stream → Type 0
 HasPrefixOfRight right output = (text : List ℕ) × right (Ok text) × HasPrefix output text
 
--- how much of a text was written when a write failed, depending on whether the text was complete before
+-- how much of a text was written when a write failed, depending on whether the text was complete before any write
 abbrev pub LeavesTextPrefix : Bool → Right → Stream → Type 0
 LeavesTextPrefix true right output = HasPrefixOfRight right output
 LeavesTextPrefix false right output =

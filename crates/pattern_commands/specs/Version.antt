@@ -1,11 +1,15 @@
 -- The behaviour of `census --version`.
-use Rattle.std.specs.Prelude.{Ok, codes, true, false}
+use Rattle.std.specs.Prelude.{ℕ, List, Ok, codes, true, false}
 use Rattle.pattern_commands.specs.Answers.{Answer, only}
 use Rattle.pattern_commands.specs.Behaviours.{Behaviour, text_behaviour}
 
 -- the program's name and version, as a line
+abbrev pub version_line : List ℕ
+version_line = codes "census 0.3.0\n"
+
+-- the line is the answer
 abbrev pub version_answer : Answer
-version_answer = Ok (codes "census 0.3.0\n")
+version_answer = Ok version_line
 
 -- the behaviour of `--version`
 abbrev pub version_behaviour : Behaviour

@@ -23,7 +23,7 @@ use std::io::Write;
 /// Ends a command with `outcome`: the number of soups that are missing, or a complaint. Writes the last line of
 /// standard error, if there is one, and returns the status. If an earlier write to `errors` failed, nothing more is
 /// written. A failure to write the line is not reported.
-pub fn tell_end<E: Write>(outcome: Result<u64, Complaint>, errors: &mut Out<E>) -> Status
+pub fn end_command<E: Write>(outcome: Result<u64, Complaint>, errors: &mut Out<E>) -> Status
     requires { OnOk outcome (errors.old.failed ≡ false) }
     ensures status { result ≡ status_after outcome }
     ensures last { HasLast outcome (stream E.contents errors.old errors.new) }
@@ -35,25 +35,25 @@ pub fn tell_end<E: Write>(outcome: Result<u64, Complaint>, errors: &mut Out<E>) 
             let _ = put_missing(missing, errors);
             Status::Incomplete
         }
-        Err(complaint) => tell_complaint(complaint, errors),
+        Err(complaint) => end_with_complaint(complaint, errors),
     }
 }
 
-/// Ends a command that prints only a text, as [`tell_end`] does. No soups can be missing. No earlier write to `errors`
-/// may have failed.
-pub fn tell_end_of_text<E: Write>(outcome: Result<(), Complaint>, errors: &mut Out<E>) -> Status
+/// Ends a command that prints only a text, as [`end_command`] does. No soups can be missing. No earlier write to
+/// `errors` may have failed.
+pub fn end_text_command<E: Write>(outcome: Result<(), Complaint>, errors: &mut Out<E>) -> Status
     requires { errors.old.failed ≡ false }
     ensures status { result ≡ status_after (none_missing outcome) }
     ensures last { HasLast (none_missing outcome) (stream E.contents errors.old errors.new) }
 {
     match outcome {
-        Ok(()) => tell_end(Ok(0), errors),
-        Err(complaint) => tell_end(Err(complaint), errors),
+        Ok(()) => end_command(Ok(0), errors),
+        Err(complaint) => end_command(Err(complaint), errors),
     }
 }
 
-/// Writes the line of a complaint, unless a write failed before, and returns its status.
-fn tell_complaint<E: Write>(complaint: Complaint, errors: &mut Out<E>) -> Status
+/// Writes the line of a complaint, unless an earlier write to `errors` failed, and returns the complaint's status.
+fn end_with_complaint<E: Write>(complaint: Complaint, errors: &mut Out<E>) -> Status
     ensures status { result ≡ status_of complaint }
     ensures line { HasLine (stream E.contents errors.old errors.new) (complaint_line complaint) }
     ensures stays { errors.old.failed ≡ true → errors.new.failed ≡ true }
@@ -61,5 +61,5 @@ fn tell_complaint<E: Write>(complaint: Complaint, errors: &mut Out<E>) -> Status
     if errors.failed() {
         return complaint.status();
     }
-    complaint.tell(errors)
+    complaint.end_command(errors)
 }

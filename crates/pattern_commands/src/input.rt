@@ -28,7 +28,7 @@ pub enum InputError {
     Unreadable(ReadError),
     /// The input is longer than the limit.
     TooLong,
-    /// Memory ran out for what was read.
+    /// Memory ran out, for a read or for what was read.
     Memory(OutOfMemory),
 }
 
@@ -54,12 +54,13 @@ impl<E: Into<OutOfMemory>> From<E> for InputError {
     }
 }
 
-/// Reads all that the reader has left, up to a byte past the limit and what the last read brings beyond it.
+/// Reads all that the reader has left. If that is more than [`INPUT_LIMIT`] bytes, stops after the first read that goes
+/// past the limit.
 ///
 /// # Errors
 ///
-/// `Unreadable` if a read fails, for whatever reason; `TooLong` if there are more than [`INPUT_LIMIT`] bytes; and
-/// `Memory` if memory runs out.
+/// `TooLong` if there are more than [`INPUT_LIMIT`] bytes; `Memory` if memory runs out; and `Unreadable` if a read
+/// fails for any other reason.
 pub fn read_input<R: Read>(alloc: Global, input: &mut R) -> Result<Vec<u8>, InputError>
     ensures whole { IfOk result (λ bytes. IfSome (R.remaining input.old) (λ reader. bytes.items ≡ reader)) }
     ensures short { IfOk result (λ bytes. vec_len bytes ≤ 2 ^ 24) }
@@ -78,12 +79,12 @@ pub fn read_input<R: Read>(alloc: Global, input: &mut R) -> Result<Vec<u8>, Inpu
     Err(InputError::TooLong)
 }
 
-/// Reads once, into the beginning of a buffer, and returns the number of bytes read. In a buffer with room, 0 means
+/// Reads once, into the beginning of a buffer, and returns the number of bytes read. If the buffer isn't empty, 0 means
 /// that the input is at its end.
 ///
 /// # Errors
 ///
-/// `Unreadable` if the read fails, for whatever reason, and `Memory` if it fails because memory ran out.
+/// `Memory` if the read fails because memory ran out, and `Unreadable` if it fails for any other reason.
 pub fn read_once<R: Read>(input: &mut R, buffer: &mut Vec<u8>) -> Result<usize, InputError>
     ensures len { vec_len buffer.new ≡ vec_len buffer.old }
     ensures bound { IfOk result (λ n. n ≤ vec_len buffer.new) }

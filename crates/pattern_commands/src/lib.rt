@@ -1,8 +1,8 @@
-//! The commands over a single pattern, and how every command of the program ends.
+//! The commands for a single pattern, and how every command of the program ends.
 //!
 //! Each command is a function of plain values, a reader and writers, such as [`do_run`](run::do_run). The program reads
-//! the values from its arguments, and lends the streams of the process. The commands over sets of soups are in the
-//! crate `commands` above, which shares the complaints, the statuses and the endings.
+//! the values from its arguments, and lends the streams of the process. The commands for sets of soups are in the crate
+//! `commands`, which depends on this one and shares its complaints, statuses and endings.
 #![tactic(auto)]
 
 /// The coordinates of live cells.

@@ -20,8 +20,8 @@ ghost use Rattle.pattern_commands.specs.Streams.{stream};
 ghost use Rattle.pattern_commands.specs.TextSteps.{ReachesText};
 
 use crate::ending::complaint::Complaint;
+use crate::ending::end_text_command;
 use crate::ending::status::Status;
-use crate::ending::tell_end_of_text;
 use crate::input::read_pattern;
 use crate::profile::profile_named;
 use code_core::apgcode::Apgcode;
@@ -33,9 +33,9 @@ use std::alloc::Global;
 use std::io::{Read, Write};
 use survey_core::finding::{Finding, survey_pattern};
 
-/// Reads a plaintext pattern and writes its finding. If the pattern settles, that is the first checkpoint at which it
-/// is at rest, and then a line for each code, in ASCII order, with the number of objects that have it. Otherwise it is
-/// the line `unsettled`.
+/// Reads a plaintext pattern and writes its finding. If the pattern settles, the finding is a line with the first
+/// checkpoint at which the pattern is at rest, and then a line for each code, in ASCII order, with the number of
+/// objects that have it. Otherwise the finding is the line `unsettled`.
 ///
 /// Each number of the profile has to be in its range, and no earlier write to either writer may have failed. First the
 /// profile is checked, and then the rule. If one of them is refused, nothing of the input is read. `census name` is
@@ -67,7 +67,7 @@ pub fn do_name<R: Read, W: Write, E: Write>(
     ensures no_memory { result ≡ Status.Memory → output.new ≡ output.old }
 {
     let outcome = name(alloc, profile, rule_text, input, output);
-    tell_end_of_text(outcome, errors)
+    end_text_command(outcome, errors)
 }
 
 /// Reads the pattern, surveys it, and writes its finding.

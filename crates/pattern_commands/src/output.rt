@@ -18,8 +18,8 @@ use std::io::{BufWriter, Write};
 /// Each line is shorter than the buffer. A longer one would be written in pieces.
 pub type LineBuffer = ArrayVec<u8, 128>;
 
-/// Flushes what a command has left in the buffer, and returns the status with which the process ends. This is `status`,
-/// the command's, or `Failed` if the command printed its text and a flush of it fails.
+/// Flushes what a command has left in the buffer, and returns the status with which the process ends. This is the
+/// command's own `status`, or `Failed` if the command printed its text and the flush fails.
 ///
 /// If `status` is neither `Done` nor `Incomplete`, nothing is written, and the buffer isn't touched. The line about a
 /// failure goes to `errors`. A failure to write that line is not reported.
@@ -49,7 +49,7 @@ pub fn send_buffered<W: Write + Drop, E: Write>(
     if errors.failed() {
         return Status::Failed;
     }
-    Complaint::WriteFailed(error).tell(errors)
+    Complaint::WriteFailed(error).end_command(errors)
 }
 
 /// Checks whether a command with this status has printed its whole text.

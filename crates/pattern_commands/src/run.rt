@@ -19,8 +19,8 @@ ghost use Rattle.pattern_commands.specs.Streams.{stream};
 ghost use Rattle.pattern_commands.specs.TextSteps.{ReachesText};
 
 use crate::ending::complaint::Complaint;
+use crate::ending::end_text_command;
 use crate::ending::status::Status;
-use crate::ending::tell_end_of_text;
 use crate::input::read_pattern;
 use crate::pattern_text::put_pattern;
 use plane_core::output::Out;
@@ -64,7 +64,7 @@ pub fn do_run<R: Read, W: Write, E: Write>(
     ensures no_memory { result ≡ Status.Memory → output.new ≡ output.old }
 {
     let outcome = run(alloc, generations, form, rule_text, input, output);
-    tell_end_of_text(outcome, errors)
+    end_text_command(outcome, errors)
 }
 
 /// Reads the rule and the pattern, runs the pattern, and writes the result.
@@ -79,7 +79,8 @@ fn run<R: Read, W: Write>(
     requires generations { generations ≤ 100000 }
     requires output { output.old.failed ≡ false }
     ensures reached { (bytes : List ℕ) × IsInput (R.remaining input.old) bytes
-        × ReachesText (is_ok (rule_named rule_text.now)) true (only (run_answer form rule_text.now generations bytes)) result
+        × ReachesText (is_ok (rule_named rule_text.now)) true
+        (only (run_answer form rule_text.now generations bytes)) result
         (stream W.contents output.old output.new) }
     ensures rule_first { IfErr (rule_named rule_text.now) (λ complaint.
         (result ≡ Err complaint) × (input.new ≡ input.old)) }

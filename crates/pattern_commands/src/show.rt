@@ -17,9 +17,9 @@ ghost use Rattle.pattern_commands.specs.Streams.{stream};
 ghost use Rattle.pattern_commands.specs.TextSteps.{ReachesText};
 
 use crate::ending::complaint::Complaint;
+use crate::ending::end_text_command;
 use crate::ending::refusal::Refusal;
 use crate::ending::status::Status;
-use crate::ending::tell_end_of_text;
 use crate::pattern_text::put_pattern;
 use code_core::reader::read_wechsler;
 use plane_core::output::Out;
@@ -27,7 +27,8 @@ use requests::form::PatternForm;
 use std::alloc::Global;
 use std::io::Write;
 
-/// Writes the object of a code in a form. Its coordinates count from the corner of the code's text.
+/// Writes the object of a code in a form. The coordinates count from the top left cell of the first strip of the code's
+/// text.
 ///
 /// A code is a text in extended Wechsler format, with or without a prefix. A prefix is `xs`, `xp` or `xq`, a number and
 /// `_`. The number isn't checked. No earlier write to either writer may have failed. `census show CODE` is this call
@@ -53,7 +54,7 @@ pub fn do_show<W: Write, E: Write>(
     ensures no_memory { result ≡ Status.Memory → output.new ≡ output.old }
 {
     let outcome = show(alloc, code, form, output);
-    tell_end_of_text(outcome, errors)
+    end_text_command(outcome, errors)
 }
 
 /// Reads the pattern of a code, and writes it.

@@ -22,8 +22,8 @@ mod size;
 mod stretch;
 
 use crate::ending::complaint::Complaint;
+use crate::ending::end_text_command;
 use crate::ending::status::Status;
-use crate::ending::tell_end_of_text;
 use crate::input::read_pattern;
 use crate::run::generation_after;
 use crate::sizes::size::Size;
@@ -34,13 +34,13 @@ use plane_core::plane::rule::Rule;
 use std::alloc::Global;
 use std::io::{Read, Write};
 
-/// The most generations of a stretch. In a longer one, parts of the pattern would have to be farther apart, and then
-/// fewer parts get a board of their own.
+/// The most generations of a stretch. In a longer stretch, the parts of the pattern would have to be farther apart, so
+/// fewer parts would get a board of their own.
 const STRETCH: u32 = 16;
 
 /// Reads a plaintext pattern, and writes a line for each generation from `from` to `last`: its number, its population,
-/// and the left, top, right and bottom side of its bounding box. The coordinates are those of the input, whose first row
-/// and column are 0.
+/// and the left, top, right and bottom side of its bounding box. The coordinates are those of the input, whose first
+/// row and column are 0.
 ///
 /// `from` is at most `last`, which is at most 100,000. No earlier write to either writer may have failed. The rule is
 /// read first. If it is refused, nothing of the input is read. The lines are written while the pattern runs, so the
@@ -72,7 +72,7 @@ pub fn do_sizes<R: Read, W: Write, E: Write>(
     ensures little { HasReadAtMost (2 ^ 24 + 2 ^ 16) (R.remaining input.old) (R.remaining input.new) }
 {
     let outcome = put_sizes(alloc, from, last, rule_text, input, output);
-    tell_end_of_text(outcome, errors)
+    end_text_command(outcome, errors)
 }
 
 /// Reads the rule and the pattern, runs the pattern, and writes the lines.
@@ -88,7 +88,8 @@ fn put_sizes<R: Read, W: Write>(
     requires generations { last ≤ 100000 }
     requires output { output.old.failed ≡ false }
     ensures reached { (bytes : List ℕ) × IsInput (R.remaining input.old) bytes
-        × ReachesText (is_ok (rule_named rule_text.now)) false (only (sizes_answer rule_text.now from last bytes)) result
+        × ReachesText (is_ok (rule_named rule_text.now)) false
+        (only (sizes_answer rule_text.now from last bytes)) result
         (stream W.contents output.old output.new) }
     ensures rule_first { IfErr (rule_named rule_text.now) (λ complaint.
         (result ≡ Err complaint) × (input.new ≡ input.old)) }
@@ -121,7 +122,8 @@ fn put_sizes_of<W: Write>(
     put_later_sizes(alloc, rule, pattern, from, last, output)
 }
 
-/// Writes the lines of the generations after generation `from`, of which this is the pattern, up to generation `last`.
+/// Writes the lines of the generations after generation `from`, up to generation `last`. `pattern` is generation
+/// `from`.
 fn put_later_sizes<W: Write>(
     alloc: Global,
     rule: &Rule,
@@ -134,7 +136,8 @@ fn put_later_sizes<W: Write>(
     requires order { from ≤ last }
     requires generations { last ≤ 100000 }
     requires output { output.old.failed ≡ false }
-    ensures { PutsLines (λ _. later_sizes rule.now pattern from (last - from)) (later_sizes rule.now pattern from (last - from))
+    ensures { PutsLines (λ _. later_sizes rule.now pattern from (last - from))
+        (later_sizes rule.now pattern from (last - from))
         result (stream W.contents output.old output.new) }
 {
     let mut pattern = pattern;
@@ -148,8 +151,8 @@ fn put_later_sizes<W: Write>(
     Ok(())
 }
 
-/// Writes the lines of the generations after generation `generation`, of which this is the pattern, and returns their
-/// number, which is from 1 to `most`.
+/// Writes the lines of the next generations after generation `generation`, and returns their number, which is from 1 to
+/// `most`. `pattern` is generation `generation`.
 fn put_next_sizes<W: Write>(
     alloc: Global,
     rule: &Rule,

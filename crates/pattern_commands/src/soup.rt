@@ -10,8 +10,8 @@ ghost use Rattle.pattern_commands.specs.Streams.{stream};
 ghost use Rattle.pattern_commands.specs.TextSteps.{ReachesText};
 
 use crate::ending::complaint::Complaint;
+use crate::ending::end_text_command;
 use crate::ending::status::Status;
-use crate::ending::tell_end_of_text;
 use crate::pattern_text::put_pattern;
 use plane_core::output::Out;
 use plane_core::plane::rule::Rule;
@@ -25,8 +25,9 @@ use survey_core::soup::soup;
 
 /// Writes soup `number`, which has to be below 2^40, in a form. Its coordinates are from 0 to 15.
 ///
-/// The cells are the 256 bits of the SHA-256 digest of the seed's bytes, followed by the number in decimal. No earlier
-/// write to either writer may have failed. `census soup [--seed SEED] N` is this call with the standard streams.
+/// The cells are the 256 bits of the SHA-256 digest of a text: the seed's bytes followed by the number in decimal. No
+/// earlier write to either writer may have failed. `census soup [--seed SEED] N` is this call with the standard
+/// streams.
 ///
 /// # Errors
 ///
@@ -50,7 +51,7 @@ pub fn do_soup<W: Write, E: Write>(
     ensures no_memory { result ≡ Status.Memory → output.new ≡ output.old }
 {
     let outcome = put_soup(alloc, seed_text, number, form, output);
-    tell_end_of_text(outcome, errors)
+    end_text_command(outcome, errors)
 }
 
 /// Makes the soup, and writes it.

@@ -1,17 +1,19 @@
 //! `--version`: the program's name and version.
 
 ghost use Rattle.std.specs.Prelude.{◌≡◌, ◌≢◌, ℕ, List, Option, false, true, IfErr};
-ghost use Rattle.plane_core.specs.declared.output.WriteError.{WriteError};
+ghost use Rattle.plane_core.specs.Outputs.{Writes};
+ghost use Rattle.plane_core.specs.declared.output.WriteError.{WriteError as Fault};
 ghost use Rattle.pattern_commands.specs.Answers.{only};
 ghost use Rattle.pattern_commands.specs.Ends.{Ends};
 ghost use Rattle.pattern_commands.specs.Streams.{stream};
 ghost use Rattle.pattern_commands.specs.TextSteps.{ReachesText};
-ghost use Rattle.pattern_commands.specs.Version.{version_answer, version_behaviour};
+ghost use Rattle.pattern_commands.specs.Version.{version_answer, version_behaviour, version_line};
 
 use crate::ending::complaint::Complaint;
+use crate::ending::end_text_command;
 use crate::ending::status::Status;
-use crate::ending::tell_end_of_text;
-use plane_core::output::Out;
+use plane_core::output::{Out, WriteError};
+use requests::version::VERSION;
 use std::io::Write;
 
 /// Writes the program's name and version, as a line.
@@ -32,15 +34,25 @@ pub fn do_version<W: Write, E: Write>(output: &mut Out<W>, errors: &mut Out<E>) 
     ensures no_memory { result ≢ Status.Memory }
 {
     let outcome = put_version(output);
-    tell_end_of_text(outcome, errors)
+    end_text_command(outcome, errors)
 }
 
-/// Writes the line.
+/// Writes the line, which is the command's text.
 fn put_version<W: Write>(output: &mut Out<W>) -> Result<(), Complaint>
     requires { output.old.failed ≡ false }
     ensures reached { ReachesText false true (only version_answer) result (stream W.contents output.old output.new) }
-    ensures failed { IfErr result (λ complaint. (error : WriteError) × (complaint ≡ Complaint.WriteFailed error)) }
+    ensures failed { IfErr result (λ complaint. (error : Fault) × (complaint ≡ Complaint.WriteFailed error)) }
 {
-    output.put(b"census 0.3.0\n")?;
+    put_line(output)?;
     Ok(())
+}
+
+/// Writes the line piece by piece.
+fn put_line<W: Write>(output: &mut Out<W>) -> Result<(), WriteError>
+    requires { output.old.failed ≡ false }
+    ensures { Writes W.contents output.old output.new result version_line }
+{
+    output.put(b"census ")?;
+    output.put(VERSION.as_bytes())?;
+    output.put(b"\n")
 }

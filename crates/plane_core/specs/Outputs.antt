@@ -1,4 +1,4 @@
--- What a call has done that writes a text to a writer that may fail in the middle.
+-- What a call that writes a text has done to its writer, which may fail before the end of the text.
 use Rattle.std.specs.Prelude.{◌≡◌, Bool, List, ℕ, ◌++◌, Option, Result, is_err, OnOk, OnErr}
 use Rattle.std.specs.Io.KnownBytes.{Appends}
 

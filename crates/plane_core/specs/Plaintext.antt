@@ -1,6 +1,6 @@
 -- The pattern of a plaintext file, and the file that is written for a pattern (LifeWiki, "Plaintext").
 use Rattle.std.specs.Prelude.{◌==◌, ℕ, zero, suc, ℤ, pos, ◌+◌, ◌+ℤ◌, ◌<◌, Bool, not, ◌&&◌, ◌||◌, List, [], ◌∷◌}
-use Rattle.std.specs.Prelude.{◌++◌, Option, None, Some, Result, Ok, Err, map, filter, nat_lt, if◌then◌else◌}
+use Rattle.std.specs.Prelude.{◌++◌, Option, None, Some, Result, Ok, Err, codes, decimal, map, filter, nat_lt, if◌then◌else◌}
 use Rattle.std.specs.List.{slice_get, filter_map, flat_map}
 use Rattle.plane_core.specs.declared.plane.cell.Cell.{Cell}
 use Rattle.plane_core.specs.declared.plane.bounds.Bounds.{Bounds}
@@ -22,6 +22,11 @@ is_cell b = b == dot || is_live b
 unfoldable pub fault_at : Place → Option PlaintextFault
 fault_at p = if not (is_cell p.byte) then Some (BadByte p.line (p.x + 1))
     else (if nat_lt p.x side_limit && nat_lt p.y side_limit then None else Some TooLarge)
+
+-- the message of a fault
+abbrev pub fault_text : PlaintextFault → List ℕ
+fault_text (BadByte line column) = codes "bad byte at line " ++ decimal line ++ codes " column " ++ decimal column
+fault_text TooLarge = codes "pattern larger than 1000 by 1000"
 
 -- the first fault at some places
 unfoldable pub first_fault : List Place → Option PlaintextFault

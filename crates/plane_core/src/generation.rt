@@ -59,8 +59,8 @@ impl fmt::Debug for StepError {
 }
 
 impl StepError {
-    /// Returns the witness of an error that isn't `Edge`. This is for callers whose cells are too far from the edge of the
-    /// plane to reach it.
+    /// Returns the witness of an error that isn't `Edge`. This is for callers whose cells are too far from the edge of
+    /// the plane to reach it.
     pub fn refusal(self) -> OutOfMemory
         requires inland { self ≢ StepError.Edge }
     {

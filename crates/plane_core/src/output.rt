@@ -84,8 +84,8 @@ impl<V: Write> Out<V> {
     ///
     /// # Errors
     ///
-    /// [`WriteError`] if a write fails, for whatever reason, or takes no byte of what is left. A prefix of the piece may
-    /// have been written, and the `Out` is marked as failed.
+    /// [`WriteError`] if a write fails, for whatever reason, or takes no byte of what is left. A prefix of the piece
+    /// may have been written, and the `Out` is marked as failed.
     pub fn put(&mut self, piece: &[u8]) -> Result<(), WriteError>
         requires { self.old.failed ≡ false }
         ensures { Writes V.contents self.old self.new result piece.now }

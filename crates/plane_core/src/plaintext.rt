@@ -19,7 +19,7 @@ ghost use Rattle.plane_core.specs.plane.Cells.{IsPattern, cell_at, has};
 ghost use Rattle.plane_core.specs.declared.plane.cell.Cell.{Cell};
 ghost use Rattle.plane_core.specs.declared.plaintext.PlaintextFault.{PlaintextFault};
 ghost use Rattle.plane_core.specs.plane.Generations.{lies_within};
-ghost use Rattle.plane_core.specs.Plaintext.{is_live, first_fault, live_cells, pattern, row_text};
+ghost use Rattle.plane_core.specs.Plaintext.{fault_text, is_live, first_fault, live_cells, pattern, row_text};
 ghost use Rattle.plane_core.specs.Plaintext.{plain, FitsThousandSquare};
 ghost use Rattle.plane_core.specs.PlaintextPlaces.{byte_at, dot, is_comment, line_feed, places_of_row, places, side_limit};
 
@@ -61,6 +61,8 @@ pub enum PlaintextFault {
 }
 
 impl fmt::Display for PlaintextFault {
+    ghost output = { λ fault. Some (fault_text fault) };
+
     fn fmt<W: fmt::Write>(&self, f: &mut fmt::Formatter<W>) -> fmt::Result {
         match self {
             PlaintextFault::BadByte { line, column } => {

@@ -7,7 +7,7 @@ pub mod cell;
 /// Sums and differences of coordinates.
 pub mod coordinate;
 /// How fast patterns grow in diagonal directions.
-pub mod frontier;
+pub mod frontier_speed;
 mod list_generation;
 /// Locality: how far influence reaches in a number of generations.
 pub mod locality;

@@ -19,7 +19,7 @@ OOO........................................................................O...O
 
 const GLIDER: &[u8] = b".O\n..O\nOOO\n";
 
-/// What each orientation turns to the right and down: the signs of the columns and of the rows.
+/// Which diagonal direction each orientation turns to the lower right: the signs of its columns and of its rows.
 const WAYS: [(Orientation, i32, i32); 8] = [
     (Orientation::Same, 1, 1),
     (Orientation::Quarter, 1, -1),
@@ -39,7 +39,7 @@ fn board_of(alloc: Global, pattern: &Pattern) -> Result<Board, OutOfMemory> {
     Ok(board)
 }
 
-/// The sum of column and row that is the greatest, with these signs, of the cells that aren't gone.
+/// The greatest sum of column and row, each multiplied by its sign, of the cells that aren't in `gone`.
 fn greatest(pattern: &Pattern, gone: &Pattern, across: i32, down: i32) -> Option<i32> {
     let mut found = None;
     for cell in pattern.cells() {
@@ -137,7 +137,7 @@ fn the_frontier_is_the_greatest_sum(rt: HostRuntime) -> Result<(), Fail> {
     Ok(())
 }
 
-// Of the last glider itself nothing is left to reach anywhere.
+// The board has only the glider, so without it there is no frontier.
 #[test]
 fn a_lone_glider_has_no_frontier_without_itself(rt: HostRuntime) -> Result<(), Fail> {
     let glider = Pattern::read_plaintext(rt.alloc(), GLIDER)?;

@@ -1,4 +1,4 @@
-//! Tests of the public calls of `plane_core`. They stand in a crate of their own, so that `plane_core` is proved once.
+//! Tests of the public calls of `plane_core`. They are in a crate of their own, so that `plane_core` is proved once.
 #![tactic(auto)]
 
 #[cfg(test)]
@@ -7,6 +7,8 @@ mod boards;
 mod output;
 #[cfg(test)]
 mod pictures;
+#[cfg(test)]
+mod places;
 #[cfg(test)]
 mod runs;
 #[cfg(test)]

@@ -1,15 +1,18 @@
-//! A writer that remembers a failure, over writers that fail.
+//! Tests of `Out`, a writer that remembers a failure, around writers that fail and around a slow writer.
+use memory::OutOfMemory;
 use plane_core::output::Out;
 use std::alloc::Global;
 use std::io;
 use std::io::{ErrorKind, Write};
+use std::test::Fail;
 
-/// Takes two bytes at most in a write, and notes a flush. At its write number `bad` it has a fault: an error of this
-/// kind, or it takes nothing.
+/// A writer that takes at most `most` bytes per write, and notes a flush. At write number `bad` it has a fault: an
+/// error of this kind, or, for `None`, it takes nothing.
 #[derive(Drop)]
 struct Faulty {
     taken: Vec<u8>,
     writes: usize,
+    most: usize,
     bad: usize,
     fault: Option<ErrorKind>,
     flushed: bool,
@@ -24,7 +27,7 @@ impl Write for Faulty {
                 None => Ok(0),
             };
         }
-        let count = buf.len().min(2);
+        let count = buf.len().min(self.most);
         self.taken.extend_from_slice(&buf[..count])?;
         Ok(count)
     }
@@ -35,22 +38,28 @@ impl Write for Faulty {
     }
 }
 
-/// Puts two pieces, or the first alone if that fails.
-fn put_two(alloc: Global, bad: usize, fault: Option<ErrorKind>) -> Out<Faulty> {
-    let mut out = Out::new(Faulty {
+/// A writer that takes at most `most` bytes per write, and has a fault at write number `bad`.
+fn writer_with(alloc: Global, most: usize, bad: usize, fault: Option<ErrorKind>) -> Faulty {
+    Faulty {
         taken: Vec::new(alloc),
         writes: 0,
+        most,
         bad,
         fault,
         flushed: false,
-    });
+    }
+}
+
+/// Puts two pieces, or only the first if that fails, with two bytes per write.
+fn put_two(alloc: Global, bad: usize, fault: Option<ErrorKind>) -> Out<Faulty> {
+    let mut out = Out::new(writer_with(alloc, 2, bad, fault));
     if out.put(b"abc").is_ok() {
         let _ = out.put(b"defg");
     }
     out
 }
 
-/// What was taken before the write with this number. There are four if all goes well.
+/// What was taken before the write with this number. There are four writes if none fails.
 const PREFIXES: [(usize, &[u8]); 5] = [
     (1, b""),
     (2, b"ab"),
@@ -75,4 +84,24 @@ fn stops_at_the_first_fault(rt: HostRuntime) {
             assert!(rt; !writer.flushed, "at {bad}");
         }
     }
+}
+
+/// `count` bytes, each different from the next.
+fn bytes(alloc: Global, count: u32) -> Result<Vec<u8>, OutOfMemory> {
+    let mut bytes = Vec::new(alloc);
+    for number in 0..count {
+        bytes.push((number % 251) as u8)?;
+    }
+    Ok(bytes)
+}
+
+// No clause says that a piece isn't given up after many writes.
+#[test]
+fn puts_a_piece_in_as_many_writes_as_it_takes(rt: HostRuntime) -> Result<(), Fail> {
+    let piece = bytes(rt.alloc(), 20_000)?;
+    let mut out = Out::new(writer_with(rt.alloc(), 1, 0, None));
+    assert!(rt; out.put(piece.as_slice()).is_ok());
+    let writer = out.into_inner();
+    assert!(rt; writer.writes == 20_000 && writer.taken.as_slice() == piece.as_slice());
+    Ok(())
 }

@@ -37,7 +37,7 @@ fn turns_in_eight_orientations(rt: HostRuntime) -> Result<(), Fail> {
     Ok(())
 }
 
-// No clause says that a change is seen.
+// No clause says that `surely_changes` sees any change.
 #[test]
 fn a_row_of_seven_is_seen_to_change(rt: HostRuntime) -> Result<(), Fail> {
     let seven = Pattern::read_plaintext(rt.alloc(), b"OOOOOOO")?;

@@ -7,7 +7,7 @@ use plane_core::plane::rule::Rule;
 use std::alloc::Global;
 use std::test::Fail;
 
-/// Puts a blinker round a cell.
+/// Adds a blinker around a cell.
 fn push_blinker(
     cells: &mut Vec<Cell>,
     x: i32,
@@ -49,7 +49,8 @@ fn ends_with(ran: Result<Pattern, StepError>, wanted: &Pattern) -> bool {
     }
 }
 
-// Their box has 250,000 columns and rows, and they lie too near to each other to be run apart for long.
+// The box of the blinkers has nearly 250,000 columns and rows, and they are too close to each other to be run
+// separately for long.
 #[test]
 fn a_thousand_blinkers_on_a_diagonal_turn(rt: HostRuntime) -> Result<(), Fail> {
     let upright = diagonal(rt.alloc(), true)?;
@@ -59,7 +60,7 @@ fn a_thousand_blinkers_on_a_diagonal_turn(rt: HostRuntime) -> Result<(), Fail> {
     Ok(())
 }
 
-/// The cells of a glider that flies to the lower right, by its columns and rows.
+/// Whether a glider that flies to the lower right has a cell in this column and row.
 fn is_in_glider(x: i32, y: i32) -> bool {
     match y {
         0 => x == 1,
@@ -96,7 +97,8 @@ fn six_thousand_gliders_fly(rt: HostRuntime) -> Result<(), Fail> {
     Ok(())
 }
 
-/// The middle of a blinker that comes to the edge of the plane in the next generation, and whether it is upright.
+/// The middle of a blinker that reaches the edge of the plane in the next generation, and whether the blinker is
+/// upright.
 const AT_EDGES: [(i32, i32, bool); 4] = [
     (999_999, 0, true),
     (-999_999, 0, true),
@@ -104,7 +106,7 @@ const AT_EDGES: [(i32, i32, bool); 4] = [
     (0, -999_999, false),
 ];
 
-/// A blinker round a cell.
+/// A blinker around a cell.
 fn blinker(alloc: Global, x: i32, y: i32, is_upright: bool) -> Result<Pattern, FromCellsError> {
     let mut cells = Vec::new(alloc);
     push_blinker(&mut cells, x, y, is_upright)?;

@@ -1,5 +1,5 @@
-//! A run ends correctly, or fails because memory ran out, whichever allocation is refused. `checks/program/memory` refuses each
-//! in turn.
+//! A run ends correctly, or fails because memory ran out, whichever allocation is refused. `checks/program/memory`
+//! refuses each in turn.
 use plane_core::generation::StepError;
 use plane_core::plane::cell::Cell;
 use plane_core::plane::pattern::Pattern;
@@ -18,14 +18,15 @@ const START: [Cell; 8] = [
     Cell { y: 1, x: 900 },
 ];
 
-/// What becomes of them after 201 generations, of the blinker: it lies.
+/// What the blinker is after 201 generations: it is horizontal.
 const BLINKER: [Cell; 3] = [
     Cell { y: 0, x: 899 },
     Cell { y: 0, x: 900 },
     Cell { y: 0, x: 901 },
 ];
 
-// The glider is 50 cells further after 200 generations, and then looks as it does one after the start.
+// What the glider is after 201 generations: it is 50 cells further in both directions, and looks as it does one
+// generation after the start.
 const GLIDER: [Cell; 5] = [
     Cell { y: 51, x: 50 },
     Cell { y: 51, x: 52 },
@@ -34,7 +35,7 @@ const GLIDER: [Cell; 5] = [
     Cell { y: 53, x: 51 },
 ];
 
-/// Whether a pattern has the cells that both become, and no more.
+/// Whether a pattern has the cells that the glider and the blinker become, and no others.
 fn is_right(pattern: &Pattern) -> bool {
     pattern.population() == 8
         && BLINKER.iter().all(|cell| pattern.has(cell.x, cell.y))

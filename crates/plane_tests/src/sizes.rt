@@ -1,4 +1,4 @@
-//! Each call that takes memory, once on nothing and once on 100,000 cells: no clause says that there is enough.
+//! Each call that takes memory, once on nothing and once on 100,000 cells: no clause says that there is enough memory.
 use memory::OutOfMemory;
 use plane_core::output::Out;
 use plane_core::plane::bounds::Bounds;
@@ -48,7 +48,7 @@ fn field_text(alloc: Global) -> Result<Vec<u8>, OutOfMemory> {
 }
 
 /// Whether a call made a pattern with these cells.
-fn has_made<E: Drop>(made: Result<Pattern, E>, cells: &[Cell]) -> bool {
+pub(crate) fn has_made<E: Drop>(made: Result<Pattern, E>, cells: &[Cell]) -> bool {
     match made {
         Ok(pattern) => pattern.cells() == cells,
         Err(_) => false,
@@ -144,7 +144,7 @@ fn a_large_text_is_read_and_written(rt: HostRuntime) -> Result<(), Fail> {
     Ok(())
 }
 
-/// Two upright blinkers with 1,900,000 columns between them.
+/// Two upright blinkers, 1,900,000 columns apart.
 const FAR_BLINKERS: [Cell; 6] = [
     Cell { y: -1, x: -950_000 },
     Cell { y: 0, x: -950_000 },
@@ -154,7 +154,7 @@ const FAR_BLINKERS: [Cell; 6] = [
     Cell { y: 1, x: 950_000 },
 ];
 
-// They lie after an odd number of generations.
+// Both blinkers are horizontal after an odd number of generations.
 #[test]
 fn far_blinkers_turn(rt: HostRuntime) -> Result<(), Fail> {
     let blinkers = Pattern::from_cells(rt.alloc(), &FAR_BLINKERS)?;

@@ -43,7 +43,7 @@ pub record AreSmall (ranges : List Range) : Type 0 where
   pub below : AreBelow number_bound ranges
   pub few : size_of ranges ≤ 2 ^ 24
 
--- the next range, if there is one, begins after the place, so that the number at the place is left out
+-- the next range, if there is one, begins after `place`, so `place` is left out
 abbrev pub BeginAfter : ℕ → List Range → Type 0
 BeginAfter place [] = Unit {0}
 BeginAfter place (r ∷ more) = place < r.first

@@ -184,10 +184,7 @@ pub fn small_size(ranges: &[Range]) -> Option<u64>
     let mut size = 0;
     for range in ranges {
         let below = range.is_below();
-        if !below {
-            return None;
-        }
-        if range.count > MOST_NUMBERS - size {
+        if !below || range.count > MOST_NUMBERS - size {
             return None;
         }
         size += range.count;

@@ -63,7 +63,7 @@ impl Range {
     ///
     /// # Errors
     ///
-    /// - [`ListError::BadList`] if the text isn't that of a list, even if there is no memory. Its place is that of the
+    /// - [`ListError::BadList`] if the text isn't that of a list, even if there is no memory. The place is that of the
     ///   leftmost fault.
     /// - [`ListError::Memory`] if memory runs out.
     pub fn read_list(alloc: Global, text: &str) -> Result<Vec<Range>, ListError>
@@ -195,7 +195,7 @@ fn more_digits(first: u8, text: &[u8]) -> Option<(u64, &[u8])>
     Some((number, remainder))
 }
 
-/// Returns the number with the digit appended, or `None` if that is 2^64 or more.
+/// Returns the number with the digit appended, or `None` if the result is 2^64 or more.
 fn with_digit(number: u64, digit: u8) -> Option<u64>
     requires { digit ≤ 9 }
     ensures some { IfSome result (λ more. more ≡ 10 * number + digit) }

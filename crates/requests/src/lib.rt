@@ -7,3 +7,5 @@
 pub mod form;
 /// Plans of a census, and what they consist of.
 pub mod plan;
+/// The version of the program.
+pub mod version;

@@ -7,7 +7,8 @@ use Rattle.plane_core.specs.plane.Generations.{after}
 use Rattle.plane_core.specs.plane.Rules.{Numbers}
 use Rattle.survey_core.specs.declared.finding.Finding.{Finding}
 use Rattle.survey_core.specs.declared.finding.Finding.TheVariants.{Settled, Unsettled}
-use Rattle.survey_core.specs.shapes.Objects.{AreObjectsOf, StayForGood}
+use Rattle.survey_core.specs.shapes.ForGood.{ClustersStayForGood}
+use Rattle.survey_core.specs.shapes.Objects.{AreObjectsOf}
 use Rattle.survey_core.specs.Profiles.{IsCheckpoint, Settling}
 use Rattle.survey_core.specs.rest.Rest.{IsAtRest, RestsAs}
 
@@ -20,12 +21,12 @@ objects_in Unsettled = 0
 abbrev pub NoRestBefore : Numbers → Settling → List Cell → ℕ → Type 0
 NoRestBefore rule profile cells t = (u : ℕ) → IsCheckpoint profile u → u < t → ¬ IsAtRest rule profile (after rule cells u)
 
--- The pattern is at rest and consists of these objects, and `for_good` says whether they stay for good.
+-- The pattern is at rest and consists of these objects, and `for_good` says whether its clusters stay for good.
 pub record IsSettled (rule : Numbers) (profile : Settling) (cells : List Cell) (objects : List (List ℕ × ℕ)) (for_good : Bool) : Type 0 where
   pub clusters : List (List Cell)
   pub rest : RestsAs rule profile cells clusters
   pub counted : AreObjectsOf rule profile.period clusters objects
-  pub good : IsTrue for_good ↔ StayForGood profile.horizon objects
+  pub good : IsTrue for_good ↔ ClustersStayForGood rule profile.period profile.horizon clusters
 
 -- the finding of a pattern that settles at generation t, where `cells` is the pattern at that generation
 abbrev pub SettlesAt : Numbers → Settling → List Cell → ℕ → Finding → Type 0

@@ -3,12 +3,15 @@ use Rattle.std.specs.Prelude.{◌≡◌, ◌*◌, ◌≤◌, ◌&&◌, ℕ, Bool
 use Rattle.survey_core.specs.declared.profile.ProfileError.{ProfileError}
 use Rattle.survey_core.specs.declared.profile.ProfileError.TheVariants as error
 
--- the longest period that counts, how far the test of rest looks ahead, the distance between checkpoints, and the last
--- generation that may be a checkpoint, all in generations
+-- the numbers of a profile, in generations
 pub record Settling : Type 0 where
+  -- the longest period that counts
   pub period : ℕ
+  -- how far the test of rest looks ahead
   pub horizon : ℕ
+  -- the distance between checkpoints
   pub stride : ℕ
+  -- the last generation that may be a checkpoint
   pub limit : ℕ
 
 -- the ranges of the four numbers: this project's choice

@@ -1,4 +1,5 @@
 pub mod Envelopes
+pub mod ForGood
 pub mod Memos
 pub mod Objects
 pub mod RecurringShapes

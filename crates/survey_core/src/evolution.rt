@@ -30,7 +30,7 @@ pub(crate) mod split_pattern;
 
 use crate::evolution::spare_board::SpareBoard;
 use crate::evolution::split_pattern::{LATEST_TIME, SplitPattern, whole};
-use crate::patterns::run_on;
+use crate::far_from_edge::run_on;
 use crate::profile::Profile;
 use crate::shapes::memo::Memo;
 use memory::OutOfMemory;
@@ -79,8 +79,8 @@ impl Evolution {
         }
     }
 
-    /// Returns `true` only if the pattern is the same again after every even number of generations. `false` says
-    /// nothing.
+    /// Returns `true` only if the pattern is the same again after every even number of generations, so a pattern of
+    /// period 2, such as a blinker, may be still. `false` says nothing.
     pub(crate) fn is_still(&self) -> bool
         ensures { IsTrue result → (rule : Numbers) → IsKept rule self.now
             → (n : ℕ) → n % 2 ≡ 0 → after rule (kept rule self.now) n ≡ kept rule self.now }

@@ -8,18 +8,18 @@
 //! evolution      a pattern between two checkpoints, as a list or on a board without its escaped spaceships
 //! rest           whether a pattern is at rest
 //! shapes         what is known of a cluster: how it recurs, its envelope, its apgcode
-//! patterns       patterns far from the edge of the plane, where no step fails
+//! far_from_edge  patterns far from the edge of the plane, where no step fails
 //! ```
 #![tactic(auto)]
 
 /// A pattern between two checkpoints.
 pub mod evolution;
+/// Patterns far from the edge of the plane, where no step fails.
+mod far_from_edge;
 /// What a survey finds.
 pub mod finding;
 /// Seed, profile and rule together.
 pub mod job;
-/// Patterns far from the edge of the plane.
-mod patterns;
 /// When a pattern counts as settled.
 pub mod profile;
 /// When a pattern is at rest.

@@ -36,7 +36,7 @@ mod alone;
 /// Groups of clusters that may meet.
 mod groups;
 
-use crate::patterns::{are_same, next};
+use crate::far_from_edge::{are_same, next};
 use crate::profile::Profile;
 use crate::rest::alone::{Alone, have_recurred, joined, lie_apart, step_each};
 use crate::rest::groups::groups;

@@ -14,8 +14,8 @@ ghost use Rattle.plane_core.specs.plane.Bounds.{IsWithin};
 ghost use Rattle.survey_core.specs.Soups.{SoupsByCells, is_alive_at, soup, soup_of, square};
 ghost use Rattle.survey_core.specs.Soups.{square_cell};
 
+use crate::far_from_edge::pattern_of;
 use crate::job::Job;
-use crate::patterns::pattern_of;
 use itoa::Buffer;
 use memory::OutOfMemory;
 use plane_core::plane::cell::Cell;

@@ -142,16 +142,14 @@ fn examine(
         checkpoint known_restless.old }
     ensures settled { IfOk result
         (λ found. IfSome found (SettlesAt rule.now profile.now (kept rule.now evolution.now) checkpoint)) }
-    ensures moves { IfOk result (λ found. IfNone found (¬ IsAtRest rule.now profile.now (kept rule.now evolution.now))) }
+    ensures moves { IfOk result
+        (λ found. IfNone found (¬ IsAtRest rule.now profile.now (kept rule.now evolution.now))) }
     ensures few { IfOk result (λ found. IfSome found (λ finding. objects_in finding < 2 ^ 64)) }
     ensures known_restless { OnOk result (AreKnownRestless rule.now profile.now (kept rule.now evolution.now)
         checkpoint known_restless.new) }
 {
     let parity = (checkpoint % 2) as usize;
-    if known_restless[parity] {
-        return Ok(None);
-    }
-    if evolution.surely_moves(rule, profile) {
+    if known_restless[parity] || evolution.surely_moves(rule, profile) {
         return Ok(None);
     }
     let latest = evolution.pattern_now(alloc, rule)?;

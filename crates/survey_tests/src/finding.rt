@@ -22,12 +22,12 @@ fn drawn(alloc: Global, picture: &str) -> Result<Pattern, PlaintextError>
     Ok(pattern)
 }
 
-/// The profile under which only the start is looked at.
+/// A profile whose only checkpoint is generation 0.
 fn at_once(period: u32, horizon: u32) -> Result<Profile, Fail> {
     Ok(Profile::new(period, horizon, 1, 0)?)
 }
 
-/// Whether it settled at this checkpoint, and whether for good.
+/// Whether the pattern settled at this checkpoint: for good if `good`, and otherwise not for good.
 fn is_settled(finding: &Finding, at: u32, good: bool) -> bool {
     match finding {
         Finding::Settled {
@@ -39,7 +39,7 @@ fn is_settled(finding: &Finding, at: u32, good: bool) -> bool {
     }
 }
 
-/// Whether a picture is at rest in Life at once, and for good or not.
+/// Whether a picture is at rest in Life in generation 0: for good if `good`, and otherwise not for good.
 fn rests(alloc: Global, picture: &str, profile: Profile, good: bool) -> Result<bool, Fail> {
     let pattern = drawn(alloc, picture)?;
     let finding = survey_pattern(alloc, &profile, &Rule::life(), pattern)?;
@@ -63,7 +63,7 @@ const PULSAR_AND_BLINKER: &str =
                                   .O.O.O.O.O.O.\n..OOO...OOO..\n.............\n..OOO...OOO..\n.O.O.O.O.O.O.\n\
                                   OOO.OO.OO.OOO\nO..O.O.O.O..O\n...OO...OO...\n..OO.....OO..";
 
-// Periods of 3 and 2: only after 6 generations are both themselves again.
+// The periods are 3 and 2, so both are themselves again only after 6 generations.
 #[test]
 fn knows_what_stays_once_all_has_come_back(rt: HostRuntime) -> Result<(), Fail> {
     assert!(rt; rests(rt.alloc(), PULSAR_AND_BLINKER, at_once(3, 3)?, false)?);
@@ -71,7 +71,8 @@ fn knows_what_stays_once_all_has_come_back(rt: HostRuntime) -> Result<(), Fail> 
     Ok(())
 }
 
-/// So many upright lines, two empty columns apart: the first has one cell, and each one more than that before.
+/// `count` upright lines, two empty columns apart: the first has one cell, and each further line has one more than the
+/// line before.
 fn lines(alloc: Global, count: usize) -> Result<String, OutOfMemory> {
     let mut picture = String::new(alloc);
     for row in 0..count {
@@ -83,7 +84,7 @@ fn lines(alloc: Global, count: usize) -> Result<String, OutOfMemory> {
     Ok(picture)
 }
 
-/// How many codes it has, if it settled.
+/// How many codes the finding has, if the pattern settled.
 fn code_count(finding: &Finding) -> Option<usize> {
     match finding {
         Finding::Settled { objects, .. } => Some(objects.as_slice().len()),
@@ -120,7 +121,7 @@ fn of_soup(alloc: Global, profile: Profile, number: u64) -> Result<Finding, Fail
     Ok(survey(alloc, &job, number)?)
 }
 
-// The findings were made by another program, which was written from the definitions alone in another language.
+// The findings were computed by another program, which was written only from the definitions, in another language.
 #[test]
 fn surveys_soups(rt: HostRuntime) -> Result<(), Fail> {
     let profile = Profile::standard();
@@ -129,7 +130,7 @@ fn surveys_soups(rt: HostRuntime) -> Result<(), Fail> {
     Ok(())
 }
 
-// No pattern recurs after one generation but a still life, and no soup is one.
+// Only a still life recurs after one generation, and this soup isn't one.
 #[test]
 fn leaves_a_soup_unsettled(rt: HostRuntime) -> Result<(), Fail> {
     let finding = of_soup(rt.alloc(), at_once(1, 1)?, 0)?;

@@ -1,8 +1,9 @@
-//! Tests of the public calls of `survey_core`. They stand in a crate of their own, so that `survey_core` is proved
-//! once.
+//! Tests of the public calls of `survey_core`. They are in a crate of their own, so that `survey_core` is proved once.
 #![tactic(auto)]
 
 #[cfg(test)]
 mod finding;
+#[cfg(test)]
+mod profile;
 #[cfg(test)]
 mod soup;

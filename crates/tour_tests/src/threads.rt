@@ -53,18 +53,27 @@ fn draws_numbers(rt: HostRuntime) -> Result<(), Fail> {
     Ok(())
 }
 
-/// Sends a note over a belt with room for four notes, and returns what is received.
-fn received<R: Wait>(alloc: Global, rt: &R) -> Result<u32, Fail> {
+/// Sends two notes over a belt with room for four, and receives one. Returns it, the note that is left when the belt is
+/// closed, and what is left after that.
+fn received_and_left<R: Wait>(
+    alloc: Global,
+    rt: &R,
+) -> Result<(u32, Option<u32>, Option<u32>), Fail> {
     let (belt, mut senders, mut receiver) = Belt::open(alloc, 4, 1)?;
     let Some(mut sender) = senders.pop() else {
         return Err(Fail::new("there is a sender"));
     };
     belt.present(rt, &mut sender, 7);
-    Ok(belt.receive(rt, &mut receiver))
+    belt.present(rt, &mut sender, 8);
+    let received = belt.receive(rt, &mut receiver);
+    senders.push(sender)?;
+    let mut left = belt.gather(senders, receiver);
+    let next = left.next(rt);
+    Ok((received, next, left.next(rt)))
 }
 
 #[test]
-fn sends_a_note(rt: HostRuntime) -> Result<(), Fail> {
-    assert!(rt; received(rt.alloc(), &rt)? == 7);
+fn sends_notes(rt: HostRuntime) -> Result<(), Fail> {
+    assert!(rt; received_and_left(rt.alloc(), &rt)? == (7, Some(8), None));
     Ok(())
 }

@@ -42,7 +42,8 @@ SEARCH = Command(
         option(
             "--part",
             "N",
-            "run N soups per batch, 1 to 16777216 (default: 100000). A batch that is dropped is lost",
+            "run N soups per batch, 1 to 16777216 (default: 100000). The next search runs a batch "
+            "again that was dropped",
             read_within(1, NUMBERS_IN_A_CALL),
             100_000,
         ),

@@ -143,7 +143,7 @@ PAGE = Command(
             "--play",
             "N",
             "ask `census` when the sample soups of the first N objects settle, so that they play "
-            "until then; strict objects come first (default: 500)",
+            "until then; parts come first (default: 500)",
             read_count,
             500,
         ),

@@ -1,6 +1,6 @@
 """The places in which a module can be changed, and the changes that no test can notice.
 
-A change that is equal to the original stands as a comment above its line:
+If changes of a line are equal to the original, a comment above the line says so:
 
     # mutant: equal because no period is above the standard horizon
     # 2 mutants: equal because both forms have the same three digits

@@ -54,7 +54,7 @@ def make_copy(copy: Path) -> None:
     (copy / "bin" / "census").write_text(f'#!/bin/sh\nexec "{PROGRAM}" "$@"\n')
     (copy / "bin" / "census").chmod(0o755)
     (copy / "crates" / "census" / "out" / "census").symlink_to(PROGRAM)
-    for folder in ("docs", "examples"):
+    for folder in ("docs", "examples", "reference"):
         (copy / folder).symlink_to(TOP / folder)
 
 
@@ -74,6 +74,13 @@ def try_all(trials: list[Trial], workers: int) -> Iterator[str | None]:
         # A process with running threads can't be forked in this way.
         with get_context("fork").Pool(workers, load_libraries, [compiled]) as pool:
             yield from pool.imap(partial(find_noticing_test, compiled), trials)
+
+
+def find_failing_tests(unchanged: Trial, workers: int) -> list[str]:
+    """Returns the tests that fail on the unchanged file. They would seem to notice every change."""
+    trials = [unchanged._replace(tests={test: took}) for test, took in unchanged.tests.items()]
+    seen = try_all(trials, workers)
+    return [test for test, found in zip(unchanged.tests, seen, strict=True) if found is not None]
 
 
 def find_noticing_test(compiled: str, trial: Trial) -> str | None:

@@ -14,12 +14,12 @@ pub struct Census {
     pub count: u64,
     /// The number of soups that were taken.
     pub soups: u64,
-    /// The number of these that are unsettled.
+    /// The number of taken soups that are unsettled.
     pub unsettled: u64,
-    /// The number of these whose objects stay for good.
+    /// The number of taken soups whose objects stay for good.
     pub for_good: u64,
-    /// The number of objects that they left: the sum of all totals.
+    /// The number of objects that the taken soups left: the sum of all totals.
     pub objects: u128,
-    /// A row for each code that they left.
+    /// A row for each code of these objects.
     pub rows: Rows,
 }

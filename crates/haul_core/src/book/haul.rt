@@ -103,7 +103,7 @@ impl<E: Into<OutOfMemory>> From<E> for OpenError {
     }
 }
 
-/// The soups of a job that have been taken, the worker of each, and the totals over them.
+/// The soups of a job that have been taken, the worker of each, and the totals of their objects.
 ///
 /// A haul is opened for a job, a set of soup numbers and a number of workers. It takes each number of its set at most
 /// once. Contracts see what it was opened for, whether it is closed, and the worker and number of each report taken.
@@ -217,7 +217,7 @@ impl Haul {
     ///
     /// # Errors
     ///
-    /// [`AlreadyClosed`] if it is closed.
+    /// [`AlreadyClosed`] if the haul was closed before.
     pub fn close(&mut self) -> Result<(), AlreadyClosed>
         ensures reply { (arrivals : List Arrival) → StandsFor arrivals self.old → is_err result ≡ has_closing arrivals }
         ensures stands { (arrivals : List Arrival) → StandsFor arrivals self.old
@@ -348,11 +348,17 @@ impl Haul {
 
     /// Returns the census of the soups that were taken, whether the haul is open or closed.
     ///
+    /// A haul that was opened has at most 2^24 soups, so it has fewer than 2^88 objects. A joined haul has at most 2^40
+    /// soups, so it has fewer than 2^104 objects.
+    ///
     /// # Errors
     ///
     /// [`OutOfMemory`] if memory runs out.
     pub fn census(&self) -> Result<Census, OutOfMemory>
-        ensures { IfOk result (IsCensus self.now.terms.job self.now.terms.ranges (numbers_in self.now.taken)) }
+        ensures counted { IfOk result
+            (IsCensus self.now.terms.job self.now.terms.ranges (numbers_in self.now.taken)) }
+        ensures bounded { IfOk result (λ census. census.objects < 2 ^ 104) }
+        ensures bounded_opened { IfOk result (λ census. census.soups ≤ 2 ^ 24 → census.objects < 2 ^ 88) }
     {
         let Haul {
             alloc,
@@ -426,7 +432,7 @@ impl Haul {
         Ok(())
     }
 
-    /// Returns why a report is refused, or `None` if it is taken unless memory runs out.
+    /// Returns why a report is refused, or `None` if only a lack of memory can prevent it from being taken.
     fn refusal(&self, report: &Report) -> Option<OfferError>
         ensures { result ≡ refusal_at self.now report.now }
     {

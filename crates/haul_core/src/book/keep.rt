@@ -15,7 +15,7 @@ use std::alloc::Global;
 /// Passes arrivals to a haul one after another, and returns the replies in order.
 ///
 /// Whatever arrived before, and in whatever order reports arrive, the haul takes each number of its set at most once,
-/// and keeps each worker's reports in the order in which they were offered. It refuses doubles, reports of another job,
+/// and lists each worker's soups in the order in which they were offered. It refuses doubles, reports of another job,
 /// of an unknown worker or of a number outside the set, and everything after a closing, each with its reason.
 ///
 /// # Errors

@@ -5,7 +5,7 @@ use memory::OutOfMemory;
 use std::fmt;
 use thiserror::Error;
 
-/// Why a report is refused.
+/// Why a report is refused. `census gather` has words of its own for these, some of which also name the soup.
 #[derive(Clone, Copy, PartialEq, Eq, Error)]
 pub enum OfferError {
     /// The haul is closed.

@@ -11,7 +11,7 @@ ghost use Rattle.haul_core.specs.Samples.{IsAscending, LeastThreeAreDetermined};
 
 use std::marker::Model;
 
-/// The most samples of a code, enough to look at more than one.
+/// The most samples of a code: enough to look at more than one soup.
 pub const MOST_SAMPLES: usize = 3;
 
 /// The three lowest numbers of soups that left an object, ascending, or all numbers if there are fewer.
@@ -74,8 +74,8 @@ impl Samples {
         least
     }
 
-    /// Returns the three lowest of these numbers and `number`. The number is inserted in order, and if there are four
-    /// then, the highest is dropped.
+    /// Returns the three lowest of these numbers and `number`. The number is inserted in order. If that makes four
+    /// numbers, the highest is dropped.
     pub(crate) fn with_number(&self, number: u64) -> Samples
         ensures { result ≡ take 3 (with_number number self.now) }
     {
@@ -96,7 +96,7 @@ impl Samples {
     }
 }
 
-/// The law that a list of numbers has one list of its three lowest.
+/// The law that a list of numbers has only one list of its three lowest numbers.
 pub fn least_three_are_determined()
     ensures { LeastThreeAreDetermined }
 {}

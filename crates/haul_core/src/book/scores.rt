@@ -27,18 +27,18 @@ use survey_core::finding::Finding;
 pub(crate) struct Score {
     /// The number of objects that have the code.
     pub(crate) total: u128,
-    /// The three lowest numbers of soups that have one.
+    /// The three lowest numbers of soups that left such an object.
     pub(crate) samples: Samples,
 }
 
 /// The totals over the surveyed soups.
 #[derive(Drop)]
 pub(crate) struct Totals {
-    /// A score for each code that one of them left, and perhaps some with total 0.
+    /// A score for each code of an object that one of the soups left, and perhaps further scores with total 0.
     pub(crate) scores: IndexMap<Apgcode, Score>,
     /// The number of unsettled soups.
     pub(crate) unsettled: u64,
-    /// The number of soups that stay for good.
+    /// The number of soups whose objects stay for good.
     pub(crate) for_good: u64,
 }
 
@@ -56,7 +56,8 @@ impl Totals {
         }
     }
 
-    /// Makes a score for each code of a finding that has none. If there is no memory, the scores are unchanged.
+    /// Makes a blank score for each code of the finding that doesn't have a score yet. If there is no memory, the
+    /// scores are unchanged.
     pub(crate) fn make_room(&mut self, alloc: Global, finding: &Finding) -> Result<(), OutOfMemory>
         ensures extends { Extends self.old.scores.entries self.new.scores.entries }
         ensures scores { OnOk result (HasScores finding.now self.new.scores.entries) }
@@ -71,7 +72,7 @@ impl Totals {
         }
     }
 
-    /// Returns the totals over the soups of both.
+    /// Returns the totals over the soups of both totals.
     pub(crate) fn joined(&self, alloc: Global, other: &Totals) -> Result<Totals, OutOfMemory>
         requires room { (code : List ℕ)
             → (score_in self.now.scores.entries code).total + (score_in other.now.scores.entries code).total < 2 ^ 128 }
@@ -131,7 +132,7 @@ impl Score {
         }
     }
 
-    /// Returns the score over the soups of both.
+    /// Returns the score over the soups of both scores.
     fn joined(&self, other: &Score) -> Score
         requires { self.now.total + other.now.total < 2 ^ 128 }
         ensures { result ≡ together self.now other.now }
@@ -208,7 +209,7 @@ fn put_together(scores: &mut IndexMap<Apgcode, Score>, code: &Apgcode, score: &S
     scores[index] = joined;
 }
 
-/// Makes a score for each code that has none. If there is no memory, the scores are unchanged.
+/// Makes a blank score for each code that doesn't have a score yet. If there is no memory, the scores are unchanged.
 pub(crate) fn make_scores(
     alloc: Global,
     scores: &mut IndexMap<Apgcode, Score>,
@@ -226,7 +227,7 @@ pub(crate) fn make_scores(
     made
 }
 
-/// Makes a score for each code that has none. If there is no memory, some of them have been made.
+/// Makes a blank score for each code that doesn't have a score yet. If there is no memory, some of them have been made.
 fn make_each_score(
     alloc: Global,
     scores: &mut IndexMap<Apgcode, Score>,

@@ -41,7 +41,7 @@ impl Model for Claim {
 }
 
 impl Claim {
-    /// Returns the version of the line, 1 or 2. Version 1 has no mark.
+    /// Returns the version of the line, 1 or 2. A line of version 1 doesn't say whether the objects stay for good.
     pub fn version(&self) -> u8
         ensures version { result ≡ self.now.version }
         ensures claim { IsClaim self.now }

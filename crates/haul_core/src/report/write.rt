@@ -82,7 +82,7 @@ fn put_finding<W: Write>(out: &mut Out<W>, finding: &Finding) -> Result<(), Writ
     }
 }
 
-/// Writes whether objects stay for good, with a space before it.
+/// Writes the field that says whether the objects stay for good, with a space before it.
 #[tactic(auto, unfolding(crate::specs::ReportLines::mark_field, crate::specs::ReportLines::mark_fields))]
 fn put_mark<W: Write>(out: &mut Out<W>, for_good: bool) -> Result<(), WriteError>
     requires { out.old.failed ≡ false }

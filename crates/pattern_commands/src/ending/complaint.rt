@@ -28,7 +28,7 @@ pub enum Complaint {
     Memory(OutOfMemory),
     /// A read failed.
     ReadFailed(ReadError),
-    /// The input is longer than a command reads. It is reported as a failed read.
+    /// The input is longer than the command may read. This is reported as a failed read.
     TooLong,
     /// A write to standard output failed.
     WriteFailed(WriteError),
@@ -74,7 +74,7 @@ impl Complaint {
     }
 
     /// Writes the line and returns the status. A failure to write the line is not reported.
-    pub fn tell<E: Write>(self, errors: &mut Out<E>) -> Status
+    pub fn end_command<E: Write>(self, errors: &mut Out<E>) -> Status
         requires { errors.old.failed ≡ false }
         ensures status { result ≡ status_of self }
         ensures line { HasLine (stream E.contents errors.old errors.new) (complaint_line self) }

@@ -2,7 +2,7 @@
 
 ghost use Rattle.std.specs.Prelude.{◌≡◌, false};
 ghost use Rattle.plane_core.specs.Outputs.{Writes};
-ghost use Rattle.pattern_commands.specs.Complaints.{error_line, text_told};
+ghost use Rattle.pattern_commands.specs.Complaints.{error_line, text_of_error};
 
 use crate::ending::complaint::Complaint;
 use crate::output::LineBuffer;
@@ -27,7 +27,7 @@ impl ErrorText {
     /// [`WriteError`] if a write fails.
     pub(crate) fn write_line<E: Write>(self, errors: &mut Out<E>) -> Result<(), WriteError>
         requires { errors.old.failed ≡ false }
-        ensures { Writes E.contents errors.old errors.new result (error_line (text_told self)) }
+        ensures { Writes E.contents errors.old errors.new result (error_line (text_of_error self)) }
     {
         let mut line = Out::new(LineBuffer::new());
         match self.put_line(&mut line) {
@@ -39,7 +39,7 @@ impl ErrorText {
     /// Writes the line piece by piece.
     fn put_line<E: Write>(self, errors: &mut Out<E>) -> Result<(), WriteError>
         requires { errors.old.failed ≡ false }
-        ensures { Writes E.contents errors.old errors.new result (error_line (text_told self)) }
+        ensures { Writes E.contents errors.old errors.new result (error_line (text_of_error self)) }
     {
         errors.put(b"census: ")?;
         self.put_text(errors)?;
@@ -49,7 +49,7 @@ impl ErrorText {
     /// Writes the text piece by piece.
     fn put_text<E: Write>(self, errors: &mut Out<E>) -> Result<(), WriteError>
         requires { errors.old.failed ≡ false }
-        ensures { Writes E.contents errors.old errors.new result (text_told self) }
+        ensures { Writes E.contents errors.old errors.new result (text_of_error self) }
     {
         match self {
             ErrorText::Complaint(complaint) => complaint.put_text(errors),
@@ -61,7 +61,7 @@ impl ErrorText {
 /// Writes how many soups are missing.
 fn put_missing_text<E: Write>(missing: u64, errors: &mut Out<E>) -> Result<(), WriteError>
     requires { errors.old.failed ≡ false }
-    ensures { Writes E.contents errors.old errors.new result (text_told (ErrorText.Missing missing)) }
+    ensures { Writes E.contents errors.old errors.new result (text_of_error (ErrorText.Missing missing)) }
 {
     put_number(errors, b"incomplete, ", missing)?;
     errors.put(b" missing")

@@ -1,4 +1,4 @@
-//! Why a text or an input is refused, and the line that says so.
+//! Why a text or an input is refused, and the words that say so. `error_line` makes a line of them.
 
 ghost use Rattle.std.specs.Prelude.{◌≡◌, false};
 ghost use Rattle.plane_core.specs.Outputs.{Writes};
@@ -8,7 +8,7 @@ use code_core::decimal::put_number;
 use plane_core::output::{Out, WriteError};
 use std::io::Write;
 
-/// Why a text was refused: it isn't of its form, goes past a limit, or has parts that don't fit together.
+/// Why a text was refused: it doesn't have the required form, goes past a limit, or has parts that don't fit together.
 #[derive(Clone, Copy)]
 pub enum Refusal {
     /// A byte of a plaintext pattern that isn't allowed there. Lines and columns count from 1.
@@ -35,12 +35,12 @@ pub enum Refusal {
     SeedBadByte { place: usize },
     /// A profile whose horizon is below its period.
     HorizonBelowPeriod,
-    /// A list of ranges whose byte at `place` isn't allowed there, or that ends there too early. Places count bytes
-    /// from 0.
+    /// A list of ranges with a fault at `place`: a byte that isn't allowed there, an end that comes too early, or a
+    /// decimal of 2^64 or more that begins there. Places count bytes from 0.
     BadList { place: usize },
-    /// Ranges that have more than 2^24 numbers together, or one of which ends past 2^40.
+    /// Ranges that have more than 2^24 numbers together, or a range that ends past 2^40.
     RangeTooLarge,
-    /// Ranges two of which share a number.
+    /// Two ranges that share a number.
     RangesOverlap,
 }
 

@@ -6,7 +6,7 @@
 //! .O....
 //! OO....        part 0
 //! ......
-//! ......        more than 2n rows without a cell: the parts don't meet for n generations
+//! ......        at least 2n rows without a cell: the parts don't meet for n generations
 //! ......
 //! ...OO.        part 1
 //! ```
@@ -23,8 +23,8 @@ use plane_core::plane::pattern::{FromCellsError, Pattern};
 use plane_core::plane::rule::Rule;
 use std::alloc::Global;
 
-/// Makes a board for each part of a pattern, with room for `generations` generations. Returns `None` if a board isn't
-/// worth it for some part.
+/// Makes a board for each part of a pattern, with room for `generations` generations. Returns `None` if
+/// [`Board::around`] makes no board for some part.
 pub(crate) fn boards_for(
     alloc: Global,
     rule: &Rule,
@@ -48,8 +48,8 @@ pub(crate) fn boards_for(
     Ok(Some(boards))
 }
 
-/// Returns the end of the part that begins at place `from`: the first later place whose row is more than `far` below
-/// the row before it.
+/// Returns the end of the part that begins at place `from`: the first later place whose cell is more than `far` rows
+/// below the cell before it, or the number of cells if there is none.
 fn part_end(cells: &[Cell], from: usize, far: u32) -> usize
     requires order { InOrder cells.now }
     requires from { from < length cells.now }
@@ -112,7 +112,8 @@ pub(crate) fn advance_each(boards: &mut [Board]) -> Result<bool, OutOfMemory>
 
 /// Returns the size of all boards' cells together, or `None` if they have more cells than can be counted.
 pub(crate) fn size_together(alloc: Global, boards: &[Board]) -> Result<Option<Size>, OutOfMemory>
-    ensures { IfOk result (λ found. IfSome found (λ size. size ≡ pattern_size (flat_map (λ board. board.cells) boards.now))) }
+    ensures { IfOk result
+        (λ found. IfSome found (λ size. size ≡ pattern_size (flat_map (λ board. board.cells) boards.now))) }
 {
     let mut together = Size::none();
     for board in boards {

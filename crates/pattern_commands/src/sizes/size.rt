@@ -43,9 +43,10 @@ impl Size {
         }
     }
 
-    /// Returns the size of two lists of cells in a row, or `None` if they have more cells than can be counted.
+    /// Returns the size of two lists of cells together, or `None` if they have more cells than can be counted.
     pub(crate) fn joined(self, other: Size) -> Option<Size>
-        ensures { IfSome result (λ size. (cells others : List Cell) → self ≡ pattern_size cells → other ≡ pattern_size others
+        ensures { IfSome result (λ size. (cells others : List Cell)
+            → self ≡ pattern_size cells → other ≡ pattern_size others
             → size ≡ pattern_size (cells ++ others)) }
     {
         let population = self.population.checked_add(other.population)?;
@@ -71,7 +72,7 @@ impl Size {
     }
 }
 
-/// Returns the smallest box around the cells of two boxes, either of which may have none.
+/// Returns the smallest box around two boxes. `None` is the box of no cells.
 fn joined(one: Option<Bounds>, other: Option<Bounds>) -> Option<Bounds>
     ensures { (cells others : List Cell) → one ≡ box_of cells → other ≡ box_of others
         → result ≡ box_of (cells ++ others) }

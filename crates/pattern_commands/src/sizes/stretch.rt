@@ -17,8 +17,8 @@ use plane_core::plane::rule::Rule;
 use std::alloc::Global;
 use std::io::Write;
 
-/// Writes the lines of the next generations of a pattern, which is generation `generation`, and returns their number.
-/// It is at most `most`, and 0 if boards aren't worth it.
+/// Writes the lines of the next generations of a pattern, and returns their number, which is at most `most`, and 0 if
+/// boards aren't worth it. `pattern` is generation `generation`.
 pub(crate) fn put_stretch<W: Write>(
     alloc: Global,
     rule: &Rule,
@@ -40,8 +40,8 @@ pub(crate) fn put_stretch<W: Write>(
     put_board_sizes(alloc, boards.as_mut_slice(), generation, most, output)
 }
 
-/// Advances boards that are generation `generation` of a pattern, and writes the line of each generation. Returns the
-/// number of lines, which is at most `most`.
+/// Advances boards that together show generation `generation` of a pattern, and writes the line of each generation.
+/// Returns the number of lines, which is at most `most`.
 fn put_board_sizes<W: Write>(
     alloc: Global,
     boards: &mut [Board],

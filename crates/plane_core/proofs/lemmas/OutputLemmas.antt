@@ -69,10 +69,3 @@ module _ {V : Type 0} {contents : V → Option (List ℕ)} where
   -- what is written is known by an equation
   pub Writes_same : {E : Type 0} {x y : Output V} {r : Result (Unit {0}) E} {a b : List ℕ} → a ≡ b → Writes contents x y r a → Writes contents x y r b
   Writes_same {x} {y} {r} e p = let P : List ℕ → Type 0 = λ text. Writes contents x y r text in subst P e p
-
--- bytes that grew by a text and were kept then grew by it
-pub Appends-kept : (x y z : Option (List ℕ)) (a : List ℕ) → Appends x y a → Keeps y z → Appends x z a
-Appends-kept None y z a p q = tt
-Appends-kept (Some xs) None z a p q = absurd p
-Appends-kept (Some xs) (Some ys) None a p q = absurd q
-Appends-kept (Some xs) (Some ys) (Some zs) a p q = q ∙ p

@@ -13,7 +13,7 @@ pub record IsFollowed (rule : Numbers) (n : ℕ) (start now : List (List ℕ)) (
   pub held : (cells : List Cell) (left top : ℤ) → Holds n left top start cells → Holds n left top now (after rule cells made)
   pub new : (cells : List Cell) (left top : ℤ) → Holds n left top start cells → NeverRecurs rule cells made
 
--- what the end of following a pattern says about the pattern that the first window holds
+-- what the outcome of following a pattern says about the pattern that the first window holds
 abbrev pub EndsInWindow : Followed → Numbers → ℕ → List (List ℕ) → List (List ℕ) → ℕ → Type 0
 EndsInWindow NeverAgain rule n start now most = (cells : List Cell) (left top : ℤ) → Holds n left top start cells → NeverRecurs rule cells most
 EndsInWindow PerhapsAgain rule n start now most = ⊤

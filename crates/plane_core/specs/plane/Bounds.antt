@@ -72,7 +72,7 @@ at_corner cells = cornered (box_of cells) cells
 
 -- What is found is a displacement that moves S to T, if there is one. There is at most one, unless both are empty. In
 -- that case, it is (0, 0).
-pub record TellsShift (S T : List Cell) (found : Option (ℤ × ℤ)) : Type 0 where
+pub record FindsShift (S T : List Cell) (found : Option (ℤ × ℤ)) : Type 0 where
   pub some : IfSome found (λ v. shifted v.0 v.1 S ≡ T)
   pub none : IfNone found ((dx dy : ℤ) → shifted dx dy S ≢ T)
   pub only : (dx dy : ℤ) → S ≢ [] → shifted dx dy S ≡ T → found ≡ Some (dx, dy)

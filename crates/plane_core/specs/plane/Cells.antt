@@ -43,7 +43,7 @@ king_distance a b = max (distance a.x b.x) (distance a.y b.y)
 abbrev pub moved_by : ℤ → ℤ → Cell → Cell
 moved_by dx dy c = cell_at (c.x +ℤ dx) (c.y +ℤ dy)
 
--- a list in order with c put in its place, unless c is there already
+-- a list that is in order, with c inserted at its place unless it is there already
 abbrev pub put : Cell → List Cell → List Cell
 put c [] = c ∷ []
 put c (d ∷ ds) = match_ordering (cell_cmp c d) (c ∷ d ∷ ds) (d ∷ ds) (d ∷ put c ds)

@@ -29,7 +29,7 @@ triple c = moved_by (negsuc 0) (pos 0) c ∷ c ∷ moved_by (pos 1) (pos 0) c �
 abbrev pub neighbourhood : Cell → List Cell
 neighbourhood c = flat_map triple (moved_by (pos 0) (negsuc 0) c ∷ c ∷ moved_by (pos 0) (pos 1) c ∷ [])
 
--- the next generation: the cells in the pattern and next to it that are alive then
+-- the next generation: those cells of the pattern, and of the neighbourhoods of its cells, that are alive then
 unfoldable pub next : Numbers → List Cell → List Cell
 next rule cells = filter (lives rule cells) (set_of (flat_map neighbourhood cells))
 
@@ -67,7 +67,7 @@ NextTurned = (o : Orientation) (rule : Numbers) (cells : List Cell) → InOrder 
 abbrev pub SpeedOfLight : Type 0
 SpeedOfLight = (rule : Numbers) (cells : List Cell) (b : Bounds) (g : ℕ) → All (IsWithin b) cells → All (IsWithin (enlarged g b)) (after rule cells g)
 
--- a pattern that is within `reach` of the origin is within g more after g generations
+-- a pattern within `reach` of the origin is within `reach` + g of it after g generations
 abbrev pub SpeedFromOrigin : Type 0
 SpeedFromOrigin = (rule : Numbers) (cells : List Cell) (reach g : ℕ) → lies_within reach cells ≡ true → lies_within (reach + g) (after rule cells g) ≡ true
 

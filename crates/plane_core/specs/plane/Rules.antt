@@ -24,8 +24,8 @@ pub record IsRule (rule : Numbers) : Type 0 where
   pub births : length rule.births ≡ 8
   pub survivals : length rule.survivals ≡ 9
 
--- the digits, ascending, of the numbers for which a table answers true, if its first answer is that for n; `0` is byte
--- 48
+-- the digits of the numbers for which the table answers true, ascending; the table's first answer is the one for n, and
+-- `0` is byte 48
 unfoldable pub digits : ℕ → List Bool → List ℕ
 digits n [] = []
 digits n (true ∷ more) = (48 + n) ∷ digits (n + 1) more

@@ -149,8 +149,8 @@ impl Axis for Row {
     }
 }
 
-/// Returns the first place, from `from` to before `end`, whose cell has the coordinate `least` or a greater one. Returns
-/// `end` if there is none.
+/// Returns the first place, from `from` to before `end`, whose cell has the coordinate `least` or a greater one.
+/// Returns `end` if there is none.
 #[inline(always)]
 fn first_from<A: Axis>(cells: &[Cell], from: usize, end: usize, least: i32) -> usize
     requires order { from ≤ end }
@@ -167,8 +167,8 @@ fn first_from<A: Axis>(cells: &[Cell], from: usize, end: usize, least: i32) -> u
     at
 }
 
-/// Joins `place` with the place before it, if the cell there is in the same row and near. Returns the first column whose
-/// cells in the rows above still have to be joined with `place`. Cells that are near both are joined already.
+/// Joins `place` with the place before it, if the cell there is in the same row and near. Returns the first column
+/// whose cells in the rows above still have to be joined with `place`. Cells that are near both are joined already.
 #[inline(always)]
 fn join_before(cells: &[Cell], parents: &mut [usize], place: usize) -> i32
     requires pattern { IsPattern cells.now }
@@ -189,9 +189,9 @@ fn join_before(cells: &[Cell], parents: &mut [usize], place: usize) -> i32
     along(before.x, 3)
 }
 
-/// Joins `place` with the earlier places whose cells are in the range from `from` to `to`, both included, and not to the
-/// left of column `fresh`. The range is a part of a row with these places, and all its cells are near. Returns the first
-/// place of the row that isn't to the left of `from`.
+/// Joins `place` with the earlier places whose cells are in the range from `from` to `to`, both included, and not to
+/// the left of column `fresh`. The range is a part of a row with these places, and all its cells are near. Returns the
+/// first place of the row that isn't to the left of `from`.
 #[inline(always)]
 fn join_row(
     cells: &[Cell],

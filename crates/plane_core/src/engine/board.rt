@@ -123,8 +123,8 @@ impl Drop for Board {
 }
 
 impl Board {
-    /// Makes an empty large board around the origin, for patterns that are shown one after another. It has 4,096 columns, one
-    /// more word column, and 4,168 rows.
+    /// Makes an empty large board around the origin, for patterns that are shown one after another. It has 4,096
+    /// columns, one more word column, and 4,168 rows.
     ///
     /// # Errors
     ///
@@ -142,8 +142,8 @@ impl Board {
         Board::blank(alloc, rule, at)
     }
 
-    /// Makes an empty board as `large` does, with 512 columns, one more word column, and 584 rows. This is fifty times as
-    /// fast.
+    /// Makes an empty board as `large` does, with 512 columns, one more word column, and 584 rows. This is fifty times
+    /// as fast.
     ///
     /// # Errors
     ///
@@ -161,9 +161,9 @@ impl Board {
         Board::blank(alloc, rule, at)
     }
 
-    /// Makes a board that shows the pattern and has room for `generations` generations. Returns `None` if a board isn't
-    /// worth it, because it would have many more words than the pattern has cells, if the pattern is too near to the
-    /// edge of the plane, or if `generations` is over 1,000.
+    /// Makes a board that shows the pattern and has room for `generations` generations. Returns `None` if the pattern
+    /// is empty or too near to the edge of the plane, if `generations` is over 1,000, or if the board would have many
+    /// more words than the pattern has cells.
     ///
     /// # Errors
     ///

@@ -74,8 +74,8 @@ pub(crate) fn read_rows<const R: usize>(words: &[u64], at: Frame, x: usize, y: u
     rows
 }
 
-/// Returns four rows: each consists of the end of a word of `first`, from column `shift` on, and the beginning of one of
-/// `second`.
+/// Returns four rows: each consists of the end of a word of `first`, from column `shift` on, and the beginning of one
+/// of `second`.
 #[inline(always)]
 fn joined(first: [u64; 4], second: [u64; 4], shift: usize) -> [u64; 4]
     requires { shift < 64 }
@@ -135,7 +135,8 @@ fn put_words(words: &mut [u64], i: usize, mask: u64, values: [u64; 4])
     set_words(words, i, new.to_array());
 }
 
-/// Returns, for each of the four rows from row `r` on, the part of its word that is in the first word column.
+/// Does what `in_first` does, for the four rows from row `r` on: each is a word that begins in column `shift` of the
+/// first word column.
 #[inline(always)]
 fn in_first_of(rows: &[u64; 64], r: usize, shift: usize) -> [u64; 4]
     requires rows { r + 4 ≤ 64 }
@@ -189,8 +190,8 @@ fn write_row(words: &mut [u64], at: Frame, x: usize, y: usize, word: u64)
     );
 }
 
-/// Puts the inner columns of the four rows of a window from row `r` on back. Row `r` begins in column `x` and row `y` of
-/// the board.
+/// Puts the inner columns of the four rows of a window from row `r` on back. Row `r` begins in column `x` and row `y`
+/// of the board.
 #[inline(always)]
 fn write_rows(words: &mut [u64], at: Frame, x: usize, y: usize, rows: &[u64; 64], r: usize)
     requires long { FillsFrame at words.old }

@@ -6,7 +6,7 @@
 //! . . . . .      . . . . O
 //! ```
 ghost use Rattle.std.specs.Prelude.{◌≡◌, ◌-ℤ◌, true};
-ghost use Rattle.plane_core.specs.plane.Bounds.{TellsShift};
+ghost use Rattle.plane_core.specs.plane.Bounds.{FindsShift};
 ghost use Rattle.plane_core.specs.plane.Cells.{on_plane};
 
 use crate::plane::cell::Cell;
@@ -17,7 +17,7 @@ impl Pattern {
     /// Returns the displacement (dx, dy) by which this pattern has to be moved to become the other, or `None` if there
     /// is none. It is (0, 0) if both are empty.
     pub fn shift_to(&self, other: &Pattern) -> Option<(i32, i32)>
-        ensures { TellsShift self.now other.now result }
+        ensures { FindsShift self.now other.now result }
     {
         let (cells, others) = (self.cells(), other.cells());
         if cells.len() != others.len() {

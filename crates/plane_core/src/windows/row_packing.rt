@@ -8,8 +8,8 @@
 //! vector 9    row 9     row 19    row 29    row 39
 //! ```
 //!
-//! Four vectors are converted at a time: the rows 0 to 3, 10 to 13, 20 to 23 and 30 to 33 are the vectors 0 to 3, turned
-//! like a matrix.
+//! Four vectors are converted at a time: the rows 0 to 3, 10 to 13, 20 to 23 and 30 to 33 are the vectors 0 to 3,
+//! turned like a matrix.
 ghost use Rattle.std.specs.Prelude.{◌≡◌, ◌+◌, ◌*◌, ◌<◌, ◌≤◌, ◌⊎◌, ◌∷◌, [], ℕ, length, slice_index};
 ghost use Rattle.plane_core.specs.windows.Windows.{lane_at, row_at};
 

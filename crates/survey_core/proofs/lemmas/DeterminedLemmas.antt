@@ -1,5 +1,5 @@
 -- A pattern has one finding.
-use Rattle.std.proofs.Common.{◌≡◌, ◌≢◌, ◌∙◌, ap, sym, refl, subst, ℕ, suc, ◌≤◌, Bool, false, List, [], ◌∷◌, All, get_or}
+use Rattle.std.proofs.Common.{◌≡◌, ◌≢◌, ◌∙◌, ◌↔◌, IsTrue, ap, sym, refl, subst, ℕ, suc, ◌≤◌, Bool, false, List, [], ◌∷◌, All, get_or}
 use Rattle.std.proofs.Common.{arith, count_by, Some, unwrap_or, inl, inr, eq-or-lt_of_le, cond}
 use Rattle.std.specs.Cmp.{both_ways as both_true, tied_itself}
 use Rattle.std.specs.Cmp.Lexicographic.{nat_list_cmp_total, slice_cmp}
@@ -19,6 +19,7 @@ use Rattle.code_core.proofs.CodeLaws.{codes_are_determined}
 use Rattle.survey_core.specs.declared.finding.Finding.TheVariants.{Settled, Unsettled}
 use Rattle.survey_core.specs.FindingLaws.{FindingsAreDetermined}
 use Rattle.survey_core.specs.Findings.{IsSettled}
+use Rattle.survey_core.specs.shapes.ForGood.{ClustersStayForGood}
 use Rattle.survey_core.specs.shapes.Objects.{AreObjects, AreObjectsOf, count_of, is_code}
 use Rattle.survey_core.specs.Profiles.{Settling}
 use Rattle.survey_core.proofs.lemmas.shapes.ObjectLemmas.{same_code}
@@ -76,7 +77,7 @@ pub count-head : (object : List ℕ × ℕ) (objects : List (List ℕ × ℕ)) �
 count-head object objects =
     ap (λ (b : Bool). unwrap_or (cond b (Some object.1) (lookup (is_code object.0) objects)) 0) (ap is_eq (tied_itself nat_list_cmp_total object.0))
 
--- the first code of the one list is no later than that of the other
+-- the first code of a list isn't before that of a sorted list that counts it as often
 not_before : (x y : List ℕ × ℕ) (xs ys : List (List ℕ × ℕ)) → 1 ≤ x.1 → IsStrictlySortedBy (slice_cmp nat_cmp) (keys_of (y ∷ ys))
     → count_of (x ∷ xs) x.0 ≡ count_of (y ∷ ys) x.0 → code_cmp x.0 y.0 ≢ Less
 not_before x y xs ys some order same less =
@@ -144,7 +145,11 @@ same_objects rule profile cells one other good fine h k =
 -- which stay for good or not
 same_mark : (rule : Numbers) (profile : Settling) (cells : List Cell) (objects : List (List ℕ × ℕ)) (good fine : Bool)
     → IsSettled rule profile cells objects good → IsSettled rule profile cells objects fine → good ≡ fine
-same_mark rule profile cells objects good fine h k = both_true good fine (λ e. k.good.1 (h.good.0 e)) (λ e. h.good.1 (k.good.0 e))
+same_mark rule profile cells objects good fine h k =
+    let clusters : h.clusters ≡ k.clusters = determined_law cells h.clusters k.clusters h.rest.parts k.rest.parts in
+    let there : IsTrue good ↔ ClustersStayForGood rule profile.period profile.horizon k.clusters =
+    subst (λ (parts : List (List Cell)). IsTrue good ↔ ClustersStayForGood rule profile.period profile.horizon parts) clusters h.good in
+    both_true good fine (λ e. k.good.1 (there.0 e)) (λ e. there.1 (k.good.0 e))
 
 settled_alike : (rule : Numbers) (profile : Settling) (cells : List Cell) (t : ℕ) (one other : List (List ℕ × ℕ)) (good fine : Bool)
     → IsSettled rule profile cells one good → IsSettled rule profile cells other fine → Settled t one good ≡ Settled t other fine

@@ -1,3 +1,4 @@
 pub mod EnvelopeLemmas
+pub mod MarkLemmas
 pub mod MemoLemmas
 pub mod ObjectLemmas

@@ -41,7 +41,7 @@ pub record IsCounted (rule : Numbers) (limit : ℕ) (cluster : List Cell) (old n
   pub named : IsCode rule cluster limit code
   pub more : IsOneMore code old new
 
--- the objects of some clusters: each cluster has its code, and of each code there are as many objects as clusters have
+-- the objects of some clusters: each cluster has its code, and the count of a code is the number of clusters that have
 -- it
 pub record AreObjectsOf (rule : Numbers) (limit : ℕ) (clusters : List (List Cell)) (objects : List (List ℕ × ℕ)) : Type 0 where
   pub lawful : AreObjects objects

@@ -26,7 +26,7 @@ ghost use Rattle.survey_core.specs.evolution.EscapedSpaceships.{SpaceshipsStayAh
 ghost use Rattle.survey_core.specs.shapes.Envelopes.{times};
 ghost use Rattle.survey_core.specs.UnderWay.{survey_reach};
 
-use crate::patterns::run_on;
+use crate::far_from_edge::run_on;
 use crate::shapes::envelope_bounds::{EnvelopeBounds, difference};
 use crate::shapes::memo::Memo;
 use code_core::recurrence::Recurrence;
@@ -61,8 +61,9 @@ pub fn spaceships_are_never_caught()
     ensures alone { SpaceshipsRunAlone }
 {}
 
-/// Returns `part` of the board as a spaceship that is removed at `time`, or `None` if it doesn't recur within `limit`
-/// generations, 1 to 64, or isn't surely ahead of all the rest.
+/// Returns `part` of the board as a spaceship that is removed at `time`. Returns `None` if it doesn't recur within
+/// `limit` generations, 1 to 64, if it isn't surely ahead of all the rest, or if [`is_unlikely`] guesses that it isn't
+/// a spaceship.
 pub(crate) fn spaceship_of(
     alloc: Global,
     rule: &Rule,
@@ -78,7 +79,8 @@ pub(crate) fn spaceship_of(
     requires near { lies_within survey_reach part.now ≡ true }
     requires part { IsPartOf board.now.cells part.now }
     ensures foremost { IfOk result
-        (λ found. IfSome found (λ spaceship. IsForemost rule.now board.now.cells spaceship.recurrence spaceship.cells)) }
+        (λ found. IfSome found
+        (λ spaceship. IsForemost rule.now board.now.cells spaceship.recurrence spaceship.cells)) }
     ensures cells { IfOk result (λ found. IfSome found (λ spaceship. spaceship.cells ≡ part.now)) }
     ensures since { IfOk result (λ found. IfSome found (λ spaceship. spaceship.since ≡ time)) }
     ensures small { IfOk result (λ found. IfSome found HasSmallNumbers) }
@@ -110,9 +112,10 @@ pub(crate) fn spaceship_of(
     }))
 }
 
-/// Guesses that a part of a board isn't a spaceship: the memo doesn't know its shape, and the part surely doesn't recur
-/// within `SHORT` generations. This test is cheap and comes first, since few changing clusters are spaceships. A shape
-/// that the memo knows isn't run: it is mostly that of a spaceship that isn't ahead yet.
+/// Guesses that a part of a board isn't a spaceship, if the memo doesn't know its shape and a cheap test shows that it
+/// doesn't recur within `SHORT` generations. The guess is wrong for a spaceship with a longer period, which then stays
+/// on the board. The test comes first, since few changing clusters are spaceships. It is skipped for shapes that the
+/// memo knows: these are mostly spaceships that aren't ahead yet.
 fn is_unlikely(rule: &Rule, limit: u32, part: &Pattern, memo: &Memo) -> bool {
     !memo.knows(rule, limit, part) && part.surely_changes(rule, limit.min(SHORT))
 }

@@ -18,11 +18,11 @@ ghost use Rattle.survey_core.specs.evolution.SplitPatterns.{whole_at, whole_of};
 ghost use Rattle.survey_core.specs.UnderWay.{survey_reach};
 
 use crate::evolution::escaped_spaceships::{Spaceship, at_time, spaceship_of};
-use crate::patterns::{are_same, next};
+use crate::far_from_edge::{are_same, next};
 use crate::shapes::memo::Memo;
 use memory::OutOfMemory;
 use plane_core::engine::board::Board;
-use plane_core::plane::frontier::is_slow;
+use plane_core::plane::frontier_speed::is_slow;
 use plane_core::plane::pattern::Pattern;
 use plane_core::plane::rule::Rule;
 use std::alloc::Global;

@@ -17,7 +17,7 @@ ghost use Rattle.plane_core.specs.declared.plane.cell.Cell.{Cell};
 ghost use Rattle.survey_core.specs.rest.Alone.{LiesApartFrom, clusters_of, latest_of, stepped};
 ghost use Rattle.survey_core.specs.rest.Groups.{union_of};
 
-use crate::patterns::{are_same, next, pattern_of};
+use crate::far_from_edge::{are_same, next, pattern_of};
 use crate::shapes::envelope_bounds::{are_boxes_apart, box_round};
 use memory::OutOfMemory;
 use plane_core::plane::cell::Cell;

@@ -74,10 +74,7 @@ pub(crate) fn stay_apart(horizon: u32, one: &EnvelopeBounds, other: &EnvelopeBou
     requires { horizon ≤ 4096 }
     ensures { IsTrue result → StayApart horizon one.now other.now }
 {
-    if are_still_and_apart(one, other) {
-        return true;
-    }
-    if are_still_lives(one, other) {
+    if are_still_and_apart(one, other) || are_still_lives(one, other) {
         return true;
     }
     // The length of a cycle that suits both, if there is one.

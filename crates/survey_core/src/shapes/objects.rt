@@ -172,7 +172,8 @@ fn joint_multiple(one: u32, period: u64, most: u32) -> Option<u32>
     ensures some { IfSome result (λ multiple. 1 ≤ multiple) }
     ensures of_one { IfSome result (λ multiple. IsMultiple multiple one) }
     ensures of_period { IfSome result (λ multiple. IsMultiple multiple period) }
-    ensures least { IfSome result (λ multiple. (m : ℕ) → 1 ≤ m → IsMultiple m one → IsMultiple m period → multiple ≤ m) }
+    ensures least { IfSome result
+        (λ multiple. (m : ℕ) → 1 ≤ m → IsMultiple m one → IsMultiple m period → multiple ≤ m) }
     ensures within { IfSome result (λ multiple. multiple ≤ most) }
     ensures none { IfNone result ((m : ℕ) → 1 ≤ m → IsMultiple m one → IsMultiple m period → most < m) }
 {

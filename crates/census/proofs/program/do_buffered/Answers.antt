@@ -36,16 +36,16 @@ returns-in-Err g c =
       complains = λ _ _ _. record {
         status = statuses.Memory;
         written = record { before = before; after = before; failed = false };
-        diagnostics = stream g.E.Write.contents c.args.machine.now.errors c.tell.new.errors;
+        diagnostics = stream g.E.Write.contents c.args.machine.now.errors c.end_command.new.errors;
         does = inr (record {
           no_version = sym c.asks_version.ensures ∙ c.if-asks_version.false;
           status_is = refl;
           nothing = nothing.0;
-          line = c.tell.ensures.line;
+          line = c.end_command.ensures.line;
         });
         from = refl;
         sent = nothing.1;
-        ends = inl (refl, ap exit_code c.tell.ensures.status, refl);
+        ends = inl (refl, ap exit_code c.end_command.ensures.status, refl);
       };
       leaves = record {
         usage = search rules;

@@ -1,5 +1,5 @@
 use Rattle.std.proofs.Common.{◌∙◌, sym}
-use Rattle.census.proofs.HeadlineLemmas.{prints_if_done}
+use Rattle.census.proofs.HeadlineLemmas.{prints_if_done, prints_if_incomplete}
 use Rattle.census.proofs.program.run_program.Goals as goal
 
 pub returns-in-Ok-clause-done : goal.returns-in-Ok-clause-done
@@ -10,6 +10,11 @@ pub returns-in-Ok-clause-headline : goal.returns-in-Ok-clause-headline
 returns-in-Ok-clause-headline g c code =
     rw (c.in-Ok.is, ← c.as_slice.ensures.value)
     (prints_if_done g.W.Write.contents _ _ c.args.output _ _ (c.do_buffered-status.ensures.done (sym c.exit_code.ensures ∙ code)))
+
+pub returns-in-Ok-clause-headline_incomplete : goal.returns-in-Ok-clause-headline_incomplete
+returns-in-Ok-clause-headline_incomplete g c code =
+    rw (c.in-Ok.is, ← c.as_slice.ensures.value)
+    (prints_if_incomplete g.W.Write.contents _ _ c.args.output _ _ (c.do_buffered-status.ensures.incomplete (sym c.exit_code.ensures ∙ code)))
 
 pub returns-in-Ok-clause-ends : goal.returns-in-Ok-clause-ends
 returns-in-Ok-clause-ends g c = rw (c.in-Ok.is, ← c.as_slice.ensures.value, c.exit_code.ensures) c.do_buffered-status.ensures

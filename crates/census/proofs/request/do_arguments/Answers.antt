@@ -24,7 +24,7 @@ returns-in-Err-Usage-clause-leaves g c = record {
   tells_usage = λ code. record {
     text = c.as_bytes.result.now;
     says = rw c.as_bytes.ensures.value (rw c.in-Err-Usage.field-0-is at c.in-Err-Usage.ensures.why);
-    line = c.tell_usage.ensures.line;
+    line = c.end_with_usage.ensures.line;
   };
   untouched = search rules;
   refused = search rules;

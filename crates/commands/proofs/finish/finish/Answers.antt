@@ -24,7 +24,7 @@ returns-in_err-write_haul-clause-finishes g c =
     rw (err_of _ _ c.from_residual-in_err-write_haul.ensures.1)
     (record {
       census = c.in_ok-census.census;
-      counted = rw (← c.close.ensures.taken, ← c.close.ensures.terms) c.in_ok-census.ensures;
+      counted = rw (← c.close.ensures.taken, ← c.close.ensures.terms) c.in_ok-census.ensures.counted;
       prefix = c.in_err-write_haul.ensures.prefix;
       cut = c.in_err-write_haul.ensures.remembers;
     })
@@ -45,7 +45,7 @@ pub returns-in_err-flush-clause-finishes : goal.returns-in_err-flush-clause-fini
 returns-in_err-flush-clause-finishes g c =
     let sent = Writes_same (append-nil _) (Writes_then c.in_ok-write_haul.ensures c.in_err-flush.ensures) in
     rw (err_of _ _ c.from_residual-in_err-flush.ensures.1)
-    (record { census = c.in_ok-census.census; counted = rw (← c.close.ensures.taken, ← c.close.ensures.terms) c.in_ok-census.ensures; prefix = sent.prefix; cut = sent.remembers })
+    (record { census = c.in_ok-census.census; counted = rw (← c.close.ensures.taken, ← c.close.ensures.terms) c.in_ok-census.ensures.counted; prefix = sent.prefix; cut = sent.remembers })
 
 pub returns-in_err-flush-clause-none : goal.returns-in_err-flush-clause-none
 returns-in_err-flush-clause-none g c = rw c.missing_count-missing.ensures.count at c.missing_count-missing.ensures.none
@@ -60,7 +60,7 @@ pub returns-clause-finishes : goal.returns-clause-finishes
 returns-clause-finishes g c =
     let sent = Writes_same (append-nil _) (Writes_then c.in_ok-write_haul.ensures c.in_ok-flush.ensures) in record {
       census = c.in_ok-census.census;
-      counted = rw (← c.close.ensures.taken, ← c.close.ensures.terms) c.in_ok-census.ensures;
+      counted = rw (← c.close.ensures.taken, ← c.close.ensures.terms) c.in_ok-census.ensures.counted;
       missing_is = c.missing_count-missing.ensures.count;
       text = sent.whole;
       fine = sent.remembers;

@@ -12,12 +12,14 @@ returns-in-Ok-clause-opened c =
     let diagnostics = c.in-Ok.ensures in
     let small = small_from c.as_slice.result.now (λ large. let bad = diagnostics.bad_range.1 (c.requires, large) in cc) in
     record {
-      ranges = c.as_slice.result.now;
-      named = subst (AreRangesOf c.args.set.now) (sym c.as_slice.ensures.value) c.in_ok-ranges.ensures.named;
-      only = λ others of. c.in_ok-ranges.ensures.only others of ∙ sym c.as_slice.ensures.value;
-      small = small;
-      apart = λ overlap. let bad = diagnostics.overlap.1 (c.requires, small, overlap) in cc;
-      form = diagnostics.ranges;
+      over = record {
+        ranges = c.as_slice.result.now;
+        named = subst (AreRangesOf c.args.set.now) (sym c.as_slice.ensures.value) c.in_ok-ranges.ensures.named;
+        only = λ others of. c.in_ok-ranges.ensures.only others of ∙ sym c.as_slice.ensures.value;
+        small = small;
+        apart = λ overlap. let bad = diagnostics.overlap.1 (c.requires, small, overlap) in cc;
+        form = diagnostics.ranges;
+      };
       job_is = diagnostics.job;
       workers_are = diagnostics.workers;
       stands = diagnostics.stands;

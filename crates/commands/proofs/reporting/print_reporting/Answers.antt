@@ -28,21 +28,21 @@ report_by_crew-haul-requires-clause-few g c κs lives = omega (arith, c.in_ok-ha
 pub report_by_crew-haul-requires-clause-open : goal.report_by_crew-haul-requires-clause-open
 report_by_crew-haul-requires-clause-open g c κs lives = c.in_ok-haul.ensures.opened.opened.stands.closed
 
-pub print_reported-requires-clause-output : goal.print_reported-requires-clause-output
-print_reported-requires-clause-output g c = c.requires.output
+pub finish_unless-requires-clause-output : goal.finish_unless-requires-clause-output
+finish_unless-requires-clause-output g c = c.requires.output
 
-pub print_reported-requires-clause-stops : goal.print_reported-requires-clause-stops
-print_reported-requires-clause-stops g c = not_refused _ c.report_by_crew-haul.result.1 c.report_by_crew-haul.ensures.stops
+pub finish_unless-requires-clause-stops : goal.finish_unless-requires-clause-stops
+finish_unless-requires-clause-stops g c = not_refused _ c.report_by_crew-haul.result.1 c.report_by_crew-haul.ensures.stops
 
 pub returns-clause-reached : goal.returns-clause-reached
 returns-clause-reached g c reader bytes =
-    let end = c.print_reported.ensures in
-    reporting_ends c.report_by_crew-haul.result.1 c.in_ok-haul.ensures.opened c.report_by_crew-haul.ensures reader bytes c.print_reported.result _
+    let end = c.finish_unless.ensures in
+    reporting_ends c.report_by_crew-haul.result.1 c.in_ok-haul.ensures.opened c.report_by_crew-haul.ensures reader bytes c.finish_unless.result _
     end.finishes end.none end.gives_up
 
 pub returns-clause-untouched : goal.returns-clause-untouched
 returns-clause-untouched g c =
-    never_refused (c.print_reported.new.output ≡ c.args.output.now) c.print_reported.result c.print_reported.ensures.accepted
+    never_refused (c.finish_unless.new.output ≡ c.args.output.now) c.finish_unless.result c.finish_unless.ensures.accepted
 
 pub returns-clause-no_memory : goal.returns-clause-no_memory
-returns-clause-no_memory g c = c.print_reported.ensures.no_memory
+returns-clause-no_memory g c = c.finish_unless.ensures.no_memory

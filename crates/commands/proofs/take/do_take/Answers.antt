@@ -5,7 +5,7 @@ use Rattle.commands.proofs.take.do_take.Goals as goal
 
 pub returns-clause-ends : goal.returns-clause-ends
 returns-clause-ends g c reader bytes =
-    never_stopped (λ worker n. ⊥) c.args.plan.now reader bytes c.do_take_with.result
+    never_stopped (λ worker n. ⊥) (λ worker n. Unit {0}) c.args.workers c.args.plan.now reader bytes c.do_take_with.result
     (stream g.W.Write.contents c.args.output.now c.do_take_with.new.output) (stream g.E.Write.contents c.args.machine.now.errors c.do_take_with.new.machine.errors)
     (λ worker n stops. stops) (c.do_take_with.ensures.ends reader bytes)
 

@@ -12,15 +12,15 @@ returns-clause-ends g c reader bytes =
       so_far = so_far;
       from = refl;
       reached = c.print_haul-outcome.ensures.reached reader bytes so_far (Appends-nil _, c.requires.errors);
-      stays = rw c.print_haul-outcome.ensures.silent at c.tell_end.ensures.stays;
-      last = rw c.print_haul-outcome.ensures.silent at c.tell_end.ensures.last;
-      status_is = c.tell_end.ensures.status;
+      stays = rw c.print_haul-outcome.ensures.silent at c.end_command.ensures.stays;
+      last = rw c.print_haul-outcome.ensures.silent at c.end_command.ensures.last;
+      status_is = c.end_command.ensures.status;
     }
 
 pub returns-clause-untouched : goal.returns-clause-untouched
 returns-clause-untouched g c refused =
-    if_refused c.print_haul-outcome.result (sym c.tell_end.ensures.status ∙ refused) c.print_haul-outcome.ensures.untouched
+    if_refused c.print_haul-outcome.result (sym c.end_command.ensures.status ∙ refused) c.print_haul-outcome.ensures.untouched
 
 pub returns-clause-no_memory : goal.returns-clause-no_memory
 returns-clause-no_memory g c memory =
-    if_memory c.print_haul-outcome.result (sym c.tell_end.ensures.status ∙ memory) c.print_haul-outcome.ensures.no_memory
+    if_memory c.print_haul-outcome.result (sym c.end_command.ensures.status ∙ memory) c.print_haul-outcome.ensures.no_memory

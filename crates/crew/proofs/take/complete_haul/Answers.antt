@@ -1,9 +1,11 @@
 use Rattle.std.proofs.Common.{◌∙◌, ap, length, refl, subst, sym}
 use Rattle.haul_core.specs.Books.{Held}
 use Rattle.haul_core.specs.Missing.{IsComplete}
+use Rattle.crew.specs.Takes.{was_missing}
 use Rattle.crew.proofs.CompleteLemmas.{nothing_missing}
 use Rattle.handover.specs.Belts.{Received}
 use Rattle.crew.specs.declared.note.Note.{Note}
+use Rattle.crew.proofs.EndLemmas.{crew_ends, ends_unbegun, if_some}
 use Rattle.crew.proofs.StepLemmas.{cause_none, cause_open, cause_stopped, ready_first}
 use Rattle.crew.proofs.TakeLemmas.{belts_of, crew_has_taken, crew_heard, crew_stops, crew_within, series_of_all}
 use Rattle.crew.proofs.take.complete_haul.Goals as goal
@@ -72,3 +74,15 @@ returns-clause-heard g c =
     crew_heard c.in-Ok.setup.shared c.args.workers _ c.run_in_scope-crew.result c.run_in_scope-crew.ensures.all setup.receiver
     setup.workers setup.missing setup.ascending setup.senders ended.whole c.end_crew.result.0 ended.haul setup.job ended.once _
     c.run_in_scope-crew.ensures.heard
+
+pub returns-in-Err-clause-ends : goal.returns-in-Err-clause-ends
+returns-in-Err-clause-ends g c =
+    ends_unbegun (g.G.Gate.may_stop c.args.gate.now) (g.G.Gate.lets c.args.gate.now) (was_missing c.args.haul) c.args.workers c.in-Err.error
+
+pub returns-clause-ends : goal.returns-clause-ends
+returns-clause-ends g c =
+    let setup = c.in-Ok.ensures in
+    let ended = c.end_crew.ensures in
+    let crew = c.run_in_scope-crew.result in
+    if_some _ _ (λ cause is. crew_ends c.in-Ok.setup.shared c.args.workers _ crew c.run_in_scope-crew.ensures.all setup.receiver
+    setup.workers setup.missing setup.ascending setup.senders ended.whole cause (sym ended.cause ∙ is))

@@ -33,7 +33,7 @@ pub enum CheckError {
 
 impl Claim {
     /// Surveys the soup that the claim is about, and turns the claim into a report if it is of this job and agrees with
-    /// the finding. A claim of version 1 has no mark, so it is compared without one.
+    /// the finding. A claim of version 1 doesn't say whether the objects stay for good, so only the rest is compared.
     ///
     /// # Errors
     ///
@@ -66,7 +66,7 @@ impl Claim {
         if !is_same_job(&self.job, job) {
             return Err((self, CheckError::OtherJob));
         }
-        // For the prover: a finding that differs from the soup's shows that the claim is wrong.
+        // For the prover: a soup has only one finding, so a claim that disagrees with it is wrong.
         findings_are_determined();
         let report = match Report::make_with_surveyor(
             alloc,
@@ -129,7 +129,7 @@ fn agrees_on_settled(
         && are_same_counts(said.counts.as_slice(), objects.as_slice())
 }
 
-/// Checks whether the counts are those of the objects.
+/// Checks whether the counts have the codes and numbers of the objects, in the same order.
 fn are_same_counts(counts: &[(ClaimedCode, u64)], objects: &[(Apgcode, u64)]) -> bool
     ensures { IsTrue result ↔ (counts.now ≡ objects.now) }
 {
@@ -145,7 +145,7 @@ fn are_same_counts(counts: &[(ClaimedCode, u64)], objects: &[(Apgcode, u64)]) ->
     true
 }
 
-/// Checks whether a count is that of the object.
+/// Checks whether a count has the object's code and number.
 fn is_same_count(count: &(ClaimedCode, u64), object: &(Apgcode, u64)) -> bool
     ensures { IsTrue result ↔ (count.now ≡ object.now) }
 {

@@ -8,7 +8,7 @@ ghost use Rattle.plane_core.specs.plane.Rules.{IsRule, rule_text};
 ghost use Rattle.code_core.specs.Apgcodes.{HasCodeShape, is_code_byte};
 ghost use Rattle.survey_core.specs.Seeds.{IsSeed};
 ghost use Rattle.haul_core.specs.FieldSteps.{BeginsNumber, Cuts, IsAnyMark, IsNumber, IsSmall, IsState, IsVersion};
-ghost use Rattle.haul_core.specs.FieldSteps.{Tells, numbers_text, state_field};
+ghost use Rattle.haul_core.specs.FieldSteps.{SpellsField, numbers_text, state_field};
 ghost use Rattle.survey_core.specs.Profiles.{IsProfile};
 ghost use Rattle.haul_core.specs.ReportLines.{count_field, mark_field, profile_field};
 ghost use Rattle.haul_core.specs.LawfulClaims.{IsCount};
@@ -47,7 +47,7 @@ fn place_of(byte: u8, text: &[u8]) -> Option<usize>
 /// Returns the number below 2^64 whose decimal is the text, or `None` if there is none.
 #[tactic(auto, using(crate::proofs::FieldLemmas::whole_decimal, crate::proofs::FieldLemmas::no_decimal, crate::proofs::FieldLemmas::longer_decimal))]
 pub(crate) fn number_in(text: &[u8]) -> Option<u64>
-    ensures { Tells IsNumber decimal text.now result }
+    ensures { SpellsField IsNumber decimal text.now result }
 {
     let (number, remainder) = first_decimal(text)?;
     if remainder.is_empty() {
@@ -59,7 +59,7 @@ pub(crate) fn number_in(text: &[u8]) -> Option<u64>
 
 /// Returns the number below 2^64 whose decimal follows the name.
 pub(crate) fn number_after(name: &[u8], field: &[u8]) -> Option<u64>
-    ensures { Tells IsNumber (λ n. name.now ++ decimal n) field.now result }
+    ensures { SpellsField IsNumber (λ n. name.now ++ decimal n) field.now result }
 {
     number_in(after(name, field)?)
 }
@@ -74,7 +74,7 @@ fn after<'a>(name: &[u8], field: &'a [u8]) -> Option<&'a [u8]>
 
 /// Returns the worker that a field gives.
 pub(crate) fn worker_in(field: &[u8]) -> Option<u8>
-    ensures { Tells IsWorker (λ n. codes "worker=" ++ decimal n) field.now result }
+    ensures { SpellsField IsWorker (λ n. codes "worker=" ++ decimal n) field.now result }
 {
     let number = number_after(b"worker=", field)?;
     let known = is_from_to(1, u64::from(MOST_WORKERS), number);
@@ -83,7 +83,7 @@ pub(crate) fn worker_in(field: &[u8]) -> Option<u8>
 
 /// Returns the version that a field gives.
 pub(crate) fn version_in(field: &[u8]) -> Option<u8>
-    ensures { Tells IsVersion decimal field.now result }
+    ensures { SpellsField IsVersion decimal field.now result }
 {
     let number = number_in(field)?;
     let known = is_from_to(1, 2, number);
@@ -99,7 +99,7 @@ fn is_from_to(least: u64, most: u64, n: u64) -> bool
 
 /// Returns the number of a soup that a field gives.
 pub(crate) fn soup_in(field: &[u8]) -> Option<u64>
-    ensures { Tells (λ n. n < 2 ^ 40) (λ n. codes "soup=" ++ decimal n) field.now result }
+    ensures { SpellsField (λ n. n < 2 ^ 40) (λ n. codes "soup=" ++ decimal n) field.now result }
 {
     let number = number_after(b"soup=", field)?;
     if number < NUMBER_BOUND {
@@ -111,7 +111,7 @@ pub(crate) fn soup_in(field: &[u8]) -> Option<u64>
 
 /// Returns the checkpoint that a field gives.
 pub(crate) fn checkpoint_in(field: &[u8]) -> Option<u32>
-    ensures { Tells (λ n. n ≤ 100000) (λ n. codes "at=" ++ decimal n) field.now result }
+    ensures { SpellsField (λ n. n ≤ 100000) (λ n. codes "at=" ++ decimal n) field.now result }
 {
     let number = number_after(b"at=", field)?;
     if number <= MOST_GENERATIONS {
@@ -124,7 +124,7 @@ pub(crate) fn checkpoint_in(field: &[u8]) -> Option<u32>
 /// Returns what a field says about a soup: that it didn't settle, or at which checkpoint it did.
 #[tactic(auto, using(crate::proofs::FieldLemmas::no_state))]
 pub(crate) fn state_in(field: &[u8]) -> Option<Option<u32>>
-    ensures { Tells IsState state_field field.now result }
+    ensures { SpellsField IsState state_field field.now result }
 {
     if field == b"unsettled".as_slice() {
         return Some(None);
@@ -134,14 +134,14 @@ pub(crate) fn state_in(field: &[u8]) -> Option<Option<u32>>
 
 /// Returns the profile that a field gives.
 pub(crate) fn profile_in(field: &[u8]) -> Option<Profile>
-    ensures { Tells IsProfile profile_field field.now result }
+    ensures { SpellsField IsProfile profile_field field.now result }
 {
     profile_of(after(b"profile=", field)?)
 }
 
 /// Returns the profile with these four numbers.
 fn profile_of(text: &[u8]) -> Option<Profile>
-    ensures { Tells IsProfile numbers_text text.now result }
+    ensures { SpellsField IsProfile numbers_text text.now result }
 {
     let (period, remainder) = first_number(text)?;
     let (horizon, remainder) = first_number(remainder)?;
@@ -166,7 +166,7 @@ fn first_number(text: &[u8]) -> Option<(u32, &[u8])>
 
 /// Returns the number up to 100,000 whose decimal is the text.
 fn small_number_in(text: &[u8]) -> Option<u32>
-    ensures { Tells IsSmall decimal text.now result }
+    ensures { SpellsField IsSmall decimal text.now result }
 {
     let number = number_in(text)?;
     if number <= MOST_GENERATIONS {
@@ -178,7 +178,7 @@ fn small_number_in(text: &[u8]) -> Option<u32>
 
 /// Returns the code that a field names, and how many objects have it.
 pub(crate) fn count_in(field: &[u8]) -> Option<(&[u8], u64)>
-    ensures { Tells IsCount count_field field.now (option_map (λ object. (object.0.now, object.1)) result) }
+    ensures { SpellsField IsCount count_field field.now (option_map (λ object. (object.0.now, object.1)) result) }
 {
     let (code, Some(text)) = cut_at(b'*', field) else {
         return None;
@@ -195,7 +195,7 @@ pub(crate) fn count_in(field: &[u8]) -> Option<(&[u8], u64)>
 
 /// Returns the rule that a field gives.
 pub(crate) fn rule_in(field: &[u8]) -> Option<Rule>
-    ensures { Tells IsRule (λ rule. codes "rule=" ++ rule_text rule) field.now result }
+    ensures { SpellsField IsRule (λ rule. codes "rule=" ++ rule_text rule) field.now result }
 {
     let Ok(text) = std::str::from_utf8(after(b"rule=", field)?) else {
         return None;
@@ -208,7 +208,7 @@ pub(crate) fn rule_in(field: &[u8]) -> Option<Rule>
 
 /// Returns the seed that a field gives.
 pub(crate) fn seed_in(field: &[u8]) -> Option<Seed>
-    ensures { Tells IsSeed (λ seed. codes "seed=" ++ seed) field.now result }
+    ensures { SpellsField IsSeed (λ seed. codes "seed=" ++ seed) field.now result }
 {
     let Ok(text) = std::str::from_utf8(after(b"seed=", field)?) else {
         return None;
@@ -222,7 +222,7 @@ pub(crate) fn seed_in(field: &[u8]) -> Option<Seed>
 /// Returns what a field says about whether objects stay for good.
 #[tactic(auto, unfolding(crate::specs::ReportLines::mark_field), using(crate::proofs::FieldLemmas::two_marks))]
 pub(crate) fn mark_in(field: &[u8]) -> Option<bool>
-    ensures { Tells IsAnyMark mark_field field.now result }
+    ensures { SpellsField IsAnyMark mark_field field.now result }
 {
     if field == b"good=yes".as_slice() {
         Some(true)

@@ -1,12 +1,12 @@
 //! Reads a report line in two passes. The first looks for a fault, and needs no memory. If there is none, the second
 //! collects the counts.
 
-ghost use Rattle.std.specs.Prelude.{◌≡◌, ◌↔◌, ◌-◌, ℕ, IfNone, IfOk, IfSome, IsErrOf, IsTrue, MatchResult, length};
+ghost use Rattle.std.specs.Prelude.{◌≡◌, ◌↔◌, ◌-◌, ℕ, IfNone, IfOk, IfSome, IsErrOf, IsTrue, MatchResult, Some, length};
 ghost use Rattle.std.specs.Prelude.{option_map};
 ghost use Rattle.memory.specs.Witness.{out_of_memory};
 ghost use Rattle.haul_core.specs.ClaimSteps.{HasReadStart, IsAfter, MayFollow, claimed};
-ghost use Rattle.haul_core.specs.Claims.{IsClaimLine, IsFirstFaultOf};
-ghost use Rattle.haul_core.specs.FieldSteps.{Tells};
+ghost use Rattle.haul_core.specs.Claims.{IsClaimLine, IsFirstFaultOf, error_text};
+ghost use Rattle.haul_core.specs.FieldSteps.{SpellsField};
 ghost use Rattle.haul_core.specs.ReportLines.{claim_line, count_field};
 ghost use Rattle.haul_core.specs.LawfulClaims.{Claimed, IsClaim};
 ghost use Rattle.haul_core.specs.declared.report.claim.read_start.LineStart.{LineStart as Before};
@@ -21,7 +21,7 @@ use std::alloc::Global;
 use std::fmt;
 use thiserror::Error;
 
-/// Why a line can't be read as a claim.
+/// Why a line can't be read as a claim. `census gather` has words of its own for a bad line.
 #[derive(Clone, Copy, PartialEq, Eq, Error)]
 pub enum LineError {
     /// The field that begins at `place` isn't allowed there, or a field is missing at the end of the line. Places count
@@ -32,6 +32,8 @@ pub enum LineError {
 }
 
 impl fmt::Display for LineError {
+    ghost output = { λ error. Some (error_text error) };
+
     fn fmt<W: fmt::Write>(&self, f: &mut fmt::Formatter<W>) -> fmt::Result {
         match self {
             LineError::BadLine { place } => write!(f, "bad line at {place}"),
@@ -60,8 +62,8 @@ impl Claim {
     ///
     /// # Errors
     ///
-    /// - [`LineError::BadLine`] if the line isn't that of a claim, even if there is no memory. Its place is where the
-    ///   first wrong field begins. If no field is wrong but one is missing, it is the length of the line.
+    /// - [`LineError::BadLine`] if the line isn't that of a claim, even if there is no memory. The place is where the
+    ///   first wrong field begins. If no field is wrong but one is missing, the place is the length of the line.
     /// - [`LineError::Memory`] if memory runs out.
     pub fn read_line(alloc: Global, line: &[u8]) -> Result<Claim, LineError>
         // The line of the claim that is read is this line, and the line of each claim can be read.
@@ -185,7 +187,7 @@ fn claim_of(start: LineStart, counts: Vec<(ClaimedCode, u64)>) -> Claim
 
 /// Returns the code and the number of a count, or `None` if the field isn't a count that may follow the code `last`.
 fn count_after<'a>(last: Option<&[u8]>, field: &'a [u8]) -> Option<(&'a [u8], u64)>
-    ensures { Tells (MayFollow (option_map (λ own. own.now) last.entry)) count_field field.now
+    ensures { SpellsField (MayFollow (option_map (λ own. own.now) last.entry)) count_field field.now
         (option_map (λ object. (object.0.now, object.1)) result) }
 {
     let (code, count) = count_in(field)?;
@@ -196,7 +198,7 @@ fn count_after<'a>(last: Option<&[u8]>, field: &'a [u8]) -> Option<(&'a [u8], u6
     }
 }
 
-/// Checks whether a code comes after the last one in ASCII order.
+/// Checks whether a code comes after the code `last` in ASCII order.
 fn is_after(last: Option<&[u8]>, code: &[u8]) -> bool
     ensures { IsTrue result ↔ IsAfter (option_map (λ own. own.now) last.entry) code.now }
 {

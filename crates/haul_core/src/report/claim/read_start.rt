@@ -29,15 +29,15 @@ pub(crate) struct LineStart {
     pub(crate) settled: Option<WhenSettled>,
 }
 
-/// When a soup settled, and whether for good, if the line says so.
+/// When a soup settled, and whether its objects stay for good, if the line says that.
 #[derive(Clone, Copy)]
 pub(crate) struct WhenSettled {
     pub(crate) checkpoint: u32,
     pub(crate) for_good: Option<bool>,
 }
 
-/// Returns what a line says before its counts, and the text of the counts, if there are any. If no claim has such a
-/// line, the error is the text from the first fault on.
+/// Returns what a line says before its counts, and the text of the counts, if there are any. If no claim has a line
+/// with this start, the error is the text from the first fault on.
 pub(crate) fn start_in(line: &[u8]) -> Result<(LineStart, Option<&[u8]>), &[u8]>
     ensures ok { IfOk result (λ read. HasReadStart line.now read.0 (option_map (λ remainder. remainder.now) read.1)) }
     ensures err { IfErr result (λ there. IsFirstFaultOf line.now (length line.now - length there.now)) }
@@ -137,7 +137,7 @@ fn with_field(mut head: LineStart, place: usize, field: &[u8]) -> Option<LineSta
     Some(head)
 }
 
-/// Returns the start of a line whose soup settled. In version 2 a mark follows.
+/// Returns the start of a line whose soup settled. In version 2, the next field says whether the objects stay for good.
 fn settled_in<'a>(
     line: &'a [u8],
     head: LineStart,

@@ -11,13 +11,13 @@ returns-clause-ends g c =
       reached.0,
       reached.1,
       text_ends (is_ok (profile_named c.args.profile) && is_ok (rule_named c.args.rule_text.now)) true (λ bytes. name_right c.args.profile c.args.rule_text.now bytes) _ reached.0 c.name-outcome.result _ _ _ reached.2
-          c.tell_end_of_text.ensures.status c.tell_end_of_text.ensures.last,
+          c.end_text_command.ensures.status c.end_text_command.ensures.last,
     )
 
 pub returns-clause-untouched : goal.returns-clause-untouched
 returns-clause-untouched g c refused =
-    text_refused c.name-outcome.result (sym c.tell_end_of_text.ensures.status ∙ refused) c.name-outcome.ensures.untouched
+    text_refused c.name-outcome.result (sym c.end_text_command.ensures.status ∙ refused) c.name-outcome.ensures.untouched
 
 pub returns-clause-no_memory : goal.returns-clause-no_memory
 returns-clause-no_memory g c memory =
-    text_memory c.name-outcome.result (sym c.tell_end_of_text.ensures.status ∙ memory) c.name-outcome.ensures.no_memory
+    text_memory c.name-outcome.result (sym c.end_text_command.ensures.status ∙ memory) c.name-outcome.ensures.no_memory

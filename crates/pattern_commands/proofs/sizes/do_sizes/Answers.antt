@@ -11,5 +11,5 @@ returns-clause-ends g c =
       reached.0,
       reached.1,
       text_ends (is_ok (rule_named c.args.rule_text.now)) false (λ bytes. only (sizes_answer c.args.rule_text.now c.args.from c.args.last bytes)) _ reached.0
-          c.put_sizes-outcome.result _ _ _ reached.2 c.tell_end_of_text.ensures.status c.tell_end_of_text.ensures.last,
+          c.put_sizes-outcome.result _ _ _ reached.2 c.end_text_command.ensures.status c.end_text_command.ensures.last,
     )

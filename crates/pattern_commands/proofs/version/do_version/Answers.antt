@@ -6,5 +6,5 @@ use Rattle.pattern_commands.proofs.version.do_version.Goals as goal
 
 pub returns-clause-ends : goal.returns-clause-ends
 returns-clause-ends g c reader bytes =
-    text_ends false true (λ _. only version_answer) reader bytes c.put_version-outcome.result _ _ _ c.put_version-outcome.ensures.reached c.tell_end_of_text.ensures.status
-    c.tell_end_of_text.ensures.last
+    text_ends false true (λ _. only version_answer) reader bytes c.put_version-outcome.result _ _ _ c.put_version-outcome.ensures.reached c.end_text_command.ensures.status
+    c.end_text_command.ensures.last

@@ -11,7 +11,7 @@ use Rattle.std.proofs.lemmas.List.{append-nil, drop_all, drop_more, get_or-map, 
 use Rattle.std.proofs.lemmas.List.Folds.{list_all-append}
 use Rattle.std.proofs.lemmas.Bool.{false≢true, and_parts, le-leb, leb-true, not-false}
 use Rattle.plane_core.specs.declared.plane.cell.Cell.{Cell}
-use Rattle.plane_core.specs.plane.Bounds.{shifted, TellsShift}
+use Rattle.plane_core.specs.plane.Bounds.{shifted, FindsShift}
 use Rattle.plane_core.specs.plane.Cells.{cell_at, moved_by, InOrder, on_plane, plane_bound, IsPattern}
 use Rattle.plane_core.proofs.lemmas.plane.NeighbourhoodLemmas.{int_eq-same, int_eq-true}
 use Rattle.plane_core.proofs.lemmas.plane.CellLemmas.{cell_cmp-moved}
@@ -94,18 +94,18 @@ shift_is_step dx dy c cs d ds e =
     λ k. (step_of c.x d.x dx (ap (λ (a : Cell). a.x) first) k, step_of c.y d.y dy (ap (λ (a : Cell). a.y) first) k)
 
 -- the step between the first cells is the answer if it is that between all
-pub tells_shift : (S T : List Cell) (z : Cell) (s : ℤ × ℤ) (b : Bool) → 1 ≤ length S → length S ≡ length T
+pub finds_shift : (S T : List Cell) (z : Cell) (s : ℤ × ℤ) (b : Bool) → 1 ≤ length S → length S ≡ length T
     → s ≡ ((get_or T 0 z).x -ℤ (get_or S 0 z).x, (get_or T 0 z).y -ℤ (get_or S 0 z).y)
-    → (IsTrue b ↔ (shifted s.0 s.1 S ≡ T)) → TellsShift S T (then_some b s)
-tells_shift [] T z s b some same is iff = absurd (omega arith)
-tells_shift (c ∷ cs) [] z s b some same is iff = absurd (omega arith)
-tells_shift (c ∷ cs) (d ∷ ds) z s true some same is iff = record {
+    → (IsTrue b ↔ (shifted s.0 s.1 S ≡ T)) → FindsShift S T (then_some b s)
+finds_shift [] T z s b some same is iff = absurd (omega arith)
+finds_shift (c ∷ cs) [] z s b some same is iff = absurd (omega arith)
+finds_shift (c ∷ cs) (d ∷ ds) z s true some same is iff = record {
   some = iff.0 refl;
   none = tt;
   only = λ dx dy ne e. ap Some (is ∙ shift_is_step dx dy c cs d ds e);
   empty = λ e f. absurd cc;
 }
-tells_shift (c ∷ cs) (d ∷ ds) z s false some same is iff = record {
+finds_shift (c ∷ cs) (d ∷ ds) z s false some same is iff = record {
   some = tt;
   none = λ dx dy e. no_shift dx dy e;
   only = λ dx dy ne e. absurd (no_shift dx dy e);

@@ -25,7 +25,7 @@ sums_small up here down j i = omega (arith, small up, small here, small down)
     small : (s : Sum) → sum_of s j i ≤ 3
     small s = omega (arith, bit_at-lt (slice_index s.ones j) i, bit_at-lt (slice_index s.twos j) i)
 
--- a dead cell has the one answer, and a live one this answer turned where the two differ
+-- a dead cell's next state is the answer for births, and a live cell's is the same, negated if the two answers differ
 by_change : (b s : Bool) (t : ℕ) → t < 2 → (one_if b + min ((one_if b + one_if s) % 2) t) % 2 ≡ one_if (cond (t == 1) s b)
 by_change true true zero low = refl
 by_change true true (suc zero) low = refl

@@ -84,7 +84,8 @@ fn list_next(
     requires frame { IsFrame at }
     requires long { FillsFrame at words.now }
     requires hull { LiesInHull at hull (cells_on at words.now) }
-    ensures { IfOk result (λ found. IfSome found (λ cells. AreOnBoard at (after (rule_of rule.now) (cells_on at words.now) 1) cells.items)) }
+    ensures { IfOk result (λ found. IfSome found
+        (λ cells. AreOnBoard at (after (rule_of rule.now) (cells_on at words.now) 1) cells.items)) }
 {
     if !has_rim(at, hull) {
         return Ok(None);

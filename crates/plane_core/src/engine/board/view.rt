@@ -44,10 +44,7 @@ impl Board {
         let Some(y) = first_of(bounds.top, bounds.bottom, at.top) else {
             return None;
         };
-        if x / 64 + 1 >= at.word_columns {
-            return None;
-        }
-        if y + 64 > at.rows {
+        if x / 64 + 1 >= at.word_columns || y + 64 > at.rows {
             return None;
         }
         Some(View {

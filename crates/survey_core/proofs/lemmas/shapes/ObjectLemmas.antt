@@ -35,13 +35,6 @@ multiple_then m n = (
   λ (k, is). (Decides-eqb (m % n) 0).1 (ap (λ (x : ℕ). x % n) is ∙ mul-mod_left k n),
 )
 
--- of nothing only 0 is a multiple
-pub never_of_none : (m n : ℕ) → 1 ≤ m → n ≡ 0 → ¬ IsMultiple m n
-never_of_none m n some none (k, is) = none_left k m n some none is
-  where
-    none_left : (k m n : ℕ) → 1 ≤ m → n ≡ 0 → m ≡ k * n → ⊥
-    none_left k m n some none is = grind (arith, some, none, is)
-
 divides : (m n : ℕ) → IsMultiple m n → n ∣ m
 divides m n (k, is) = subst (λ (x : ℕ). n ∣ x) (sym is) (dvd-mul_left n k)
 
@@ -80,9 +73,6 @@ first_common n p b none m some (k, is) of_period = go k is
       | inl low ↦ absurd (none k low (subst (λ (x : ℕ). IsMultiple x p) (is ∙ ap (λ (x : ℕ). x * n) (after k)) of_period))
       | inr high ↦ subst (λ (x : ℕ). (b + 1) * n ≤ x) (sym is) (mul-le-mul_right n (omega (arith, high)))
     ]
-
-pub multiple_within : (n b most : ℕ) → 1 ≤ n → b < most / n → (b + 1) * n ≤ most
-multiple_within n b most some low = (le-div_iff_mul-le some).0 (omega (arith, low))
 
 -- the same if these are all multiples of n up to a number
 pub none_common : (n p b most : ℕ) → 1 ≤ n → most / n ≤ b → ((j : ℕ) → j < b → ¬ IsMultiple ((j + 1) * n) p) → (m : ℕ) → 1 ≤ m

@@ -9,16 +9,19 @@ use Rattle.survey_core.specs.shapes.RecurringShapes.{RecursWithin}
 use Rattle.survey_core.specs.UnderWay.{survey_reach}
 use Rattle.survey_core.proofs.lemmas.rest.KnownRestlessLemmas.{known_more, known_now}
 use Rattle.survey_core.proofs.lemmas.rest.RestLemmas.{cluster_some, cluster_within}
+use Rattle.survey_core.proofs.lemmas.shapes.MarkLemmas.{marks_match}
 use Rattle.survey_core.proofs.surveyor.examine.Goals as goal
 use Rattle.survey_core.proofs.surveyor.examine.Goals.{then-is_still, else-is_still}
+use Rattle.survey_core.proofs.surveyor.examine.Goals.{then-known_restless-parity-via-then-known_restless-parity}
+use Rattle.survey_core.proofs.surveyor.examine.Goals.{then-known_restless-parity-via-else-known_restless-parity+then-surely_moves}
 
 pub returns-then-known_restless-parity-clause-moves : goal.returns-then-known_restless-parity-clause-moves
-returns-then-known_restless-parity-clause-moves c =
-    known_now c.args.rule.now c.args.profile.now (kept c.args.rule.now c.args.evolution.now) c.args.checkpoint c.args.known_restless.now c.requires.known_restless c.if-known_restless-parity.true
-
-pub returns-then-surely_moves-clause-moves : goal.returns-then-surely_moves-clause-moves
-returns-then-surely_moves-clause-moves c =
-    c.surely_moves.ensures c.if-surely_moves.true
+returns-then-known_restless-parity-clause-moves c = elim c.then-known_restless-parity.branch [
+  | then-known_restless-parity-via-then-known_restless-parity w ↦
+      known_now c.args.rule.now c.args.profile.now (kept c.args.rule.now c.args.evolution.now) c.args.checkpoint c.args.known_restless.now
+      c.requires.known_restless w.if-known_restless-parity.true
+  | then-known_restless-parity-via-else-known_restless-parity+then-surely_moves w ↦ w.surely_moves.ensures w.if-surely_moves.true
+]
 
 pub clusters_at_rest-requires : goal.clusters_at_rest-requires
 clusters_at_rest-requires c = ap (lies_within survey_reach) c.in_ok-latest.ensures ∙ c.requires.near
@@ -65,19 +68,22 @@ of_clusters-requires-clause-most c = subst (λ n. n ≤ 64) (sym c.period.ensure
 
 pub returns-clause-settled : goal.returns-clause-settled
 returns-clause-settled c =
-    let objects = c.in_ok-objects.objects in (
+    let objects = c.in_ok-objects.objects in
+    let clusters = c.in-Some.clusters.items in
+    let rest : RestsAs c.args.rule.now c.args.profile.now c.in_ok-latest.latest clusters = rw c.in-Some.is at c.in_ok-found.ensures.rest in
+    let counted : AreObjectsOf c.args.rule.now c.args.profile.now.period clusters objects =
+    subst (λ (p : ℕ). AreObjectsOf c.args.rule.now p clusters objects) c.period.ensures.period
+    (subst (λ (parts : List (List Cell)). AreObjectsOf c.args.rule.now c.period.result parts objects) c.as_slice.ensures.value
+    c.in_ok-objects.ensures.objects) in
+    let marked : IsTrue c.stay_for_good-for_good.result ↔ StayForGood c.args.profile.now.horizon objects =
+    subst (λ (h : ℕ). IsTrue c.stay_for_good-for_good.result ↔ StayForGood h objects) c.horizon.ensures.horizon c.stay_for_good-for_good.ensures in
+    let law = marks_match c.args.rule.now c.args.profile.now.period c.args.profile.now.horizon clusters objects c.period.ensures.profile.period
+    (λ k d low. cluster_some c.in_ok-latest.latest _ (rest.parts.each k d low)) counted in (
       refl,
       record {
-        clusters = c.in-Some.clusters.items;
-        rest = subst (λ (S : List Cell). RestsAs c.args.rule.now c.args.profile.now S c.in-Some.clusters.items) c.in_ok-latest.ensures
-            (rw c.in-Some.is at c.in_ok-found.ensures.rest);
-        counted = subst (λ (p : ℕ). AreObjectsOf c.args.rule.now p c.in-Some.clusters.items objects)
-            c.period.ensures.period
-            (subst (λ (parts : List (List Cell)). AreObjectsOf c.args.rule.now c.period.result parts objects)
-            c.as_slice.ensures.value
-            c.in_ok-objects.ensures.objects);
-        good = subst (λ (h : ℕ). IsTrue c.stay_for_good-for_good.result ↔ StayForGood h objects)
-            c.horizon.ensures.horizon
-            c.stay_for_good-for_good.ensures;
+        clusters = clusters;
+        rest = subst (λ (S : List Cell). RestsAs c.args.rule.now c.args.profile.now S clusters) c.in_ok-latest.ensures rest;
+        counted = counted;
+        good = (λ e. law.0 (marked.0 e), λ stay. marked.1 (law.1 stay));
       },
     )

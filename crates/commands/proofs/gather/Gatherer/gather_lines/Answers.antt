@@ -45,9 +45,9 @@ pub returns-in_err-read-clause-ended : goal.returns-in_err-read-clause-ended
 returns-in_err-read-clause-ended g c =
     rw (err_of _ _ c.from_residual-in_err-read.ensures.1)
     (record {
-      ahead = c.next_line.new.lines.ahead;
+      ahead = c.gather_next.new.lines.ahead;
       few = c.in_err-read.ensures.most;
-      ends = lines_ended_by g.E.Write.contents _ _ _ _ c.args.errors.now _ _ _ _ c.loop-before.errors c.next_line.new.errors
+      ends = lines_ended_by g.E.Write.contents _ _ _ _ c.args.errors.now _ _ _ _ c.loop-before.errors c.gather_next.new.errors
           c.in_err-read.field-0.0
           c.loop-before.invariant.gathered c.loop-before.invariant.terms c.loop-before.invariant.fine (room_left _ c.loop-before.invariant.short)
           c.in_err-read.ensures.ended c.in_err-read.ensures.part;
@@ -57,18 +57,18 @@ pub returns-in-Input-clause-gathered : goal.returns-in-Input-clause-gathered
 returns-in-Input-clause-gathered g c = record {
   size = _;
   short = within c.loop-before.size c.in_ok-read.read.size c.loop-before.invariant.short c.in_ok-read.ensures.short;
-  ahead = c.next_line.new.lines.ahead;
-  few = c.next_line.ensures.few;
+  ahead = c.gather_next.new.lines.ahead;
+  few = c.gather_next.ensures.few;
   all = goes_no_further _ _ c.in_ok-read.read.end c.in-Input.is
       (c.in_ok-read.ensures.going _ c.args.errors.now _ c.loop-before.invariant.gathered);
 }
 
 pub loop-before-preserved : goal.loop-before-preserved
 loop-before-preserved g c = record {
-  terms = c.next_line.ensures.terms ∙ c.loop-before.invariant.terms;
+  terms = c.gather_next.ensures.terms ∙ c.loop-before.invariant.terms;
   fine = c.in_ok-read.ensures.fine;
   short = within c.loop-before.size c.in_ok-read.read.size c.loop-before.invariant.short c.in_ok-read.ensures.short;
-  few = c.next_line.ensures.few;
+  few = c.gather_next.ensures.few;
   gathered = goes_further _ _ c.in_ok-read.read.end (λ end. c.in_default.not-Input end)
       (c.in_ok-read.ensures.going _ c.args.errors.now _ c.loop-before.invariant.gathered);
 }

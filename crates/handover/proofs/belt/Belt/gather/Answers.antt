@@ -1,5 +1,5 @@
 use Rattle.std.proofs.Common.{◌≡◌, ◌∙◌, ℕ, List, All, ap, map, subst, sym}
-use Rattle.handover.specs.BeltRule.{IsPrefix, TellsWhatIsLeft, left_over, with_senders}
+use Rattle.handover.specs.BeltRule.{IsPrefix, HoldsTheRest, left_over, with_senders}
 use Rattle.handover.specs.Belts.{IsWhole, BeltId, Received, left_of, notes_of}
 use Rattle.handover.specs.declared.belt.Share.{Share}
 use Rattle.handover.proofs.BeltLemmas.{prefixes_kept, seen_remainder, told, whole}
@@ -35,7 +35,7 @@ pub returns-clause-whole : goal.returns-clause-whole
 returns-clause-whole g c =
     let v = c.receiver.inside.pass.me.0.client in
     let tells =
-    subst (λ (u : Share g.row.N.Denot). TellsWhatIsLeft u c.learn_as.ensures.rule.0) c.absorb_all.ensures.taken
+    subst (λ (u : Share g.row.N.Denot). HoldsTheRest u c.learn_as.ensures.rule.0) c.absorb_all.ensures.taken
     c.learn_as.ensures.rule.1 in
     subst (λ (r : Received g.row.N.Denot). All (IsWhole r.got) c.args.senders.items) c.receiver.view_is
     (whole v.got c.args.senders.items (told c.args.senders.items v c.learn_as.ensures.rule.0 c.receiver.invariant.1 tells))

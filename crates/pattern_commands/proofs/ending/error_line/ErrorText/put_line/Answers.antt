@@ -1,10 +1,10 @@
 use Rattle.std.proofs.Common.{◌++◌, codes}
 use Rattle.plane_core.proofs.lemmas.OutputLemmas.{Writes_then, Writes_stops}
-use Rattle.pattern_commands.specs.Complaints.{text_told}
+use Rattle.pattern_commands.specs.Complaints.{text_of_error}
 use Rattle.pattern_commands.proofs.ending.error_line.ErrorText.put_line.Goals as goal
 
 pub returns-in_err-put : goal.returns-in_err-put
-returns-in_err-put g c = Writes_stops (text_told c.args.self ++ codes "\n") c.from_residual.ensures.0 c.in_err-put.ensures
+returns-in_err-put g c = Writes_stops (text_of_error c.args.self ++ codes "\n") c.from_residual.ensures.0 c.in_err-put.ensures
 
 pub returns-in_err-put_text : goal.returns-in_err-put_text
 returns-in_err-put_text g c =

@@ -1,0 +1,192 @@
+"""Small patterns as the bits of a number. A generation is then a few operations on that number,
+which take a tenth of the time that sets of cells take.
+
+Bit `STRIDE * y + x` is the cell (x, y). The bounding box of a pattern begins at the cell (`MARGIN`,
+`MARGIN`), and its *room* is that box with `MARGIN - 1` more columns and rows on each side:
+
+    . . . . . . . . . .     Two cells (O) in their room (r), if the margin were three. No room has
+    . r r r r r r . . .     cells in the first or in the last column, so the cells at both ends of a
+    . r r r r r r . . .     row, whose bits follow one another, are never taken for neighbours.
+    . r r O O r r . . .
+    . r r r r r r . . .
+    . r r r r r r . . .
+"""
+
+from __future__ import annotations
+
+from functools import cache
+
+from haul.life.apgcodes import CHARACTERS, LEAST_LONG_RUN, ROWS_OF_COLUMN, RUNS, STRIP
+from haul.life.cells import Cells
+from haul.life.generations import Rule
+
+STRIDE, MARGIN = 64, 4
+# The most columns and rows of a pattern, so that the last column isn't in its room.
+MOST_SIDE = STRIDE - 2 * MARGIN
+CORNER = MARGIN * STRIDE + MARGIN
+# mutant: equal because no pattern has cells in the first column
+ROW = (1 << STRIDE) - 1
+# Half of the rows that a room may have, half of these, and so on.
+HALVES = (32, 16, 8, 4, 2, 1)
+# The cells in a column of a code.
+# mutant: equal because what is read is moved to the corner
+COLUMNS = {
+    character: sum(1 << STRIDE * row for row in rows) for character, rows in ROWS_OF_COLUMN.items()
+}
+
+
+def read_bitmap(text: str) -> int | None:
+    """Reads a text in extended Wechsler format. Returns `None` if it isn't one, has no live cells,
+    has more than `MOST_SIDE` columns before its last live cell, or draws more than `MOST_SIDE`
+    rows."""
+    bits = x = top = 0
+    characters = iter(text)
+    for character in characters:
+        if character == "z":
+            x, top = 0, top + STRIP
+        elif character in RUNS:
+            x += RUNS[character]
+        elif character == "y":
+            run = CHARACTERS.find(next(characters, "?"))
+            if run < 0:
+                return None
+            x += LEAST_LONG_RUN + run
+        elif character in COLUMNS and x < MOST_SIDE:
+            bits |= COLUMNS[character] << STRIDE * top + x
+            x += 1
+        else:
+            return None
+    if not bits:
+        return None
+    bits = shift_to_corner(bits)
+    return bits if bits >> STRIDE * (MARGIN + MOST_SIDE) == 0 else None
+
+
+def list_cells(bits: int) -> Cells:
+    """Returns the cells of a pattern at the corner. Their bounding box begins at (0, 0)."""
+    # mutant: equal because the letter in front of the digits isn't a 1
+    return frozenset(
+        [
+            (place % STRIDE - MARGIN, place // STRIDE - MARGIN)
+            for place, digit in enumerate(bin(bits)[:1:-1])
+            if digit == "1"
+        ]
+    )
+
+
+def find_corner(bits: int) -> int:
+    """Returns the number of the cell at the top left corner of a pattern's bounding box."""
+    top = find_lowest(bits) // STRIDE * STRIDE
+    return top + find_lowest(join_rows(bits))
+
+
+def find_lowest(bits: int) -> int:
+    """Returns the place of the lowest 1 of a number."""
+    return (bits & -bits).bit_length() - 1
+
+
+def join_rows(bits: int) -> int:
+    """Returns the columns that have a live cell."""
+    for rows in HALVES:
+        bits |= bits >> STRIDE * rows
+    return bits & ROW
+
+
+def shift(bits: int, move: int) -> int:
+    # 2 mutants: equal because a move by nothing is the same to both sides
+    return bits << move if move >= 0 else bits >> -move
+
+
+def shift_to_corner(bits: int) -> int:
+    return bits >> find_corner(bits) << CORNER
+
+
+def find_move(one: int, other: int) -> int | None:
+    """Returns the number of bits by which a pattern has moved to become the other one, or `None` if
+    the other one isn't the same pattern moved."""
+    if one == other:
+        return 0
+    if one.bit_count() != other.bit_count():
+        return None
+    move = find_corner(other) - find_corner(one)
+    return move if shift(one, move) == other else None
+
+
+def find_room(bits: int) -> int:
+    """Returns the room of a pattern at the corner."""
+    columns = join_rows(bits).bit_length() - MARGIN
+    return make_room(columns, -(-bits.bit_length() // STRIDE) - MARGIN)
+
+
+@cache
+def make_room(columns: int, rows: int) -> int:
+    more = 2 * (MARGIN - 1)
+    row = (1 << columns + more) - 1 << 1
+    return sum(row << STRIDE * y for y in range(1, rows + more + 1))
+
+
+def advance(rule: Rule, bits: int) -> int:
+    """Returns the next generation of a pattern in its room. It may have cells one step outside of
+    the room.
+
+    Each bit of the numbers below is about the neighbours of one cell. The bits at the cell's place
+    in `ones`, `twos`, `fours` and `eights` are the binary digits of its number of live neighbours.
+    """
+    beside, both = bits << 1 ^ bits >> 1, bits << 1 & bits >> 1
+    # The counts of rows of three: the cell and those beside it.
+    row_ones, row_twos = beside ^ bits, both | beside & bits
+    above, below = row_ones << STRIDE, row_ones >> STRIDE
+    odd = above ^ below
+    ones, twos_of_ones = odd ^ beside, above & below | odd & beside
+    above, below = row_twos << STRIDE, row_twos >> STRIDE
+    one, other = above ^ below, both ^ twos_of_ones
+    twos = one ^ other
+    first, second, third = above & below, both & twos_of_ones, one & other
+    fours, eights = first ^ second ^ third, first & second | (first ^ second) & third
+    digits = (ones, twos, fours, eights)
+    return select(digits, rule.births) & ~bits | select(digits, rule.survivals) & bits
+
+
+def select(digits: tuple[int, ...], counts: frozenset[int]) -> int:
+    """Returns the places at which the number with these binary digits is one of the counts. If 0 is
+    a count, the result is a negative number, which has all places from some place on."""
+    found = 0
+    for count in counts:
+        # mutant: equal because no pattern has the first cell
+        places = -1
+        for power, digit in enumerate(digits):
+            places &= digit if count >> power & 1 else ~digit
+        found |= places
+    return found
+
+
+def grow(bits: int) -> int:
+    """Returns the cells of a pattern and their neighbours."""
+    bits |= bits << 1 | bits >> 1
+    return bits | bits << STRIDE | bits >> STRIDE
+
+
+def find_islands(phases: list[int]) -> list[int]:
+    """Returns the islands of an object by their cells in phase 0, as `clusters.find_islands`
+    does."""
+    left, islands = phases[0], []
+    while left:
+        # mutant: equal because no pattern has the first cell
+        reached, before = left & -left, 0
+        while reached != before:
+            before = reached
+            for phase in phases:
+                reached |= grow(reached & phase) & phase
+        islands.append(reached & phases[0])
+        left &= ~reached
+    return islands
+
+
+def is_cluster(bits: int) -> bool:
+    """Checks whether steps of at most two cells in any direction connect all live cells."""
+    # mutant: equal because no pattern has the first cell
+    reached, before = bits & -bits, 0
+    while reached != before:
+        before = reached
+        reached |= grow(grow(reached)) & bits
+    return reached == bits
