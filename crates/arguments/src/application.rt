@@ -51,23 +51,14 @@ fn rows() -> [CommandRow; 7]
     COMMANDS
 }
 
-/// Returns the program without its commands.
+/// Returns the program without its commands. It requires a command, and shows help if no argument follows.
 fn program<'a>(alloc: Global) -> Command<'a>
     ensures { app_of result ≡ program }
 {
-    let command = Command::new(alloc, "census")
+    Command::new(alloc, "census")
         .about(ABOUT)
         .version(VERSION)
-        .after_help(EXAMPLES);
-    needing_a_command(command)
-}
-
-/// Requires a command, and shows help if no argument follows.
-fn needing_a_command<'a>(program: Command<'a>) -> Command<'a>
-    ensures { fields_of result
-        ≡ record (fields_of program.entry) { subcommand_required = true; arg_required_else_help = true } }
-{
-    program
+        .after_help(EXAMPLES)
         .subcommand_required(true)
         .arg_required_else_help(true)
 }
@@ -126,22 +117,8 @@ fn with_parameters<'a>(
 {
     let mut command = command;
     for row in rows {
-        command = with_parameter(alloc, command, row)?;
+        command = command.arg(parameter(alloc, row))?;
     }
-    Ok(command)
-}
-
-/// Adds the argument of a row to the command.
-fn with_parameter<'a>(
-    alloc: Global,
-    command: Command<'a>,
-    row: &Parameter,
-) -> Result<Command<'a>, OutOfMemory>
-    ensures app { IfOk result (λ new. app_of new ≡ with_rule (app_of command.entry) (rule_in (entry_of row.now))) }
-    ensures local { (fields_of command.entry).has_globals ≡ false →
-        IfOk result (λ new. (fields_of new).has_globals ≡ false) }
-{
-    let command = command.arg(parameter(alloc, row))?;
     Ok(command)
 }
 
