@@ -25,8 +25,8 @@ LIBEXEC = "libexec/gokzerd"
 
 
 def places_of(checkout: Checkout, zsh: str) -> dict[str, str]:
-    """Returns the places of the repository's files below the folder in which a release is
-    installed. `zsh` is the name of the folder for zsh's completions, which depends on the system.
+    """Maps each released file of the repository to its place below the folder of an installation.
+    `zsh` is the name of the folder for zsh's completions, which depends on the system.
     """
     places = {"release/census": "bin/census", "release/processor.sh": f"{LIBEXEC}/processor.sh"}
     places |= {

@@ -29,6 +29,17 @@ DARK = 128
 # The most pictures that are taken until two in a row are the same, and the seconds between them.
 MOST_PICTURES, SECONDS_BETWEEN = 40, 0.05
 
+# Fills a table of plain rows and lays it out, and how long that usually takes.
+PLAIN_TABLE = """
+const box = document.createElement("div");
+const row = "<tr>" + "<td><b>a word</b> and some more words</td>".repeat(8) + "</tr>";
+box.innerHTML = "<table>" + row.repeat(800) + "</table>";
+document.body.append(box);
+document.body.offsetHeight;
+box.remove();
+"""
+USUAL_MILLISECONDS = 100
+
 # The beginning of the scripts that look for faults: WCAG's formula for contrasts, and functions
 # that list elements and note faults. If a dialog is open, only its elements are listed.
 SHARED = """
@@ -296,28 +307,40 @@ def seconds_to_open(driver: Driver, path: Path) -> float:
     return time.monotonic() - began
 
 
+def seconds_worked(driver: Driver) -> float:
+    """Returns for how many seconds the page's main thread has worked since it was made. Only the
+    thread's own processor time counts, so other work on the machine hardly matters.
+    """
+    metrics = driver.execute_cdp_cmd("Performance.getMetrics", {})["metrics"]
+    return float(next(metric["value"] for metric in metrics if metric["name"] == "TaskDuration"))
+
+
 def longest_frame(driver: Driver) -> float:
     """Returns the longest time, in milliseconds, that the page's main thread works in two frames,
-    while the page is scrolled in 40 steps of 300 points. Only the thread's own processor time
-    counts, so other work on the machine doesn't matter.
+    while the page is scrolled in 40 steps of 300 points.
     """
     driver.execute_cdp_cmd("Performance.enable", {"timeDomain": "threadTicks"})
-
-    def worked() -> float:
-        metrics = driver.execute_cdp_cmd("Performance.getMetrics", {})["metrics"]
-        return float(
-            next(metric["value"] for metric in metrics if metric["name"] == "TaskDuration")
-        )
-
-    longest, before = 0.0, worked()
+    longest, before = 0.0, seconds_worked(driver)
     for _ in range(40):
         driver.execute_async_script(
             "scrollBy(0, 300); requestAnimationFrame(() => requestAnimationFrame(arguments[0]))"
         )
-        now = worked()
+        now = seconds_worked(driver)
         longest, before = max(longest, now - before), now
     driver.execute_cdp_cmd("Performance.disable", {})
     return longest * 1000
+
+
+def slowness(driver: Driver) -> float:
+    """Returns how many times as long as usual this machine takes for work of a page's main thread:
+    it fills a box with a table of plain rows and lays it out. A machine isn't faster than usual.
+    """
+    driver.execute_cdp_cmd("Performance.enable", {"timeDomain": "threadTicks"})
+    before = seconds_worked(driver)
+    driver.execute_script(PLAIN_TABLE)
+    took = seconds_worked(driver) - before
+    driver.execute_cdp_cmd("Performance.disable", {})
+    return max(1.0, took * 1000 / USUAL_MILLISECONDS)
 
 
 def least_of(measure: Callable[[], float], tries: int, enough: float) -> float:

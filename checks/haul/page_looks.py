@@ -222,9 +222,12 @@ def try_large_page(driver: Driver, folder: Path) -> None:
     )
     for view in ("gallery", "table"):
         opened(driver, path, f"#&parts=0&view={view}")
-        took = browser.least_of(lambda: browser.longest_frame(driver), tries=10, enough=100)
+        took = browser.least_of(
+            lambda: browser.longest_frame(driver) / browser.slowness(driver), tries=10, enough=100
+        )
         count.holds(
-            f"the {view} scrolls without a frame of over 100 ms: {took:.0f} ms", took <= 100
+            f"the {view} scrolls without a frame of over 100 ms on a usual machine: {took:.0f} ms",
+            took <= 100,
         )
         driver.execute_script("scrollTo(0, 1e9)")
         count.holds(

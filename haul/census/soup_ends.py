@@ -20,8 +20,8 @@ class End:
     """The checkpoint at which a soup has settled, and the number of live cells in the objects that
     it leaves.
 
-    `least` and `most` are equal unless the number of cells of an object depends on its phase, since
-    `census` doesn't report the phase.
+    `census` doesn't report phases, so `least` and `most` differ if an object's number of cells
+    depends on its phase.
     """
 
     generation: int

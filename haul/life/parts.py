@@ -2,8 +2,8 @@
 
 docs/PROFILE.md has the definition. A bi-block, for example, is two blocks:
 
-    OO.OO       OO.OO       the census counts it as one object, since the cells are two steps apart;
-    OO.OO       OO.OO       run by itself, each half does the same as it does beside the other
+    OO.OO    the census counts it as one object, since the blocks are two steps apart;
+    OO.OO    run by itself, each block does the same as it does beside the other
 """
 
 from __future__ import annotations

@@ -33,7 +33,7 @@ class Written(unittest.TestCase):
         )
 
     def test_as_plaintext(self) -> None:
-        """The lines after the first are the lines for the same pattern in plaintext."""
+        """The lines after the first are the same as for the pattern in plaintext."""
         draw = random.Random("coordinates")
         for _ in range(50):
             width, height = draw.randint(1, 90), draw.randint(1, 40)

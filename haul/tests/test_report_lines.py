@@ -212,8 +212,8 @@ class Faults(unittest.TestCase):
 
 class BesideGather(unittest.TestCase):
     def test_changed_lines(self) -> None:
-        """Each line is bad at the same place for `census gather`, or good for both. No soup is in
-        the set, so no soup is run."""
+        """`haul` and `census gather` find the same lines bad, at the same places. The set is empty,
+        so no soup is run."""
         draw = random.Random("changed lines")
         lines = [
             self.changed(

@@ -56,7 +56,7 @@ seed_text text seed is = go (nat_lt most_bytes (length text)) refl (position is_
     go false short None place_is = let read = rw (short, place_is) at is in cc
     go false short (Some n) place_is = let read = rw (short, place_is) at is in cc
 
--- a rule is the one that its text spells
+-- a text is read as the rule that it spells
 rule_of_text : (text : List ℕ) (rule : Numbers) → rule_named text ≡ Ok rule → IsRuleOf text rule
 rule_of_text text rule is = go (rule_read text) refl is
   where

@@ -2,7 +2,7 @@
 //!
 //! ```text
 //! arguments ── do_arguments ── buffer ── send_buffered ── standard output
-//!             └─ status ────────────┴─ code
+//!              └─ status ────────────────┴─ code
 //! ```
 
 ghost use Rattle.std.specs.Prelude.{◌≡◌, ◌≢◌, ℕ, List, Option, IsErr, Some, IfOk, IfErr, IsOkAnd, IsSomeAnd, false};

@@ -50,7 +50,7 @@ pub record IsGathered (terms : Terms) (bytes : List ℕ) (gathering : Made) : Ty
   pub text_is : gathering.text ≡ haul_text census
   pub missing_is : gathering.missing ≡ length (missing_of terms.ranges taken)
 
--- what is gathered from an input in a haul that may be opened
+-- the result of gathering an input in a haul that may open
 pub record IsGathering (opens : Hauls) (bytes : List ℕ) (gathering : Made) : Type 0 where
   pub terms : Terms
   pub opened : opens terms

@@ -14,7 +14,7 @@ use Rattle.commands.specs.LateReports.{late_lines}
 use Rattle.commands.specs.SoupSets.{AreRangesOf, job_named}
 use Rattle.commands.specs.Take.{take_right}
 
--- right reports of these workers on soups of a plan, none of them twice
+-- right reports by these workers on a plan's soups, at most one on each
 pub record AreReportsOf (plan : Plan) (workers : ℕ) (reports : List Reported) : Type 0 where
   pub job : Job
   pub job_is : job_named plan ≡ Ok job

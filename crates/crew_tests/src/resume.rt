@@ -1,4 +1,4 @@
-//! Hauls that a crew leaves incomplete, and other crews complete.
+//! Hauls that one crew leaves incomplete, and another completes.
 use crate::gates::{Patience, StopsSome};
 use crate::left::go_on;
 use crate::small::{haul_of, standard_job};

@@ -4,7 +4,7 @@
 //! receiver   reads the count: 7
 //! receiver   finds nothing on the belt
 //! sender     puts a note on the belt, and notifies: 8
-//! receiver   sleeps while the count is 7: goes on at once
+//! receiver   would sleep while the count is 7: goes on at once
 //! ```
 //!
 //! All atomic operations are sequentially consistent, as the proofs assume. The proofs say nothing about waking.

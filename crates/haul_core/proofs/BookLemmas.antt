@@ -105,7 +105,7 @@ first_new (s ∷ rs) r h = go (λ remainder. first_new rs r remainder) (cases_Bo
         ∙ filter-append (λ t. not (has_number s.number t)) (first_of_each rs) (r ∷ [])
         ∙ ap (λ (b : Bool). filter (λ t. not (has_number s.number t)) (first_of_each rs) ++ cond (not b) (r ∷ []) []) here)
 
--- one report more, of a number that one before has
+-- one more report of a number that was already reported
 pub first_old : (rs : List Reported) (r s : Reported) → find (has_number r.number) rs ≡ Some s → first_of_each (rs ++ r ∷ []) ≡ first_of_each rs
 first_old [] r s h = cc
 first_old (x ∷ rs) r s h = go (λ y found. first_old rs r y found) (cases_Bool (has_number r.number x))

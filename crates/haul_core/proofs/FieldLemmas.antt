@@ -1,4 +1,4 @@
--- Why the text of a field is what it is read as, and nothing else.
+-- Why a field spells the value that is read from it, and no other.
 use Rattle.std.proofs.Common.{◌≡◌, ◌≢◌, ◌∙◌, ◌+◌, ◌<◌, ◌≤◌, ◌^◌, ◌++◌, ◌==◌, ◌-◌, ◌||◌, ◌&&◌, ◌∷◌, ℕ, zero, suc, Bool, true, false, not, List, [], ap, sym, refl, decimal, length, arith, append-nil}
 use Rattle.std.proofs.Common.{IsTrue, codes, inl, inr, Option, Ok, Err, if◌then◌else◌, nat_le, cond, drop, take, nat_lt, position, None, Some}
 use Rattle.std.proofs.lemmas.Bool.{eqb-true, leb-true, ltb-false, ltb-true}
@@ -48,7 +48,7 @@ pub tells_after : {A : Type 0} (MayBe : A → Type 0) (text : A → List ℕ) (n
 tells_after MayBe text name field remainder None e none = λ a lawful. after_name field name remainder (text a) e (none a lawful)
 tells_after MayBe text name field remainder (Some a) e told = (told.0, e ∙ ap (λ (t : List ℕ). name ++ t) told.1)
 
--- a field has one number after a name
+-- the number after a name is unique
 pub one_number : (name field : List ℕ) (n m : ℕ) → n < 2 ^ 64 → m < 2 ^ 64 → field ≡ name ++ decimal n → field ≡ name ++ decimal m → n ≡ m
 one_number name field n m a b e f = decimal_injective n m a b (append_cancel_left name (decimal n) (decimal m) (sym e ∙ f))
 

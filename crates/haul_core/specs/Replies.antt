@@ -41,8 +41,8 @@ IsTakenNext terms before [] = ⊥
 IsTakenNext terms before (Offer report ∷ more) = refusal_of terms before report ≡ None
 IsTakenNext terms before (Closing ∷ more) = ⊥
 
--- Memory ran out before any arrival, or at an offer that the book takes. The haul has received the arrivals before
--- then, and no others.
+-- Memory ran out before any arrival, or at an offer that should be taken. The haul has received only the arrivals
+-- before then.
 pub record StandsForPrefix (before arrivals : List Arrival) (held : Held) : Type 0 where
   pub prefix : List Arrival
   pub remainder : List Arrival

@@ -1,4 +1,4 @@
-//! Soups, against digests and cells that don't come from the program, and seeds that are read with `parse` and shown.
+//! Tests that known digests give the right soups, and that a seed is formatted as the text that it was parsed from.
 use plane_core::plane::pattern::Pattern;
 use std::test::Fail;
 use survey_core::seed::Seed;

@@ -1,4 +1,4 @@
--- Where the window is in which a small pattern is run.
+-- The origin of the window that runs a small pattern.
 use Rattle.std.specs.Prelude.{◌≤◌, unsigned_abs}
 use Rattle.plane_core.specs.declared.engine.lone_window.WindowOrigin.{WindowOrigin}
 

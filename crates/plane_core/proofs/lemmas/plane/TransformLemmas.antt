@@ -86,7 +86,7 @@ stepped_not dx dy cs ds i z s low same is ne =
     let y : s.1 ≡ dy = ap (λ (t : ℤ × ℤ). t.1) is ∙ step_of (get_or cs i z).y (get_or ds i z).y dy (ap (λ (c : Cell). c.y) there) in
     false≢true (sym (λ k. not (int_eq-same s.0 dx x k && int_eq-same s.1 dy y k)) ∙ ne)
 
--- a shift of a list with a first cell is the step between the first cells
+-- a nonempty list is shifted by the step between the first cells
 shift_is_step : (dx dy : ℤ) (c : Cell) (cs : List Cell) (d : Cell) (ds : List Cell) → shifted dx dy (c ∷ cs) ≡ d ∷ ds
     → ◌≡◌ {A = ℤ × ℤ} (d.x -ℤ c.x, d.y -ℤ c.y) (dx, dy)
 shift_is_step dx dy c cs d ds e =

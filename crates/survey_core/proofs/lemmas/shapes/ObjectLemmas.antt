@@ -183,7 +183,7 @@ first_counted old new k ordered none updates is = record {
     before : 0 ≡ count_of old.entries k
     before = sym (ap (λ (o : Option ℕ). unwrap_or o 0) none)
 
--- and one object more of a code that there is
+-- one more object of a code that is already counted
 pub once_more : (old new : List (List ℕ × ℕ)) (k : List ℕ) (before : ℕ) → lookup (is_code k) old ≡ Some before
     → ((q : List ℕ) → lookup (is_code q) new ≡ cond (is_code k q) (Some (before + 1)) (lookup (is_code q) old))
     → new ≡ set_value (is_code k) old (before + 1) → IsOneMore k old new
