@@ -2,8 +2,8 @@
 are proved side by side if neither is above the other.
 
 The crate with the longest path to the program starts first, and gets a copy of the prover for each
-processor. A crate that starts beside it gets a copy for each processor that has none yet, but at
-least one. It has a higher niceness, so it uses the processor time that the longer path leaves.
+processor. A crate that starts beside it gets one copy, since each copy takes processor time to make.
+It has a higher niceness, so it uses the processor time that the longer path leaves.
 """
 
 from __future__ import annotations
@@ -91,8 +91,8 @@ class Schedule:
         self.crates = crates
         self.ways = crates.ways(weights)
         self.copies = copies
-        # The copies of each crate that is being proved.
-        self.running: dict[str, int] = {}
+        # The crates that are being proved.
+        self.running: set[str] = set()
 
     def share_of(self, crate: str) -> Share:
         """Returns the share of a crate that starts now, beside the crates that are running."""
@@ -100,8 +100,7 @@ class Schedule:
         if not longer:
             return Share(self.copies(), 0)
         rank = sorted(self.crates.order, key=self._rank).index(crate)
-        left = self.copies() - sum(self.running.values())
-        return Share(max(1, left), min(MOST_YIELDING, 1 + rank))
+        return Share(1, min(MOST_YIELDING, 1 + rank))
 
     def _rank(self, crate: str) -> tuple[int, int]:
         """Returns the sort key of a crate. The crate with the longest path comes first."""
@@ -131,14 +130,13 @@ class Schedule:
             ready = self._after_kept(sorter, work, proved)
             for crate in sorted(ready, key=self._rank):
                 work.begin(crate)
-                share = self.share_of(crate)
-                futures[pool.submit(work.prove, crate, share)] = crate
-                self.running[crate] = share.copies
+                futures[pool.submit(work.prove, crate, self.share_of(crate))] = crate
+                self.running.add(crate)
             ended, _ = wait(futures, timeout=SECONDS, return_when=FIRST_COMPLETED)
             for future in ended:
                 future.result()
                 crate = futures.pop(future)
-                del self.running[crate]
+                self.running.remove(crate)
                 proved.add(crate)
                 sorter.done(crate)
             work.show()

@@ -109,7 +109,7 @@ const row = (object, at) => {
 };
 
 const TABLE = {
-  rows: 16,
+  rows: 24,
   make: count => {
     const table = document.createElement('table');
     table.className = 'table';

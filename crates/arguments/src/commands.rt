@@ -131,6 +131,3 @@ pub const GATHER: CommandRow = CommandRow {
         SEED, FIRST, COUNT, ALSO, PERIOD, HORIZON, STRIDE, LIMIT, RULE, REPORTERS,
     ],
 };
-
-/// The commands of the program, as help lists them.
-pub const COMMANDS: [CommandRow; 7] = [RUN, NAME, SHOW, SOUP, TAKE, WORK, GATHER];

@@ -13,31 +13,68 @@ ghost use Rattle.arguments.specs.Plans.{plan_in, profile_in, set_in};
 ghost use Rattle.arguments.specs.Reading.{form_in, gather_request, name_request, run_request, show_request, soup_request};
 ghost use Rattle.arguments.specs.Forms.{BeginsUpTo, run_form, sizes_up_to};
 ghost use Rattle.arguments.specs.Reading.{take_request, work_request};
-ghost use Rattle.arguments.specs.Table.{count, first, report_from, sizes};
-ghost use Rattle.arguments.specs.Values.{IsInRange, number_found};
+ghost use Rattle.arguments.specs.Table.{also, count, first, horizon, limit, period, report_from, rule, seed, sizes};
+ghost use Rattle.arguments.specs.Table.{stride};
+ghost use Rattle.arguments.specs.Values.{IsInRange, number_found, text_found};
 
 use crate::options;
 use crate::request::Request;
 use crate::values::{is_given, number_found, text_found};
 use clap::ArgMatches;
 use requests::form::{PatternForm, RunForm};
-use requests::plan::{Plan, ProfileNumbers, SoupSet};
+use requests::plan::{Plan, ProfileNumbers, SoupSet, Text};
 
 /// Returns the numbers of the profile, or `None` if one is missing.
 pub fn profile_in(found: &ArgMatches<'_>) -> Option<ProfileNumbers>
     ensures profile { result ≡ profile_in (rows_of (found_of found.now)) }
     ensures ranges { IfSome result AreProfileNumbers }
 {
-    let period = number_found(found, &options::PERIOD)?;
-    let horizon = number_found(found, &options::HORIZON)?;
-    let stride = number_found(found, &options::STRIDE)?;
-    let limit = number_found(found, &options::LIMIT)?;
+    let period = period_in(found)?;
+    let horizon = horizon_in(found)?;
+    let stride = stride_in(found)?;
+    let limit = limit_in(found)?;
     Some(ProfileNumbers {
-        period: period as u32,
-        horizon: horizon as u32,
-        stride: stride as u32,
-        limit: limit as u32,
+        period,
+        horizon,
+        stride,
+        limit,
     })
+}
+
+/// Returns the longest period of an object, or `None` if it is missing.
+fn period_in(found: &ArgMatches<'_>) -> Option<u32>
+    ensures number { result ≡ number_found period (rows_of (found_of found.now)) }
+    ensures range { IfSome result (IsInRange period.kind) }
+{
+    let period = number_found(found, &options::PERIOD)?;
+    Some(period as u32)
+}
+
+/// Returns for how many generations objects must keep apart, or `None` if it is missing.
+fn horizon_in(found: &ArgMatches<'_>) -> Option<u32>
+    ensures number { result ≡ number_found horizon (rows_of (found_of found.now)) }
+    ensures range { IfSome result (IsInRange horizon.kind) }
+{
+    let horizon = number_found(found, &options::HORIZON)?;
+    Some(horizon as u32)
+}
+
+/// Returns the number of generations between two checkpoints, or `None` if it is missing.
+fn stride_in(found: &ArgMatches<'_>) -> Option<u32>
+    ensures number { result ≡ number_found stride (rows_of (found_of found.now)) }
+    ensures range { IfSome result (IsInRange stride.kind) }
+{
+    let stride = number_found(found, &options::STRIDE)?;
+    Some(stride as u32)
+}
+
+/// Returns the last generation that may be a checkpoint, or `None` if it is missing.
+fn limit_in(found: &ArgMatches<'_>) -> Option<u32>
+    ensures number { result ≡ number_found limit (rows_of (found_of found.now)) }
+    ensures range { IfSome result (IsInRange limit.kind) }
+{
+    let limit = number_found(found, &options::LIMIT)?;
+    Some(limit as u32)
 }
 
 /// Returns the set of soups, or `None` if one of its four values is missing.
@@ -45,16 +82,46 @@ pub fn set_in<'a>(found: &ArgMatches<'a>) -> Option<SoupSet<'a>>
     ensures set { result ≡ set_in (rows_of (found_of found.now)) }
     ensures ranges { IfSome result (λ set. IsInRange first.kind set.first × IsInRange count.kind set.count) }
 {
-    let seed = text_found(found, &options::SEED)?;
-    let first = number_found(found, &options::FIRST)?;
-    let count = number_found(found, &options::COUNT)?;
-    let also = text_found(found, &options::ALSO)?;
+    let seed = seed_in(found)?;
+    let first = first_in(found)?;
+    let count = count_in(found)?;
+    let also = also_in(found)?;
     Some(SoupSet {
         seed,
         first,
         count,
         also,
     })
+}
+
+/// Returns the seed, or `None` if it is missing.
+fn seed_in<'a>(found: &ArgMatches<'a>) -> Option<Text<'a>>
+    ensures { result ≡ text_found seed (rows_of (found_of found.now)) }
+{
+    text_found(found, &options::SEED)
+}
+
+/// Returns the number of the first soup, or `None` if it is missing.
+fn first_in(found: &ArgMatches<'_>) -> Option<u64>
+    ensures number { result ≡ number_found first (rows_of (found_of found.now)) }
+    ensures range { IfSome result (IsInRange first.kind) }
+{
+    number_found(found, &options::FIRST)
+}
+
+/// Returns the number of soups, or `None` if it is missing.
+fn count_in(found: &ArgMatches<'_>) -> Option<u64>
+    ensures number { result ≡ number_found count (rows_of (found_of found.now)) }
+    ensures range { IfSome result (IsInRange count.kind) }
+{
+    number_found(found, &options::COUNT)
+}
+
+/// Returns the list of more ranges, or `None` if it is missing.
+fn also_in<'a>(found: &ArgMatches<'a>) -> Option<Text<'a>>
+    ensures { result ≡ text_found also (rows_of (found_of found.now)) }
+{
+    text_found(found, &options::ALSO)
 }
 
 /// Returns the plan: the soups, the profile and the rule. Returns `None` if a value is missing.
@@ -64,8 +131,15 @@ pub fn plan_in<'a>(found: &ArgMatches<'a>) -> Option<Plan<'a>>
 {
     let set = set_in(found)?;
     let profile = profile_in(found)?;
-    let rule = text_found(found, &options::RULE)?;
+    let rule = rule_in(found)?;
     Some(Plan { set, profile, rule })
+}
+
+/// Returns the text of the rule, or `None` if it is missing.
+fn rule_in<'a>(found: &ArgMatches<'a>) -> Option<Text<'a>>
+    ensures { result ≡ text_found rule (rows_of (found_of found.now)) }
+{
+    text_found(found, &options::RULE)
 }
 
 /// Returns the request of `run`, or `None` if a value is missing or the options contradict each other.
@@ -75,7 +149,7 @@ pub(crate) fn run_request<'a>(found: &ArgMatches<'a>) -> Option<Request<'a>>
 {
     let generations = number_found(found, &options::GENERATIONS)?;
     let form = run_form_in(found, generations)?;
-    let rule = text_found(found, &options::RULE)?;
+    let rule = rule_in(found)?;
     Some(Request::Run {
         generations: generations as u32,
         form,
@@ -129,7 +203,7 @@ pub(crate) fn name_request<'a>(found: &ArgMatches<'a>) -> Option<Request<'a>>
     ensures ranges { IfSome result AreInTheirRanges }
 {
     let profile = profile_in(found)?;
-    let rule = text_found(found, &options::RULE)?;
+    let rule = rule_in(found)?;
     Some(Request::Name { profile, rule })
 }
 
@@ -150,7 +224,7 @@ pub(crate) fn soup_request<'a>(found: &ArgMatches<'a>) -> Option<Request<'a>>
     ensures ranges { IfSome result AreInTheirRanges }
 {
     let number = number_found(found, &options::NUMBER)?;
-    let seed = text_found(found, &options::SEED)?;
+    let seed = seed_in(found)?;
     Some(Request::Soup {
         seed,
         number,

@@ -264,7 +264,7 @@ fn cause(stopped: Option<u8>, lacking: Option<OutOfMemory>) -> Option<CrewError>
 }
 
 /// What a worker's thread promises: to return the worker's result.
-#[derive(Clone, Copy)]
+#[derive(Drop)]
 struct Duty<'s, G> {
     worker: u8,
     shared: &'s Shared,

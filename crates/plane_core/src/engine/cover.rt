@@ -142,13 +142,14 @@ fn pays(one: Bounds, other: Bounds, slack: u64) -> bool {
 }
 
 /// Returns about the cost, in rows, of running the windows that cover the rectangle. A window has about 12 rows more
-/// than it covers, and costs another 8 by itself. No branch depends on the rectangle.
+/// than it covers, and costs another 8 by itself. No branch depends on the rectangle. The product is far below 2^64, so
+/// it doesn't wrap around.
 #[inline(always)]
 fn cost_of(rectangle: Bounds) -> u64 {
     let across = rectangle.left.abs_diff(rectangle.right) / INNER_COLUMNS + 1;
     let length = rectangle.top.abs_diff(rectangle.bottom);
     let down = length / MOST_INNER_ROWS + 1;
-    u64::from(across) * (u64::from(length) + 20 * u64::from(down))
+    u64::from(across).wrapping_mul(u64::from(length) + 20 * u64::from(down))
 }
 
 /// Returns the number of rows of each window, if windows cover `length + 1` rows of cells. There are as few windows as

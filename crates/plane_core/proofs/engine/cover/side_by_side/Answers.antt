@@ -1,6 +1,11 @@
-use Rattle.std.proofs.Common.{◌*◌, ◌-◌, ◌<◌, rules}
+use Rattle.std.proofs.Common.{◌+◌, ◌*◌, ◌-◌, ◌<◌, ◌≤◌, arith, rules}
 use Rattle.plane_core.proofs.lemmas.engine.CoverLemmas.{beside_few, side_by_side_of}
 use Rattle.plane_core.proofs.engine.cover.side_by_side.Goals as goal
+
+pub overflow_mul-beside : goal.overflow_mul-beside
+overflow_mul-beside c =
+    let few = beside_few c.args.size c.abs_diff-length.result c.spans_needed-count.result c.requires.some c.spans_needed-count.ensures in
+    search (rules, few, c.requires.size, c.abs_diff-length.ensures, c.requires.first, c.requires.last)
 
 pub returns : goal.returns
 returns c =
