@@ -33,12 +33,12 @@ MOST_PICTURES, SECONDS_BETWEEN = 40, 0.05
 PLAIN_TABLE = """
 const box = document.createElement("div");
 const row = "<tr>" + "<td><b>a word</b> and some more words</td>".repeat(8) + "</tr>";
-box.innerHTML = "<table>" + row.repeat(800) + "</table>";
+box.innerHTML = "<table>" + row.repeat(200) + "</table>";
 document.body.append(box);
 document.body.offsetHeight;
 box.remove();
 """
-USUAL_MILLISECONDS = 100
+USUAL_MILLISECONDS = 60
 
 # The beginning of the scripts that look for faults: WCAG's formula for contrasts, and functions
 # that list elements and note faults. If a dialog is open, only its elements are listed.
