@@ -1,4 +1,4 @@
-use Rattle.std.proofs.Common.{◌+◌, ◌*◌, ◌-◌, ◌<◌, ◌≤◌, arith, rules}
+use Rattle.std.proofs.Common.{◌*◌, ◌-◌, ◌<◌, rules}
 use Rattle.plane_core.proofs.lemmas.engine.CoverLemmas.{beside_few, side_by_side_of}
 use Rattle.plane_core.proofs.engine.cover.side_by_side.Goals as goal
 
